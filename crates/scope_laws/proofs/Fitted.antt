@@ -17,7 +17,7 @@ use Rattle.flow_paths.specs.Laid.{around_body, scope_at_end, procedure_end, func
 use Rattle.flow_paths.specs.Scopes.{taken}
 use Rattle.flow_paths.proofs.Held.{held_count}
 use Rattle.scope_laws.specs.Alone.{CallsOnly, SourceFits, ValueFits, StoredFits, CodeFits, BranchesFit, BranchFits, AlternativesFit, AlternativeFits, InstructionFits}
-use Rattle.scope_laws.specs.Fitted.{types, types_at, Pairs, FillsFit, IsFitted}
+use Rattle.scope_laws.specs.Fitted.{types, types_at, Pairs, FillsFit, RightFits, IsFitted}
 use Rattle.scope_laws.proofs.Lists.{all_both, all_one}
 
 all_left : {A : Type 0} (P : A → Type 0) (xs ys : List A) → AllByRecursion P (xs ++ ys) → AllByRecursion P xs
@@ -31,6 +31,10 @@ all_right P (x ∷ xs) ys h = all_right P xs ys h.1
 take_all : (xs ys : List ℕ) → take (length xs) (xs ++ ys) ≡ xs
 take_all [] ys = refl
 take_all (x ∷ xs) ys = ap (λ zs. x ∷ zs) (take_all xs ys)
+
+drop_all : (xs ys : List ℕ) → drop (length xs) (xs ++ ys) ≡ ys
+drop_all [] ys = refl
+drop_all (x ∷ xs) ys = drop_all xs ys
 
 pub pairs_both : (fit : ℕ → ℕ → Type 0) (ts us xs ys : List ℕ) → Pairs fit ts xs → Pairs fit us ys → Pairs fit (ts ++ us) (xs ++ ys)
 pairs_both fit [] us [] ys h g = g
@@ -92,10 +96,11 @@ module _ (fit : ℕ → ℕ → Type 0) (of : ℕ → ℕ) (truth : ℕ) (ask al
 
   -- a point whose instruction takes the temporaries at the front of its scope
   fitted : (p : NamedPoint) (xs scope : List ℕ) → Pairs fit (types_at of truth p.instr) xs → length xs ≡ taken p.instr → p.scope ≡ xs ++ scope
-      → InstructionFits ask alone single p.instr → Good p
-  fitted p xs scope pairs long is asked =
+      → InstructionFits ask alone single p.instr → RightFits fit truth p.instr scope → Good p
+  fitted p xs scope pairs long is asked right_one =
       let front : take (taken p.instr) p.scope ≡ xs = subst (λ n. take n p.scope ≡ xs) long (ap (λ zs. take (length xs) zs) is ∙ take_all xs scope) in
-      (asked, subst (Pairs fit (types_at of truth p.instr)) (sym front) pairs)
+      let back : drop (taken p.instr) p.scope ≡ scope = subst (λ n. drop n p.scope ≡ scope) long (ap (λ zs. drop (length xs) zs) is ∙ drop_all xs scope) in
+      (asked, subst (Pairs fit (types_at of truth p.instr)) (sym front) pairs, subst (RightFits fit truth p.instr) (sym back) right_one)
 
   -- ---- before a use
 
@@ -162,7 +167,7 @@ module _ (fit : ℕ → ℕ → Type 0) (of : ℕ → ℕ) (truth : ℕ) (ask al
       let q : NamedPoint = point (row_at at 0) p (instruction.Call sub actuals (Some (s.temporary at))) (with_held s actuals (0 ∷ at) scope) k in
       let filling : Filling before = left before (q ∷ []) fill in
       one_more before q (inner filling)
-      (fitted q (held s actuals (0 ∷ at)) scope (held_fit actuals (0 ∷ at) scope (row_at at 0 ∷ []) filling) (held_count s actuals (0 ∷ at)) refl (may, asked))
+      (fitted q (held s actuals (0 ∷ at)) scope (held_fit actuals (0 ∷ at) scope (row_at at 0 ∷ []) filling) (held_count s actuals (0 ∷ at)) refl (may, asked) tt)
 
   prep_fit : (e : TypedTree) (at : Place) (scope : List ℕ) (k : List PointName) → CallsOnly ask e → Filling (prep s e at scope k) → Fitted (prep s e at scope k)
   unfolding prep CallsOnly
@@ -179,10 +184,10 @@ module _ (fit : ℕ → ℕ → Type 0) (of : ℕ → ℕ) (truth : ℕ) (ask al
       let first : Filling before = left before (m ∷ (middle ++ n ∷ [])) f in
       let second : Filling middle = left middle (n ∷ []) (right before (m ∷ (middle ++ n ∷ [])) f).1 in
       both before (m ∷ (middle ++ n ∷ [])) (prep_fit a (0 ∷ at) scope (row_at at 0 ∷ []) first_asked first) (
-        fitted m (held s a (0 ∷ at)) scope (held_fit a (0 ∷ at) scope (row_at at 0 ∷ []) first) (held_count s a (0 ∷ at)) refl first_asked,
+        fitted m (held s a (0 ∷ at)) scope (held_fit a (0 ∷ at) scope (row_at at 0 ∷ []) first) (held_count s a (0 ∷ at)) refl first_asked tt,
         one_more middle n (prep_fit b (1 ∷ at) (s.temporary at ∷ scope) (row_at at 1 ∷ []) second_asked second)
             (fitted n (held s b (1 ∷ at)) (s.temporary at ∷ scope) (held_fit b (1 ∷ at) (s.temporary at ∷ scope) (row_at at 1 ∷ []) second) (held_count s b (1 ∷ at)) refl
-            second_asked),
+            second_asked (s.temporary at, scope, refl, last before m (middle ++ n ∷ []) f)),
       ))
       (pair_fit a b (0 ∷ at) (1 ∷ at) scope (with_held s a (0 ∷ at) scope) (entry behind k) k (prep_fit a (0 ∷ at) scope (entry behind k) first_asked)
       (prep_fit b (1 ∷ at) (with_held s a (0 ∷ at) scope) k second_asked))
@@ -219,31 +224,31 @@ module _ (fit : ℕ → ℕ → Type 0) (of : ℕ → ℕ) (truth : ℕ) (ask al
   source_fit e at scope k asked fill = prep_fit e at scope k asked fill
 
   uses_fit : (at : Place) (p : Pos) (e : TypedTree) (i : Instruction) (w : Around) (next : List PointName) → types_at of truth i ≡ types of truth e → taken i ≡ waiting e
-      → InstructionFits ask alone single i → (Filling (prep s e (0 ∷ at) w.scope (row_at at 0 ∷ [])) → Fitted (prep s e (0 ∷ at) w.scope (row_at at 0 ∷ [])))
+      → InstructionFits ask alone single i → RightFits fit truth i w.scope → (Filling (prep s e (0 ∷ at) w.scope (row_at at 0 ∷ [])) → Fitted (prep s e (0 ∷ at) w.scope (row_at at 0 ∷ [])))
       → Filling (uses s at p e i w next) → Fitted (uses s at p e i w next)
-  uses_fit at p e i w next same takes asked before_fit fill =
+  uses_fit at p e i w next same takes asked right_one before_fit fill =
       let before : List NamedPoint = prep s e (0 ∷ at) w.scope (row_at at 0 ∷ []) in
       let q : NamedPoint = point (row_at at 0) p i (with_held s e (0 ∷ at) w.scope) next in
       let inner : Filling before = left before (q ∷ []) fill in
       one_more before q (before_fit inner)
       (fitted q (held s e (0 ∷ at)) w.scope (subst (λ ts. Pairs fit ts (held s e (0 ∷ at))) (sym same) (held_fit e (0 ∷ at) w.scope (row_at at 0 ∷ []) inner))
-      (held_count s e (0 ∷ at) ∙ sym takes) refl asked)
+      (held_count s e (0 ∷ at) ∙ sym takes) refl asked right_one)
 
   used : (at : Place) (p : Pos) (e : TypedTree) (i : Instruction) (w : Around) (next : List PointName) → types_at of truth i ≡ types of truth e → taken i ≡ waiting e
-      → InstructionFits ask alone single i → CallsOnly ask e → Filling (uses s at p e i w next) → Fitted (uses s at p e i w next)
-  used at p e i w next same takes asked calls = uses_fit at p e i w next same takes asked (prep_fit e (0 ∷ at) w.scope (row_at at 0 ∷ []) calls)
+      → InstructionFits ask alone single i → RightFits fit truth i w.scope → CallsOnly ask e → Filling (uses s at p e i w next) → Fitted (uses s at p e i w next)
+  used at p e i w next same takes asked right_one calls = uses_fit at p e i w next same takes asked right_one (prep_fit e (0 ∷ at) w.scope (row_at at 0 ∷ []) calls)
 
   stored : (at : Place) (p : Pos) (e : TypedTree) (i : Instruction) (w : Around) (next : List PointName) → types_at of truth i ≡ types of truth e → taken i ≡ waiting e
-      → InstructionFits ask alone single i → SourceFits ask May e → Filling (uses s at p e i w next) → Fitted (uses s at p e i w next)
-  stored at p e i w next same takes asked source = uses_fit at p e i w next same takes asked (source_fit e (0 ∷ at) w.scope (row_at at 0 ∷ []) source)
+      → InstructionFits ask alone single i → RightFits fit truth i w.scope → SourceFits ask May e → Filling (uses s at p e i w next) → Fitted (uses s at p e i w next)
+  stored at p e i w next same takes asked right_one source = uses_fit at p e i w next same takes asked right_one (source_fit e (0 ∷ at) w.scope (row_at at 0 ∷ []) source)
 
   -- two expressions at some places, the first one first, and a point that uses both
   two_fit : (x y : Place) (a b : TypedTree) (scope : List ℕ) (k l : List PointName) (q : NamedPoint)
       → q.scope ≡ with_held s b y (with_held s a x scope) → waiting a + waiting b ≡ taken q.instr → types_at of truth q.instr ≡ types of truth b ++ types of truth a
-      → InstructionFits ask alone single q.instr → (Filling (prep s a x scope k) → Fitted (prep s a x scope k))
+      → InstructionFits ask alone single q.instr → RightFits fit truth q.instr scope → (Filling (prep s a x scope k) → Fitted (prep s a x scope k))
       → (Filling (prep s b y (with_held s a x scope) l) → Fitted (prep s b y (with_held s a x scope) l))
       → Filling ((prep s a x scope k ++ prep s b y (with_held s a x scope) l) ++ q ∷ []) → Fitted ((prep s a x scope k ++ prep s b y (with_held s a x scope) l) ++ q ∷ [])
-  two_fit x y a b scope k l q is takes same asked first_fit second_fit fill =
+  two_fit x y a b scope k l q is takes same asked right_one first_fit second_fit fill =
       let first : List NamedPoint = prep s a x scope k in
       let second : List NamedPoint = prep s b y (with_held s a x scope) l in
       let inner : Filling (first ++ second) = left (first ++ second) (q ∷ []) fill in
@@ -254,7 +259,7 @@ module _ (fit : ℕ → ℕ → Type 0) (of : ℕ → ℕ) (truth : ℕ) (ask al
       (fitted q (held s b y ++ held s a x) scope
       (subst (λ ts. Pairs fit ts (held s b y ++ held s a x)) (sym same)
       (two_held a b x y (held_fit a x scope k (left first second inner)) (held_fit b y (with_held s a x scope) l (right first second inner))))
-      (omega (arith, one, two, long, takes)) (is ∙ sym (append_assoc (held s b y) (held s a x) scope)) asked)
+      (omega (arith, one, two, long, takes)) (is ∙ sym (append_assoc (held s b y) (held s a x) scope)) asked right_one)
 
   none_taken : (ys : List ℕ) → Pairs fit [] (take 0 ys)
   none_taken [] = tt
@@ -262,12 +267,12 @@ module _ (fit : ℕ → ℕ → Type 0) (of : ℕ → ℕ) (truth : ℕ) (ask al
 
   ends_fit : (at : Place) (row : ℕ) (p : Pos) (xs scope : List ℕ) (k : List PointName) → Fitted (ends at row p xs scope k)
   ends_fit at row p [] scope k = tt
-  ends_fit at row p (x ∷ xs) scope k = ((tt, none_taken (from x scope)), ends_fit at (suc row) p xs (drop 1 (from x scope)) k)
+  ends_fit at row p (x ∷ xs) scope k = ((tt, none_taken (from x scope), tt), ends_fit at (suc row) p xs (drop 1 (from x scope)) k)
 
   last_fit : (at : Place) (row : ℕ) (p q : Pos) (xs scope formals : List ℕ) (finish : PointName)
       → Fitted (ends at row p xs scope (finish ∷ []) ++ point finish q Finish formals [] ∷ [])
   last_fit at row p q xs scope formals finish =
-      one_more (ends at row p xs scope (finish ∷ [])) (point finish q Finish formals []) (ends_fit at row p xs scope (finish ∷ [])) (tt, none_taken formals)
+      one_more (ends at row p xs scope (finish ∷ [])) (point finish q Finish formals []) (ends_fit at row p xs scope (finish ∷ [])) (tt, none_taken formals, tt)
 
   -- ---- statements
 
@@ -284,44 +289,44 @@ module _ (fit : ℕ → ℕ → Type 0) (of : ℕ → ℕ) (truth : ℕ) (ask al
     laid_fit (typed.More a rest) at w k (first, second) =
         let behind : List NamedPoint = laid s rest (1 ∷ at) (with_scope (declared a) w) k in
         joined (laid s a (0 ∷ at) w (entry behind k)) behind (laid_fit a (0 ∷ at) w (entry behind k) first) (laid_fit rest (1 ∷ at) (with_scope (declared a) w) k second)
-    laid_fit (Declare p x v) at w k fits = stored at p v (instruction.Declare x v) w k refl refl fits (value_may v fits)
+    laid_fit (Declare p x v) at w k fits = stored at p v (instruction.Declare x v) w k refl refl fits tt (value_may v fits)
     laid_fit (Assign p target e) at w k (target_fits, source) =
         two_fit (1 ∷ at) (0 ∷ at) e target w.scope _ (row_at at 0 ∷ [])
-        (point (row_at at 0) p (instruction.Assign target e) (with_held s target (0 ∷ at) (with_held s e (1 ∷ at) w.scope)) k) refl refl refl (target_fits, source)
+        (point (row_at at 0) p (instruction.Assign target e) (with_held s target (0 ∷ at) (with_held s e (1 ∷ at) w.scope)) k) refl refl refl (target_fits, source) tt
         (source_fit e (1 ∷ at) w.scope _ (stored_may target e source)) (prep_fit target (0 ∷ at) (with_held s e (1 ∷ at) w.scope) (row_at at 0 ∷ []) target_fits)
-    laid_fit (Skip p) at w k fits = λ fill. ((tt, none_taken w.scope), tt)
-    laid_fit (typed.Call p sub actuals) at w k fits = used at p actuals (instruction.Call sub actuals None) w k refl refl fits fits
-    laid_fit (Output p text line) at w k fits = used at p text (instruction.Output text line) w k refl refl fits fits
-    laid_fit (Input p target) at w k fits = used at p target (instruction.Input target) w k refl refl fits fits
-    laid_fit (Release p m) at w k fits = used at p m (instruction.Release m) w k refl refl fits fits
+    laid_fit (Skip p) at w k fits = λ fill. ((tt, none_taken w.scope, tt), tt)
+    laid_fit (typed.Call p sub actuals) at w k fits = used at p actuals (instruction.Call sub actuals None) w k refl refl fits tt fits
+    laid_fit (Output p text line) at w k fits = used at p text (instruction.Output text line) w k refl refl fits tt fits
+    laid_fit (Input p target) at w k fits = used at p target (instruction.Input target) w k refl refl fits tt fits
+    laid_fit (Release p m) at w k fits = used at p m (instruction.Release m) w k refl refl fits tt fits
     laid_fit (If branches otherwise) at w k (first, second) =
         let behind : List NamedPoint = laid s otherwise (1 ∷ at) w k in
         joined (laid_branches s branches (0 ∷ at) w k (entry behind k)) behind (branches_fit branches (0 ∷ at) w k (entry behind k) first) (laid_fit otherwise (1 ∷ at) w k second)
     laid_fit (Case p e whens) at w k (first, second) =
         let behind : List (List NamedPoint) = laid_whens s whens (1 ∷ at) w k in
         joined (uses s at p e (instruction.Choose e (choices_of whens)) w (flat_map (λ ps. entry ps k) behind)) (flat_map (λ ps. ps) behind)
-        (used at p e (instruction.Choose e (choices_of whens)) w (flat_map (λ ps. entry ps k) behind) refl refl first first) (whens_fit whens (1 ∷ at) w k second)
+        (used at p e (instruction.Choose e (choices_of whens)) w (flat_map (λ ps. entry ps k) behind) refl refl first tt first) (whens_fit whens (1 ∷ at) w k second)
     laid_fit (Loop stmts) at w k fits = laid_fit stmts (0 ∷ at) (within_loop k w) (entry (laid s stmts (0 ∷ at) (within_loop k w) k) k) fits
     laid_fit (While p e stmts) at w k (first, second) =
         let turn : List PointName = entry (prep s e (0 ∷ at) w.scope (row_at at 0 ∷ [])) (row_at at 0 ∷ []) in
         let inner : List NamedPoint = laid s stmts (1 ∷ at) (within_loop k w) turn in
-        joined (uses s at p e (instruction.Test e) w (entry inner turn ++ k)) inner (used at p e (instruction.Test e) w (entry inner turn ++ k) refl refl first first)
+        joined (uses s at p e (instruction.Test e) w (entry inner turn ++ k)) inner (used at p e (instruction.Test e) w (entry inner turn ++ k) refl refl first tt first)
         (laid_fit stmts (1 ∷ at) (within_loop k w) turn second)
     laid_fit (For p x reversed low high stmts) at w k (first, second, third) =
         let next : List PointName = row_at at 1 ∷ [] in
         joined _ _
         (two_fit (0 ∷ at) (1 ∷ at) low high w.scope _ (row_at at 0 ∷ [])
-        (point (row_at at 0) p (instruction.Start x reversed low high) (with_held s high (1 ∷ at) (with_held s low (0 ∷ at) w.scope)) next) refl refl refl (first, second)
+        (point (row_at at 0) p (instruction.Start x reversed low high) (with_held s high (1 ∷ at) (with_held s low (0 ∷ at) w.scope)) next) refl refl refl (first, second) tt
         (prep_fit low (0 ∷ at) w.scope _ first) (prep_fit high (1 ∷ at) (with_held s low (0 ∷ at) w.scope) (row_at at 0 ∷ []) second))
-        (λ fill. ((tt, none_taken (x ∷ w.scope)), laid_fit stmts (2 ∷ at) (with_scope (x ∷ []) (within_loop k w)) next third fill.1))
+        (λ fill. ((tt, none_taken (x ∷ w.scope), tt), laid_fit stmts (2 ∷ at) (with_scope (x ∷ []) (within_loop k w)) next third fill.1))
     laid_fit (Exit p e) at w k fits =
         let out : List NamedPoint = ends at 1 p w.in_loop w.scope w.leave in
         joined (uses s at p e (instruction.LeaveLoop e) w (entry out w.leave ++ unless_empty e k)) out
-        (used at p e (instruction.LeaveLoop e) w (entry out w.leave ++ unless_empty e k) refl refl fits fits) (λ fill. ends_fit at 1 p w.in_loop w.scope w.leave)
+        (used at p e (instruction.LeaveLoop e) w (entry out w.leave ++ unless_empty e k) refl refl fits tt fits) (λ fill. ends_fit at 1 p w.in_loop w.scope w.leave)
     laid_fit (Return p v) at w k fits =
         let finish : PointName = row_at at (suc (length w.in_all)) in
         joined (uses s at p v (instruction.Hold v) w (entry (closing at 1 p w) [])) (closing at 1 p w)
-        (stored at p v (instruction.Hold v) w (entry (closing at 1 p w) []) refl refl fits (value_may v fits)) (λ fill. last_fit at 1 p p w.in_all w.scope w.formals finish)
+        (stored at p v (instruction.Hold v) w (entry (closing at 1 p w) []) refl refl fits tt (value_may v fits)) (λ fill. last_fit at 1 p p w.in_all w.scope w.formals finish)
     laid_fit (Block n stmts end) at w k fits =
         let out : List NamedPoint = ends at 0 end (ending s stmts) (reverse (declared stmts) ++ w.scope) k in
         joined (laid s stmts (0 ∷ at) (within_block (ending s stmts) w) (entry out k)) out
@@ -341,7 +346,7 @@ module _ (fit : ℕ → ℕ → Type 0) (of : ℕ → ℕ) (truth : ℕ) (ask al
     branch_fit (Branch p e stmts) at w k otherwise (first, second) =
         let inner : List NamedPoint = laid s stmts (1 ∷ at) w k in
         joined (uses s at p e (instruction.Test e) w (entry inner k ++ otherwise)) inner
-        (used at p e (instruction.Test e) w (entry inner k ++ otherwise) refl refl first first) (laid_fit stmts (1 ∷ at) w k second)
+        (used at p e (instruction.Test e) w (entry inner k ++ otherwise) refl refl first tt first) (laid_fit stmts (1 ∷ at) w k second)
     branch_fit _ at w k otherwise fits = λ fill. tt
 
     whens_fit : (c : TypedCode) (at : Place) (w : Around) (k : List PointName) → AlternativesFit ask alone single c
@@ -355,7 +360,7 @@ module _ (fit : ℕ → ℕ → Type 0) (of : ℕ → ℕ) (truth : ℕ) (ask al
     when_fit _ at w k fits = λ fill. tt
 
   end_fit : (sub : TypedSub) (c : Bool) → Fitted (if c then function_end sub else procedure_end s sub)
-  end_fit sub true = ((tt, none_taken (scope_at_end sub)), tt)
+  end_fit sub true = ((tt, none_taken (scope_at_end sub), tt), tt)
   end_fit sub false = last_fit [] 0 sub.end sub.end (ending s sub.body) (scope_at_end sub) (reverse sub.formals) (row_at [] (length (ending s sub.body)))
 
   pub sub_fit : (sub : TypedSub) → CodeFits ask alone single sub.body → Filling (sub_points s sub) → Fitted (sub_points s sub)

@@ -1,6 +1,6 @@
 -- The types of the values that wait, and of the temporaries in which they do. `of` says of which type the result of a
 -- function is, and `truth` is that of truth values.
-use Rattle.std.specs.Prelude.{ℕ, List, [], ◌∷◌, ◌++◌, take, Some, if◌then◌else◌}
+use Rattle.std.specs.Prelude.{◌≡◌, ℕ, List, [], ◌∷◌, ◌++◌, take, drop, Some, None, if◌then◌else◌}
 use Rattle.typed_tree.specs.Trees.{TypedTree, Name, Component, Designated, Element, Image, Parens, Unary, Binary, Short, IsNull, Aggregate, Alike, New}
 use Rattle.typed_tree.specs.Trees as typed
 use Rattle.flow_paths.specs.Instructions.{Instruction, Declare, Assign, Call, Output, Input, Release, Test, Choose, Start, Evaluate, LeaveLoop, Hold}
@@ -56,6 +56,13 @@ FillsFit fit of truth (Call sub actuals (Some t)) = fit (of sub) t
 FillsFit fit of truth (Evaluate t e (Some op)) = fit truth t
 FillsFit fit of truth i = Unit {0}
 
+-- A right operand finds the temporary of the left one.
+abbrev pub RightFits : (fit : ℕ → ℕ → Type 0) (truth : ℕ) → Instruction → List ℕ → Type 0
+RightFits fit truth (Evaluate t e None) left = (x : ℕ) × (rest : List ℕ) × (left ≡ x ∷ rest) × fit truth x
+RightFits fit truth i left = Unit {0}
+
 -- A point takes temporaries that fit, and its instruction is as asked.
 abbrev pub IsFitted : (fit : ℕ → ℕ → Type 0) (of : ℕ → ℕ) (truth : ℕ) (ask alone single : ℕ → Type 0) → NamedPoint → Type 0
-IsFitted fit of truth ask alone single p = InstructionFits ask alone single p.instr × Pairs fit (types_at of truth p.instr) (take (taken p.instr) p.scope)
+IsFitted fit of truth ask alone single p =
+    InstructionFits ask alone single p.instr × Pairs fit (types_at of truth p.instr) (take (taken p.instr) p.scope)
+    × RightFits fit truth p.instr (drop (taken p.instr) p.scope)

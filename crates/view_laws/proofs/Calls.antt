@@ -65,10 +65,10 @@ AreViewCalls program owns =
     (sub : FlowSub) → Has program.subs sub → (p : FlowPoint) → Has sub.points p → (n : ℕ) (actuals : TypedTree) (result : Option ℕ)
     → p.instr ≡ Call n actuals result → IsViewCall program owns n actuals
 
-module _ (s : Typing) (owns : OwnsByShape s.table) (procedure : Bool) where
+module _ (s : Typing) (owns : OwnsByShape s.table) (parts_named : PartsAreNamed s.table) (procedure : Bool) where
   passed_reads : (x : ℕ) (m : Mode) (owning : Bool) (e : TypedTree) → owning_of s owns procedure x ≡ owning → is_anonymous (view_of s x) ≡ false → IsPassedTo s x m e
       → AreReads (head_of s owns procedure m owning e)
-  passed_reads x mode.In owning e is unseen passed = head_of_reads s owns procedure x mode.In owning e is unseen passed
+  passed_reads x mode.In owning e is unseen passed = head_of_reads s owns procedure parts_named x mode.In owning e is unseen passed
   passed_reads x mode.Out owning e is unseen place = index_reads s owns e place.0 place.1
   passed_reads x mode.InOut owning e is unseen place = index_reads s owns e place.0 place.1
 
@@ -78,8 +78,8 @@ module _ (s : Typing) (owns : OwnsByShape s.table) (procedure : Bool) where
       subst AreReads (sym (head_values_are s owns procedure x e (map (way_to s owns procedure) formals) rest))
       (both_reads (head_of s owns procedure (object_at s x).mode (owning_of s owns procedure x) e) (actual_values s (map (way_to s owns procedure) formals) rest)
       (passed_reads x (object_at s x).mode (owning_of s owns procedure x) e refl (unseen x (inl refl)) passed.0) (values_read formals rest (λ y has. unseen y (inr has)) passed.1))
-  values_read [] actuals unseen passed = values_are_read s owns procedure [] actuals unseen passed
-  values_read (x ∷ formals) actuals unseen passed = values_are_read s owns procedure (x ∷ formals) actuals unseen passed
+  values_read [] actuals unseen passed = values_are_read s owns procedure parts_named [] actuals unseen passed
+  values_read (x ∷ formals) actuals unseen passed = values_are_read s owns procedure parts_named (x ∷ formals) actuals unseen passed
 
 module _ (program : FlowProgram) (owns : OwnsByShape program.table) (parts_named : PartsAreNamed program.table) where
   -- A call reads what its actuals name, and what is copied back to is no observer.
@@ -94,7 +94,7 @@ module _ (program : FlowProgram) (owns : OwnsByShape program.table) (parts_named
       (sym (ap (λ ways. actual_values (flow_typing program) ways actuals ++ actual_acts ways actuals) (passes_to program n no_traversal)))
       (λ a has. elim (Has-append_cases values copies a has) [
         | inl value ↦ reads_good (flow_typing program) owns parts_named values xs
-            (values_read (flow_typing program) owns procedure formals actuals unseen call.actuals_stay) a value
+            (values_read (flow_typing program) owns parts_named procedure formals actuals unseen call.actuals_stay) a value
         | inr copy ↦ copies_good (flow_typing program) owns parts_named procedure formals actuals xs call.kinds call.actuals_stay named a copy
       ])
 

@@ -1,13 +1,13 @@
 -- Of a program whose subprograms are in order: formals differ, belong to no package, and are in scope at
 -- first; what is passed is in scope; and where a subprogram ends, formals of its own alone are.
-use Rattle.std.proofs.Common.{◌≡◌, refl, sym, ap, ◌∙◌, subst, inl, inr, ℕ, suc, true, ◌||◌, List, [], ◌∷◌, drop, Option, is_some}
+use Rattle.std.proofs.Common.{◌≡◌, refl, sym, ap, ◌∙◌, subst, inl, inr, ℕ, suc, true, false, ◌||◌, List, [], ◌∷◌, drop, Option, is_some}
 use Rattle.std.specs.Prelude.{reverse}
 use Rattle.spark_base.specs.Lists.{Has}
 use Rattle.spark_base.proofs.Lists.{Has-append_left, Has-append_right}
 use Rattle.place_names.specs.declared.act.Mode.{Mode}
 use Rattle.place_names.specs.declared.act.Mode.TheVariants as mode
 use Rattle.type_definitions.specs.Types.{Table, full, is_scalar, is_owning}
-use Rattle.typed_tree.specs.Trees.{TypedTree, Name, More}
+use Rattle.typed_tree.specs.Trees.{TypedTree, More}
 use Rattle.typed_tree.specs.Programs.{TypedSub, TypedProgram}
 use Rattle.flow_paths.specs.declared.report.Effects.{Effects}
 use Rattle.flow_paths.specs.Instructions.{Instruction, Declare, Call, Finish}
@@ -16,7 +16,7 @@ use Rattle.flow_paths.specs.Points.{FlowPoint}
 use Rattle.flow_paths.specs.Laid.{FlowSub, FlowProgram, NamedSub, all_named, named_sub, sub_temporaries, declared_within, typing_of, flow_typing, flow_program, flow_named}
 use Rattle.flow_paths.specs.Scopes.{taken, is_within}
 use Rattle.machine.specs.States.{sub_of}
-use Rattle.typed_laws.specs.Needed.{Matches, Stays}
+use Rattle.typed_laws.specs.Needed.{Matches}
 use Rattle.soundness.specs.Typed.{OwnsByShape}
 use Rattle.soundness.specs.Sound.{Accepted, IsNamedSub, IsRunnable}
 use Rattle.soundness.specs.Ready.{IsActualBy, AreActuals}
@@ -33,7 +33,7 @@ use Rattle.ready_laws.proofs.Subs.{setting_from, body_at, one_named}
 use Rattle.ready_laws.proofs.Ready as ordered
 use Rattle.ready_laws.proofs.Ready.{seen_has}
 use Rattle.viewed_steps.specs.Sound.{IsScalarObject}
-use Rattle.viewed_steps.specs.Ready.{is_shown_type, AreDifferent, ArePassed, IsCopyOf, IsActualTo, AreActualsTo, IsCalled, AreCalled}
+use Rattle.viewed_steps.specs.Ready.{is_shown_type, AreDifferent, ArePassed, IsActualTo, AreActualsTo, IsCalled, AreCalled}
 use Rattle.viewed_steps.proofs.Placed.{within_on}
 use Rattle.view_laws.specs.Program.{IsPassedTo, ArePassedTo, PassActuals}
 use Rattle.view_laws.proofs.Formals.{first_scope, has_within, has_reversed, once_different, passed_named}
@@ -48,13 +48,8 @@ module _ (s : Typing) where
   plain_place : (x : ℕ) (e : TypedTree) → IsScalarObject s x → IsPassedTo s x mode.InOut e → IsActualBy s mode.InOut e
   plain_place x e plain (t, place, fits, which) = (t, place, scalar_back t (object_at s x).of fits plain)
 
-  copy_stays : (x : ℕ) (e : TypedTree) → IsScalarObject s x → IsCopyOf s x e → Stays s e
-  unfolding Stays
-  copy_stays x (Name p y path u) plain (leads, fits) = (leads, scalar_back u (object_at s x).of fits plain)
-  copy_stays x e plain never = absurd never
-
   plain_actual : OwnsByShape s.table → (x : ℕ) (m : Mode) (e : TypedTree) → IsScalarObject s x → IsPassedTo s x m e → IsActualBy s m e
-  plain_actual owns x mode.In e plain actual = elim (actual.0 (plain_type s owns (object_at s x).of plain)) [ inl value ↦ value.1 | inr copy ↦ copy_stays x e plain copy.1 ]
+  plain_actual owns x mode.In e plain actual = elim (actual.0 (plain_type s owns (object_at s x).of plain)) [ inl value ↦ value.1 | inr (many, named, copy) ↦ absurd (let no : true ≡ false = sym plain ∙ many in cc) ]
   plain_actual owns x mode.Out e plain actual = plain_place x e plain actual
   plain_actual owns x mode.InOut e plain actual = plain_place x e plain actual
 

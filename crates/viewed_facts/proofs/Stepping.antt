@@ -52,6 +52,7 @@ use Rattle.soundness.specs.Seen.{home, seen, IsNear}
 use Rattle.soundness.specs.Typed.{Kept}
 use Rattle.soundness.specs.Sound.{Stage, facts_of, AreStages, IsRunnable, IsNoCall, IsTrap, InScope, IsNamedSub, IsAtPoint, view_of as view_here}
 use Rattle.typed_laws.specs.Needed.{IsFine, Source, FirstSource, FirstWrites, FirstStays, Stays, Returns}
+use Rattle.soundness.proofs.Contents.{bool_cases}
 use Rattle.soundness.proofs.Scalars.{after_append, acts, acts_append}
 use Rattle.soundness.proofs.Taking.{Takes, takes_as, takes_both, nothing_more, no_takes}
 use Rattle.soundness.proofs.Eased.{eased}
@@ -294,12 +295,16 @@ module _ (table : Table) (typed : TypedProgram) (effects : Effects) (input : Lis
           (λ (st : steps.Stored) m. steps.leaking_goes (checks_at s (steps.target_pos at target) m st.place) (steps.goes at (stored s st.place st.words m) 0)))
       assigned_main = turning.assigned_main table typed effects input ready state top below more_frames rest named p frames deep stages running awaiting of_sub at_point path views viewed_before kept scope holds placed_before above exact_before going no_calls
 
-      abbrev holds_value : (e : TypedTree) (of : ℕ) → p.instr ≡ Hold (More e NoMore) → named.sub.result ≡ Some of
+      abbrev holds_value : (e : TypedTree) (of : ℕ) → p.instr ≡ Hold (More e NoMore) → named.sub.result ≡ Some of → is_anonymous (full s.table of) ≡ false
           → (IsNamed s.table of → AllowsAll facts_now (acts (acts_in s e)) → AllKeep (is_fixed s) (acts (acts_in s e))
           → ExactTo (steps.here at) ready.accepted.settled state.leaks [] other alone (keeps s ready.accepted.settled ready.owns) index_law ready.owns views
           ready.class.parts_named elsewhere away (after (acts (acts_in s e)) facts_now) (steps.taken_by at of e (start at)))
           → AllowsAll facts_now (acts_by (Hold (More e NoMore))) → AllKeep (is_fixed s) (acts_by (Hold (More e NoMore))) → Exacts (Hold (More e NoMore))
       holds_value = turning.holds_value table typed effects input ready state top below more_frames rest named p frames deep stages running awaiting of_sub at_point path views viewed_before kept scope holds placed_before above exact_before going no_calls
+
+      abbrev returns_view : (e : TypedTree) (of : ℕ) → p.instr ≡ Hold (More e NoMore) → named.sub.result ≡ Some of → Source s of e → is_anonymous (full s.table of) ≡ true
+          → Exacts (Hold (More e NoMore))
+      returns_view = turning.returns_view table typed effects input ready state top below more_frames rest named p frames deep stages running awaiting of_sub at_point path views viewed_before kept scope holds placed_before above exact_before going no_calls
 
       -- ---- what a function gave, alone
 
@@ -423,15 +428,19 @@ module _ (table : Table) (typed : TypedProgram) (effects : Effects) (input : Lis
                   (assigns_view r y (is ∙ ap (λ z. Assign z call) target_is) (ap (λ z. is_anonymous (full s.table z)) whole.1 ∙ view)))
             ]
 
-        returns_alone : (of : ℕ) → p.instr ≡ Hold (More call NoMore) → named.sub.result ≡ Some of
+        returns_alone : (of : ℕ) → p.instr ≡ Hold (More call NoMore) → named.sub.result ≡ Some of → Source s of call
             → AllowsAll facts_now (acts_by (Hold (More call NoMore))) → AllKeep (is_fixed s) (acts_by (Hold (More call NoMore))) → Exacts (Hold (More call NoMore))
         unfolding acts_in
-        returns_alone of is result allowed_there keep = holds_value call of is result (λ type_there allows keeps. call_exact of type_there) allowed_there keep
+        returns_alone of is result source allowed_there keep = elim (bool_cases (is_anonymous (full s.table of))) [
+          | inl view ↦ returns_view call of is result source view
+          | inr owner ↦ holds_value call of is result owner (λ type_there allows keeps. call_exact of type_there) allowed_there keep
+        ]
 
         -- the value is of what the function returns
-        result_there : p.instr ≡ Hold (More call NoMore) → (r : Option ℕ) → named.sub.result ≡ r → Returns s r (More call NoMore) → (of : ℕ) × (named.sub.result ≡ Some of)
+        result_there : p.instr ≡ Hold (More call NoMore) → (r : Option ℕ) → named.sub.result ≡ r → Returns s r (More call NoMore)
+            → (of : ℕ) × (named.sub.result ≡ Some of) × Source s of call
         result_there is None result none = (let never : ◌≡◌ {A = TypedTree} (More call NoMore) NoMore = none in cc)
-        result_there is (Some of) result there = (of, result)
+        result_there is (Some of) result (e, same, source) = (of, result, subst (Source s of) (sym (same_first call e same)) source)
 
         alone_exact : (p.instr ≡ Finish → ⊥) → AllowsAll facts_now (acts_by p.instr) → AllKeep (is_fixed s) (acts_by p.instr) → Exacts p.instr
         alone_exact end allowed_there keep = elim taken_alone.8 [
@@ -440,7 +449,7 @@ module _ (table : Table) (typed : TypedProgram) (effects : Effects) (input : Lis
           | inr (inr is) ↦ (
               let result = result_there is named.sub.result refl (subst (IsFine s named.sub.result) is fine_here) in
               subst Exacts (sym is)
-              (returns_alone result.0 is result.1 (subst (λ i. AllowsAll facts_now (acts_by i)) is allowed_there) (subst (λ i. AllKeep (is_fixed s) (acts_by i)) is keep)))
+              (returns_alone result.0 is result.1 result.2 (subst (λ i. AllowsAll facts_now (acts_by i)) is allowed_there) (subst (λ i. AllKeep (is_fixed s) (acts_by i)) is keep)))
         ]
 
       -- ---- what is taken is scalar
@@ -688,11 +697,13 @@ module _ (table : Table) (typed : TypedProgram) (effects : Effects) (input : Lis
         holds_plain : (e : TypedTree) (of : ℕ) → p.instr ≡ Hold (More e NoMore) → named.sub.result ≡ Some of → Source s of e
             → AllowsAll facts_now (acts_by (Hold (More e NoMore))) → AllKeep (is_fixed s) (acts_by (Hold (More e NoMore))) → Exacts (Hold (More e NoMore))
         unfolding GivesPlainly waits_in
-        holds_plain e of is result source allowed_there keep =
-            holds_value e of is result (λ type_there allows keeps.
-            source_exact easy ready.accepted.settled ready.owns other alone in_formals views ready.class.parts_named none_taken refl refl elsewhere away Excused given_words of e type_there source (subst (TakesScalars s) is plain.1).0
-            (takes_as (taken (Hold (More e NoMore))) (waits_in e) given_words [] (nothing_more (waits_in e)) (takes_of plain.0 (Hold (More e NoMore)) is))
-            facts_now (good plain) allows keeps exact) allowed_there keep
+        holds_plain e of is result source allowed_there keep = elim (bool_cases (is_anonymous (full s.table of))) [
+          | inl view ↦ returns_view e of is result source view
+          | inr owner ↦ holds_value e of is result owner (λ type_there allows keeps.
+              source_exact easy ready.accepted.settled ready.owns other alone in_formals views ready.class.parts_named none_taken refl refl elsewhere away Excused given_words of e type_there source (subst (TakesScalars s) is plain.1).0
+              (takes_as (taken (Hold (More e NoMore))) (waits_in e) given_words [] (nothing_more (waits_in e)) (takes_of plain.0 (Hold (More e NoMore)) is))
+              facts_now (good plain) allows keeps exact) allowed_there keep
+        ]
 
         returns : (v : TypedTree) (r : Option ℕ) → p.instr ≡ Hold v → named.sub.result ≡ r → Returns s r v → AllowsAll facts_now (acts_by (Hold v))
             → AllKeep (is_fixed s) (acts_by (Hold v)) → Exacts (Hold v)

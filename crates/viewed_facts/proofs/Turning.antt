@@ -49,6 +49,12 @@ use Rattle.viewed_steps.proofs.Waiting.{StandsBetween, beside_them, handed}
 use Rattle.viewed_steps.proofs.Standing as standing
 use Rattle.viewed_steps.proofs.Packages as packages
 use Rattle.viewed_steps.proofs.Innermost as innermost
+use Rattle.viewed_steps.proofs.Giving as giving
+use Rattle.viewed_facts.proofs.Evaluated.{quiet_on}
+use Rattle.machine.specs.Words as machine
+use Rattle.typed_laws.specs.Needed.{Source}
+use Rattle.type_definitions.specs.Types.{full}
+use Rattle.flow_paths.specs.Objects.{is_anonymous}
 use Rattle.exact_facts.proofs.Checks.{none_made}
 use Rattle.viewed_facts.specs.Exact.{IsDefiniteOf, IsExact}
 use Rattle.viewed_facts.proofs.Instructions.{ExactOn, waits_exact}
@@ -189,14 +195,14 @@ module _ (table : Table) (typed : TypedProgram) (effects : Effects) (input : Lis
           (λ st m there. there) on
 
       -- a return with a value
-      pub holds_value : (e : TypedTree) (of : ℕ) → p.instr ≡ Hold (More e NoMore) → named.sub.result ≡ Some of
+      pub holds_value : (e : TypedTree) (of : ℕ) → p.instr ≡ Hold (More e NoMore) → named.sub.result ≡ Some of → is_anonymous (full s.table of) ≡ false
           → (IsNamed s.table of → AllowsAll facts_now (acts (acts_in s e)) → AllKeep (is_fixed s) (acts (acts_in s e))
           → ExactTo (steps.here at) ready.accepted.settled state.leaks [] other alone (keeps s ready.accepted.settled ready.owns) index_law ready.owns views
           ready.class.parts_named elsewhere away (after (acts (acts_in s e)) facts_now) (steps.taken_by at of e (start at)))
           → AllowsAll facts_now (acts_by (Hold (More e NoMore))) → AllKeep (is_fixed s) (acts_by (Hold (More e NoMore))) → Exacts (Hold (More e NoMore))
       unfolding acts_in
-      holds_value e of is result value_exact allowed_there keep =
-          let type_there : IsNamed s.table of = plain_named s.table of (innermost.named_result table typed effects input ready state top below more_frames rest named p frames deep stages running awaiting of_sub at_point path views viewed_before kept scope holds placed_before above of result) in
+      holds_value e of is result owner value_exact allowed_there keep =
+          let type_there : IsNamed s.table of = plain_named s.table of owner in
           let same : acts_by (Hold (More e NoMore)) ≡ acts (acts_in s e) =
           ap (λ r. acts (flow.returned_acts s r (More e NoMore))) result
           ∙ ap (λ b. acts (if b then flow.source_acts s e (λ m. act.Give m (flow.gives_variable s (Some of))) else acts_in s e ++ []))
@@ -212,4 +218,22 @@ module _ (table : Table) (typed : TypedProgram) (effects : Effects) (input : Lis
           (waits_exact easy ready.accepted.settled ready.owns other alone in_formals views ready.class.parts_named none_taken refl refl elsewhere away Excused
           (after (acts (acts_in s e)) facts_now) (steps.taken_by at of e (start at))
           (value_exact type_there (subst (AllowsAll facts_now) same allowed_there) (subst (AllKeep (is_fixed s)) same keep))
+          (λ ws m. Goes (handed_over program input at.point state top.frame below.stage.frame rest of ws m)) (λ ws m still. (still, tt)))))
+
+      -- a return of a view
+      pub returns_view : (e : TypedTree) (of : ℕ) → p.instr ≡ Hold (More e NoMore) → named.sub.result ≡ Some of → Source s of e → is_anonymous (full s.table of) ≡ true
+          → Exacts (Hold (More e NoMore))
+      returns_view e of is result source view =
+          let quiet = giving.returns_quietly table typed effects input ready state top below more_frames rest named p frames deep stages running awaiting of_sub at_point path views viewed_before kept scope holds placed_before above e NoMore is of result source refl view in
+          let same : after (acts_by (Hold (More e NoMore))) facts_now ≡ facts_now = ap (λ i. after (acts_by i) facts_now) (sym is) ∙ quiet.1 in
+          let sub_result : (sub_of program top.frame.sub).result ≡ Some of =
+          ap (λ (z : FlowSub). z.result) (standing.sub_is table typed effects input ready state top older outer named p frames of_sub at_point) ∙ result in
+          subst (λ z. ExactAt z [] (turn at (Hold (More e NoMore)))) (sym same)
+          (subst (ExactAt facts_now []) (sym (hold_is program input at.point state top.frame below.stage.frame rest e NoMore of sub_result))
+          (eased_on facts_now [] (steps.taken_by at of e (start at))
+          (λ ws m. Goes (handed_over program input at.point state top.frame below.stage.frame rest of ws m))
+          (λ ws m. Goes (handed_over program input at.point state top.frame below.stage.frame rest of ws m)) (λ ws m on. on)
+          (waits_exact easy ready.accepted.settled ready.owns other alone in_formals views ready.class.parts_named none_taken refl refl elsewhere away Excused facts_now (steps.taken_by at of e (start at))
+          (quiet_on (steps.here at) ready.accepted.settled state.leaks [] other alone (keeps s ready.accepted.settled ready.owns) index_law ready.owns views ready.class.parts_named elsewhere away [] state.memory (λ ws. (z : machine.Word) × (ws ≡ z ∷ []) × giving.IsGivenBack table typed effects input ready state top below more_frames rest named p frames deep stages running awaiting of_sub at_point path views viewed_before kept scope holds placed_before above e NoMore is of result source refl view z) facts_now facts_now
+          (steps.taken_by at of e (start at)) quiet.2 refl exact)
           (λ ws m. Goes (handed_over program input at.point state top.frame below.stage.frame rest of ws m)) (λ ws m still. (still, tt)))))

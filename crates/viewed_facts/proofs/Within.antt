@@ -282,13 +282,13 @@ module _ (table : Table) (typed : TypedProgram) (effects : Effects) (input : Lis
         result_there None result none = (let never : ◌≡◌ {A = TypedTree} (More held NoMore) NoMore = none in cc)
         result_there (Some of) result (e, same, source) = (of, result, subst (Source s of) (sym (same_first held e same)) source)
 
-        returns : p.instr ≡ Hold (More held NoMore) → AllowsAll facts_now (acts_by (Hold (More held NoMore))) → AllKeep (is_fixed s) (acts_by (Hold (More held NoMore)))
+        returns : p.instr ≡ Hold (More held NoMore) → ((t : ℕ) → named.sub.result ≡ Some t → is_anonymous (full s.table t) ≡ false) → AllowsAll facts_now (acts_by (Hold (More held NoMore))) → AllKeep (is_fixed s) (acts_by (Hold (More held NoMore)))
             → Exacts (Hold (More held NoMore))
         unfolding types_taken
-        returns is allowed keep =
+        returns is plain allowed keep =
             let result = result_there named.sub.result refl (subst (IsFine s named.sub.result) is fine_here) in
             let fit : AreOfTypes s (types_taken s held) front = steps_within.values_fit table typed effects input ready state top below more_frames rest named p frames deep stages running awaiting of_sub at_point path views viewed_before kept scope holds placed_before above going taken_within (Hold (More held NoMore)) is in
-            turning.holds_value table typed effects input ready state top below more_frames rest named p frames deep stages running awaiting of_sub at_point path views viewed_before kept scope holds placed_before above exact_before going no_calls held result.0 is result.1
+            turning.holds_value table typed effects input ready state top below more_frames rest named p frames deep stages running awaiting of_sub at_point path views viewed_before kept scope holds placed_before above exact_before going no_calls held result.0 is result.1 (plain result.0 result.1)
             (λ type_there allows keeps. value_exact result.0 type_there result.2 [] front refl fit allows keeps) allowed keep
 
         pub within_exact : (p.instr ≡ Finish → ⊥) → AllowsAll facts_now (acts_by p.instr) → AllKeep (is_fixed s) (acts_by p.instr) → Exacts p.instr
@@ -296,5 +296,5 @@ module _ (table : Table) (typed : TypedProgram) (effects : Effects) (input : Lis
           | inl (y, is, owner) ↦ subst Exacts (sym is) (declares y is owner)
           | inr (inl (r, y, steps_there, u, is, place, scalar)) ↦ subst Exacts (sym is) (assigns r y steps_there u is scalar end place)
           | inr (inr (is, plain)) ↦ subst Exacts (sym is)
-              (returns is (subst (λ i. AllowsAll facts_now (acts_by i)) is allowed_there) (subst (λ i. AllKeep (is_fixed s) (acts_by i)) is keep))
+              (returns is plain (subst (λ i. AllowsAll facts_now (acts_by i)) is allowed_there) (subst (λ i. AllKeep (is_fixed s) (acts_by i)) is keep))
         ]
