@@ -25,7 +25,7 @@ use Rattle.typed_tree.specs.Trees.{TypedTree, Name, Component, Designated, Eleme
 use Rattle.typed_tree.specs.Programs.{TypedProgram}
 use Rattle.flow_paths.specs.declared.report.Effects.{Effects}
 use Rattle.flow_paths.specs.Instructions.{Call, Input}
-use Rattle.flow_paths.specs.Objects.{Typing, passing_by, passings, object_at, sub_at, is_variable, is_borrower, is_borrowing, traverses, is_formal, is_formal_kind, is_named_access, is_observer, is_anonymous, is_package_object, has_scope_end, view_of}
+use Rattle.flow_paths.specs.Objects.{Typing, Signature, passing_by, passings, object_at, sub_at, is_variable, is_borrower, is_borrowing, traverses, is_formal, is_formal_kind, is_named_access, is_observer, is_anonymous, is_package_object, has_scope_end, view_of}
 use Rattle.flow_paths.specs.Names.{selectors, name_of}
 use Rattle.flow_paths.specs.Acts.{placed, acts_in, acts_of, gives_variable, actual_values, actual_act, actual_acts}
 use Rattle.flow_paths.specs.Points.{NamedPoint, FlowPoint}
@@ -86,7 +86,7 @@ seen_none true given exclusive none other = cc
 seen_none false false exclusive none other = refl
 seen_none false true exclusive none other = ap not (other refl)
 
-any_there : {A : Type 0} (test : A → Bool) (xs : List A) (x : A) → Has xs x → test x ≡ true → list_any test xs ≡ true
+pub any_there : {A : Type 0} (test : A → Bool) (xs : List A) (x : A) → Has xs x → test x ≡ true → list_any test xs ≡ true
 any_there test [] x has is = absurd has
 any_there test (y ∷ xs) x (inl same) is = ap (λ b. b || list_any test xs) (ap test same ∙ is)
 any_there test (y ∷ xs) x (inr has) is = or_right (test y) (list_any test xs) (any_there test xs x has is)
@@ -301,7 +301,7 @@ module _ (table : Table) (typed : TypedProgram) (effects : Effects) (given : IsV
     unfixed a h m e =
         fixed_none (is_observer s m.root) (is_given s m.root) (is_exclusive s m.root) (is_nil m.sels) (changed_plain a h m e)
         (λ is. (let found = changed_formal a h m e is in
-            (own_exclusive m.root (changed_named a h m e).0 is found.0 found.1, flipped (is_nil m.sels) found.2)))
+        (own_exclusive m.root (changed_named a h m e).0 is found.0 found.1, flipped (is_nil m.sels) found.2)))
 
     -- nor is what a call of a procedure lends
     pub unlent : (a : Placed) → Has at.acts a → (k m : PlaceName) (how : Mode) (owning access : Bool) → a.act ≡ act.Actual k how owning access → lends a.act ≡ Some m
@@ -412,8 +412,8 @@ module _ (table : Table) (typed : TypedProgram) (effects : Effects) (given : IsV
 
     -- the formals of a traversal function are of mode `in`
     through_modes : (n : ℕ) (actuals : TypedTree) → IsThroughCall program n actuals → (x : ℕ) → Has (sub_of program n).formals x → (object_at s x).mode ≡ mode.In
-    through_modes n actuals through x has =
-        let ways = is_traversing program n through.f through.traversed in
+    through_modes n actuals goes x has =
+        let ways = is_traversing program n goes.f goes.traversed in
         given.modes n ways.of (ap (λ (z : Signature). z.result) (signature_is program n) ∙ ways.result) x
         (subst (λ (z : Signature). Has z.formals x) (sym (signature_is program n)) has)
 
@@ -433,7 +433,7 @@ module _ (table : Table) (typed : TypedProgram) (effects : Effects) (given : IsV
     pub unobserved : (n : ℕ) (actuals : TypedTree) (result : Option ℕ) → p.instr ≡ Call n actuals result → AreUnobserved s (sub_of program n).formals actuals
     unobserved n actuals result is = elim (scoped.plainly table typed effects given sub in_program at in_sub n actuals result is).passes [
       | inl plain ↦ all_open (not (is_some (sub_of program n).result)) (sub_of program n).formals actuals (λ a h. call_acts n actuals result is plain a h)
-      | inr through ↦ none_open (sub_of program n).formals actuals (through_modes n actuals through)
+      | inr goes ↦ none_open (sub_of program n).formals actuals (through_modes n actuals goes)
     ]
 
     -- Nor, where it goes through no access value, in a formal of mode `in`.
@@ -456,9 +456,9 @@ module _ (table : Table) (typed : TypedProgram) (effects : Effects) (given : IsV
     root_own z steps u leads none y (inr never) a h e = absurd never
     root_own z steps u leads none y (inl same) a h e =
         subst (λ k. is_view_formal s k ≡ false) same (by_true (is_view_formal s z) (λ view.
-            (let found = changed_formal a h (name_of z steps) e (ap (λ b. b || (is_in_formal s z && is_anonymous (view_of s z))) view) in
-            let access = unnamed_access (shape_of s.table (object_at s z).of) found.1 in
-            no_part z steps u leads access.0 access.1 access.2 access.3 none found.2)))
+        (let found = changed_formal a h (name_of z steps) e (ap (λ b. b || (is_in_formal s z && is_anonymous (view_of s z))) view) in
+        let access = unnamed_access (shape_of s.table (object_at s z).of) found.1 in
+        no_part z steps u leads access.0 access.1 access.2 access.3 none found.2)))
 
     own_root : (m : Mode) (owning access : Bool) → is_in m ≡ false → (e : TypedTree) (t : ℕ) → IsPlace s e t → goes_through_none e ≡ true
         → ((a : Placed) → Has (actual_act (passing_by m owning access) e) a → Has at.acts a) → IsOwnPlace s e
@@ -502,7 +502,7 @@ module _ (table : Table) (typed : TypedProgram) (effects : Effects) (given : IsV
         → AreActualsTo s (sub_of program n).formals actuals
     owned n actuals result is passed = elim (scoped.plainly table typed effects given sub in_program at in_sub n actuals result is).passes [
       | inl plain ↦ each_owned (not (is_some (sub_of program n).result)) (sub_of program n).formals actuals passed (λ a h. call_acts n actuals result is plain a h)
-      | inr through ↦ none_back (sub_of program n).formals actuals (through_modes n actuals through) passed
+      | inr goes ↦ none_back (sub_of program n).formals actuals (through_modes n actuals goes) passed
     ]
 
   -- Nothing is moved, written or freed through an observer, or through a formal that owns nothing and isn't changed through.

@@ -9,6 +9,7 @@ pub mod Facts
 pub mod Formals
 pub mod Passing
 pub mod Valued
+pub mod Waiting
 pub mod Scoped
 pub mod Own
 pub mod Fixed

@@ -372,7 +372,7 @@ module _ (table : Table) (typed : TypedProgram) (effects : Effects) (given : IsV
     good : AllByRecursion Above named.points × AreFading own named.points
     good = scoped.body_good table typed effects given named body
 
-    formals_known : (x : ℕ) → Has named.sub.formals x → is_formal s x ≡ true
+    pub formals_known : (x : ℕ) → Has named.sub.formals x → is_formal s x ≡ true
     formals_known x there =
         let mine : Has (body.0).formals x = subst (λ (z : NamedSub). Has z.sub.formals x) (sym body.4) there in
         formal_same s own (scoped.alike table typed effects given) x ∙ (given.order.local body.0 body.1).formals x mine

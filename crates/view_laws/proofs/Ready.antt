@@ -23,7 +23,7 @@ use Rattle.view_laws.proofs.Enclosing.{itself, transitive}
 use Rattle.view_laws.proofs.Passing as passing
 use Rattle.view_laws.proofs.Scoped as scoped
 use Rattle.view_laws.proofs.Traversals as traversals
-use Rattle.view_laws.proofs.Valued as valued
+use Rattle.view_laws.proofs.Waiting as waiting
 use Rattle.view_laws.proofs.Points as points
 use Rattle.view_laws.proofs.Fixed as fixed
 
@@ -137,7 +137,7 @@ module _ (table : Table) (typed : TypedProgram) (effects : Effects) (given : IsV
     orderly = views_orderly;
     called = passing.called_to table typed effects given.accepted given.owns given.order given.answered given.passed given.still (fixed.actuals_owned table typed effects given);
     returning = scoped.are_returning table typed effects given;
-    valued = valued.are_valued table typed effects given;
+    valued = waiting.are_valued table typed effects given;
     traversing = traversals.are_traversing table typed effects given;
     packages = scoped.packages table typed effects given;
     stands = scoped.packages_stand table typed effects given;

@@ -25,8 +25,8 @@ use Rattle.typed_tree.specs.declared.object.ObjectKind.{ObjectKind}
 use Rattle.typed_tree.specs.declared.object.ObjectKind.TheVariants as object_kind
 use Rattle.typed_tree.specs.Programs.{TypedSub, TypedProgram, text_io}
 use Rattle.flow_paths.specs.declared.report.Effects.{Effects}
-use Rattle.flow_paths.specs.Instructions.{Instruction, Declare, Assign, Call, Hold}
-use Rattle.flow_paths.specs.Names.{has_call}
+use Rattle.flow_paths.specs.Instructions.{Instruction, Declare, Assign, Call}
+use Rattle.flow_paths.specs.Names.{has_call, whole_object}
 use Rattle.flow_paths.specs.Objects.{Typing, Signature, object_at, sub_at, is_variable, is_anonymous, is_formal, is_formal_kind, is_package_object, traverses, has_scope_end, view_of}
 use Rattle.flow_paths.specs.Acts.{acts_of}
 use Rattle.flow_paths.specs.Points.{NamedPoint, FlowPoint}
@@ -38,7 +38,7 @@ use Rattle.machine.specs.Run.{no_point}
 use Rattle.flow_paths.specs.Effects.{path_points}
 use Rattle.flow_paths.specs.Scopes.{is_ready, is_temporary}
 use Rattle.machine.specs.States.{sub_of}
-use Rattle.soundness.specs.Sound.{IsNamedSub, IsProcedure, IsEntered, calls_procedures, is_temporary_object}
+use Rattle.soundness.specs.Sound.{IsNamedSub, IsProcedure, calls_procedures, is_temporary_object}
 use Rattle.soundness.specs.Ready.{AreScoped, AreNew, AreElaborated, AreReturning, IsSupplied}
 use Rattle.soundness.proofs.Points.{IsLaid, flow_at}
 use Rattle.soundness.proofs.Typings.{Agree, flow_agrees, instruction_same, package_same}
@@ -65,7 +65,7 @@ use Rattle.viewed_steps.specs.Awaited.{is_held}
 use Rattle.viewed_soundness.specs.Holds.{IsAccess, is_given}
 use Rattle.viewed_soundness.proofs.Names.{true_false, both_no}
 use Rattle.viewed_soundness.proofs.Outcomes.{named_plain}
-use Rattle.viewed_steps.specs.Ready.{AreDifferent, IsAccessAs, IsSeen, is_shown_type}
+use Rattle.viewed_steps.specs.Ready.{AreDifferent, IsAccessAs, IsSeen as IsSeenBy, is_shown_type}
 use Rattle.viewed_steps.specs.Sound.{IsKindOfFormal, IsStoredAt}
 use Rattle.viewed_steps.proofs.Followed.{is_traversing}
 use Rattle.viewed_steps.proofs.Views.{given_formal, given_type, scalar_unseen}
@@ -74,6 +74,7 @@ use Rattle.view_laws.specs.Program.{IsPassedTo, ArePassedTo, IsViewProgram}
 use Rattle.view_laws.proofs.Passing as passing
 use Rattle.view_laws.proofs.Same as same
 use Rattle.view_laws.proofs.Valued as valued
+use Rattle.view_laws.proofs.Waiting as waiting
 use Rattle.view_laws.proofs.Acts.{access_lasts}
 use Rattle.view_laws.proofs.Calls.{AreViewCalls, IsPlainCall, IsThroughCall, point_good}
 use Rattle.view_laws.proofs.Packages.{IsPlain, package_plain, no_view, owners_same}
@@ -91,6 +92,14 @@ not_both false b is e = cc
 source_gives : (a b : Bool) → a ≡ true → not a || b ≡ true → b ≡ true
 source_gives true b is e = e
 source_gives false b is e = cc
+
+silent_end : has_call NoMore ≡ false
+unfolding has_call
+silent_end = refl
+
+whole_end : (y x : ℕ) (steps : TypedTree) → whole_object y steps ≡ Some x → (steps ≡ NoMore) × (y ≡ x)
+whole_end y x NoMore is = (refl, cc)
+whole_end y x steps is = cc
 
 stored_gives : (a b : Bool) → a ≡ true → (not a || false) || b ≡ true → b ≡ true
 stored_gives true b is e = e
@@ -287,7 +296,7 @@ module _ (table : Table) (typed : TypedProgram) (effects : Effects) (given : IsV
         subst (λ z. ArePassedTo s z (More (Name named.0 named.1 named.2 named.3) named.4)) ways.formals (subst (ArePassedTo s (sub_of program n).formals) named.5 passed_there) in
         let in_mode : (object_at s f).mode ≡ mode.In =
         given.modes n ways.of (result_same n ∙ ways.result) f (subst (λ z. Has z f) (sym (formals_same n ∙ ways.formals)) (inl refl)) in
-        let seen : IsSeen s f (Name named.0 named.1 named.2 named.3) = (subst (λ z. IsPassedTo s f z (Name named.0 named.1 named.2 named.3)) in_mode passed.0).1 (given_type s f first.3) in
+        let seen : IsSeenBy s f (Name named.0 named.1 named.2 named.3) = (subst (λ z. IsPassedTo s f z (Name named.0 named.1 named.2 named.3)) in_mode passed.0).1 (given_type s f first.3) in
         let access = access_of f (given.formals f (known_formals f (subst (λ z. Has z f) (sym first.2) (inl refl)))) first.3 in record {
           f = f;
           traversed = first.4;
@@ -320,9 +329,6 @@ module _ (table : Table) (typed : TypedProgram) (effects : Effects) (given : IsV
   }
 
   -- ---- traversal functions
-
-  pub are_closed : (k : ℕ) → IsEntered program k → IsClosed k
-  are_closed = ordered.are_closed table typed effects given.accepted given.owns given.order given.answered given.passed given.still
 
   -- what one gives is named by its first formal, or nothing refutes that (V3)
   pub given_through : (sub : FlowSub) → Has program.subs sub → (p : FlowPoint) → Has sub.points p
@@ -387,9 +393,8 @@ module _ (table : Table) (typed : TypedProgram) (effects : Effects) (given : IsV
 
     -- what a call gives that a point takes was called with a name
     traversed_there : (q : Pos) (n : ℕ) (a : TypedTree) → Takes p.instr (typed_tree.Call q n a) → traverses s.table (sub_at s n).result ≡ true → IsTraversed s (typed_tree.Call q n a)
-    unfolding has_call
     traversed_there q n a takes gives = elim (valued.where_is table typed effects given named has) [
-      | inl e ↦ absurd (no_taken e)
+      | inl e ↦ absurd (waiting.takes_none table typed effects given named e p there q n a takes)
       | inr inside ↦ (
           let body = valued.body table typed effects given named has inside in
           let found = sub_given (setting_from own body.2 body.0) body.0 p (subst (λ (z : NamedSub). Has z.points p) (sym body.4) there) q n a takes in
@@ -411,19 +416,6 @@ module _ (table : Table) (typed : TypedProgram) (effects : Effects) (given : IsV
             own = through.own;
           })
     ]
-      where
-        no_taken : Elaborates named → ⊥
-        no_taken e =
-            let declared = valued.declared table typed effects given named e p there in
-            by_call declared.0 declared.1 takes declared.3 declared.2
-          where
-            by_call : (x : ℕ) (v : TypedTree) → Takes p.instr (typed_tree.Call q n a) → has_call v ≡ false → p.instr ≡ Declare x v → ⊥
-            by_call x v (inl (y, is)) none declares = (
-                let both : Declare x v ≡ Declare y (typed_tree.More (typed_tree.Call q n a) NoMore) = sym declares ∙ is in
-                let value : v ≡ typed_tree.More (typed_tree.Call q n a) NoMore = cc in
-                let no : true ≡ false = sym (ap has_call value) ∙ none in cc)
-            by_call x v (inr (inl (k, y, path, u, is, nothing))) none declares = (let both : Declare x v ≡ Assign (Name k y path u) (typed_tree.Call q n a) = sym declares ∙ is in cc)
-            by_call x v (inr (inr is)) none declares = (let both : Declare x v ≡ Hold (typed_tree.More (typed_tree.Call q n a) NoMore) = sym declares ∙ is in cc)
 
     -- No view has what a function gives as its source, but where it is called with a name.
     pub source_there : NamesSource s p.instr
@@ -454,15 +446,15 @@ module _ (table : Table) (typed : TypedProgram) (effects : Effects) (given : IsV
             (sym (anonymous_same x (stored_lasts x (inl (typed_tree.More (typed_tree.Call q n a) rest, is)) anonymous)) ∙ anonymous) fit)))
         body_source (Declare x (typed_tree.More e rest)) is above = λ anonymous. inl refl
         body_source (Declare x v) is above = λ anonymous. inl refl
-        body_source (Assign (Name k y NoMore u) (typed_tree.Call q n a)) is above = λ x whole_is anonymous.
-            let same_object : y ≡ x = some_same y x whole_is in
-            let fit = sym (ap (fits own) is) ∙ above.assigned (Name k y NoMore u) (typed_tree.Call q n a) is in
-            inr (traversed_there q n a (inr (inl (k, y, NoMore, u, is, refl)))
+        body_source (Assign (Name k y steps u) (typed_tree.Call q n a)) is above = λ x whole_is anonymous.
+            let end = whole_end y x steps whole_is in
+            let view : is_anonymous (view_of s y) ≡ true = ap (λ z. is_anonymous (view_of s z)) end.1 ∙ anonymous in
+            let here : p.instr ≡ Assign (Name k y NoMore u) (typed_tree.Call q n a) = is ∙ ap (λ z. Assign (Name k y z u) (typed_tree.Call q n a)) end.0 in
+            let fit = sym (ap (fits own) here) ∙ above.assigned (Name k y NoMore u) (typed_tree.Call q n a) here in
+            inr (traversed_there q n a (inr (inl (k, y, NoMore, u, here, silent_end)))
             (in_layout n (stored_gives (is_anonymous (view_of own y)) (traverses own.table (sub_at own n).result)
-            (sym (anonymous_same y (stored_lasts y (inr (k, u, typed_tree.Call q n a, is)) (ap (λ z. is_anonymous (view_of s z)) same_object ∙ anonymous))) ∙ ap (λ z. is_anonymous (view_of s z)) same_object ∙ anonymous) fit)))
-        body_source (Assign (Name k y (typed_tree.Component i rest) u) (typed_tree.Call q n a)) is above = λ x whole_is anonymous. (let never : None ≡ Some x = whole_is in cc)
-        body_source (Assign (Name k y steps u) (typed_tree.Call q n a)) is above = λ x whole_is anonymous. ?
-        body_source (Assign target (typed_tree.Call q n a)) is above = λ x whole_is anonymous. ?
+            (sym (anonymous_same y (stored_lasts y (inr (k, u, typed_tree.Call q n a, here)) view)) ∙ view) fit)))
+        body_source (Assign target (typed_tree.Call q n a)) is above = λ x whole_is anonymous. (let never : None ≡ Some x = whole_is in cc)
         body_source (Assign target e) is above = λ x whole_is anonymous. inl refl
         body_source i is above = tt
 
@@ -512,10 +504,6 @@ module _ (table : Table) (typed : TypedProgram) (effects : Effects) (given : IsV
           object_before typed.objects (map temporary_object (temporaries_of (flow_named table typed))) x text_io
           ((given.order.bodies given.order.first (subst (λ subs. Has subs given.order.first) (sym given.order.subs) (inl refl))).numbered x has).1
 
-  -- what the values of package objects name is no temporary
-  package_lasts : (named : NamedSub) → Elaborates named → (p : NamedPoint) → Has named.points p → (x : ℕ) → Has (named_in p.instr) x → is_temporary_object s x ≡ false
-  package_lasts named e p there x names = ?
-
   -- the initial values of package objects name nothing that owns, and no view
   pub names_none : (named : NamedSub) → Elaborates named → (p : NamedPoint) → Has named.points p → (x : ℕ) → Has (named_in p.instr) x → has_scope_end s x ≡ true → ⊥
   names_none named e p there x names lasts =
@@ -526,7 +514,7 @@ module _ (table : Table) (typed : TypedProgram) (effects : Effects) (given : IsV
         | inl owning ↦ owns_none s (roots declared.1) x declared.3 value owning
         | inr anonymous ↦ no_view own (roots declared.1) x
             (and_second (not (is_anonymous (view_of own declared.0))) _ (plain_there named e p there declared.0 declared.1 declared.2)) value
-            (sym (anonymous_same x (package_lasts named e p there x names)) ∙ anonymous)
+            (sym (anonymous_same x (waiting.package_lasts table typed effects given named e p there x names)) ∙ anonymous)
       ]
 
   -- what is named is no temporary whose scope has an end

@@ -1,30 +1,30 @@
--- What waits at the points of a program in order: what functions give, of scalar types, or of which a value is made.
--- What is named is no temporary; temporaries are of no anonymous access type.
-use Rattle.std.proofs.Common.{◌≡◌, refl, sym, ap, ◌∙◌, subst, ◌⊎◌, inl, inr, ℕ, zero, suc, ◌<◌, Bool, true, false, ◌&&◌, ◌||◌, List, [], ◌∷◌, ◌++◌, map, take, drop, length, get_or, arith, Option, Some, None, is_some, if◌then◌else◌}
+-- What waits at the points of a program in order: what functions give, of scalar types, or of which a value is made, or alone.
+-- What is named is no temporary.
+use Rattle.std.proofs.Common.{◌≡◌, refl, sym, ap, ◌∙◌, subst, ◌⊎◌, inl, inr, ℕ, ◌<◌, Bool, true, false, ◌&&◌, ◌||◌, List, [], ◌∷◌, ◌++◌, map, take, drop, length, get_or, arith, Option, Some, None, is_some, if◌then◌else◌}
 use Rattle.std.specs.Prelude.{filter, not, nat_lt}
 use Rattle.std.specs.List.{AllByRecursion}
 use Rattle.spark_base.specs.declared.position.Pos.{Pos}
 use Rattle.spark_base.specs.Lists.{Has}
-use Rattle.spark_base.proofs.Lists.{Has-append_cases, Has-append_right, Has-filter, Has-map, Has-map_from}
-use Rattle.type_definitions.specs.Entries.{integer, boolean}
+use Rattle.spark_base.proofs.Lists.{Has-append_right, Has-filter, Has-map}
+use Rattle.type_definitions.specs.Entries.{boolean}
 use Rattle.type_definitions.specs.Types.{Table, full, is_scalar}
 use Rattle.typed_tree.specs.Trees.{TypedTree, Name, Component, Designated, Element, Image, Parens, Unary, Binary, Short, IsNull, NoMore, Aggregate, Alike, New}
 use Rattle.typed_tree.specs.Trees as typed_tree
 use Rattle.typed_tree.specs.declared.object.Object.{Object}
 use Rattle.typed_tree.specs.declared.node.ShortCircuit.{ShortCircuit}
-use Rattle.typed_tree.specs.Programs.{TypedSub, TypedProgram, text_io}
+use Rattle.typed_tree.specs.Programs.{TypedProgram, text_io}
 use Rattle.flow_paths.specs.declared.report.Effects.{Effects}
 use Rattle.flow_paths.specs.Instructions.{Instruction, Declare, Assign, Call, Output, Input, Release, Test, Choose, Start, Evaluate, LeaveLoop, Hold}
 use Rattle.flow_paths.specs.Objects.{Typing, Signature, object_at, sub_at, traverses, is_anonymous, is_observer, is_package_object, has_scope_end, view_of}
 use Rattle.flow_paths.specs.Names.{has_call, whole_object}
-use Rattle.flow_paths.specs.Points.{NamedPoint, FlowPoint}
-use Rattle.flow_paths.specs.Laid.{FlowSub, FlowProgram, NamedSub, Temporary, temporary_object, filled, result_of, unnumbered, named_subs, all_named, sub_points, flow_sub, typing_of, flow_typing, flow_program, flow_named}
+use Rattle.flow_paths.specs.Points.{NamedPoint}
+use Rattle.flow_paths.specs.Laid.{FlowProgram, NamedSub, temporary_object, result_of, named_subs, all_named, sub_points, flow_sub, typing_of, flow_typing, flow_program, flow_named}
 use Rattle.flow_paths.specs.Scopes.{taken, is_temporary}
 use Rattle.machine.specs.States.{sub_of}
 use Rattle.typed_laws.specs.Needed.{IsFine, FirstSource, IsPlace, Returns}
 use Rattle.soundness.specs.Sound.{calls_procedures, is_temporary_object, IsEntered, IsNamedSub}
 use Rattle.soundness.specs.Ready.{stored_at, Fills}
-use Rattle.soundness.proofs.Points.{flow_at, named_has, sub_there}
+use Rattle.soundness.proofs.Points.{flow_at, named_has}
 use Rattle.soundness.proofs.Passing.{signature_is}
 use Rattle.soundness.proofs.Successors.{not_true}
 use Rattle.soundness.proofs.Typings.{Agree, flow_agrees}
@@ -33,15 +33,16 @@ use Rattle.viewed_soundness.specs.Taken.{GivesPlainly, type_given, types_taken, 
 use Rattle.viewed_soundness.proofs.Evaluated.{gives_plainly}
 use Rattle.viewed_soundness.proofs.Outcomes.{named_plain}
 use Rattle.scope_laws.specs.Code.{roots}
-use Rattle.scope_laws.specs.Alone.{CallsOnly, SourceFits, ValueFits, StoredFits, InstructionFits, GivesScalar, GivesNamed}
+use Rattle.scope_laws.specs.Alone.{CallsOnly, SourceFits, InstructionFits, GivesScalar, GivesNamed, GivesSeen}
 use Rattle.scope_laws.specs.Fitted.{types, types_at, Pairs, FillsFit, RightFits, IsFitted}
 use Rattle.scope_laws.specs.Supplied.{IsKept}
 use Rattle.scope_laws.specs.Order.{named_in}
 use Rattle.scope_laws.proofs.Lists.{within_has, all_has}
+use Rattle.scope_laws.proofs.Given.{Takes as TakesIt, sub_given}
 use Rattle.scope_laws.proofs.Kept.{sub_kept}
 use Rattle.scope_laws.proofs.Fitted.{sub_fit}
 use Rattle.scope_laws.proofs.Filled.{temporaries_of, object_before}
-use Rattle.scope_laws.proofs.Results.{Gives, filled_typed, filled_by}
+use Rattle.scope_laws.proofs.Results.{Gives, filled_typed}
 use Rattle.layered_scopes.specs.Layered.{is_older}
 use Rattle.layered_scopes.specs.Points.{IsAbove}
 use Rattle.layered_scopes.proofs.Layered.{sub_good}
@@ -52,7 +53,8 @@ use Rattle.ready_laws.proofs.Ready.{seen_has, stored_named}
 use Rattle.viewed_steps.specs.Awaited.{is_held, Fits, AreScalar, TakesScalars, IsMadeFor, types_for, AreFilled, StoresNone, IsTaken, TakesAlone, FillsTyped}
 use Rattle.viewed_steps.proofs.Sources.{leads_or}
 use Rattle.viewed_steps.specs.Sound.{IsScalarObject}
-use Rattle.viewed_steps.specs.Ready.{roots_passed, AreValued}
+use Rattle.viewed_steps.specs.Traversals.{GivesView}
+use Rattle.viewed_steps.specs.Ready.{roots_passed}
 use Rattle.view_laws.specs.InOrder.{is_name_of, is_list_end, is_any, stores_name, gives_view, fits}
 use Rattle.view_laws.specs.Program.{IsViewProgram}
 use Rattle.view_laws.proofs.Acts.{no_anonymous}
@@ -67,23 +69,6 @@ take_none k (x ∷ xs) none = ap (λ n. take n (x ∷ xs)) none
 pub all_there : {A : Type 0} (P : A → Type 0) (xs : List A) → ((x : A) → Has xs x → P x) → AllByRecursion P xs
 all_there P [] each = tt
 all_there P (x ∷ xs) each = (each x (inl refl), all_there P xs (λ y has. each y (inr has)))
-
-flat_from : (subs : List NamedSub) (t : Temporary) → Has (temporaries_of subs) t → (m : NamedSub) × Has subs m × Has m.temporaries t
-flat_from [] t has = absurd has
-flat_from (m ∷ subs) t has = elim (Has-append_cases m.temporaries (temporaries_of subs) t has) [
-  | inl here ↦ (m, inl refl, here)
-  | inr more ↦ (let found = flat_from subs t more in (found.0, inr found.1, found.2))
-]
-
--- a temporary among objects that are followed by those of some temporaries
-temporary_from : (os : List Object) (ts : List Temporary) → ((x : ℕ) → is_temporary (get_or os x text_io).kind ≡ false) → (x : ℕ)
-    → is_temporary (get_or (os ++ map temporary_object ts) x text_io).kind ≡ true
-    → (t : Temporary) × Has ts t × ((get_or (os ++ map temporary_object ts) x text_io).of ≡ t.of)
-temporary_from [] [] lasts x is = (let no : false ≡ true = is in cc)
-temporary_from [] (t ∷ ts) lasts zero is = (t, inl refl, refl)
-temporary_from [] (t ∷ ts) lasts (suc x) is = (let found = temporary_from [] ts lasts x is in (found.0, inr found.1, found.2))
-temporary_from (o ∷ os) ts lasts zero is = (let no : false ≡ true = sym (lasts zero) ∙ is in cc)
-temporary_from (o ∷ os) ts lasts (suc x) is = temporary_from os ts (λ y. lasts (suc y)) x is
 
 -- ---- types
 
@@ -139,17 +124,17 @@ module _ (table : Table) (typed : TypedProgram) (effects : Effects) (given : IsV
   alike = flow_agrees table typed
 
   -- functions with results of scalar types, and those that may stand alone
-  abbrev Asked : ℕ → Type 0
+  abbrev pub Asked : ℕ → Type 0
   Asked n = GivesScalar own n
 
-  abbrev May : ℕ → Type 0
+  abbrev pub May : ℕ → Type 0
   May n = GivesNamed own n
 
   pub weaker : (n : ℕ) → Asked n → May n
   weaker n scalar t is = no_anonymous (full own.table t) (scalar t is)
 
   -- what is taken alone
-  abbrev Single : ℕ → Type 0
+  abbrev pub Single : ℕ → Type 0
   Single n = GivesSeen own n
 
   -- ---- objects and results
