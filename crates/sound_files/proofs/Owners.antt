@@ -16,7 +16,7 @@ use Rattle.flow_paths.specs.Laid.{FlowSub, FlowProgram, flow_typing, flow_progra
 use Rattle.machine.specs.States.{no_sub, sub_of}
 use Rattle.machine.specs.Owners.{is_in}
 use Rattle.soundness.specs.Seen.{is_view_formal}
-use Rattle.soundness.specs.Sound.{goes_through_none, AreCopied}
+use Rattle.soundness.specs.Sound.{AreCopied}
 use Rattle.machine.specs.Run.{no_point}
 use Rattle.soundness.proofs.Passing.{signature_is}
 use Rattle.soundness.proofs.Typings.{Agree, flow_agrees}
@@ -148,21 +148,20 @@ module _ (p : Program) where
 
   -- ---- the third class
 
-  back_kept : (m : Mode) (x : ℕ) (e : TypedTree) → (object_at own x).mode ≡ m → (is_in (object_at own x).mode ≡ false → goes_through_none e ≡ true) → IsScalarAt wide x
-      → IsFitActual wide x m e
-  back_kept mode.In x e is none plain = inl plain
-  back_kept mode.Out x e is none plain = inl (plain, inl (none (ap is_in is)))
-  back_kept mode.InOut x e is none plain = inl (plain, inl (none (ap is_in is)))
+  scalar_fits : (m : Mode) (x : ℕ) (e : TypedTree) → IsScalarAt wide x → IsFitActual wide x m e
+  scalar_fits mode.In x e plain = inl plain
+  scalar_fits mode.Out x e plain = inl plain
+  scalar_fits mode.InOut x e plain = inl plain
 
-  scalar_passed : FormalsAreScalar p → (formals : List ℕ) (actuals : TypedTree) → AreCopied own formals actuals → AreFitActuals wide formals actuals
-  scalar_passed all (x ∷ formals) (More e rest) copied =
-      ((λ is. back_kept (object_at wide x).mode x e (sym (mode_there x)) copied.0 (scalar_wide x is (all x (formal_own x is)))), scalar_passed all formals rest copied.1)
-  scalar_passed all formals actuals copied = tt
+  scalar_passed : FormalsAreScalar p → (formals : List ℕ) (actuals : TypedTree) → AreFitActuals wide formals actuals
+  scalar_passed all (x ∷ formals) (More e rest) = ((λ is. scalar_fits (object_at wide x).mode x e (scalar_wide x is (all x (formal_own x is)))), scalar_passed all formals rest)
+  scalar_passed all [] actuals = tt
+  scalar_passed all (x ∷ formals) actuals = tt
 
   code_passed : FormalsAreScalar p → CopyToVariables p → PassFitActuals p
   code_passed all copied sub has =
       code_weaker (λ n actuals. AreCopied own (sub_at own n).formals actuals) (λ n actuals. AreFitActuals wide (sub_at wide n).formals actuals)
-      (λ n actuals h. subst (λ (z : Signature). AreFitActuals wide z.formals actuals) (sym (signature_same p n)) (scalar_passed all (sub_at own n).formals actuals h))
+      (λ n actuals h. subst (λ (z : Signature). AreFitActuals wide z.formals actuals) (sym (signature_same p n)) (scalar_passed all (sub_at own n).formals actuals))
       sub.body (copied sub has)
 
   -- what scalar formals get is shown to none
@@ -176,7 +175,6 @@ module _ (p : Program) where
   calls_functions calls = record {
     results = results_fit p calls.results;
     formals = λ x is. inl (calls.formals x is);
-    seen = λ n t x result has is. inl (scalar_wide x is (calls.formals x (formal_own x is)));
     passed = code_passed calls.formals calls.copied;
     shown = inr (λ sub has q there n actuals result is. scalar_shown calls.formals (LendsShared wide sub) (sub_of flow n).formals actuals);
   }

@@ -48,6 +48,7 @@ use Rattle.owned_ways.proofs.Unique.{one_way}
 use Rattle.owned_ways.proofs.Locations.{reaches_along, under_along, under_itself}
 use Rattle.exact_facts.proofs.Memories.{same_reach}
 use Rattle.viewed_facts.proofs.Steps.{based_variable}
+use Rattle.viewed_steps.proofs.Withheld.{taken_passed}
 
 module _ (table : Table) (typed : TypedProgram) (effects : Effects) (input : List ℕ) (ready : IsReady table typed effects) where
   abbrev program : FlowProgram
@@ -314,7 +315,7 @@ module _ (table : Table) (typed : TypedProgram) (effects : Effects) (input : Lis
               homed.2 ∙ ap (λ f. OfRoot (OfVariable f homed.1)) homed.3 in
               let number : number_of to ≡ homed.1 = number_based (home s next.stage.depth) to homed.1 (base_named (home s next.stage.depth) to homed.1 at) at in
               let (g, there, some_there, f, keeps, shared, kind, name_is) = lent in
-              let written = waits.written to has (ap (is_package_object s) (number ∙ sym root) ∙ shared) in
+              let written = waits.written (number_of to) (taken_passed next to has) (ap (is_package_object s) (number ∙ sym root) ∙ shared) in
               kept_there table typed effects ready.accepted.effects_are (unused_there table typed effects unmoved_stage local) state next.stage.frame.sub next.stage.frame.returns
               (h ∷ others) waiting.1 g there some_there f keeps (ap (λ (z : PlaceName). is_package_object s z.root) name_is ∙ shared)
               (written_disturbs table typed effects ready.accepted.effects_are (loan_by f) next.stage.frame.sub (place f).root

@@ -15,7 +15,7 @@ use Rattle.place_names.specs.declared.rule.Loan.{Loan}
 use Rattle.place_names.specs.declared.rule.Loan.TheVariants.{Borrowed}
 use Rattle.place_names.specs.declared.act.Mode.TheVariants as mode
 use Rattle.type_definitions.specs.Types.{Table, full, is_owning}
-use Rattle.typed_tree.specs.Trees.{TypedTree, More}
+use Rattle.typed_tree.specs.Trees.{TypedTree, Name, More, NoMore}
 use Rattle.typed_tree.specs.Programs.{TypedProgram}
 use Rattle.flow_paths.specs.declared.report.Effects.{Effects}
 use Rattle.flow_paths.specs.Instructions.{Instruction, Call, EndScope}
@@ -256,7 +256,7 @@ module _ (table : Table) (typed : TypedProgram) (effects : Effects) (input : Lis
           let ways_are : ways_there ≡ map (passing s procedure) formals = passes_to program n none in
           let copies_are : true_copies ≡ copies = ap (λ z. flow.actual_acts z actuals) ways_are in record {
             reads = subst (λ z. AreReads (flow.actual_values s z actuals)) (sym ways_are)
-                (values_are_read s ready.owns procedure formals actuals (unseen_plain none) called.actuals_stay);
+                (values_are_read s ready.owns procedure ready.class.parts_named formals actuals (unseen_plain none) called.actuals_stay);
             spare = subst (Spare s) (sym copies_are) (spare_copies s ready.owns procedure formals actuals);
             same = λ facts. ap (λ z. after (acts z) facts) copies_are;
             own = subst (λ z. AllowsAll own_facts (acts z)) copies_are;
@@ -360,7 +360,7 @@ module _ (table : Table) (typed : TypedProgram) (effects : Effects) (input : Lis
 
         traversal_acts : IsActing
         traversal_acts = record {
-          reads = subst AreReads (λ j. flow.actual_values s (sym traversing.ways j) (sym made.actuals_are j)) (first_reads s ready.owns traversing.rest made.call seen_first.0 unseen_others others_stay);
+          reads = subst AreReads (λ j. flow.actual_values s (sym traversing.ways j) (sym made.actuals_are j)) (first_reads s ready.owns ready.class.parts_named traversing.rest made.call seen_first.0 unseen_others others_stay);
           spare = subst (Spare s) (sym true_are) (spare_copies s ready.owns false traversing.rest (made.call).others);
           same = λ facts. ap (λ z. after (acts z) facts) true_are ∙ ap (after (acts others)) (sym (first_keeps s made.call facts f first_mode))
               ∙ sym (after_append (acts first_acts) (acts others) facts) ∙ ap (λ z. after z facts) (sym (acts_append first_acts others)) ∙ ap (λ z. after (acts z) facts) (sym copies_are);
@@ -539,7 +539,7 @@ module _ (table : Table) (typed : TypedProgram) (effects : Effects) (input : Lis
           | inl was ↦ was
           | inr (a, there, new) ↦ (
               let from = Has-map_from (λ (z : Placed). z.act) (values ++ copies) a there in
-              absurd (call_adds_none s ready.owns procedure formals actuals (unseen_plain none) called.actuals_stay from.0
+              absurd (call_adds_none s ready.owns procedure ready.class.parts_named formals actuals (unseen_plain none) called.actuals_stay from.0
               (subst (λ z. Has (flow.actual_values s z actuals ++ copies) from.0) (passes_to program n none) from.1) f (subst (λ z. Has (adds z) f) (sym from.2) new)))
         ]
       ]

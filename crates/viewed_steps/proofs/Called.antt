@@ -12,9 +12,9 @@ use Rattle.type_definitions.specs.Types.{full, is_scalar, is_owning}
 use Rattle.typed_tree.specs.Trees.{TypedTree, Number, Literal, Text, Name, Component as IntoComponent, Designated, Element, Call, EndOfFile, Parens, Image, Unary, Binary, Short, IsNull, Aggregate, Alike, New, NoMore, More}
 use Rattle.typed_tree.specs.Trees as typed
 use Rattle.flow_paths.specs.Objects.{Typing, object_at, sub_at, is_anonymous, is_named_access, view_of, traverses, first_traversed, Passing, ByValue, passing, passing_by, passings}
-use Rattle.flow_paths.specs.Names.{written, is_empty, waiting as waits_in, name_of}
+use Rattle.flow_paths.specs.Names.{written, is_empty, waiting as waits_in}
 use Rattle.flow_paths.specs.Laid.{FlowProgram, flow_typing}
-use Rattle.flow_paths.specs.Acts.{placed, used, acts_in, index_acts, actual_act, actual_acts, actual_values}
+use Rattle.flow_paths.specs.Acts.{acts_in, index_acts, actual_act, actual_acts, actual_values}
 use Rattle.machine.specs.Words.{access_offsets, fits_type}
 use Rattle.machine.specs.Words as machine
 use Rattle.machine.specs.Memory.{Memory, Place, words_of}
@@ -46,7 +46,8 @@ use Rattle.viewed_steps.proofs.LaidOut.{IsOwnPut, IsOpenActual, AreOpenActuals, 
 use Rattle.viewed_steps.proofs.Entered.{IsFit}
 use Rattle.viewed_steps.proofs.Lent.{ends, Spare, spare_both, spare_naming}
 use Rattle.soundness.proofs.Keeping.{scalar}
-use Rattle.viewed_steps.proofs.Reading.{no_reads, one_read, both_reads, naming_adds, unowned_read, index_reads, reads_in}
+use Rattle.viewed_steps.proofs.Copies.{copies_read}
+use Rattle.viewed_steps.proofs.Reading.{no_reads, both_reads, naming_adds, index_reads, reads_in}
 use Rattle.viewed_steps.proofs.Puts as puts
 use Rattle.viewed_soundness.proofs.Given.{IsLow}
 
@@ -78,19 +79,12 @@ module _ (s : Typing) (own_law : OwnsByShape s.table) (procedure : Bool) where
   seen_reads x (Name p y path u) seen = index_reads s own_law (Name p y path u) u (seen.0, refl)
   seen_reads x e seen = absurd seen
 
-  copy_reads : (x : ℕ) (e : TypedTree) → owning_of x ≡ false → IsCopyOf s x e → AreReads (acts_in s e)
-  unfolding acts_in
-  copy_reads x (Name p y path u) plain (leads, fits) =
-      both_reads (acts_in s path) (placed p (used s (name_of y path) u) ∷ []) (index_reads s own_law (Name p y path u) u (leads, refl))
-      (one_read (placed p (used s (name_of y path) u)) (name_of y path, inl (unowned_read s own_law (name_of y path) u (object_at s x).of fits plain)))
-  copy_reads x e plain never = absurd never
-
-  pub head_of_reads : (x : ℕ) (m : Mode) (owning : Bool) (e : TypedTree) → owning_of x ≡ owning → is_anonymous (view_of s x) ≡ false → IsActualTo s x m e → AreReads (head_of m owning e)
-  head_of_reads x mode.In false e is unseen stays =
-      elim (stays.0 (both_no (owning_of x) (is_anonymous (view_of s x)) is unseen)) [ inl plain ↦ reads_in s own_law e plain.1 | inr copy ↦ copy_reads x e is copy.1 ]
-  head_of_reads x mode.In true e is unseen stays = seen_reads x e (stays.1 (ap (λ b. b || is_anonymous (view_of s x)) is))
-  head_of_reads x mode.Out owning e is unseen place = index_reads s own_law e place.0 place.1
-  head_of_reads x mode.InOut owning e is unseen place = index_reads s own_law e place.0 place.1
+  pub head_of_reads : PartsAreNamed s.table → (x : ℕ) (m : Mode) (owning : Bool) (e : TypedTree) → owning_of x ≡ owning → is_anonymous (view_of s x) ≡ false → IsActualTo s x m e → AreReads (head_of m owning e)
+  head_of_reads parts_named x mode.In false e is unseen stays =
+      elim (stays.0 (both_no (owning_of x) (is_anonymous (view_of s x)) is unseen)) [ inl plain ↦ reads_in s own_law e plain.1 | inr copy ↦ copies_read s own_law parts_named e (object_at s x).of copy.2.0 is copy.1 copy.2.1 ]
+  head_of_reads parts_named x mode.In true e is unseen stays = seen_reads x e (stays.1 (ap (λ b. b || is_anonymous (view_of s x)) is))
+  head_of_reads parts_named x mode.Out owning e is unseen place = index_reads s own_law e place.0 place.1
+  head_of_reads parts_named x mode.InOut owning e is unseen place = index_reads s own_law e place.0 place.1
 
   none_of : (m : Mode) (owning access : Bool) (ways : List Passing) (actuals : TypedTree) → is_empty actuals ≡ true
       → AreReads (actual_values s (passing_by m owning access ∷ ways) actuals)
@@ -103,13 +97,13 @@ module _ (s : Typing) (own_law : OwnsByShape s.table) (procedure : Bool) where
   none_of mode.InOut owning access ways (More e rest) none = cc
   none_of mode.InOut owning access ways actuals none = λ p has. absurd has
 
-  pub values_are_read : (formals : List ℕ) (actuals : TypedTree) → AreUnseen s formals → AreActualsTo s formals actuals → AreReads (actual_values s (map way_to formals) actuals)
-  values_are_read [] actuals unseen stay = λ p has. absurd has
-  values_are_read (x ∷ formals) (More e rest) unseen stay =
+  pub values_are_read : PartsAreNamed s.table → (formals : List ℕ) (actuals : TypedTree) → AreUnseen s formals → AreActualsTo s formals actuals → AreReads (actual_values s (map way_to formals) actuals)
+  values_are_read parts_named [] actuals unseen stay = λ p has. absurd has
+  values_are_read parts_named (x ∷ formals) (More e rest) unseen stay =
       subst AreReads (sym (head_values_are x e (map way_to formals) rest))
       (both_reads (head_of (object_at s x).mode (owning_of x) e) (actual_values s (map way_to formals) rest)
-      (head_of_reads x (object_at s x).mode (owning_of x) e refl (unseen x (inl refl)) stay.0) (values_are_read formals rest (λ y has. unseen y (inr has)) stay.1))
-  values_are_read (x ∷ formals) actuals unseen stay =
+      (head_of_reads parts_named x (object_at s x).mode (owning_of x) e refl (unseen x (inl refl)) stay.0) (values_are_read parts_named formals rest (λ y has. unseen y (inr has)) stay.1))
+  values_are_read parts_named (x ∷ formals) actuals unseen stay =
       none_of (object_at s x).mode (owning_of x) (procedure && is_named_access (view_of s x)) (map way_to formals) actuals refl
 
   -- those of places that are copied back to add no fact, and end no scope
@@ -128,11 +122,11 @@ module _ (s : Typing) (own_law : OwnsByShape s.table) (procedure : Bool) where
       ]
   copies_add (x ∷ formals) actuals p has f new = has
 
-  pub call_adds_none : (formals : List ℕ) (actuals : TypedTree) → AreUnseen s formals → AreActualsTo s formals actuals
+  pub call_adds_none : PartsAreNamed s.table → (formals : List ℕ) (actuals : TypedTree) → AreUnseen s formals → AreActualsTo s formals actuals
       → AddNone (actual_values s (map way_to formals) actuals ++ actual_acts (map way_to formals) actuals)
-  call_adds_none formals actuals unseen stay p has f new =
+  call_adds_none parts_named formals actuals unseen stay p has f new =
       elim (Has-append_cases (actual_values s (map way_to formals) actuals) (actual_acts (map way_to formals) actuals) p has) [
-        | inl l ↦ read_adds_none p (values_are_read formals actuals unseen stay p l) f new
+        | inl l ↦ read_adds_none p (values_are_read parts_named formals actuals unseen stay p l) f new
         | inr r ↦ copies_add formals actuals p r f new
       ]
 
@@ -206,8 +200,8 @@ module _ (h : Here) (settled : IsSettled h.typing.table) (hands : List Waiting) 
   abbrev IsCopied : ℕ → Passed → Type 0
   IsCopied = puts.IsCopied h settled hands leaks m waits other facts v kept well holds alone live in_formals index_law own_law parts_named formals_low procedure
 
-  abbrev copy_given : (before on : List (List machine.Word)) (x : ℕ) (e : TypedTree) → is_owning h.typing.table (object_at h.typing x).of ≡ false → IsCopyOf h.typing x e → Takes (waits_in e) before on
-      → AllowsAll facts (acts (acts_in h.typing e)) → Quiet (at on) (IsCopied x) (passed h ByValue x e (at before))
+  abbrev copy_given : (before on : List (List machine.Word)) (x : ℕ) (e : TypedTree) → is_owning h.typing.table (object_at h.typing x).of ≡ false → IsNamed h.typing.table (object_at h.typing x).of
+      → IsCopyOf h.typing x e → Takes (waits_in e) before on → AllowsAll facts (acts (acts_in h.typing e)) → Quiet (at on) (IsCopied x) (passed h ByValue x e (at before))
   copy_given = puts.copy_given h settled hands leaks m waits other facts v kept well holds alone live in_formals index_law own_law parts_named formals_low procedure
 
   abbrev IsPut : TypedTree → Place → Type 0
@@ -371,7 +365,7 @@ module _ (h : Here) (settled : IsSettled h.typing.table) (hands : List Waiting) 
       let plain_type_there = both_no (is_owning h.typing.table (object_at h.typing x).of) (is_anonymous (view_of h.typing x)) fits unseen in
       elim (actual.0 plain_type_there) [
         | inl (plain, stays) ↦ value_is on x e plain_type_there plain (passed h ByValue x e (at before)) (value_given before on x e stays takes allowed)
-        | inr (named, copy) ↦ copy_is on x e plain_type_there (passed h ByValue x e (at before)) (copy_given before on x e fits copy takes allowed)
+        | inr (many, named, copy) ↦ copy_is on x e plain_type_there (passed h ByValue x e (at before)) (copy_given before on x e fits named copy takes allowed)
       ]
   one_given before on mode.In true access x e is fits unseen kind actual clears copied takes allowed = elim kind [
     | inl plain ↦ absurd (true_false (is_owning h.typing.table (object_at h.typing x).of) fits (plain_type h.typing own_law (object_at h.typing x).of plain))
@@ -403,7 +397,7 @@ module _ (h : Here) (settled : IsSettled h.typing.table) (hands : List Waiting) 
       let each = allows_both facts (acts (head_of h.typing own_law procedure mode_of owning e)) (acts (actual_values h.typing (ways_of formals) rest))
       (subst (AllowsAll facts) (acts_append (head_of h.typing own_law procedure mode_of owning e) (actual_values h.typing (ways_of formals) rest)) both) in
       let same : after (acts (head_of h.typing own_law procedure mode_of owning e)) facts ≡ facts =
-      reads_keep (head_of h.typing own_law procedure mode_of owning e) (head_of_reads h.typing own_law procedure x mode_of owning e refl (unseen x (inl refl)) stay.0) facts in
+      reads_keep (head_of h.typing own_law procedure mode_of owning e) (head_of_reads h.typing own_law procedure parts_named x mode_of owning e refl (unseen x (inl refl)) stay.0) facts in
       quiet_from (at mid) (at on) (λ a. IsGiven x mode_of e a) (λ passed. AreGiven (x ∷ formals) (More e rest) passed) refl (passed h (way_to h.typing own_law procedure x) x e (at before))
       (λ a now. followed_by (all_passed h (ways_of formals) formals rest now) (λ more now. Done (a ∷ more) now))
       (one_given before mid mode_of owning (procedure && is_named_access (view_of h.typing x)) x e refl refl (unseen x (inl refl)) kind stay.0 clears.0 copied.0 takes each.0)

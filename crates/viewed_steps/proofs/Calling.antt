@@ -313,10 +313,10 @@ module _ (table : Table) (typed : TypedProgram) (effects : Effects) (input : Lis
         abbrev no_procedure : procedure ≡ false
         no_procedure = acting.no_procedure table typed effects input ready state top below more_frames rest named p frames deep stages running awaiting of_sub at_point path views viewed_before kept scope holds placed_before above n actuals result e f traversed
 
-        opens_these : AreClear s facts_now (f ∷ traversing.rest) (More first (made.call).others)
+        pub opens_these : AreClear s facts_now (f ∷ traversing.rest) (More first (made.call).others)
         opens_these = subst (λ z. AreClear s facts_now z (More first (made.call).others)) traversing.formals (subst (AreClear s facts_now formals) made.actuals_are clear_there)
 
-        back_these : AreOpenActuals s depth facts_now (f ∷ traversing.rest) (More first (made.call).others)
+        pub back_these : AreOpenActuals s depth facts_now (f ∷ traversing.rest) (More first (made.call).others)
         back_these = subst (λ z. AreOpenActuals s depth facts_now z (More first (made.call).others)) traversing.formals (subst (AreOpenActuals s depth facts_now formals) made.actuals_are copied_there)
 
         takes_these : TakesAll (f ∷ traversing.rest) (More first (made.call).others) given_words taken_there.0

@@ -408,7 +408,7 @@ module _ (table : Table) (typed : TypedProgram) (effects : Effects) (input : Lis
     viewed_easy plain = eased_viewed main_turn ready.accepted.settled (home s depth) (sees_only s) other views facts_now frames (plain_values plain) viewed kept
 
     pub taken_there : IsTaken s named.sub.result p
-    taken_there = ready.valued.takes named named_there p point_there_now
+    taken_there = ready.valued.takes top.frame.sub (running.0).entered named of_sub p point_there_now
 
     -- and so it is, where a call alone isn't taken
     pub plain_here : StoresNone p.instr → Plain × TakesScalars s p.instr

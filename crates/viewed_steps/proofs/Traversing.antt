@@ -56,21 +56,21 @@ module _ (s : Typing) (own_law : OwnsByShape s.table) where
       ∙ copies_keep formals rest (λ y has. modes y (inr has)) facts
   copies_keep (x ∷ formals) actuals modes facts = refl
 
-  pub first_reads : (formals : List ℕ) (c : TraversalCall) → Leads s (object_at s c.root).of c.path c.of → AreUnseen s formals → AreActualsTo s formals c.others
+  pub first_reads : PartsAreNamed s.table → (formals : List ℕ) (c : TraversalCall) → Leads s (object_at s c.root).of c.path c.of → AreUnseen s formals → AreActualsTo s formals c.others
       → AreReads (index_acts s (first_actual c) ++ actual_values s (map (passing s false) formals) c.others)
-  first_reads formals c leads unseen stay =
+  first_reads parts_named formals c leads unseen stay =
       both_reads (index_acts s (first_actual c)) (actual_values s (map (passing s false) formals) c.others)
-      (index_reads s own_law (first_actual c) c.of (leads, refl)) (values_are_read s own_law false formals c.others unseen stay)
+      (index_reads s own_law (first_actual c) c.of (leads, refl)) (values_are_read s own_law false parts_named formals c.others unseen stay)
 
   -- where all formals are of mode `in`
-  pub traversal_keeps : (f : ℕ) (formals : List ℕ) (c : TraversalCall) → Leads s (object_at s c.root).of c.path c.of → AreUnseen s formals → AreActualsTo s formals c.others
+  pub traversal_keeps : PartsAreNamed s.table → (f : ℕ) (formals : List ℕ) (c : TraversalCall) → Leads s (object_at s c.root).of c.path c.of → AreUnseen s formals → AreActualsTo s formals c.others
       → ((x : ℕ) → Has formals x → (object_at s x).mode ≡ mode.In) → (facts : List Fact)
       → after (acts (actual_values s (ways_to (f ∷ formals)) (More (first_actual c) c.others) ++ actual_acts (ways_to (f ∷ formals)) (More (first_actual c) c.others))) facts ≡ facts
-  traversal_keeps f formals c leads unseen stay modes facts =
+  traversal_keeps parts_named f formals c leads unseen stay modes facts =
       let values : List Placed = index_acts s (first_actual c) ++ actual_values s (map (passing s false) formals) c.others in
       let copies : List Placed = actual_acts (map (passing s false) formals) c.others in
       ap (λ z. after z facts) (acts_append values copies) ∙ after_append (acts values) (acts copies) facts
-      ∙ ap (after (acts copies)) (reads_keep values (first_reads formals c leads unseen stay) facts)
+      ∙ ap (after (acts copies)) (reads_keep values (first_reads parts_named formals c leads unseen stay) facts)
       ∙ copies_keep formals c.others modes facts
 
 -- ---- what the formals are given
