@@ -124,6 +124,11 @@ GivesScalar s n = (t : ℕ) → (sub_at s n).result ≡ Some t → is_scalar (fu
 abbrev pub GivesNamed : Typing → ℕ → Type 0
 GivesNamed s n = (t : ℕ) → (sub_at s n).result ≡ Some t → is_anonymous (full s.table t) ≡ false
 
--- What functions give in code is of scalar types; or a value is made of it, and it is of no anonymous access type.
+-- or of one.
+abbrev pub GivesSeen : Typing → ℕ → Type 0
+GivesSeen s n = (t : ℕ) × ((sub_at s n).result ≡ Some t) × (is_anonymous (full s.table t) ≡ true)
+
+-- What functions give in code is of scalar types; or a value is made of it, and it is of no anonymous access type; or it is of
+-- one and stands alone.
 abbrev pub ResultsFit : Typing → TypedCode → Type 0
-ResultsFit s c = CodeFits (GivesScalar s) (GivesScalar s) (GivesNamed s) (λ n. ⊥) c
+ResultsFit s c = CodeFits (GivesScalar s) (GivesScalar s) (GivesNamed s) (GivesSeen s) c
