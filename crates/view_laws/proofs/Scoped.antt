@@ -350,7 +350,8 @@ module _ (table : Table) (typed : TypedProgram) (effects : Effects) (given : IsV
     | inl e ↦ absurd (valued.no_call table typed effects given named e p there n actuals (Some t) is)
     | inr inside ↦ (
         let body = valued.body table typed effects given named has inside in
-        elim (sub_followed (setting_from own body.2 body.0) body.0 (GivesScalar own) (GivesNamed own) (GivesSeen own) (valued.weaker table typed effects given) (given.results body.0 body.1)
+        elim (sub_followed (setting_from own body.2 body.0) body.0 (GivesScalar own) (GivesScalar own) (GivesNamed own) (GivesSeen own) (valued.weaker table typed effects given) (valued.weaker table typed effects given)
+        (given.results body.0 body.1)
         p (subst (λ (z : NamedSub). Has z.points p) (sym body.4) there) n actuals t is) [
           | inl plain ↦ absurd (not_plain plain)
           | inr follows ↦ subst (λ (z : NamedSub). IsFollowed z.points p n actuals) body.4 follows
