@@ -69,7 +69,8 @@ pub record AreValued (table : Table) (typed : TypedProgram) : Type 0 where
       → is_held (flow_typing (flow_program table typed)) x ≡ false
   pub passed : (sub : NamedSub) → Has (flow_named table typed) sub → (p : NamedPoint) → Has sub.points p → (n : ℕ) (actuals : TypedTree) (result : Option ℕ)
       → p.instr ≡ Call n actuals result → (x : ℕ) → Has (roots_passed actuals) x → is_held (flow_typing (flow_program table typed)) x ≡ false
-  pub takes : (sub : NamedSub) → Has (flow_named table typed) sub → (p : NamedPoint) → Has sub.points p → IsTaken (flow_typing (flow_program table typed)) sub.sub.result p
+  pub takes : (n : ℕ) → IsEntered (flow_program table typed) n → (sub : NamedSub) → IsNamedSub (flow_named table typed) n sub → (p : NamedPoint) → Has sub.points p
+      → IsTaken (flow_typing (flow_program table typed)) sub.sub.result p
   -- what is of an anonymous access type is taken at once
   pub seen : (sub : NamedSub) → Has (flow_named table typed) sub → (p : NamedPoint) → Has sub.points p
       → AreNamedIn (flow_typing (flow_program table typed)) p.scope
