@@ -41,7 +41,7 @@ use Rattle.soundness.proofs.Successors.{finish_or, call_or}
 use Rattle.soundness.proofs.Eased.{eased}
 use Rattle.soundness.proofs.Stays.{Quiet}
 use Rattle.soundness.proofs.Taking.{Takes, takes_as, no_takes, nothing_more}
-use Rattle.owned_loans.specs.Views.{Around, known_gone, Views, ViewedAlone}
+use Rattle.owned_loans.specs.Views.{Around, known_gone, Views, ViewedAlone, Viewed}
 use Rattle.viewed_soundness.specs.Holds.{is_fixed, IsNamed, AllKeep, sees_only}
 use Rattle.viewed_steps.specs.Sound.{IsBeyond, IsResting, HoldsAt, ArePlaced, NoneAbove, ViewStage, stages_of, GoneElsewhere, AreWaiting, IsRunning, IsSound, HasTraversals}
 use Rattle.viewed_steps.specs.Ready.{IsReady}
@@ -84,7 +84,7 @@ use Rattle.viewed_nulls.proofs.Sources.{call_taken, null_taken, taken_same}
 use Rattle.owned_loans.proofs.Allowed.{give_clears}
 use Rattle.soundness.proofs.Contents.{bool_cases}
 use Rattle.soundness.proofs.Scalars.{acts_append}
-use Rattle.viewed_steps.proofs.Seeing.{open_to}
+use Rattle.owned_loans.proofs.Alone.{alone_viewed}
 
 -- whether the scope of an object ends
 end_or : (i : Instruction) → ((x : ℕ) × (i ≡ EndScope x)) ⊎ ((x : ℕ) → i ≡ EndScope x → ⊥)
@@ -137,10 +137,14 @@ module _ (table : Table) (typed : TypedProgram) (effects : Effects) (input : Lis
         subst (λ (z : FlowSub). Has z.points first_turn.point)
         (sym (standing.sub_is table typed effects input ready state top [] [] named p frames of_sub at_point) ∙ ap (sub_of program) running.0) in_first
 
-    viewed_first : ViewedAlone (home s 0) (sees_only s) (known_gone (home s 0) (GoneElsewhere program effects [])) views (view_here s state) facts_first
+    viewed_first : Viewed (home s 0) (sees_only s) nowhere views (view_here s state) facts_first
     viewed_first =
-        subst (ViewedAlone (home s 0) (sees_only s) (known_gone (home s 0) (GoneElsewhere program effects [])) views (view_here s state))
-        (standing.facts_are table typed effects input ready state top [] [] named p frames of_sub at_point path) viewed_before
+        alone_viewed (home s 0) (sees_only s) views (view_here s state) facts_first (GoneElsewhere program effects []) (λ x w has. none_some w (sym (running.2 x) ∙ has))
+        (subst (ViewedAlone (home s 0) (sees_only s) (known_gone (home s 0) (GoneElsewhere program effects [])) views (view_here s state))
+        (standing.facts_are table typed effects input ready state top [] [] named p frames of_sub at_point path) viewed_before)
+      where
+        none_some : (w : Way) → None ≡ Some w → ⊥
+        none_some w e = cc
 
     abbrev FirstGoal : Instruction → Type 0
     FirstGoal i = SameStep first_turn (turn first_turn i) (turn (twin first_turn n) i)
@@ -380,7 +384,7 @@ module _ (table : Table) (typed : TypedProgram) (effects : Effects) (input : Lis
             (elim no_overlap [ inl none ↦ inl (spares_first s facts_now formals actuals none) | inr plain ↦ inr plain ])
             (calling.kinds table typed effects input ready state top below more_frames rest named p frames deep stages running awaiting of_sub at_point path views viewed_before kept scope holds placed_before above k actuals result e) (acting.unseen_plain table typed effects input ready state top below more_frames rest named p frames deep stages running awaiting of_sub at_point path views viewed_before kept scope holds placed_before above k actuals result e none)
             (calling.called table typed effects input ready state top below more_frames rest named p frames deep stages running awaiting of_sub at_point path views viewed_before kept scope holds placed_before above k actuals result e).actuals_stay
-            (open_to s (suc (length rest)) views facts_now formals actuals (calling.clear_there table typed effects input ready state top below more_frames rest named p frames deep stages running awaiting of_sub at_point path views viewed_before kept scope holds placed_before above k actuals result e) (calling.lows_there table typed effects input ready state top below more_frames rest named p frames deep stages running awaiting of_sub at_point path views viewed_before kept scope holds placed_before above k actuals result e))
+            (calling.clear_there table typed effects input ready state top below more_frames rest named p frames deep stages running awaiting of_sub at_point path views viewed_before kept scope holds placed_before above k actuals result e)
             (calling.copied_there table typed effects input ready state top below more_frames rest named p frames deep stages running awaiting of_sub at_point path views viewed_before kept scope holds placed_before above k actuals result e)
             (takes_of plain_call (Call k actuals result) e) (subst (ComparesIn s) e compares)
             (subst (λ z. AllowsAll facts_now (acts (flow.actual_values s z actuals))) (passes_to program k none) (calling.values_allowed table typed effects input ready state top below more_frames rest named p frames deep stages running awaiting of_sub at_point path views viewed_before kept scope holds placed_before above k actuals result e))
@@ -434,7 +438,7 @@ module _ (table : Table) (typed : TypedProgram) (effects : Effects) (input : Lis
         whole_there passed given =
             passed_wholly s ready.accepted.settled ready.owns in_formals (waiting_in easy) (suc (length rest)) views
             (calling.far_views table typed effects input ready state top below more_frames rest named p frames deep stages running awaiting of_sub at_point path views viewed_before kept scope holds placed_before above k actuals result e passed given) holds.only
-            (calling.facts_called table typed effects input ready state top below more_frames rest named p frames deep stages running awaiting of_sub at_point path views viewed_before kept scope holds placed_before above k actuals result e)
+            (calling.facts_all table typed effects input ready state top below more_frames rest named p frames deep stages running awaiting of_sub at_point path views viewed_before kept scope holds placed_before above k actuals result e)
             (calling.next_there table typed effects input ready state top below more_frames rest named p frames deep stages running awaiting of_sub at_point path views viewed_before kept scope holds placed_before above k actuals result e)
             (calling.cells table typed effects input ready state top below more_frames rest named p frames deep stages running awaiting of_sub at_point path views viewed_before kept scope holds placed_before above k actuals result e passed given)
             (calling.cell_begins table typed effects input ready state top below more_frames rest named p frames deep stages running awaiting of_sub at_point path views viewed_before kept scope holds placed_before above k actuals result e passed given)
@@ -481,13 +485,13 @@ module _ (table : Table) (typed : TypedProgram) (effects : Effects) (input : Lis
             subst (λ z. AreStages (stages_of (below ∷ (h ∷ m))) (below.stage.frame ∷ z)) (sym same) there in
             back_wholly main_turn ready.accepted.settled ready.owns in_formals (waiting_in state) state.leaks below.stage.depth
             (ends.deep_low table typed effects input ready state top below more_frames rest named p frames deep stages running awaiting of_sub at_point path views viewed_before kept scope holds placed_before above h m stages_there waiting well still is)
-            below.views (ends.far_low table typed effects input ready state top below more_frames rest named p frames deep stages running awaiting of_sub at_point path views viewed_before kept scope holds placed_before above h m stages_there waiting well still is) waiting.0.holds.only (facts_of program effects below.stage) (lasting_of s waiting.0.point.scope)
+            below.views (ends.far_low table typed effects input ready state top below more_frames rest named p frames deep stages running awaiting of_sub at_point path views viewed_before kept scope holds placed_before above h m stages_there waiting well still is) waiting.0.holds.only (ends.their_all table typed effects input ready state top below more_frames rest named p frames deep stages running awaiting of_sub at_point path views viewed_before kept scope holds placed_before above h m stages_there waiting well still is) (lasting_of s waiting.0.point.scope)
             (ends.around_low table typed effects input ready state top below more_frames rest named p frames deep stages running awaiting of_sub at_point path views viewed_before kept scope holds placed_before above h m stages_there waiting well still is)
             (ends.free_low table typed effects input ready state top below more_frames rest named p frames deep stages running awaiting of_sub at_point path views viewed_before kept scope holds placed_before above h m stages_there waiting well still is)
             (ends.whole_low table typed effects input ready state top below more_frames rest named p frames deep stages running awaiting of_sub at_point path views viewed_before kept scope holds placed_before above h m stages_there waiting well still is)
             (ends.none_kept table typed effects input ready state top below more_frames rest named p frames deep stages running awaiting of_sub at_point path views viewed_before kept scope holds placed_before above h m stages_there waiting well still is)
             below.cells (ends.begins_low table typed effects input ready state top below more_frames rest named p frames deep stages running awaiting of_sub at_point path views viewed_before kept scope holds placed_before above h m stages_there waiting well still is)
-            top.frame.returns below.stage.returns state.memory waiting.0.taken (λ c has. ((waiting.0.kept c has).reaches, (waiting.0.kept c has).aside)) kept
+            top.frame.returns below.stage.returns state.memory (ends.taken_low table typed effects input ready state top below more_frames rest named p frames deep stages running awaiting of_sub at_point path views viewed_before kept scope holds placed_before above h m stages_there waiting well still is) (λ c has. ((waiting.0.kept c has).reaches, (waiting.0.kept c has).aside)) kept
             (ends.viewed_low table typed effects input ready state top below more_frames rest named p frames deep stages running awaiting of_sub at_point path views viewed_before kept scope holds placed_before above h m stages_there waiting well still is)
 
     pub main_same : SameAt state n
