@@ -1,27 +1,29 @@
 -- What is called moved stays so in calls and their ends: it is in no place that a call takes.
 use Rattle.viewed_soundness.specs.Holds.{sees_only, is_view}
-use Rattle.std.proofs.Common.{◌≡◌, sym, ap, ◌∙◌, subst, ◌⊎◌, inl, inr, ℕ, suc, ◌<◌, Bool, true, false, List, [], ◌∷◌, length, append-nil, arith, if◌then◌else◌, Some}
+use Rattle.std.proofs.Common.{◌≡◌, sym, ap, ◌∙◌, subst, ◌⊎◌, inl, inr, ℕ, suc, ◌<◌, Bool, true, false, List, [], ◌∷◌, length, append-nil, arith, if◌then◌else◌, Some, Option, None, refl}
 use Rattle.spark_base.specs.Lists.{Has}
 use Rattle.place_names.specs.declared.fact.Fact.{Fact}
 use Rattle.place_names.specs.declared.rule.Loan.TheVariants.{Borrowed}
-use Rattle.flow_paths.specs.Objects.{Typing, is_package_object}
+use Rattle.flow_paths.specs.Objects.{Typing, is_package_object, is_anonymous, view_of}
 use Rattle.machine.specs.Memory.{Memory}
 use Rattle.machine.specs.States.{Return, Frame}
 use Rattle.owned_ways.specs.Ways.{Step, Root, OfVariable, Loc, OfRoot, OfCell, Inside, Way, Object, Lost, Into, All, Gone, Held, View, part, along, Reaches, Under, Told, base_of, number_of, name_of}
 use Rattle.owned_ways.proofs.Locations.{under_along, under_itself}
 use Rattle.owned_ways.proofs.Dropped.{named_base}
 use Rattle.part_offsets.specs.Parts.{IsSettled}
-use Rattle.soundness.specs.Seen.{word_in, content, seen, home}
+use Rattle.soundness.specs.Seen.{word_in, content, seen, home, is_view_formal}
 use Rattle.soundness.proofs.Contents.{word_part, word_root}
 use Rattle.soundness.specs.Sound.{AreStages}
-use Rattle.owned_loans.specs.Views.{Views, AreClear, AreViews, expand}
-use Rattle.owned_loans.proofs.Safe.{clean_name}
+use Rattle.owned_loans.specs.Views.{Views, AreClear, AreViews, expand, IsOuter, HasLoan}
+use Rattle.owned_loans.proofs.Ways.{beginnings, meet_overlaps, stands_alone}
+use Rattle.owned_loans.proofs.Meeting.{stands as stands_for}
 use Rattle.exact_facts.proofs.Steps.{under_covers}
 use Rattle.viewed_steps.specs.Sound.{ViewStage, stages_of, Lies}
 use Rattle.viewed_steps.specs.Taken.{TakenBy, AreCarried, IsPassedOn, AreTaken, Lodge, IsTakenIn}
-use Rattle.viewed_soundness.proofs.Names.{owner_sees}
-use Rattle.viewed_steps.proofs.Entered.{inside_plain, inside_named, inside_number, inside_itself}
+use Rattle.viewed_soundness.proofs.Names.{true_false, both_no}
+use Rattle.viewed_steps.proofs.Entered.{inside_plain, inside_number}
 use Rattle.viewed_facts.specs.Exact.{IsDefiniteBy}
+use Rattle.owned_ways.proofs.Named.{longer}
 
 -- ---- ways from variables, where words are carried
 
@@ -140,12 +142,29 @@ passed_of s cells m depth facts scope (r ∷ rest) (k ∷ ways) (inr (one, apart
 module _ (s : Typing) (settled : IsSettled s.table) (cells : List Lodge) (depth : ℕ) (facts : List Fact) (scope : List ℕ) (r : Return) (to : Way)
     (passed : IsPassedOn s cells depth facts scope r.formal r.to to) where
   -- nothing is there that the frame moved, by a name without an element
-  pub passed_clean : (v : Views) (view : View) → ((x : ℕ) (w : Way) → v.way x ≡ Some w → is_view s x ≡ true) → AreViews (home s depth) (sees_only s) v view facts → AreClear (sees_only s) facts
+  pub passed_clean : (v : Views) (view : View) → ((x : ℕ) (w : Way) → v.way x ≡ Some w → is_view s x ≡ true) → (views : AreViews (home s depth) (sees_only s) v view facts)
+      → AreClear (sees_only s) facts → ((x : ℕ) (w : Way) → v.way x ≡ Some w → IsOuter (home s depth) v x w → Under to w ⊎ Under w to → ⊥)
       → (w : Way) → IsDefiniteBy (home s depth) v facts w → Under to w → ⊥
-  passed_clean v view only views clear w (m, moved, plain, same) under =
-      clean_name (home s depth) (sees_only s) v view facts views clear to m (
-        inside_named s settled depth r.to to passed.inside,
-        ap (sees_only s) (inside_number s settled depth r.to to passed.inside)
-            ∙ owner_sees s (passed.inside).object (inside_plain s settled depth r.to to passed.inside) (passed.inside).owner,
-      ) (λ h n has over. passed.unlent Borrowed h n has over) moved (λ below. passed.cleared (name_of m) moved.1 (under_covers to m below plain))
-      (subst (λ z. Under z (expand v m)) (sym (inside_itself s settled depth r.to to passed.inside v only)) (subst (Under to) (sym same) under))
+  passed_clean v view only views clear outer w (m, moved, plain, same) under =
+      let below : Under to (expand v m) = subst (Under to) (sym same) under in
+      elim (stands_for (home s depth) (sees_only s) v view facts views m (moved.0, clear.owned (name_of m) moved.1)) [
+        | inr held ↦ outer held.object held.way held.has (inr held.passed.given) (beginnings to held.way (expand v m) below held.under)
+        | inl own ↦ elim (own.touches to (inr below)) [
+          | inr (b, lends, meets) ↦ passed.unlent Borrowed b (name_of (v.loan b))
+              (subst (λ z. HasLoan (sees_only s) z b facts (name_of (v.loan b))) lends.2 lends.3.lent) (meet_overlaps (v.loan b) to meets)
+          | inl begins ↦ passed.cleared (name_of m) moved.1 (under_covers to m (elim begins [
+            | inr it ↦ it
+            | inl above ↦ subst (Under to) (itself m (sym (longer m to above).root)) below
+          ]) plain)
+        ]
+      ]
+    where
+      -- no view is where it is rooted
+      itself : (u : Way) → number_of u ≡ number_of to → expand v u ≡ u
+      itself u root = by_way (v.way (number_of u)) refl
+        where
+          by_way : (o : Option Way) → v.way (number_of u) ≡ o → expand v u ≡ u
+          by_way None is = stands_alone v u is
+          by_way (Some k) is =
+              absurd (true_false (is_view s (number_of u)) (only (number_of u) k is)
+              (ap (is_view s) (root ∙ inside_number s settled depth r.to to passed.inside) ∙ both_no (is_anonymous (view_of s (passed.inside).object)) (is_view_formal s (passed.inside).object) (inside_plain s settled depth r.to to passed.inside) (passed.inside).owner))

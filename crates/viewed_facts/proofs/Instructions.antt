@@ -61,6 +61,7 @@ use Rattle.viewed_facts.proofs.Stored.{StoresExact, assigned_exact}
 use Rattle.viewed_facts.proofs.Checks.{place_holds}
 use Rattle.viewed_steps.proofs.Views.{AreAccess, same_named, view_cases}
 use Rattle.owned_loans.proofs.Meeting.{stands}
+use Rattle.owned_loans.proofs.Ways.{home_or_foreign}
 
 module _ (t : Turn) (settled : IsSettled (typing t).table) (own_law : OwnsByShape (typing t).table) (other : Around (home (typing t) (length t.outer)))
     (alone : (w : Way) → IsNear (length t.outer) w → other.gone w → ⊥) (in_formals : AreAccess (typing t))
@@ -179,11 +180,17 @@ module _ (t : Turn) (settled : IsSettled (typing t).table) (own_law : OwnsByShap
   same_frame : (f x g y : ℕ) → OfRoot (OfVariable f x) ≡ OfRoot (OfVariable g y) → f ≡ g
   same_frame f x g y e = cc
 
+  in_home : (w : Way) {x : ℕ} → base_of w ≡ OfRoot (OfVariable depth x) → number_of w ≡ x → Named (home s depth) w → home s depth x ≡ depth
+  in_home w {x} base root named =
+      ap (home s depth) (sym root)
+      ∙ same_frame (home s depth (number_of w)) (number_of w) depth x (sym (named_base (home s depth) w named) ∙ base)
+
   unspoken : (x : ℕ) (facts : List Fact) (z : View) → Viewed (home s depth) (sees_only s) other v z facts → Speaks_not x facts
       → (w : Way) → IsDefinite (home s depth) v elsewhere facts w → Under (Object (OfVariable depth x)) w → ⊥
   unspoken x facts z viewed (unmoved, free) w (inr e) under = elim (away w e.1) [
     | inl far ↦ far.0 (near_under depth (Object (OfVariable depth x)) w under (inr refl))
-    | inr (k, named, begins_it, lent) ↦ (
+    | inr gone ↦ (
+        let (k, named, begins_it, lent) = other.through w gone in
         let begins_there = longer (Object (OfVariable depth x)) w under in
         let begins_lent = longer k w begins_it in
         let root : number_of k ≡ x = sym begins_lent.root ∙ begins_there.root in
@@ -195,16 +202,18 @@ module _ (t : Turn) (settled : IsSettled (typing t).table) (own_law : OwnsByShap
       let begins_there = longer (Object (OfVariable depth x)) w under in
       let root : number_of (expand v d.0) ≡ x = ap number_of d.3 ∙ begins_there.root in
       elim (stands (home s depth) (sees_only s) v z facts viewed.views d.0 (d.1.0, viewed.clear.owned (way_name d.0) d.1.1)) [
-        | inr held ↦ (
-            let foreign = held.passed.foreign in
-            (free.0 held.object held.way held.has).0 foreign
-            (same_frame foreign.0 foreign.1 depth x
-            (sym foreign.2 ∙ sym (longer held.way (expand v d.0) held.under).base ∙ ap base_of d.3 ∙ begins_there.base)))
+        | inr held ↦ elim (home_or_foreign (home s depth) held.way held.passed.begins) [
+          | inr foreign ↦ (free.0 held.object held.way held.has).0 foreign
+              (same_frame foreign.0 foreign.1 depth x
+              (sym foreign.2 ∙ sym (longer held.way (expand v d.0) held.under).base ∙ ap base_of d.3 ∙ begins_there.base))
+          | inl at_home ↦ (
+              let below = longer held.way (expand v d.0) held.under in
+              let named : Named (home s depth) w = same_named (home s depth) w held.way (ap base_of (sym d.3) ∙ below.base) at_home in
+              (free.0 held.object held.way held.has).1 at_home (in_home w begins_there.base begins_there.root named) (sym below.root ∙ root))
+        ]
         | inl own ↦ (
-            let named : Named (home s depth) w = subst (Named (home s depth)) d.3 own.0 in
-            let at_home : home s depth x ≡ depth =
-            ap (home s depth) (sym begins_there.root)
-            ∙ same_frame (home s depth (number_of w)) (number_of w) depth x (sym (named_base (home s depth) w named) ∙ begins_there.base) in
+            let named : Named (home s depth) w = subst (Named (home s depth)) d.3 own.named in
+            let at_home : home s depth x ≡ depth = in_home w begins_there.base begins_there.root named in
             elim (stands_root v d.0) [
               | inl e ↦ unmoved (way_name d.0) d.1.1 (sym e ∙ root) (sym at_home)
               | inr (y, k, has, e, base) ↦ (free.0 y k has).1 (same_named (home s depth) k w (sym base ∙ ap base_of d.3) named) at_home (sym e ∙ root)

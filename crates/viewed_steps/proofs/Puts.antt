@@ -55,7 +55,6 @@ use Rattle.viewed_steps.proofs.Copies.{copy_quiet}
 use Rattle.viewed_soundness.proofs.Outcomes.{named_plain}
 use Rattle.soundness.proofs.Keeping.{top_points, scalar}
 use Rattle.soundness.proofs.Moments.{number_part}
-use Rattle.viewed_steps.proofs.Reading.{unowned, unowned_read}
 use Rattle.viewed_soundness.proofs.Given.{IsLow}
 
 module _ (h : Here) (settled : IsSettled h.typing.table) (hands : List Waiting) (leaks : List Leak) (m : Memory) (waits : List (List machine.Word))
