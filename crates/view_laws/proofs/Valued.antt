@@ -11,11 +11,13 @@ use Rattle.type_definitions.specs.Types.{Table, full, is_scalar}
 use Rattle.typed_tree.specs.Trees.{TypedTree, Name, Component, Designated, Element, Image, Parens, Unary, Binary, Short, IsNull, NoMore, Aggregate, Alike, New}
 use Rattle.typed_tree.specs.Trees as typed_tree
 use Rattle.typed_tree.specs.declared.object.Object.{Object}
+use Rattle.typed_tree.specs.declared.object.ObjectKind.{ObjectKind}
+use Rattle.typed_tree.specs.declared.object.ObjectKind.TheVariants as object_kind
 use Rattle.typed_tree.specs.declared.node.ShortCircuit.{ShortCircuit}
 use Rattle.typed_tree.specs.Programs.{TypedProgram, text_io}
 use Rattle.flow_paths.specs.declared.report.Effects.{Effects}
 use Rattle.flow_paths.specs.Instructions.{Instruction, Declare, Assign, Call, Output, Input, Release, Test, Choose, Start, Evaluate, LeaveLoop, Hold}
-use Rattle.flow_paths.specs.Objects.{Typing, Signature, object_at, sub_at, traverses, is_anonymous, is_observer, is_package_object, has_scope_end, view_of}
+use Rattle.flow_paths.specs.Objects.{Typing, Signature, object_at, sub_at, traverses, is_variable, is_formal, is_formal_kind, is_anonymous, is_observer, is_package_object, has_scope_end, view_of}
 use Rattle.flow_paths.specs.Names.{has_call, whole_object}
 use Rattle.flow_paths.specs.Points.{NamedPoint}
 use Rattle.flow_paths.specs.Laid.{FlowProgram, NamedSub, temporary_object, result_of, named_subs, all_named, sub_points, flow_sub, typing_of, flow_typing, flow_program, flow_named}
@@ -27,13 +29,13 @@ use Rattle.soundness.specs.Ready.{stored_at, Fills}
 use Rattle.soundness.proofs.Points.{flow_at, named_has}
 use Rattle.soundness.proofs.Passing.{signature_is}
 use Rattle.soundness.proofs.Successors.{not_true}
-use Rattle.soundness.proofs.Typings.{Agree, flow_agrees}
+use Rattle.soundness.proofs.Typings.{Agree, flow_agrees, formal_same}
 use Rattle.soundness.proofs.Waits.{no_waits}
 use Rattle.viewed_soundness.specs.Taken.{GivesPlainly, type_given, types_taken, AreScalarTypes, TakesFit}
 use Rattle.viewed_soundness.proofs.Evaluated.{gives_plainly}
 use Rattle.viewed_soundness.proofs.Outcomes.{named_plain}
 use Rattle.scope_laws.specs.Code.{roots}
-use Rattle.scope_laws.specs.Alone.{CallsOnly, SourceFits, InstructionFits, GivesScalar, GivesNamed, GivesSeen}
+use Rattle.scope_laws.specs.Alone.{CallsFit, CallsOnly, SourceFits, InstructionFits, GivesScalar, GivesNamed, GivesSeen}
 use Rattle.scope_laws.specs.Fitted.{types, types_at, Pairs, FillsFit, RightFits, IsFitted}
 use Rattle.scope_laws.specs.Supplied.{IsKept}
 use Rattle.scope_laws.specs.Order.{named_in}
@@ -106,9 +108,15 @@ declared_fit true false l true view e = refl
 declared_fit true false l false view e = cc
 declared_fit false n l g view e = cc
 
-stored_fit : (a n g : Bool) → a ≡ true → (not a || n) || g ≡ true → n || g ≡ true
-stored_fit true n g view e = e
-stored_fit false n g view e = cc
+stored_fit : (a f n g : Bool) → a ≡ true → f ≡ false → ((not a || f) || n) || g ≡ true → n || g ≡ true
+stored_fit true false n g view none e = e
+stored_fit true true n g view none e = cc
+stored_fit false f n g view none e = cc
+
+-- a variable is no formal
+no_formal : (k : ObjectKind) → is_variable k ≡ true → is_formal_kind k ≡ false
+no_formal object_kind.Variable is = refl
+no_formal k is = cc
 
 module _ (table : Table) (typed : TypedProgram) (effects : Effects) (given : IsViewProgram table typed effects) where
   abbrev program : FlowProgram
@@ -126,6 +134,10 @@ module _ (table : Table) (typed : TypedProgram) (effects : Effects) (given : IsV
   -- functions with results of scalar types, and those that may stand alone
   abbrev pub Asked : ℕ → Type 0
   Asked n = GivesScalar own n
+
+  -- what functions give within actuals
+  abbrev Passed : ℕ → Type 0
+  Passed n = Asked n
 
   abbrev pub May : ℕ → Type 0
   May n = GivesNamed own n
@@ -151,6 +163,9 @@ module _ (table : Table) (typed : TypedProgram) (effects : Effects) (given : IsV
     | inr others ↦ absurd (let no : false ≡ true = sym others.1.2 ∙ shared in cc)
   ]
 
+  pub variable_plain : (x : ℕ) → is_variable (object_at s x).kind ≡ true → is_formal own x ≡ false
+  variable_plain x variable = sym (formal_same s own alike x) ∙ no_formal (object_at s x).kind variable
+
   pub sub_same : (n : ℕ) → sub_at s n ≡ sub_at own n
   sub_same n = ap (λ (subs : List Signature). get_or subs n (record { formals = []; result = None })) alike.subs
 
@@ -173,8 +188,8 @@ module _ (table : Table) (typed : TypedProgram) (effects : Effects) (given : IsV
   -- ---- what is taken
 
   -- where functions with scalar results alone are called, the types are scalar
-  calls_scalar : (e : TypedTree) → CallsOnly Asked e → AreScalarTypes s (types given_type boolean e)
-  unfolding CallsOnly types
+  calls_scalar : (e : TypedTree) → CallsOnly Asked Passed e → AreScalarTypes s (types given_type boolean e)
+  unfolding CallsFit types
   calls_scalar (typed_tree.Call p n actuals) asked = (scalar_given n asked.0, tt)
   calls_scalar (Name p x steps t) asked = calls_scalar steps asked
   calls_scalar (Component i rest) asked = calls_scalar rest asked
@@ -194,11 +209,11 @@ module _ (table : Table) (typed : TypedProgram) (effects : Effects) (given : IsV
   calls_scalar (typed_tree.More e rest) (first, second) = scalar_both s (types given_type boolean rest) (types given_type boolean e) (calls_scalar rest second) (calls_scalar e first)
   calls_scalar _ asked = tt
 
-  taken_scalar : (e : TypedTree) → CallsOnly Asked e → AreScalarTypes s (types_taken s e)
+  taken_scalar : (e : TypedTree) → CallsOnly Asked Passed e → AreScalarTypes s (types_taken s e)
   taken_scalar e asked = subst (AreScalarTypes s) (types_same s e) (calls_scalar e asked)
 
-  takes_fit : (e : TypedTree) → SourceFits Asked May e → TakesFit s e
-  unfolding SourceFits TakesFit
+  takes_fit : (e : TypedTree) → SourceFits Asked Passed May e → TakesFit s e
+  unfolding CallsFit TakesFit
   takes_fit (typed_tree.Call p n actuals) asked = tt
   takes_fit (Parens e) asked = takes_fit e asked
   takes_fit (Aggregate t es) asked = takes_fit es asked
@@ -207,8 +222,8 @@ module _ (table : Table) (typed : TypedProgram) (effects : Effects) (given : IsV
   takes_fit (typed_tree.More e rest) (first, second) = (takes_fit e first, takes_fit rest second)
   takes_fit e asked = taken_scalar e asked
 
-  gives_only : (e : TypedTree) → CallsOnly Asked e → GivesPlainly s e
-  unfolding CallsOnly GivesPlainly
+  gives_only : (e : TypedTree) → CallsOnly Asked Passed e → GivesPlainly s e
+  unfolding CallsFit GivesPlainly
   gives_only (typed_tree.Call p n actuals) asked = scalar_there n asked.0
   gives_only (Parens e) asked = gives_only e asked
   gives_only (Aggregate t es) asked = gives_only es asked
@@ -243,7 +258,7 @@ module _ (table : Table) (typed : TypedProgram) (effects : Effects) (given : IsV
   pairs_filled (t ∷ ts) (x ∷ xs) pairs = subst (AreFilled s (t ∷ ts)) (sym (held_first x xs pairs.0.1)) (pairs.0.0, pairs_filled ts xs pairs.1)
 
   -- an instruction that stores no value takes scalar ones
-  plain_types : (i : Instruction) → StoresNone i → InstructionFits Asked May Single i → AreScalarTypes s (types_at given_type boolean i)
+  plain_types : (i : Instruction) → StoresNone i → InstructionFits Asked Passed May Single i → AreScalarTypes s (types_at given_type boolean i)
   plain_types (Call n actuals (Some t)) none (may, asked) = calls_scalar actuals asked
   plain_types (Call n actuals None) none asked = calls_scalar actuals asked
   plain_types (Output text line) none asked = calls_scalar text asked
@@ -342,10 +357,10 @@ module _ (table : Table) (typed : TypedProgram) (effects : Effects) (given : IsV
         by (Evaluate t e None) is temporary = tt
         by i is temporary = tt
 
-    pub fitted_there : (p : NamedPoint) → Has named.points p → IsFitted FitsHeld given_type boolean Asked May Single p
+    pub fitted_there : (p : NamedPoint) → Has named.points p → IsFitted FitsHeld given_type boolean Asked Passed May Single p
     fitted_there p there =
-        all_has (IsFitted FitsHeld given_type boolean Asked May Single) laid_points p
-        (sub_fit FitsHeld given_type boolean Asked May Single weaker (setting_from own (body.2) (body.0)) (body.0) (given.results (body.0) (body.1))
+        all_has (IsFitted FitsHeld given_type boolean Asked Passed May Single) laid_points p
+        (sub_fit FitsHeld given_type boolean Asked Passed May Single weaker weaker (setting_from own (body.2) (body.0)) (body.0) (given.results (body.0) (body.1))
         (all_there (λ (r : NamedPoint). FillsFit FitsHeld given_type boolean r.instr) laid_points (λ r at. filling r (in_points r at))))
         (in_laid p there)
 
@@ -489,8 +504,8 @@ module _ (table : Table) (typed : TypedProgram) (effects : Effects) (given : IsV
       by (Some t) is = may t is
 
   -- a name, or what a traversal function gives, which none does
-  name_only : (test : ℕ → Bool) (e : TypedTree) → is_name_of test e || gives_view own e ≡ true → SourceFits Asked May e → CallsOnly Asked e
-  unfolding SourceFits CallsOnly
+  name_only : (test : ℕ → Bool) (e : TypedTree) → is_name_of test e || gives_view own e ≡ true → SourceFits Asked Passed May e → CallsOnly Asked Passed e
+  unfolding CallsFit
   name_only test (Name q y steps t) fit asked = asked
   name_only test (typed_tree.Call q n a) fit asked = (let never : true ≡ false = sym fit ∙ no_traversal n asked.0 in cc)
   name_only test e fit asked = cc
@@ -513,7 +528,7 @@ module _ (table : Table) (typed : TypedProgram) (effects : Effects) (given : IsV
     plainly : (ts : List ℕ) → Takes ts → AreScalarTypes s ts → TakesScalars s p.instr → Goal
     plainly ts pairs scalar takes = inl (pairs_scalar ts (take (taken p.instr) p.scope) pairs scalar, takes)
 
-    together : (i : Instruction) → p.instr ≡ i → (e : TypedTree) → IsMadeFor s named.sub.result p.instr e → SourceFits Asked May e → (ts : List ℕ) → ts ≡ types_for s i → Takes ts → Goal
+    together : (i : Instruction) → p.instr ≡ i → (e : TypedTree) → IsMadeFor s named.sub.result p.instr e → SourceFits Asked Passed May e → (ts : List ℕ) → ts ≡ types_for s i → Takes ts → Goal
     together i is e made source ts same pairs =
         inr (inr (
           e,
@@ -526,8 +541,8 @@ module _ (table : Table) (typed : TypedProgram) (effects : Effects) (given : IsV
     abbrev above : IsAbove (is_older own typed.scopes) (fits own) p
     above = above_there named has inside p there
 
-    declared_takes : (x : ℕ) (v : TypedTree) → p.instr ≡ Declare x v → FirstSource s (object_at s x).of v → SourceFits Asked May v → Takes (types given_type boolean v) → Goal
-    unfolding SourceFits CallsOnly
+    declared_takes : (x : ℕ) (v : TypedTree) → p.instr ≡ Declare x v → FirstSource s (object_at s x).of v → SourceFits Asked Passed May v → Takes (types given_type boolean v) → Goal
+    unfolding CallsFit
     declared_takes x NoMore is source asked pairs =
         plainly (types given_type boolean NoMore) pairs (calls_scalar NoMore tt) (subst (TakesScalars s) (sym is) (gives_only NoMore tt))
     declared_takes x (typed_tree.More e rest) is (last, source) asked pairs = by_kind (is_anonymous (view_of s x)) refl
@@ -540,8 +555,8 @@ module _ (table : Table) (typed : TypedProgram) (effects : Effects) (given : IsV
             declared_fit (is_anonymous (view_of own x)) (is_name_of (λ y. is_observer own x || nat_lt y x) e) (is_list_end rest) (gives_view own e) (sym (view_same x lasts_here) ∙ view)
             (sym (ap (fits own) is) ∙ above.declared x (typed_tree.More e rest) is)
 
-        calls_here : is_anonymous (view_of s x) ≡ true → CallsOnly Asked (typed_tree.More e rest)
-        calls_here view = (name_only (λ y. is_observer own x || nat_lt y x) e (fit_here view) asked.0, subst (CallsOnly Asked) (sym last) tt)
+        calls_here : is_anonymous (view_of s x) ≡ true → CallsOnly Asked Passed (typed_tree.More e rest)
+        calls_here view = (name_only (λ y. is_observer own x || nat_lt y x) e (fit_here view) asked.0, subst (CallsOnly Asked Passed) (sym last) tt)
 
         by_kind : (b : Bool) → is_anonymous (view_of s x) ≡ b → Goal
         by_kind false named_object =
@@ -552,9 +567,9 @@ module _ (table : Table) (typed : TypedProgram) (effects : Effects) (given : IsV
             (subst (TakesScalars s) (sym is) (gives_only (typed_tree.More e rest) (calls_here view)))
     declared_takes x v is source asked pairs = absurd source
 
-    assigned_takes : (target e : TypedTree) → p.instr ≡ Assign target e → (t : ℕ) → IsPlace s target t → CallsOnly Asked target → SourceFits Asked May e
+    assigned_takes : (target e : TypedTree) → p.instr ≡ Assign target e → (t : ℕ) → IsPlace s target t → CallsOnly Asked Passed target → SourceFits Asked Passed May e
         → Takes (types given_type boolean target ++ types given_type boolean e) → Goal
-    unfolding CallsOnly types types_taken roots
+    unfolding CallsFit types types_taken roots
     assigned_takes (Name q x path u) e is t (leads, of) path_asked asked pairs = by_kind (is_anonymous (full s.table u)) refl
       where
         lasts_here : is_temporary_object s x ≡ false
@@ -562,10 +577,12 @@ module _ (table : Table) (typed : TypedProgram) (effects : Effects) (given : IsV
 
         fit_here : path ≡ NoMore → is_anonymous (view_of s x) ≡ true → is_name_of is_any e || gives_view own e ≡ true
         fit_here whole_path view =
-            stored_fit (is_anonymous (view_of own x)) (is_name_of is_any e) (gives_view own e) (sym (view_same x lasts_here) ∙ view)
+            stored_fit (is_anonymous (view_of own x)) (is_formal own x) (is_name_of is_any e) (gives_view own e) (sym (view_same x lasts_here) ∙ view)
+            (variable_plain x (given.stored (flow_sub own named) (ordered.in_program table typed effects given.accepted given.owns given.order given.answered given.passed given.still named has)
+            (flow_at own named p) (Has-map (λ (z : NamedPoint). flow_at own named z) named.points p there) x (inr (q, u, e, is ∙ ap (λ z. Assign (Name q x z u) e) whole_path)) view))
             (subst (λ z. stores_name own (whole_object x z) e || gives_view own e ≡ true) whole_path (sym (ap (fits own) is) ∙ above.assigned (Name q x path u) e is))
 
-        view_takes : is_anonymous (full s.table u) ≡ true → CallsOnly Asked e
+        view_takes : is_anonymous (full s.table u) ≡ true → CallsOnly Asked Passed e
         view_takes view = elim (leads_or s given.parts_named path (object_at s x).of u leads) [
           | inr own_type ↦ (let never : true ≡ false = sym view ∙ named_plain s.table u own_type in cc)
           | inl whole_place ↦ name_only is_any e (fit_here whole_place.0 (ap (λ z. is_anonymous (full s.table z)) whole_place.1 ∙ view)) asked
@@ -581,31 +598,31 @@ module _ (table : Table) (typed : TypedProgram) (effects : Effects) (given : IsV
             (subst (TakesScalars s) (sym is) (gives_only e (view_takes view)))
     assigned_takes target e is t place path_asked asked pairs = absurd place
 
-    returned_takes : (v : TypedTree) → p.instr ≡ Hold v → (r : Option ℕ) → named.sub.result ≡ r → Returns s r v → SourceFits Asked May v → Takes (types given_type boolean v) → Goal
-    unfolding SourceFits CallsOnly
+    returned_takes : (v : TypedTree) → p.instr ≡ Hold v → (r : Option ℕ) → named.sub.result ≡ r → Returns s r v → SourceFits Asked Passed May v → Takes (types given_type boolean v) → Goal
+    unfolding CallsFit
     returned_takes v is None result none asked pairs =
-        plainly (types given_type boolean v) pairs (calls_scalar v (subst (CallsOnly Asked) (sym none) tt)) (subst (TakesScalars s) (sym is) (gives_only v (subst (CallsOnly Asked) (sym none) tt)))
+        plainly (types given_type boolean v) pairs (calls_scalar v (subst (CallsOnly Asked Passed) (sym none) tt)) (subst (TakesScalars s) (sym is) (gives_only v (subst (CallsOnly Asked Passed) (sym none) tt)))
     returned_takes v is (Some t) result (e, value_is, source) asked pairs =
         by_kind (is_anonymous (full s.table t)) refl
       where
-        value_asked : SourceFits Asked May e
-        value_asked = (subst (SourceFits Asked May) value_is asked).0
+        value_asked : SourceFits Asked Passed May e
+        value_asked = (subst (SourceFits Asked Passed May) value_is asked).0
 
         only_result : (k : ℕ) → named.sub.result ≡ Some k → k ≡ t
         only_result k same = (let both : Some k ≡ Some t = sym same ∙ result in cc)
 
         -- null, or a name: what gives a view stands alone
-        seen_calls : is_anonymous (full s.table t) ≡ true → CallsOnly Asked e
+        seen_calls : is_anonymous (full s.table t) ≡ true → CallsOnly Asked Passed e
         seen_calls view =
             elim (given.returned (flow_sub own named) (ordered.in_program table typed effects given.accepted given.owns given.order given.answered given.passed given.still named has) (flow_at own named p)
             (Has-map (λ (q : NamedPoint). flow_at own named q) named.points p there) e NoMore (is ∙ ap Hold value_is) t result view) [
-              | inl none ↦ subst (CallsOnly Asked) (sym none) tt
-              | inr (q, y, path, u, inl name) ↦ subst (CallsOnly Asked) (sym name) (subst (SourceFits Asked May) name value_asked)
-              | inr (q, y, path, u, inr (r, m, more, call, gives)) ↦ absurd (not_named m gives (subst (SourceFits Asked May) call value_asked).0)
+              | inl none ↦ subst (CallsOnly Asked Passed) (sym none) tt
+              | inr (q, y, path, u, inl name) ↦ subst (CallsOnly Asked Passed) (sym name) (subst (SourceFits Asked Passed May) name value_asked)
+              | inr (q, y, path, u, inr (r, m, more, call, gives)) ↦ absurd (not_named m gives (subst (SourceFits Asked Passed May) call value_asked).0)
             ]
 
-        list_calls : is_anonymous (full s.table t) ≡ true → CallsOnly Asked v
-        list_calls view = subst (CallsOnly Asked) (sym value_is) (seen_calls view, tt)
+        list_calls : is_anonymous (full s.table t) ≡ true → CallsOnly Asked Passed v
+        list_calls view = subst (CallsOnly Asked Passed) (sym value_is) (seen_calls view, tt)
 
         by_kind : (b : Bool) → is_anonymous (full s.table t) ≡ b → Goal
         by_kind false named_type =
@@ -615,7 +632,7 @@ module _ (table : Table) (typed : TypedProgram) (effects : Effects) (given : IsV
             plainly (types given_type boolean v) pairs (calls_scalar v (list_calls view)) (subst (TakesScalars s) (sym is) (gives_only v (list_calls view)))
 
     abbrev Found : Instruction → Type 0
-    Found i = InstructionFits Asked May Single i × Takes (types_at given_type boolean i)
+    Found i = InstructionFits Asked Passed May Single i × Takes (types_at given_type boolean i)
 
     -- a lone call
     lone_takes : (q : Pos) (m : ℕ) (a : TypedTree) → TakesIt p.instr (typed_tree.Call q m a) → Single m → Goal
