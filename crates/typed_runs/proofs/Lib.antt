@@ -2,6 +2,7 @@
 pub mod Words
 -- actuals, and what stands within expressions
 pub mod Owners
+pub mod Given
 pub mod Actuals
 pub mod Images
 pub mod Within
