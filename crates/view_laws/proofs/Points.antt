@@ -282,6 +282,11 @@ fading_at s (a ∷ rest) fading p (inr has) z y is there sees same =
     let found = fading_at s rest fading.1 p has z y is there sees same in
     (found.0, inr found.1, found.2, found.3, found.4, found.5)
 
+no_other : (a f b : Bool) → f ≡ false → (a || f) || b ≡ true → a || b ≡ true
+no_other true f b none e = refl
+no_other false false b none e = e
+no_other false true b none e = cc
+
 -- what is no call is no view that a function gives
 no_view : (s : Typing) (e : TypedTree) → is_call e ≡ false → gives_view s e ≡ false
 no_view s (Call p sub actuals) none = cc
@@ -512,7 +517,9 @@ module _ (table : Table) (typed : TypedProgram) (effects : Effects) (given : IsV
           let target : TypedTree = Name q x NoMore w in
           let mine : is_anonymous (view_of own x) ≡ true = sym (anonymous_same x (lasts_here x (inr (q, w, e, is)) anonymous)) ∙ anonymous in
           let found = name_is is_any e (not_test (is_anonymous (view_of own x)) (is_name_of is_any e) mine
-          (or_first (not (is_anonymous (view_of own x)) || is_name_of is_any e) (gives_view own e) (ap not (no_view own e silent)) (sym (ap (fits own) is) ∙ above.assigned target e is))) in
+          (no_other (not (is_anonymous (view_of own x))) (is_formal own x) (is_name_of is_any e)
+          (valued.variable_plain table typed effects given x (stored_here x (inr (q, w, e, is)) anonymous))
+          (or_first ((not (is_anonymous (view_of own x)) || is_formal own x) || is_name_of is_any e) (gives_view own e) (ap not (no_view own e silent)) (sym (ap (fits own) is) ∙ above.assigned target e is)))) in
           let y : ℕ = found.1 in
           let n : TypedTree = Name found.0 y found.2 found.3 in
           let whole_is : p.instr ≡ Assign target n = is ∙ ap (Assign target) found.4 in

@@ -101,9 +101,10 @@ whole_end : (y x : ℕ) (steps : TypedTree) → whole_object y steps ≡ Some x 
 whole_end y x NoMore is = (refl, cc)
 whole_end y x steps is = cc
 
-stored_gives : (a b : Bool) → a ≡ true → (not a || false) || b ≡ true → b ≡ true
-stored_gives true b is e = e
-stored_gives false b is e = cc
+stored_gives : (a f b : Bool) → a ≡ true → f ≡ false → ((not a || f) || false) || b ≡ true → b ≡ true
+stored_gives true false b is none e = e
+stored_gives true true b is none e = cc
+stored_gives false f b is none e = cc
 
 module _ (table : Table) (typed : TypedProgram) (effects : Effects) (given : IsViewProgram table typed effects) where
   abbrev pub program : FlowProgram
@@ -428,8 +429,11 @@ module _ (table : Table) (typed : TypedProgram) (effects : Effects) (given : IsV
           (all_has Above named.points p (body_good named (valued.body table typed effects given named has inside)).0 there)
     ]
       where
+        variable : (x : ℕ) → IsStoredAt p.instr x → is_anonymous (view_of s x) ≡ true → is_variable (object_at s x).kind ≡ true
+        variable = given.stored (flow_sub own named) (in_program named has) (flow_at own named p) in_sub
+
         stored_lasts : (x : ℕ) → IsStoredAt p.instr x → is_anonymous (view_of s x) ≡ true → is_temporary_object s x ≡ false
-        stored_lasts x stored anonymous = variable_lasts x (given.stored (flow_sub own named) (in_program named has) (flow_at own named p) in_sub x stored anonymous)
+        stored_lasts x stored anonymous = variable_lasts x (variable x stored anonymous)
 
         plain_source : (x : ℕ) (v : TypedTree) → p.instr ≡ Declare x v → not (is_anonymous (view_of own x)) && no_views own (roots v) ≡ true → NamesSource s (Declare x v)
         plain_source x v is plain anonymous =
@@ -453,8 +457,9 @@ module _ (table : Table) (typed : TypedProgram) (effects : Effects) (given : IsV
             let here : p.instr ≡ Assign (Name k y NoMore u) (typed_tree.Call q n a) = is ∙ ap (λ z. Assign (Name k y z u) (typed_tree.Call q n a)) end.0 in
             let fit = sym (ap (fits own) here) ∙ above.assigned (Name k y NoMore u) (typed_tree.Call q n a) here in
             inr (traversed_there q n a (inr (inl (k, y, NoMore, u, here, silent_end)))
-            (in_layout n (stored_gives (is_anonymous (view_of own y)) (traverses own.table (sub_at own n).result)
-            (sym (anonymous_same y (stored_lasts y (inr (k, u, typed_tree.Call q n a, here)) view)) ∙ view) fit)))
+            (in_layout n (stored_gives (is_anonymous (view_of own y)) (is_formal own y) (traverses own.table (sub_at own n).result)
+            (sym (anonymous_same y (variable_lasts y (variable y (inr (k, u, typed_tree.Call q n a, here)) view))) ∙ view)
+            (valued.variable_plain table typed effects given y (variable y (inr (k, u, typed_tree.Call q n a, here)) view)) fit)))
         body_source (Assign target (typed_tree.Call q n a)) is above = λ x whole_is anonymous. (let never : None ≡ Some x = whole_is in cc)
         body_source (Assign target e) is above = λ x whole_is anonymous. inl refl
         body_source i is above = tt

@@ -11,11 +11,13 @@ use Rattle.type_definitions.specs.Types.{Table, full, is_scalar}
 use Rattle.typed_tree.specs.Trees.{TypedTree, Name, Component, Designated, Element, Image, Parens, Unary, Binary, Short, IsNull, NoMore, Aggregate, Alike, New}
 use Rattle.typed_tree.specs.Trees as typed_tree
 use Rattle.typed_tree.specs.declared.object.Object.{Object}
+use Rattle.typed_tree.specs.declared.object.ObjectKind.{ObjectKind}
+use Rattle.typed_tree.specs.declared.object.ObjectKind.TheVariants as object_kind
 use Rattle.typed_tree.specs.declared.node.ShortCircuit.{ShortCircuit}
 use Rattle.typed_tree.specs.Programs.{TypedProgram, text_io}
 use Rattle.flow_paths.specs.declared.report.Effects.{Effects}
 use Rattle.flow_paths.specs.Instructions.{Instruction, Declare, Assign, Call, Output, Input, Release, Test, Choose, Start, Evaluate, LeaveLoop, Hold}
-use Rattle.flow_paths.specs.Objects.{Typing, Signature, object_at, sub_at, traverses, is_anonymous, is_observer, is_package_object, has_scope_end, view_of}
+use Rattle.flow_paths.specs.Objects.{Typing, Signature, object_at, sub_at, traverses, is_variable, is_formal, is_formal_kind, is_anonymous, is_observer, is_package_object, has_scope_end, view_of}
 use Rattle.flow_paths.specs.Names.{has_call, whole_object}
 use Rattle.flow_paths.specs.Points.{NamedPoint}
 use Rattle.flow_paths.specs.Laid.{FlowProgram, NamedSub, temporary_object, result_of, named_subs, all_named, sub_points, flow_sub, typing_of, flow_typing, flow_program, flow_named}
@@ -27,7 +29,7 @@ use Rattle.soundness.specs.Ready.{stored_at, Fills}
 use Rattle.soundness.proofs.Points.{flow_at, named_has}
 use Rattle.soundness.proofs.Passing.{signature_is}
 use Rattle.soundness.proofs.Successors.{not_true}
-use Rattle.soundness.proofs.Typings.{Agree, flow_agrees}
+use Rattle.soundness.proofs.Typings.{Agree, flow_agrees, formal_same}
 use Rattle.soundness.proofs.Waits.{no_waits}
 use Rattle.viewed_soundness.specs.Taken.{GivesPlainly, type_given, types_taken, AreScalarTypes, TakesFit}
 use Rattle.viewed_soundness.proofs.Evaluated.{gives_plainly}
@@ -106,9 +108,15 @@ declared_fit true false l true view e = refl
 declared_fit true false l false view e = cc
 declared_fit false n l g view e = cc
 
-stored_fit : (a n g : Bool) → a ≡ true → (not a || n) || g ≡ true → n || g ≡ true
-stored_fit true n g view e = e
-stored_fit false n g view e = cc
+stored_fit : (a f n g : Bool) → a ≡ true → f ≡ false → ((not a || f) || n) || g ≡ true → n || g ≡ true
+stored_fit true false n g view none e = e
+stored_fit true true n g view none e = cc
+stored_fit false f n g view none e = cc
+
+-- a variable is no formal
+no_formal : (k : ObjectKind) → is_variable k ≡ true → is_formal_kind k ≡ false
+no_formal object_kind.Variable is = refl
+no_formal k is = cc
 
 module _ (table : Table) (typed : TypedProgram) (effects : Effects) (given : IsViewProgram table typed effects) where
   abbrev program : FlowProgram
@@ -154,6 +162,9 @@ module _ (table : Table) (typed : TypedProgram) (effects : Effects) (given : IsV
     | inl same ↦ ap (λ (o : Object). is_temporary o.kind) same ∙ given.order.lasting x
     | inr others ↦ absurd (let no : false ≡ true = sym others.1.2 ∙ shared in cc)
   ]
+
+  pub variable_plain : (x : ℕ) → is_variable (object_at s x).kind ≡ true → is_formal own x ≡ false
+  variable_plain x variable = sym (formal_same s own alike x) ∙ no_formal (object_at s x).kind variable
 
   pub sub_same : (n : ℕ) → sub_at s n ≡ sub_at own n
   sub_same n = ap (λ (subs : List Signature). get_or subs n (record { formals = []; result = None })) alike.subs
@@ -566,7 +577,9 @@ module _ (table : Table) (typed : TypedProgram) (effects : Effects) (given : IsV
 
         fit_here : path ≡ NoMore → is_anonymous (view_of s x) ≡ true → is_name_of is_any e || gives_view own e ≡ true
         fit_here whole_path view =
-            stored_fit (is_anonymous (view_of own x)) (is_name_of is_any e) (gives_view own e) (sym (view_same x lasts_here) ∙ view)
+            stored_fit (is_anonymous (view_of own x)) (is_formal own x) (is_name_of is_any e) (gives_view own e) (sym (view_same x lasts_here) ∙ view)
+            (variable_plain x (given.stored (flow_sub own named) (ordered.in_program table typed effects given.accepted given.owns given.order given.answered given.passed given.still named has)
+            (flow_at own named p) (Has-map (λ (z : NamedPoint). flow_at own named z) named.points p there) x (inr (q, u, e, is ∙ ap (λ z. Assign (Name q x z u) e) whole_path)) view))
             (subst (λ z. stores_name own (whole_object x z) e || gives_view own e ≡ true) whole_path (sym (ap (fits own) is) ∙ above.assigned (Name q x path u) e is))
 
         view_takes : is_anonymous (full s.table u) ≡ true → CallsOnly Asked Passed e

@@ -38,7 +38,7 @@ is_any y = true
 
 abbrev pub stores_name : Typing → Option ℕ → TypedTree → Bool
 stores_name s None e = true
-stores_name s (Some x) e = not (is_anonymous (view_of s x)) || is_name_of is_any e
+stores_name s (Some x) e = (not (is_anonymous (view_of s x)) || is_formal s x) || is_name_of is_any e
 
 abbrev pub is_call : TypedTree → Bool
 is_call (Call p sub actuals) = true
@@ -49,8 +49,8 @@ abbrev pub gives_view : Typing → TypedTree → Bool
 gives_view s (Call p sub actuals) = traverses s.table (sub_at s sub).result
 gives_view s e = false
 
--- A view is declared with a name, and a borrower with one that is rooted in an older object; a view is
--- assigned a name. Or what a traversal function gives.
+-- A view is declared with a name, and a borrower with one that is rooted in an older object; a view that is no
+-- formal is assigned a name. Or what a traversal function gives.
 abbrev pub fits : Typing → Instruction → Bool
 fits s (Declare x v) = not (is_anonymous (view_of s x)) || (is_one_name_of (λ y. is_observer s x || nat_lt y x) v || gives_view s (first v))
 fits s (Assign target e) = stores_name s (whole target) e || gives_view s e
