@@ -23,7 +23,7 @@ use Rattle.machine.specs.Words.{component_type, element_type, element_of, no_com
 use Rattle.typed_laws.specs.Fine.{Agree, Has, HasParts, HasFirst, Pointed, Leads}
 use Rattle.typed_laws.proofs.Agreeing.{Owns, one_shape, agree_owns}
 use Rattle.typed_steps.specs.Steps.{Views, IsViewed, Taken, FirstTaken, FirstHas, IsPlaceOf, IsText, FirstText, IsActual, ActualsTaken, Returned}
-use Rattle.scope_laws.specs.Alone.{CallsFit, CallsOnly, PassedFit, ValueFits, StoredFits, CodeFits, BranchesFit, BranchFits, AlternativesFit, AlternativeFits, GivesScalar, GivesNamed, GivesSeen}
+use Rattle.scope_laws.specs.Alone.{CallsFit, CallsOnly, PassedFit, ValueFits, StoredFits, CodeFits, BranchesFit, BranchFits, AlternativesFit, AlternativeFits, GivesScalar, GivesOwnless, GivesNamed, GivesSeen}
 use Rattle.typed_runs.specs.Code.{IsName, IsNamedOwner, NamesOwner, NamesOwners, NamesFirst, GivesNoView, Within, WithinSource, FirstWithin, AssignedWithin, ReturnedWithin, IsTypedCode}
 
 -- ---- types
@@ -97,10 +97,6 @@ seen_access f d true true none named = cc
 seen_access f d false true none named = cc
 seen_access f d true false none named = cc
 seen_access f d false false none named = cc
-
--- What functions give that owns nothing, and is no view.
-abbrev pub GivesOwnless : Typing → ℕ → Type 0
-GivesOwnless y n = (t : ℕ) → (sub_at y n).result ≡ Some t → (is_owning y.table t ≡ false) × (is_anonymous (full y.table t) ≡ false)
 
 -- What is known of types, and of formals of anonymous access types.
 pub record AreSettled (y : Typing) : Type 0 where

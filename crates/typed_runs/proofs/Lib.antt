@@ -20,3 +20,4 @@ pub mod Points
 pub mod Laid
 pub mod Main
 pub mod Programs
+pub mod Results
