@@ -1,6 +1,6 @@
 -- Calls: what the actuals are, and how they are passed. Each is a value of one word, a scalar place in a
 -- variable, or another place in a variable of the caller.
-use Rattle.std.proofs.Common.{◌≡◌, refl, ◌&&◌, ◌||◌, not, is_some, sym, ap, ◌∙◌, subst, ◌⊎◌, inl, inr, ℕ, Bool, true, false, List, [], ◌∷◌, ◌++◌, map, Option, Some, if◌then◌else◌, ◌<◌}
+use Rattle.std.proofs.Common.{◌≡◌, refl, ◌&&◌, ◌||◌, not, is_some, sym, ap, ◌∙◌, subst, ◌⊎◌, inl, inr, ℕ, Bool, true, false, List, [], ◌∷◌, ◌++◌, map, Option, Some, if◌then◌else◌}
 use Rattle.spark_base.specs.Lists.{Has}
 use Rattle.spark_base.proofs.Lists.{Has-append_cases}
 use Rattle.place_names.specs.declared.act.Act.TheVariants as act
@@ -24,7 +24,7 @@ use Rattle.machine.specs.States.{Waiting, Leak, sub_of}
 use Rattle.machine.specs.Owners.{is_in}
 use Rattle.owned_ways.specs.Ways.{Loc, Way, Reaches, AllowsAll, after}
 use Rattle.part_offsets.specs.Parts.{IsSettled}
-use Rattle.soundness.specs.Seen.{IsNear, content, trunk, seen, home, is_view_formal}
+use Rattle.soundness.specs.Seen.{IsNear, content, trunk, seen, home}
 use Rattle.soundness.specs.Typed.{Matches, OwnsByShape, Kept}
 use Rattle.soundness.specs.Sound.{goes_through_none}
 use Rattle.typed_laws.specs.Needed.{Stays, IndexLaw, IsPlace as IsPlaceOf}
@@ -34,14 +34,14 @@ use Rattle.soundness.proofs.Scalars.{acts, acts_append, allows_both}
 use Rattle.soundness.proofs.Stays.{One, Quiet, quiet_then, quiet_from}
 use Rattle.soundness.proofs.Taking.{Takes}
 use Rattle.soundness.proofs.Passing.{IsRead, AreReads, AddNone, IsValue, TakesAll, plain_type, reads_keep, read_adds_none, signature_is}
-use Rattle.owned_loans.specs.Views.{Around, Views, Viewed, IsForeign}
+use Rattle.owned_loans.specs.Views.{Around, Views, Viewed}
 use Rattle.viewed_soundness.specs.Holds.{IsNamed, IsAccess, PartsAreNamed, Holds, sees_only, IsOwners, is_given}
 use Rattle.viewed_soundness.proofs.Names.{true_false, both_no, plain_named}
 use Rattle.viewed_soundness.proofs.Evaluated.{matches_named}
 use Rattle.viewed_steps.specs.Sound.{IsScalarObject, AreOwners, IsReachedBack}
-use Rattle.viewed_steps.specs.Ready.{is_shown_type, IsOwnPlace, IsSeen, IsActualTo, AreActualsTo, IsCopyOf}
+use Rattle.viewed_steps.specs.Ready.{IsOwnPlace, IsSeen, IsActualTo, AreActualsTo, IsCopyOf, is_shown_type}
 use Rattle.viewed_steps.proofs.Views.{AreAccess, AreUnseen}
-use Rattle.viewed_steps.proofs.Seeing.{IsSeenAs, IsOpenTo, AreOpenTo, seen_given}
+use Rattle.viewed_steps.proofs.Seeing.{IsSeenAs, IsClear, AreClear, seen_given}
 use Rattle.viewed_steps.proofs.LaidOut.{IsOwnPut, IsOpenActual, AreOpenActuals, IsHousedPut}
 use Rattle.viewed_steps.proofs.Entered.{IsFit}
 use Rattle.viewed_steps.proofs.Lent.{ends, Spare, spare_both, spare_naming}
@@ -49,6 +49,7 @@ use Rattle.soundness.proofs.Keeping.{scalar}
 use Rattle.viewed_steps.proofs.Copies.{copies_read}
 use Rattle.viewed_steps.proofs.Reading.{no_reads, both_reads, naming_adds, index_reads, reads_in}
 use Rattle.viewed_steps.proofs.Puts as puts
+use Rattle.viewed_soundness.proofs.Given.{IsLow}
 
 module _ (s : Typing) (own_law : OwnsByShape s.table) (procedure : Bool) where
   abbrev pub way_to : ℕ → Passing
@@ -178,7 +179,7 @@ module _ (h : Here) (settled : IsSettled h.typing.table) (hands : List Waiting) 
     (index_law : IndexLaw)
     (own_law : OwnsByShape h.typing.table)
     (parts_named : PartsAreNamed h.typing.table)
-    (formals_low : (x : ℕ) (w : Way) → v.way x ≡ Some w → is_view_formal h.typing x ≡ true → (foreign : IsForeign (home h.typing h.frame) w) × (foreign.0 < h.frame) × (0 < foreign.0))
+    (formals_low : (x : ℕ) (w : Way) → v.way x ≡ Some w → IsLow h.typing h.frame w)
     (procedure : Bool) where
   abbrev at : List (List machine.Word) → Now
   at = puts.at h settled hands leaks m waits other facts v kept well holds alone live in_formals index_law own_law parts_named formals_low procedure
@@ -280,7 +281,7 @@ module _ (h : Here) (settled : IsSettled h.typing.table) (hands : List Waiting) 
 
   pub shown_given : (before on : List (List machine.Word)) (x : ℕ) (e : TypedTree) → IsAccess h.typing x → is_shown_type h.typing x ≡ true → IsSeen h.typing x e
       → Takes (waits_in e) before on → AllowsAll facts (acts (index_acts h.typing e))
-      → IsOpenTo h.typing h.frame v facts e
+      → IsClear h.typing facts e
       → Quiet (at on) (λ a. IsGiven x mode.In e a) (followed_by (viewed h e (at before)) value_passed)
   shown_given before on x e access shown seen takes allowed clears =
       quiet_then (at on) (λ ws. IsSeenAs h settled hands leaks m waits other facts v kept well holds alone live index_law own_law parts_named formals_low x e ws)
@@ -357,7 +358,7 @@ module _ (h : Here) (settled : IsSettled h.typing.table) (hands : List Waiting) 
 
   pub one_given : (before on : List (List machine.Word)) (mode_of : Mode) (owning access : Bool) (x : ℕ) (e : TypedTree) → (object_at h.typing x).mode ≡ mode_of
       → is_owning h.typing.table (object_at h.typing x).of ≡ owning → is_anonymous (view_of h.typing x) ≡ false → IsKind x → IsActualTo h.typing x mode_of e
-      → (is_given h.typing x ≡ true → IsOpenTo h.typing h.frame v facts e)
+      → (is_given h.typing x ≡ true → IsClear h.typing facts e)
       → IsCopiedName x mode_of e → Takes (waits_in e) before on
       → AllowsAll facts (acts (head_of h.typing own_law procedure mode_of owning e)) → Quiet (at on) (λ a. IsGiven x mode_of e a) (passed h (passing_by mode_of owning access) x e (at before))
   one_given before on mode.In false access x e is fits unseen kind actual clears copied takes allowed =
@@ -383,7 +384,7 @@ module _ (h : Here) (settled : IsSettled h.typing.table) (hands : List Waiting) 
       from_given before on x e (back_given before on x e unseen actual (copied refl) takes allowed)
 
   pub all_given : (before on : List (List machine.Word)) (formals : List ℕ) (actuals : TypedTree) → ((x : ℕ) → Has formals x → IsKind x) → AreUnseen h.typing formals → AreActualsTo h.typing formals actuals
-      → AreOpenTo h.typing h.frame v facts formals actuals → AreOpenActuals h.typing h.frame facts formals actuals → TakesAll formals actuals before on
+      → AreClear h.typing facts formals actuals → AreOpenActuals h.typing h.frame facts formals actuals → TakesAll formals actuals before on
       → AllowsAll facts (acts (actual_values h.typing (ways_of formals) actuals))
       → Quiet (at on) (λ passed. AreGiven formals actuals passed) (all_passed h (ways_of formals) formals actuals (at before))
   all_given before on [] actuals kinds unseen stay clears copied takes allowed = ((ap at takes), refl)

@@ -52,6 +52,10 @@ pub mod Acted
 -- the views of what is called
 pub mod Exclusive
 pub mod Opening
+-- what a call shows
+pub mod Showing
+pub mod Handed
+pub mod Written
 pub mod Backed
 pub mod Whole
 pub mod Passed
@@ -83,6 +87,7 @@ pub mod Followed
 pub mod Begun
 pub mod CallActs
 pub mod Calling
+pub mod CallShows
 pub mod CallBegins
 pub mod Stepping
 pub mod Main

@@ -1,5 +1,5 @@
 -- What an actual comes to: a value, or a place, in a variable or in a cell.
-use Rattle.std.proofs.Common.{◌≡◌, refl, sym, ap, ◌∙◌, subst, ◌⊎◌, inl, inr, ℕ, append-nil, Bool, true, false, List, [], ◌∷◌, Some, if◌then◌else◌, arith, ◌<◌}
+use Rattle.std.proofs.Common.{◌≡◌, refl, sym, ap, ◌∙◌, subst, ◌⊎◌, inl, inr, ℕ, append-nil, Bool, true, false, List, [], ◌∷◌, Some, if◌then◌else◌, arith}
 use Rattle.spark_base.specs.declared.position.Pos.{Pos}
 use Rattle.place_names.specs.declared.fact.Fact.{Fact}
 use Rattle.type_definitions.specs.Types.{shape_of, full, is_scalar, is_owning}
@@ -34,7 +34,7 @@ use Rattle.soundness.proofs.Taking.{Takes}
 use Rattle.soundness.proofs.Walks.{way_along, Walked}
 use Rattle.viewed_soundness.proofs.Walks.{walk}
 use Rattle.soundness.proofs.Passing.{IsValue}
-use Rattle.owned_loans.specs.Views.{Around, Views, expand, ExcusedBy, Viewed, IsForeign}
+use Rattle.owned_loans.specs.Views.{Around, Views, expand, ExcusedBy, Viewed}
 use Rattle.owned_loans.proofs.Moves.{IsPlace, expand_along, reached}
 use Rattle.owned_loans.proofs.Meeting.{stands_base}
 use Rattle.viewed_soundness.specs.Holds.{IsNamed, PartsAreNamed, Holds, sees_only, IsOwners, is_view}
@@ -55,6 +55,8 @@ use Rattle.viewed_steps.proofs.Copies.{copy_quiet}
 use Rattle.viewed_soundness.proofs.Outcomes.{named_plain}
 use Rattle.soundness.proofs.Keeping.{top_points, scalar}
 use Rattle.soundness.proofs.Moments.{number_part}
+use Rattle.viewed_steps.proofs.Reading.{unowned, unowned_read}
+use Rattle.viewed_soundness.proofs.Given.{IsLow}
 
 module _ (h : Here) (settled : IsSettled h.typing.table) (hands : List Waiting) (leaks : List Leak) (m : Memory) (waits : List (List machine.Word))
     (other : Around (home h.typing h.frame)) (facts : List Fact) (v : Views)
@@ -67,7 +69,7 @@ module _ (h : Here) (settled : IsSettled h.typing.table) (hands : List Waiting) 
     (index_law : IndexLaw)
     (own_law : OwnsByShape h.typing.table)
     (parts_named : PartsAreNamed h.typing.table)
-    (formals_low : (x : ℕ) (w : Way) → v.way x ≡ Some w → is_view_formal h.typing x ≡ true → (foreign : IsForeign (home h.typing h.frame) w) × (foreign.0 < h.frame) × (0 < foreign.0))
+    (formals_low : (x : ℕ) (w : Way) → v.way x ≡ Some w → IsLow h.typing h.frame w)
     (procedure : Bool) where
   abbrev pub at : List (List machine.Word) → Now
   at ws = record { memory = m; waits = ws }

@@ -83,11 +83,7 @@ pub record AreValued (table : Table) (typed : TypedProgram) : Type 0 where
 abbrev pub IsOwnPlace : Typing → TypedTree → Type 0
 IsOwnPlace s e = (y : ℕ) → Has (root_of e) y → is_view_formal s y ≡ false
 
--- What a formal is shown that owns nothing: null, or what a name of its type designates that is rooted in an
--- object that belongs to no package.
-abbrev pub IsShowable : Typing → ℕ → Type 0
-IsShowable s y = is_package_object s y ≡ false
-
+-- What a formal is shown that owns nothing: null, or what a name of its type designates.
 -- It has that type; or both are access types, and designate one type.
 abbrev pub IsAccessAs : Typing → ℕ → ℕ → Type 0
 IsAccessAs s u t =
@@ -97,7 +93,7 @@ IsAccessAs s u t =
 
 abbrev pub IsSeen : Typing → ℕ → TypedTree → Type 0
 IsSeen s x typed.Null = Unit {0}
-IsSeen s x (Name p y path u) = Leads s (object_at s y).of path u × IsAccessAs s u (object_at s x).of × IsShowable s y
+IsSeen s x (Name p y path u) = Leads s (object_at s y).of path u × IsAccessAs s u (object_at s x).of
 IsSeen s x e = ⊥
 
 -- One of a type that owns nothing gets a scalar value, or another one of its type: a copy of what a name stands
