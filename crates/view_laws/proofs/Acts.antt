@@ -29,7 +29,7 @@ use Rattle.flow_paths.specs.Names.{Written, name_of, selectors, written, first, 
 use Rattle.flow_paths.specs.Acts.{acts_in, acts_of, used, placed, naming, observe, reborrow, target_pos, index_acts, source_acts, assigned_to, stored_acts, declared_acts, returned_acts, gives_variable, actual_act, actual_acts}
 use Rattle.flow_paths.specs.Views.{changes, lends}
 use Rattle.machine.specs.Words.{component_type, element_of, no_component}
-use Rattle.machine.specs.Owners.{is_in, is_in_formal}
+use Rattle.machine.specs.Owners.{is_in}
 use Rattle.soundness.specs.Typed.{OwnsByShape}
 use Rattle.soundness.specs.Sound.{IsNoCall}
 use Rattle.soundness.proofs.Passing.{IsRead, AreReads}
@@ -496,10 +496,11 @@ module _ (s : Typing) (own_law : OwnsByShape s.table) (parts_named : PartsAreNam
   -- what is called goes through what it is given first
   traversed_good : (e : TypedTree) (a : PlaceName → Act) → IsLending a → IsTraversed s e → IsGoodSource e a
   unfolding roots
-  traversed_good e a lends (r, n, q, y, path, u, more, is, leads, lasts) =
-      subst (λ z. IsGoodSource z a) (sym is)
-      (λ w named. subst (λ (z : Written). IsGood (roots (Call r n (More (Name q y path u) more))) (a z.name)) (let same : record { pos = q; name = name_of y path; of = u } ≡ w = cc in same)
-      (lends (name_of y path) (roots (Call r n (More (Name q y path u) more))) (inl refl) (leads_lasts (object_at s y).of path u leads lasts)))
+  traversed_good e a lends t =
+      subst (λ z. IsGoodSource z a) (sym t.is)
+      (λ w named. subst (λ (z : Written). IsGood (roots (Call t.pos t.sub (More (Name t.name_pos t.root t.path t.of) t.others))) (a z.name))
+      (let same : record { pos = t.name_pos; name = name_of t.root t.path; of = t.of } ≡ w = cc in same)
+      (lends (name_of t.root t.path) (roots (Call t.pos t.sub (More (Name t.name_pos t.root t.path t.of) t.others))) (inl refl) (leads_lasts (object_at s t.root).of t.path t.of t.leads t.lasts)))
 
   named_good : (want : ℕ) (e : TypedTree) (a : PlaceName → Act) → IsLending a → is_anonymous (full s.table want) ≡ true → is_call e ≡ false
       → Source s want e → IsGoodSource e a
@@ -659,26 +660,26 @@ module _ (s : Typing) (own_law : OwnsByShape s.table) (parts_named : PartsAreNam
   instruction_good Skip local result kept pos fine no_call names = good_none []
   instruction_good (Declare x v) local result kept pos fine no_call names = declared_good (Declare x v) local x v refl names fine
   instruction_good (Assign target e) local result kept pos fine no_call names =
-        target_good (Assign target e) local pos target fine.0 e refl fine.1 names fine.2
+      target_good (Assign target e) local pos target fine.0 e refl fine.1 names fine.2
   instruction_good (instruction.Call sub actuals temporary) local result kept pos fine no_call names = absurd (no_call sub actuals temporary refl)
   instruction_good (Output text line) local result kept pos fine no_call names = first_writes text fine
   instruction_good (Input target) local result kept pos fine no_call names =
-        place_good (Input target) local target fine.0 fine.1 (scalar_plain fine.0 fine.2) (λ m. act.Actual m mode.Out false false) (λ m name none. none)
-        (λ m k e. (let same : m ≡ k = cc in same)) (λ m k e. cc)
+      place_good (Input target) local target fine.0 fine.1 (scalar_plain fine.0 fine.2) (λ m. act.Actual m mode.Out false false) (λ m name none. none)
+      (λ m k e. (let same : m ≡ k = cc in same)) (λ m k e. cc)
   instruction_good (Release e) local result kept pos fine no_call names =
-        place_good (Release e) local e fine.0 fine.2 (ap (λ z. is_anonymous (view_of_shape z)) fine.3) act.Free (λ m name none. none) (λ m k e. (let same : m ≡ k = cc in same)) (λ m k e. cc)
+      place_good (Release e) local e fine.0 fine.2 (ap (λ z. is_anonymous (view_of_shape z)) fine.3) act.Free (λ m name none. none) (λ m k e. (let same : m ≡ k = cc in same)) (λ m k e. cc)
   instruction_good (Test e) local result kept pos fine no_call names = stays_good e fine
   instruction_good (Choose e choices) local result kept pos fine no_call names = stays_good e fine
   instruction_good (Start x reversed low high) local result kept pos fine no_call names =
-        good_both (acts_in s low) (acts_in s high) (roots low) (roots high) (stays_good low fine.1) (stays_good high fine.2)
+      good_both (acts_in s low) (acts_in s high) (roots low) (roots high) (stays_good low fine.1) (stays_good high fine.2)
   instruction_good (Next x reversed low high) local result kept pos fine no_call names = good_none []
   instruction_good (Evaluate temporary e left) local result kept pos fine no_call names = stays_good e fine
   instruction_good (LeaveLoop e) local result kept pos fine no_call names = first_stays e fine
   instruction_good (Hold v) local result kept pos fine no_call names = returned_good (Hold v) local result v fine
   instruction_good (EndScope x) local result kept pos fine no_call names =
-        good_one (placed pos (act.EndScope x (is_borrower s x))) [] (good_quiet [] (act.EndScope x (is_borrower s x)) ((λ name none. none), (λ m e. cc), (λ m e. cc)))
+      good_one (placed pos (act.EndScope x (is_borrower s x))) [] (good_quiet [] (act.EndScope x (is_borrower s x)) ((λ name none. none), (λ m e. cc), (λ m e. cc)))
   instruction_good Finish local result kept pos fine no_call names =
-        good_one (placed pos (act.Return kept)) [] (good_quiet [] (act.Return kept) ((λ name none. none), (λ m e. cc), (λ m e. cc)))
+      good_one (placed pos (act.Return kept)) [] (good_quiet [] (act.Return kept) ((λ name none. none), (λ m e. cc), (λ m e. cc)))
   instruction_good Fall local result kept pos fine no_call names = good_none []
 
   -- What reads moves and changes nothing.

@@ -113,7 +113,7 @@ module _ (program : FlowProgram) (owns : OwnsByShape program.table) (parts_named
       (λ j. actual_values s (sym ways.ways j) (sym through.actuals_are j) ++ actual_acts (sym ways.ways j) (sym through.actuals_are j))
       (λ a has. elim (Has-append_cases values copies a has) [
         | inl value ↦ reads_good s owns parts_named values xs (both_reads (index_acts s (first_actual s owns c)) (actual_values s (map (way_to s owns false) ways.rest) through.more)
-            (index_reads s owns (first_actual s owns c) through.u (through.leads, refl)) (values_read s owns false ways.rest through.more through.unseen stays.1)) a value
+            (index_reads s owns (first_actual s owns c) through.u (through.leads, refl)) (values_read s owns parts_named false ways.rest through.more through.unseen stays.1)) a value
         | inr copy ↦ copies_good s owns parts_named false ways.rest through.more xs (λ x there. call.kinds x (subst (λ z. Has z x) (sym ways.formals) (inr there))) stays.1
             (λ y there. named y (subst (λ z. Has (roots z) y) (sym through.actuals_are) (Has-append_right (roots (first_actual s owns c)) (roots through.more) y there))) a copy
       ])

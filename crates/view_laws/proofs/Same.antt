@@ -55,7 +55,6 @@ module _ (table : Table) (typed : TypedProgram) where
   pub anonymous_same : (x : ℕ) → is_temporary_object s x ≡ false → is_anonymous (view_of s x) ≡ is_anonymous (view_of own x)
   anonymous_same x lasts = (λ j. is_anonymous (full (alike.table j) (as_text x lasts j).of))
 
-
   pub observer_same : (x : ℕ) → is_observer s x ≡ is_observer own x
   observer_same x = elim (alike.object x) [
     | inl same ↦ (λ j. is_variable (same j).kind && is_observing (full (alike.table j) (same j).of))

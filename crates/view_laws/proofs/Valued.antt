@@ -1,47 +1,50 @@
--- What waits at the points of a program in order: what functions give, of scalar types, or of which a value is made.
--- What is named is no temporary; temporaries are of no anonymous access type.
-use Rattle.std.proofs.Common.{◌≡◌, refl, sym, ap, ◌∙◌, subst, ◌⊎◌, inl, inr, ℕ, zero, suc, ◌<◌, Bool, true, false, ◌&&◌, ◌||◌, List, [], ◌∷◌, ◌++◌, map, take, drop, length, get_or, arith, Option, Some, None, is_some, if◌then◌else◌}
+-- What waits at the points of a program in order: what functions give, of scalar types, or of which a value is made, or alone.
+-- What is named is no temporary.
+use Rattle.std.proofs.Common.{◌≡◌, refl, sym, ap, ◌∙◌, subst, ◌⊎◌, inl, inr, ℕ, ◌<◌, Bool, true, false, ◌&&◌, ◌||◌, List, [], ◌∷◌, ◌++◌, map, take, drop, length, get_or, arith, Option, Some, None, is_some, if◌then◌else◌}
 use Rattle.std.specs.Prelude.{filter, not, nat_lt}
 use Rattle.std.specs.List.{AllByRecursion}
 use Rattle.spark_base.specs.declared.position.Pos.{Pos}
 use Rattle.spark_base.specs.Lists.{Has}
-use Rattle.spark_base.proofs.Lists.{Has-append_cases, Has-append_right, Has-filter, Has-map, Has-map_from}
-use Rattle.type_definitions.specs.Entries.{integer, boolean}
+use Rattle.spark_base.proofs.Lists.{Has-append_right, Has-filter, Has-map}
+use Rattle.type_definitions.specs.Entries.{boolean}
 use Rattle.type_definitions.specs.Types.{Table, full, is_scalar}
 use Rattle.typed_tree.specs.Trees.{TypedTree, Name, Component, Designated, Element, Image, Parens, Unary, Binary, Short, IsNull, NoMore, Aggregate, Alike, New}
 use Rattle.typed_tree.specs.Trees as typed_tree
 use Rattle.typed_tree.specs.declared.object.Object.{Object}
+use Rattle.typed_tree.specs.declared.object.ObjectKind.{ObjectKind}
+use Rattle.typed_tree.specs.declared.object.ObjectKind.TheVariants as object_kind
 use Rattle.typed_tree.specs.declared.node.ShortCircuit.{ShortCircuit}
-use Rattle.typed_tree.specs.Programs.{TypedSub, TypedProgram, text_io}
+use Rattle.typed_tree.specs.Programs.{TypedProgram, text_io}
 use Rattle.flow_paths.specs.declared.report.Effects.{Effects}
 use Rattle.flow_paths.specs.Instructions.{Instruction, Declare, Assign, Call, Output, Input, Release, Test, Choose, Start, Evaluate, LeaveLoop, Hold}
-use Rattle.flow_paths.specs.Objects.{Typing, Signature, object_at, sub_at, traverses, is_anonymous, is_observer, is_package_object, has_scope_end, view_of}
+use Rattle.flow_paths.specs.Objects.{Typing, Signature, object_at, sub_at, traverses, is_variable, is_formal, is_formal_kind, is_anonymous, is_observer, is_package_object, has_scope_end, view_of}
 use Rattle.flow_paths.specs.Names.{has_call, whole_object}
-use Rattle.flow_paths.specs.Points.{NamedPoint, FlowPoint}
-use Rattle.flow_paths.specs.Laid.{FlowSub, FlowProgram, NamedSub, Temporary, temporary_object, filled, result_of, unnumbered, named_subs, all_named, sub_points, flow_sub, typing_of, flow_typing, flow_program, flow_named}
+use Rattle.flow_paths.specs.Points.{NamedPoint}
+use Rattle.flow_paths.specs.Laid.{FlowProgram, NamedSub, temporary_object, result_of, named_subs, all_named, sub_points, flow_sub, typing_of, flow_typing, flow_program, flow_named}
 use Rattle.flow_paths.specs.Scopes.{taken, is_temporary}
 use Rattle.machine.specs.States.{sub_of}
 use Rattle.typed_laws.specs.Needed.{IsFine, FirstSource, IsPlace, Returns}
 use Rattle.soundness.specs.Sound.{calls_procedures, is_temporary_object, IsEntered, IsNamedSub}
 use Rattle.soundness.specs.Ready.{stored_at, Fills}
-use Rattle.soundness.proofs.Points.{flow_at, named_has, sub_there}
+use Rattle.soundness.proofs.Points.{flow_at, named_has}
 use Rattle.soundness.proofs.Passing.{signature_is}
 use Rattle.soundness.proofs.Successors.{not_true}
-use Rattle.soundness.proofs.Typings.{Agree, flow_agrees}
+use Rattle.soundness.proofs.Typings.{Agree, flow_agrees, formal_same}
 use Rattle.soundness.proofs.Waits.{no_waits}
 use Rattle.viewed_soundness.specs.Taken.{GivesPlainly, type_given, types_taken, AreScalarTypes, TakesFit}
 use Rattle.viewed_soundness.proofs.Evaluated.{gives_plainly}
 use Rattle.viewed_soundness.proofs.Outcomes.{named_plain}
 use Rattle.scope_laws.specs.Code.{roots}
-use Rattle.scope_laws.specs.Alone.{CallsOnly, SourceFits, ValueFits, StoredFits, InstructionFits, GivesScalar, GivesNamed}
+use Rattle.scope_laws.specs.Alone.{CallsFit, CallsOnly, SourceFits, InstructionFits, GivesScalar, GivesNamed, GivesSeen}
 use Rattle.scope_laws.specs.Fitted.{types, types_at, Pairs, FillsFit, RightFits, IsFitted}
 use Rattle.scope_laws.specs.Supplied.{IsKept}
 use Rattle.scope_laws.specs.Order.{named_in}
 use Rattle.scope_laws.proofs.Lists.{within_has, all_has}
+use Rattle.scope_laws.proofs.Given.{Takes as TakesIt, sub_given}
 use Rattle.scope_laws.proofs.Kept.{sub_kept}
 use Rattle.scope_laws.proofs.Fitted.{sub_fit}
 use Rattle.scope_laws.proofs.Filled.{temporaries_of, object_before}
-use Rattle.scope_laws.proofs.Results.{Gives, filled_typed, filled_by}
+use Rattle.scope_laws.proofs.Results.{Gives, filled_typed}
 use Rattle.layered_scopes.specs.Layered.{is_older}
 use Rattle.layered_scopes.specs.Points.{IsAbove}
 use Rattle.layered_scopes.proofs.Layered.{sub_good}
@@ -49,10 +52,11 @@ use Rattle.ready_laws.specs.InOrder.{IsBody}
 use Rattle.ready_laws.proofs.Subs.{setting_from, IsOfBody, subs_of}
 use Rattle.ready_laws.proofs.Ready as ordered
 use Rattle.ready_laws.proofs.Ready.{seen_has, stored_named}
-use Rattle.viewed_steps.specs.Awaited.{is_held, Fits, AreScalar, TakesScalars, IsMadeFor, types_for, AreFilled, StoresNone, IsTaken, FillsTyped, AreNamedResults}
+use Rattle.viewed_steps.specs.Awaited.{is_held, Fits, AreScalar, TakesScalars, IsMadeFor, types_for, AreFilled, StoresNone, IsTaken, TakesAlone, FillsTyped}
 use Rattle.viewed_steps.proofs.Sources.{leads_or}
 use Rattle.viewed_steps.specs.Sound.{IsScalarObject}
-use Rattle.viewed_steps.specs.Ready.{roots_passed, AreValued}
+use Rattle.viewed_steps.specs.Traversals.{GivesView}
+use Rattle.viewed_steps.specs.Ready.{roots_passed}
 use Rattle.view_laws.specs.InOrder.{is_name_of, is_list_end, is_any, stores_name, gives_view, fits}
 use Rattle.view_laws.specs.Program.{IsViewProgram}
 use Rattle.view_laws.proofs.Acts.{no_anonymous}
@@ -67,23 +71,6 @@ take_none k (x ∷ xs) none = ap (λ n. take n (x ∷ xs)) none
 pub all_there : {A : Type 0} (P : A → Type 0) (xs : List A) → ((x : A) → Has xs x → P x) → AllByRecursion P xs
 all_there P [] each = tt
 all_there P (x ∷ xs) each = (each x (inl refl), all_there P xs (λ y has. each y (inr has)))
-
-flat_from : (subs : List NamedSub) (t : Temporary) → Has (temporaries_of subs) t → (m : NamedSub) × Has subs m × Has m.temporaries t
-flat_from [] t has = absurd has
-flat_from (m ∷ subs) t has = elim (Has-append_cases m.temporaries (temporaries_of subs) t has) [
-  | inl here ↦ (m, inl refl, here)
-  | inr more ↦ (let found = flat_from subs t more in (found.0, inr found.1, found.2))
-]
-
--- a temporary among objects that are followed by those of some temporaries
-temporary_from : (os : List Object) (ts : List Temporary) → ((x : ℕ) → is_temporary (get_or os x text_io).kind ≡ false) → (x : ℕ)
-    → is_temporary (get_or (os ++ map temporary_object ts) x text_io).kind ≡ true
-    → (t : Temporary) × Has ts t × ((get_or (os ++ map temporary_object ts) x text_io).of ≡ t.of)
-temporary_from [] [] lasts x is = (let no : false ≡ true = is in cc)
-temporary_from [] (t ∷ ts) lasts zero is = (t, inl refl, refl)
-temporary_from [] (t ∷ ts) lasts (suc x) is = (let found = temporary_from [] ts lasts x is in (found.0, inr found.1, found.2))
-temporary_from (o ∷ os) ts lasts zero is = (let no : false ≡ true = sym (lasts zero) ∙ is in cc)
-temporary_from (o ∷ os) ts lasts (suc x) is = temporary_from os ts (λ y. lasts (suc y)) x is
 
 -- ---- types
 
@@ -115,19 +102,21 @@ scalar_if : (s : Typing) (c : Bool) (ts us : List ℕ) → AreScalarTypes s ts �
 scalar_if s true ts us h g = h
 scalar_if s false ts us h g = g
 
--- an object is declared with this value, or it is assigned
-abbrev pub IsSourceOf : Instruction → TypedTree → Type 0
-IsSourceOf i e = ((x : ℕ) × (rest : TypedTree) × (i ≡ Declare x (typed_tree.More e rest))) ⊎ ((target : TypedTree) × (i ≡ Assign target e))
-
 declared_fit : (a n l g : Bool) → a ≡ true → not a || ((n && l) || g) ≡ true → n || g ≡ true
 declared_fit true true l g view e = refl
 declared_fit true false l true view e = refl
 declared_fit true false l false view e = cc
 declared_fit false n l g view e = cc
 
-stored_fit : (a n g : Bool) → a ≡ true → (not a || n) || g ≡ true → n || g ≡ true
-stored_fit true n g view e = e
-stored_fit false n g view e = cc
+stored_fit : (a f n g : Bool) → a ≡ true → f ≡ false → ((not a || f) || n) || g ≡ true → n || g ≡ true
+stored_fit true false n g view none e = e
+stored_fit true true n g view none e = cc
+stored_fit false f n g view none e = cc
+
+-- a variable is no formal
+no_formal : (k : ObjectKind) → is_variable k ≡ true → is_formal_kind k ≡ false
+no_formal object_kind.Variable is = refl
+no_formal k is = cc
 
 module _ (table : Table) (typed : TypedProgram) (effects : Effects) (given : IsViewProgram table typed effects) where
   abbrev program : FlowProgram
@@ -143,37 +132,44 @@ module _ (table : Table) (typed : TypedProgram) (effects : Effects) (given : IsV
   alike = flow_agrees table typed
 
   -- functions with results of scalar types, and those that may stand alone
-  abbrev Asked : ℕ → Type 0
+  abbrev pub Asked : ℕ → Type 0
   Asked n = GivesScalar own n
 
-  abbrev May : ℕ → Type 0
+  -- what functions give within actuals
+  abbrev Passed : ℕ → Type 0
+  Passed n = Asked n
+
+  abbrev pub May : ℕ → Type 0
   May n = GivesNamed own n
 
   pub weaker : (n : ℕ) → Asked n → May n
   weaker n scalar t is = no_anonymous (full own.table t) (scalar t is)
 
-  -- no call is taken alone
-  abbrev Single : ℕ → Type 0
-  Single n = ⊥
+  -- what is taken alone
+  abbrev pub Single : ℕ → Type 0
+  Single n = GivesSeen own n
 
   -- ---- objects and results
 
   -- What is there by the text is no temporary.
-  text_object : (x : ℕ) → x < length typed.objects → is_temporary_object s x ≡ false
+  pub text_object : (x : ℕ) → x < length typed.objects → is_temporary_object s x ≡ false
   unfolding flow_program
   text_object x less =
       ap (λ (o : Object). is_temporary o.kind) (object_before typed.objects (map temporary_object (temporaries_of (flow_named table typed))) x text_io less) ∙ given.order.lasting x
 
-  shared_object : (x : ℕ) → is_package_object own x ≡ true → is_temporary_object s x ≡ false
+  pub shared_object : (x : ℕ) → is_package_object own x ≡ true → is_temporary_object s x ≡ false
   shared_object x shared = elim (alike.object x) [
     | inl same ↦ ap (λ (o : Object). is_temporary o.kind) same ∙ given.order.lasting x
     | inr others ↦ absurd (let no : false ≡ true = sym others.1.2 ∙ shared in cc)
   ]
 
-  sub_same : (n : ℕ) → sub_at s n ≡ sub_at own n
+  pub variable_plain : (x : ℕ) → is_variable (object_at s x).kind ≡ true → is_formal own x ≡ false
+  variable_plain x variable = sym (formal_same s own alike x) ∙ no_formal (object_at s x).kind variable
+
+  pub sub_same : (n : ℕ) → sub_at s n ≡ sub_at own n
   sub_same n = ap (λ (subs : List Signature). get_or subs n (record { formals = []; result = None })) alike.subs
 
-  result_same : (n : ℕ) → (sub_of program n).result ≡ (sub_at own n).result
+  pub result_same : (n : ℕ) → (sub_of program n).result ≡ (sub_at own n).result
   result_same n = sym (ap (λ (z : Signature). z.result) (signature_is program n)) ∙ ap (λ (z : Signature). z.result) (sub_same n)
 
   abbrev given_type : ℕ → ℕ
@@ -192,8 +188,8 @@ module _ (table : Table) (typed : TypedProgram) (effects : Effects) (given : IsV
   -- ---- what is taken
 
   -- where functions with scalar results alone are called, the types are scalar
-  calls_scalar : (e : TypedTree) → CallsOnly Asked e → AreScalarTypes s (types given_type boolean e)
-  unfolding CallsOnly types
+  calls_scalar : (e : TypedTree) → CallsOnly Asked Passed e → AreScalarTypes s (types given_type boolean e)
+  unfolding CallsFit types
   calls_scalar (typed_tree.Call p n actuals) asked = (scalar_given n asked.0, tt)
   calls_scalar (Name p x steps t) asked = calls_scalar steps asked
   calls_scalar (Component i rest) asked = calls_scalar rest asked
@@ -213,11 +209,11 @@ module _ (table : Table) (typed : TypedProgram) (effects : Effects) (given : IsV
   calls_scalar (typed_tree.More e rest) (first, second) = scalar_both s (types given_type boolean rest) (types given_type boolean e) (calls_scalar rest second) (calls_scalar e first)
   calls_scalar _ asked = tt
 
-  taken_scalar : (e : TypedTree) → CallsOnly Asked e → AreScalarTypes s (types_taken s e)
+  taken_scalar : (e : TypedTree) → CallsOnly Asked Passed e → AreScalarTypes s (types_taken s e)
   taken_scalar e asked = subst (AreScalarTypes s) (types_same s e) (calls_scalar e asked)
 
-  takes_fit : (e : TypedTree) → SourceFits Asked May e → TakesFit s e
-  unfolding SourceFits TakesFit
+  takes_fit : (e : TypedTree) → SourceFits Asked Passed May e → TakesFit s e
+  unfolding CallsFit TakesFit
   takes_fit (typed_tree.Call p n actuals) asked = tt
   takes_fit (Parens e) asked = takes_fit e asked
   takes_fit (Aggregate t es) asked = takes_fit es asked
@@ -226,8 +222,8 @@ module _ (table : Table) (typed : TypedProgram) (effects : Effects) (given : IsV
   takes_fit (typed_tree.More e rest) (first, second) = (takes_fit e first, takes_fit rest second)
   takes_fit e asked = taken_scalar e asked
 
-  gives_only : (e : TypedTree) → CallsOnly Asked e → GivesPlainly s e
-  unfolding CallsOnly GivesPlainly
+  gives_only : (e : TypedTree) → CallsOnly Asked Passed e → GivesPlainly s e
+  unfolding CallsFit GivesPlainly
   gives_only (typed_tree.Call p n actuals) asked = scalar_there n asked.0
   gives_only (Parens e) asked = gives_only e asked
   gives_only (Aggregate t es) asked = gives_only es asked
@@ -262,7 +258,7 @@ module _ (table : Table) (typed : TypedProgram) (effects : Effects) (given : IsV
   pairs_filled (t ∷ ts) (x ∷ xs) pairs = subst (AreFilled s (t ∷ ts)) (sym (held_first x xs pairs.0.1)) (pairs.0.0, pairs_filled ts xs pairs.1)
 
   -- an instruction that stores no value takes scalar ones
-  plain_types : (i : Instruction) → StoresNone i → InstructionFits Asked May Single i → AreScalarTypes s (types_at given_type boolean i)
+  plain_types : (i : Instruction) → StoresNone i → InstructionFits Asked Passed May Single i → AreScalarTypes s (types_at given_type boolean i)
   plain_types (Call n actuals (Some t)) none (may, asked) = calls_scalar actuals asked
   plain_types (Call n actuals None) none asked = calls_scalar actuals asked
   plain_types (Output text line) none asked = calls_scalar text asked
@@ -320,11 +316,11 @@ module _ (table : Table) (typed : TypedProgram) (effects : Effects) (given : IsV
     pub body : IsOfBody own given.order.rest named
     body = subs_of own (length own.objects) given.order.rest named (omega arith) inside
 
-    in_points : (r : NamedPoint) → Has (sub_points (setting_from own (body.2) (body.0)) (body.0)) r → Has named.points r
+    pub in_points : (r : NamedPoint) → Has (sub_points (setting_from own (body.2) (body.0)) (body.0)) r → Has named.points r
     in_points r there = subst (λ (z : NamedSub). Has z.points r) (body.4) there
 
     -- the temporary that a call fills
-    call_type : (r : NamedPoint) → Has named.points r → (n : ℕ) (a : TypedTree) (t : ℕ) → r.instr ≡ Call n a (Some t) → (u : ℕ) × ((sub_at own n).result ≡ Some u) × ((object_at s t).of ≡ u)
+    pub call_type : (r : NamedPoint) → Has named.points r → (n : ℕ) (a : TypedTree) (t : ℕ) → r.instr ≡ Call n a (Some t) → (u : ℕ) × ((sub_at own n).result ≡ Some u) × ((object_at s t).of ≡ u)
     call_type r there n a t is =
         let one = answers_one named has r there n a t is in (
           one.0,
@@ -332,14 +328,14 @@ module _ (table : Table) (typed : TypedProgram) (effects : Effects) (given : IsV
           filled_there named inside r there t (result_of (sub_at own n).result) (subst (λ i. Gives own i t (result_of (sub_at own n).result)) (sym is) (refl, refl)) ∙ ap result_of one.1,
         )
 
-    truth_type : (r : NamedPoint) → Has named.points r → (t : ℕ) (e : TypedTree) (op : ShortCircuit) → r.instr ≡ Evaluate t e (Some op) → IsScalarObject s t
+    pub truth_type : (r : NamedPoint) → Has named.points r → (t : ℕ) (e : TypedTree) (op : ShortCircuit) → r.instr ≡ Evaluate t e (Some op) → IsScalarObject s t
     truth_type r there t e op is =
         ap (λ k. is_scalar (full s.table k)) (filled_there named inside r there t boolean (subst (λ i. Gives own i t boolean) (sym is) (refl, refl))) ∙ given.truths
 
-    abbrev laid_points : List NamedPoint
+    abbrev pub laid_points : List NamedPoint
     laid_points = sub_points (setting_from own (body.2) (body.0)) (body.0)
 
-    in_laid : (p : NamedPoint) → Has named.points p → Has laid_points p
+    pub in_laid : (p : NamedPoint) → Has named.points p → Has laid_points p
     in_laid p there = subst (λ (z : NamedSub). Has z.points p) (sym (body.4)) there
 
     in_text : IsBody own (body.0)
@@ -361,10 +357,10 @@ module _ (table : Table) (typed : TypedProgram) (effects : Effects) (given : IsV
         by (Evaluate t e None) is temporary = tt
         by i is temporary = tt
 
-    pub fitted_there : (p : NamedPoint) → Has named.points p → IsFitted FitsHeld given_type boolean Asked May Single p
+    pub fitted_there : (p : NamedPoint) → Has named.points p → IsFitted FitsHeld given_type boolean Asked Passed May Single p
     fitted_there p there =
-        all_has (IsFitted FitsHeld given_type boolean Asked May Single) laid_points p
-        (sub_fit FitsHeld given_type boolean Asked May Single weaker (setting_from own (body.2) (body.0)) (body.0) (given.results (body.0) (body.1))
+        all_has (IsFitted FitsHeld given_type boolean Asked Passed May Single) laid_points p
+        (sub_fit FitsHeld given_type boolean Asked Passed May Single weaker weaker (setting_from own (body.2) (body.0)) (body.0) (given.results (body.0) (body.1))
         (all_there (λ (r : NamedPoint). FillsFit FitsHeld given_type boolean r.instr) laid_points (λ r at. filling r (in_points r at))))
         (in_laid p there)
 
@@ -401,6 +397,33 @@ module _ (table : Table) (typed : TypedProgram) (effects : Effects) (given : IsV
         (subst (λ (z : NamedSub). AllByRecursion (IsAbove (is_older own typed.scopes) (fits own)) z.points) (body.4)
         (sub_good (setting_from own (body.2) (body.0)) (is_older own typed.scopes) (fits own) layered.0 (body.0) in_text.settled layered.1).0) there
 
+    -- what a lone call gives, which sees, is the last temporary
+    pub lone_taken : (p : NamedPoint) → Has named.points p → (q : Pos) (n : ℕ) (a : TypedTree) → TakesIt p.instr (typed_tree.Call q n a) → Single n
+        → (alone : TakesAlone s p) × (p.scope ≡ alone.0 ∷ alone.1)
+    lone_taken p there q n a takes (t, answer, view) =
+        let given_by = sub_given (setting_from own (body.2) (body.0)) (body.0) p (in_laid p there) q n a takes in
+        let found = call_type given_by.3 (in_points given_by.3 given_by.4) n a given_by.0 given_by.5 in
+        let same : found.0 ≡ t = (let both : Some found.0 ≡ Some t = sym found.1 ∙ answer in cc) in
+        let of : (object_at s given_by.0).of ≡ t = found.2 ∙ same in
+        let seen : is_anonymous (full s.table (object_at s given_by.0).of) ≡ true = (λ j. is_anonymous (full (alike.table j) (of j))) ∙ view in (
+          (
+            given_by.0,
+            given_by.1,
+            given_by.2,
+            q,
+            n,
+            a,
+            ap (λ (z : Signature). z.result) (sub_same n) ∙ answer ∙ ap (λ k. Some k) (sym of),
+            not_scalar (is_scalar (full s.table (object_at s given_by.0).of)) (λ scalar. (let never : true ≡ false = sym seen ∙ no_anonymous (full s.table (object_at s given_by.0).of) scalar in cc)),
+            takes,
+          ),
+          given_by.2,
+        )
+      where
+        not_scalar : (b : Bool) → (b ≡ true → ⊥) → b ≡ false
+        not_scalar true none = absurd (none refl)
+        not_scalar false none = refl
+
     -- ---- what is filled
 
     body_fills : (p : NamedPoint) → Has named.points p → FillsTyped program p.instr (drop (taken p.instr) p.scope)
@@ -425,32 +448,16 @@ module _ (table : Table) (typed : TypedProgram) (effects : Effects) (given : IsV
         by (Call n actuals None) is left right_one = tt
         by i is left right_one = tt
 
-    -- a function that is called gives no value of an anonymous access type
-    body_named : (p : NamedPoint) → Has named.points p → (n : ℕ) (actuals : TypedTree) (t : ℕ) → p.instr ≡ Call n actuals (Some t) → May n
-    body_named p there n actuals t is =
-        elim (subst (InstructionFits Asked May Single) is (fitted_there p there).0).0 [ inl may ↦ may | inr never ↦ absurd never ]
-
-    pub source_named : (p : NamedPoint) → Has named.points p → (q : Pos) (n : ℕ) (a : TypedTree) → IsSourceOf p.instr (typed_tree.Call q n a) → May n
-    unfolding SourceFits
-    source_named p there q n a (inl (x, rest, is)) = elim (subst (InstructionFits Asked May Single) is (fitted_there p there).0) [
-      | inl source ↦ source.0.0
-      | inr (r, m, b, same, never, calls) ↦ absurd never
-    ]
-    source_named p there q n a (inr (target, is)) = elim (subst (InstructionFits Asked May Single) is (fitted_there p there).0).1 [
-      | inl source ↦ source.0
-      | inr lone ↦ absurd lone.4
-    ]
-
   -- ---- the package objects
 
   module _ (named : NamedSub) (e : ordered.Elaborates table typed effects given.accepted given.owns given.order given.answered given.passed given.still named) (p : NamedPoint) (there : Has named.points p) where
-    declared : (x : ℕ) × (v : TypedTree) × (p.instr ≡ Declare x v) × (has_call v ≡ false)
+    pub declared : (x : ℕ) × (v : TypedTree) × (p.instr ≡ Declare x v) × (has_call v ≡ false)
     declared =
         let still = ordered.still_there table typed effects given.accepted given.owns given.order given.answered given.passed given.still named e p there in
         let one = ordered.declares table typed effects given.accepted given.owns given.order given.answered given.passed given.still named e p there still in
         (one.0, one.1, one.2, not_true (has_call one.1) (sym (ap calls_procedures one.2) ∙ still))
 
-    no_call : (n : ℕ) (actuals : TypedTree) (r : Option ℕ) → p.instr ≡ Call n actuals r → ⊥
+    pub no_call : (n : ℕ) (actuals : TypedTree) (r : Option ℕ) → p.instr ≡ Call n actuals r → ⊥
     no_call n actuals r is = (let both : Declare (declared.0) (declared.1) ≡ Call n actuals r = sym (declared.2) ∙ is in cc)
 
     package_takes : IsTaken s named.sub.result p
@@ -467,105 +474,27 @@ module _ (table : Table) (typed : TypedProgram) (effects : Effects) (given : IsV
   -- ---- all of it
 
   module _ (named : NamedSub) (has : Has (flow_named table typed) named) (p : NamedPoint) (there : Has named.points p) where
-    stored_unheld : (x : ℕ) → Has (stored_at p.instr) x → is_held s x ≡ false
+    pub stored_unheld : (x : ℕ) → Has (stored_at p.instr) x → is_held s x ≡ false
     stored_unheld x stored = elim (where_is named has) [
       | inl e ↦ absurd (subst (λ i. Has (stored_at i) x) (declared named e p there).2 stored)
       | inr inside ↦ body_unheld named has inside p there x (stored_named p.instr x stored)
     ]
 
-    passed_unheld : (n : ℕ) (actuals : TypedTree) (result : Option ℕ) → p.instr ≡ Call n actuals result → (x : ℕ) → Has (roots_passed actuals) x → is_held s x ≡ false
+    pub passed_unheld : (n : ℕ) (actuals : TypedTree) (result : Option ℕ) → p.instr ≡ Call n actuals result → (x : ℕ) → Has (roots_passed actuals) x → is_held s x ≡ false
     passed_unheld n actuals result is x names = elim (where_is named has) [
       | inl e ↦ absurd (no_call named e p there n actuals result is)
       | inr inside ↦ body_unheld named has inside p there x (subst (λ i. Has (named_in i) x) (sym is) (passed_named actuals x names))
     ]
 
-    fills_there : FillsTyped program p.instr (drop (taken p.instr) p.scope)
+    pub fills_there : FillsTyped program p.instr (drop (taken p.instr) p.scope)
     fills_there = elim (where_is named has) [ inl e ↦ package_fills named e p there | inr inside ↦ body_fills named has inside p there ]
-
-  -- ---- results and temporaries
-
-  pub named_results : AreNamedResults program
-  unfolding flow_program
-  named_results sub has p there n actuals result is t answer =
-      let named = Has-map_from (flow_sub own) (flow_named table typed) sub has in
-      let q = Has-map_from (λ (z : NamedPoint). flow_at own named.0 z) (named.0).points p (subst (λ (z : FlowSub). Has z.points p) (sym named.2) there) in
-      let here : (q.0).instr ≡ Call n actuals result = ap (λ (z : FlowPoint). z.instr) q.2 ∙ is in
-      let some : is_some result ≡ true = sym ((ordered.runs_there table typed effects given.accepted given.owns given.order given.answered given.passed given.still sub has p there n actuals result is).1) ∙ ap is_some answer in
-      ap (λ (rows : Table). is_anonymous (full rows t)) alike.table
-      ∙ by result some (elim (where_is named.0 named.1) [
-        | inl e ↦ absurd (no_call named.0 e q.0 q.1 n actuals result here)
-        | inr inside ↦ (λ x one. body_named named.0 named.1 inside q.0 q.1 n actuals x (here ∙ ap (Call n actuals) one))
-      ]) t (sym (result_same n) ∙ answer)
-    where
-      by : (r : Option ℕ) → is_some r ≡ true → ((x : ℕ) → r ≡ Some x → May n) → May n
-      by None none may = cc
-      by (Some x) some may = may x refl
-
-  filled_named : (sub : TypedSub) → Has given.order.rest sub → (q : NamedPoint) → Has (sub_points (unnumbered own) sub) q → (t : Temporary) → Has (filled own q.name.place q.instr) t
-      → is_anonymous (full own.table t.of) ≡ false
-  filled_named sub has q there t fills =
-      by q.instr fills (λ n a x is. elim (subst (InstructionFits Asked May Single) is (asked_there q there)).0 [ inl may ↦ may | inr never ↦ absurd never ]) refl
-    where
-      unit_fills : (i : Instruction) → FillsFit (λ u x. Unit {0}) given_type boolean i
-      unit_fills (Call n a (Some x)) = tt
-      unit_fills (Evaluate x e (Some op)) = tt
-      unit_fills (Call n a None) = tt
-      unit_fills (Evaluate x e None) = tt
-      unit_fills i = tt
-
-      asked_there : (r : NamedPoint) → Has (sub_points (unnumbered own) sub) r → InstructionFits Asked May Single r.instr
-      asked_there r at =
-          (all_has (IsFitted (λ u x. Unit {0}) given_type boolean Asked May Single) (sub_points (unnumbered own) sub) r
-          (sub_fit (λ u x. Unit {0}) given_type boolean Asked May Single weaker (unnumbered own) sub (given.results sub has)
-          (all_there (λ (z : NamedPoint). FillsFit (λ u x. Unit {0}) given_type boolean z.instr) (sub_points (unnumbered own) sub) (λ z has. unit_fills z.instr))) at).0
-
-      plain : (k : ℕ) → is_scalar (full s.table k) ≡ true → is_anonymous (full own.table k) ≡ false
-      plain k scalar = no_anonymous (full own.table k) (sym (ap (λ (rows : Table). is_scalar (full rows k)) alike.table) ∙ scalar)
-
-      result_named : (n : ℕ) (r : Option ℕ) → (sub_at own n).result ≡ r → May n → is_anonymous (full own.table (result_of r)) ≡ false
-      result_named n None is may = plain integer given.integers
-      result_named n (Some k) is may = may k is
-
-      by : (i : Instruction) → Has (filled own q.name.place i) t → ((n : ℕ) (a : TypedTree) (x : ℕ) → q.instr ≡ Call n a (Some x) → May n) → q.instr ≡ i
-          → is_anonymous (full own.table t.of) ≡ false
-      by (Call n a (Some x)) (inl same) may is =
-          subst (λ (z : Temporary). is_anonymous (full own.table z.of) ≡ false) same (result_named n (sub_at own n).result refl (may n a x is))
-      by (Call n a (Some x)) (inr never) may is = absurd never
-      by (Evaluate x e (Some op)) (inl same) may is = subst (λ (z : Temporary). is_anonymous (full own.table z.of) ≡ false) same (plain boolean given.truths)
-      by (Evaluate x e (Some op)) (inr never) may is = absurd never
-      by (Call n a None) none may is = absurd none
-      by (Evaluate x e None) none may is = absurd none
-      by i none may is = absurd none
-
-  -- Temporaries are of types with names.
-  pub temporaries_named : (x : ℕ) → is_temporary_object s x ≡ true → is_anonymous (view_of s x) ≡ false
-  unfolding flow_program
-  temporaries_named x is =
-      let found = temporary_from typed.objects (temporaries_of (flow_named table typed)) given.order.lasting x is in
-      let sub = flat_from (flow_named table typed) found.0 found.1 in
-      ap (λ (rows : Table). is_anonymous (full rows (object_at s x).of)) alike.table ∙ ap (λ k. is_anonymous (full own.table k)) found.2
-      ∙ elim (where_is sub.0 sub.1) [
-        | inl e ↦ absurd (subst (λ (z : NamedSub). Has z.temporaries found.0) (sym e) sub.2)
-        | inr inside ↦ (
-            let body = subs_of own (length own.objects) given.order.rest sub.0 (omega arith) inside in
-            let fills = filled_by own (sub_points (unnumbered own) body.0) found.0 (subst (λ (z : NamedSub). Has z.temporaries found.0) (sym body.4) sub.2) in
-            filled_named body.0 body.1 fills.0 fills.1 found.0 fills.2)
-      ]
 
   -- ---- what points take
 
-  -- what is entered gives no view
-  entered_named : (n : ℕ) → IsEntered program n → (named : NamedSub) → IsNamedSub (flow_named table typed) n named → (t : ℕ) → named.sub.result ≡ Some t
-      → is_anonymous (full s.table t) ≡ false
-  entered_named n entered named stands t result = by entered (ap (λ (z : FlowSub). z.result) (sub_there table typed n named stands) ∙ result)
-    where
-      by : IsEntered program n → (sub_of program n).result ≡ Some t → is_anonymous (full s.table t) ≡ false
-      by (inl main) some = (
-          let same : Some (suc given.order.number) ≡ Some n = sym (ordered.main_is table typed effects given.accepted given.owns given.order given.answered given.passed given.still) ∙ main in
-          let number : suc given.order.number ≡ n = cc in
-          let none = subst (λ k. (sub_of program k).result ≡ None) number (ordered.main_result table typed effects given.accepted given.owns given.order given.answered given.passed given.still) in
-          (let never : None ≡ Some t = sym none ∙ some in cc))
-      by (inr (sub, has, p, there, actuals, given_to, is)) some = named_results sub has p there n actuals given_to is t some
+  not_named : (n : ℕ) {of : ℕ} → GivesView s n of → May n → ⊥
+  not_named n gives may =
+      let there : (sub_at own n).result ≡ Some gives.result = sym (ap (λ (z : Signature). z.result) (sub_same n)) ∙ gives.result_is in
+      let never : true ≡ false = sym gives.anonymous ∙ ap (λ (rows : Table). is_anonymous (full rows gives.result)) alike.table ∙ may gives.result there in cc
 
   no_traversal : (n : ℕ) → May n → traverses own.table (sub_at own n).result ≡ false
   no_traversal n may = by (sub_at own n).result refl
@@ -575,8 +504,8 @@ module _ (table : Table) (typed : TypedProgram) (effects : Effects) (given : IsV
       by (Some t) is = may t is
 
   -- a name, or what a traversal function gives, which none does
-  name_only : (test : ℕ → Bool) (e : TypedTree) → is_name_of test e || gives_view own e ≡ true → SourceFits Asked May e → CallsOnly Asked e
-  unfolding SourceFits CallsOnly
+  name_only : (test : ℕ → Bool) (e : TypedTree) → is_name_of test e || gives_view own e ≡ true → SourceFits Asked Passed May e → CallsOnly Asked Passed e
+  unfolding CallsFit
   name_only test (Name q y steps t) fit asked = asked
   name_only test (typed_tree.Call q n a) fit asked = (let never : true ≡ false = sym fit ∙ no_traversal n asked.0 in cc)
   name_only test e fit asked = cc
@@ -599,7 +528,7 @@ module _ (table : Table) (typed : TypedProgram) (effects : Effects) (given : IsV
     plainly : (ts : List ℕ) → Takes ts → AreScalarTypes s ts → TakesScalars s p.instr → Goal
     plainly ts pairs scalar takes = inl (pairs_scalar ts (take (taken p.instr) p.scope) pairs scalar, takes)
 
-    together : (i : Instruction) → p.instr ≡ i → (e : TypedTree) → IsMadeFor s named.sub.result p.instr e → SourceFits Asked May e → (ts : List ℕ) → ts ≡ types_for s i → Takes ts → Goal
+    together : (i : Instruction) → p.instr ≡ i → (e : TypedTree) → IsMadeFor s named.sub.result p.instr e → SourceFits Asked Passed May e → (ts : List ℕ) → ts ≡ types_for s i → Takes ts → Goal
     together i is e made source ts same pairs =
         inr (inr (
           e,
@@ -612,8 +541,8 @@ module _ (table : Table) (typed : TypedProgram) (effects : Effects) (given : IsV
     abbrev above : IsAbove (is_older own typed.scopes) (fits own) p
     above = above_there named has inside p there
 
-    declared_takes : (x : ℕ) (v : TypedTree) → p.instr ≡ Declare x v → FirstSource s (object_at s x).of v → SourceFits Asked May v → Takes (types given_type boolean v) → Goal
-    unfolding SourceFits CallsOnly
+    declared_takes : (x : ℕ) (v : TypedTree) → p.instr ≡ Declare x v → FirstSource s (object_at s x).of v → SourceFits Asked Passed May v → Takes (types given_type boolean v) → Goal
+    unfolding CallsFit
     declared_takes x NoMore is source asked pairs =
         plainly (types given_type boolean NoMore) pairs (calls_scalar NoMore tt) (subst (TakesScalars s) (sym is) (gives_only NoMore tt))
     declared_takes x (typed_tree.More e rest) is (last, source) asked pairs = by_kind (is_anonymous (view_of s x)) refl
@@ -626,8 +555,8 @@ module _ (table : Table) (typed : TypedProgram) (effects : Effects) (given : IsV
             declared_fit (is_anonymous (view_of own x)) (is_name_of (λ y. is_observer own x || nat_lt y x) e) (is_list_end rest) (gives_view own e) (sym (view_same x lasts_here) ∙ view)
             (sym (ap (fits own) is) ∙ above.declared x (typed_tree.More e rest) is)
 
-        calls_here : is_anonymous (view_of s x) ≡ true → CallsOnly Asked (typed_tree.More e rest)
-        calls_here view = (name_only (λ y. is_observer own x || nat_lt y x) e (fit_here view) asked.0, subst (CallsOnly Asked) (sym last) tt)
+        calls_here : is_anonymous (view_of s x) ≡ true → CallsOnly Asked Passed (typed_tree.More e rest)
+        calls_here view = (name_only (λ y. is_observer own x || nat_lt y x) e (fit_here view) asked.0, subst (CallsOnly Asked Passed) (sym last) tt)
 
         by_kind : (b : Bool) → is_anonymous (view_of s x) ≡ b → Goal
         by_kind false named_object =
@@ -638,9 +567,9 @@ module _ (table : Table) (typed : TypedProgram) (effects : Effects) (given : IsV
             (subst (TakesScalars s) (sym is) (gives_only (typed_tree.More e rest) (calls_here view)))
     declared_takes x v is source asked pairs = absurd source
 
-    assigned_takes : (target e : TypedTree) → p.instr ≡ Assign target e → (t : ℕ) → IsPlace s target t → CallsOnly Asked target → SourceFits Asked May e
+    assigned_takes : (target e : TypedTree) → p.instr ≡ Assign target e → (t : ℕ) → IsPlace s target t → CallsOnly Asked Passed target → SourceFits Asked Passed May e
         → Takes (types given_type boolean target ++ types given_type boolean e) → Goal
-    unfolding CallsOnly types types_taken roots
+    unfolding CallsFit types types_taken roots
     assigned_takes (Name q x path u) e is t (leads, of) path_asked asked pairs = by_kind (is_anonymous (full s.table u)) refl
       where
         lasts_here : is_temporary_object s x ≡ false
@@ -648,10 +577,12 @@ module _ (table : Table) (typed : TypedProgram) (effects : Effects) (given : IsV
 
         fit_here : path ≡ NoMore → is_anonymous (view_of s x) ≡ true → is_name_of is_any e || gives_view own e ≡ true
         fit_here whole_path view =
-            stored_fit (is_anonymous (view_of own x)) (is_name_of is_any e) (gives_view own e) (sym (view_same x lasts_here) ∙ view)
+            stored_fit (is_anonymous (view_of own x)) (is_formal own x) (is_name_of is_any e) (gives_view own e) (sym (view_same x lasts_here) ∙ view)
+            (variable_plain x (given.stored (flow_sub own named) (ordered.in_program table typed effects given.accepted given.owns given.order given.answered given.passed given.still named has)
+            (flow_at own named p) (Has-map (λ (z : NamedPoint). flow_at own named z) named.points p there) x (inr (q, u, e, is ∙ ap (λ z. Assign (Name q x z u) e) whole_path)) view))
             (subst (λ z. stores_name own (whole_object x z) e || gives_view own e ≡ true) whole_path (sym (ap (fits own) is) ∙ above.assigned (Name q x path u) e is))
 
-        view_takes : is_anonymous (full s.table u) ≡ true → CallsOnly Asked e
+        view_takes : is_anonymous (full s.table u) ≡ true → CallsOnly Asked Passed e
         view_takes view = elim (leads_or s given.parts_named path (object_at s x).of u leads) [
           | inr own_type ↦ (let never : true ≡ false = sym view ∙ named_plain s.table u own_type in cc)
           | inl whole_place ↦ name_only is_any e (fit_here whole_place.0 (ap (λ z. is_anonymous (full s.table z)) whole_place.1 ∙ view)) asked
@@ -667,24 +598,45 @@ module _ (table : Table) (typed : TypedProgram) (effects : Effects) (given : IsV
             (subst (TakesScalars s) (sym is) (gives_only e (view_takes view)))
     assigned_takes target e is t place path_asked asked pairs = absurd place
 
-    returned_takes : (v : TypedTree) → p.instr ≡ Hold v → (r : Option ℕ) → named.sub.result ≡ r → Returns s r v → SourceFits Asked May v → Takes (types given_type boolean v) → Goal
-    unfolding SourceFits CallsOnly
+    returned_takes : (v : TypedTree) → p.instr ≡ Hold v → (r : Option ℕ) → named.sub.result ≡ r → Returns s r v → SourceFits Asked Passed May v → Takes (types given_type boolean v) → Goal
+    unfolding CallsFit
     returned_takes v is None result none asked pairs =
-        plainly (types given_type boolean v) pairs (calls_scalar v (subst (CallsOnly Asked) (sym none) tt)) (subst (TakesScalars s) (sym is) (gives_only v (subst (CallsOnly Asked) (sym none) tt)))
+        plainly (types given_type boolean v) pairs (calls_scalar v (subst (CallsOnly Asked Passed) (sym none) tt)) (subst (TakesScalars s) (sym is) (gives_only v (subst (CallsOnly Asked Passed) (sym none) tt)))
     returned_takes v is (Some t) result (e, value_is, source) asked pairs =
-        together (Hold v) is e (inr (inr (is ∙ ap Hold value_is, (λ k same. entered_named n entered named stands k same)))) (subst (SourceFits Asked May) value_is asked).0
-        (types given_type boolean v) (types_same s v) pairs
+        by_kind (is_anonymous (full s.table t)) refl
+      where
+        value_asked : SourceFits Asked Passed May e
+        value_asked = (subst (SourceFits Asked Passed May) value_is asked).0
+
+        only_result : (k : ℕ) → named.sub.result ≡ Some k → k ≡ t
+        only_result k same = (let both : Some k ≡ Some t = sym same ∙ result in cc)
+
+        -- null, or a name: what gives a view stands alone
+        seen_calls : is_anonymous (full s.table t) ≡ true → CallsOnly Asked Passed e
+        seen_calls view =
+            elim (given.returned (flow_sub own named) (ordered.in_program table typed effects given.accepted given.owns given.order given.answered given.passed given.still named has) (flow_at own named p)
+            (Has-map (λ (q : NamedPoint). flow_at own named q) named.points p there) e NoMore (is ∙ ap Hold value_is) t result view) [
+              | inl none ↦ subst (CallsOnly Asked Passed) (sym none) tt
+              | inr (q, y, path, u, inl name) ↦ subst (CallsOnly Asked Passed) (sym name) (subst (SourceFits Asked Passed May) name value_asked)
+              | inr (q, y, path, u, inr (r, m, more, call, gives)) ↦ absurd (not_named m gives (subst (SourceFits Asked Passed May) call value_asked).0)
+            ]
+
+        list_calls : is_anonymous (full s.table t) ≡ true → CallsOnly Asked Passed v
+        list_calls view = subst (CallsOnly Asked Passed) (sym value_is) (seen_calls view, tt)
+
+        by_kind : (b : Bool) → is_anonymous (full s.table t) ≡ b → Goal
+        by_kind false named_type =
+            together (Hold v) is e (inr (inr (is ∙ ap Hold value_is, (λ k same. ap (λ z. is_anonymous (full s.table z)) (only_result k same) ∙ named_type)))) value_asked
+            (types given_type boolean v) (types_same s v) pairs
+        by_kind true view =
+            plainly (types given_type boolean v) pairs (calls_scalar v (list_calls view)) (subst (TakesScalars s) (sym is) (gives_only v (list_calls view)))
 
     abbrev Found : Instruction → Type 0
-    Found i = InstructionFits Asked May Single i × Takes (types_at given_type boolean i)
+    Found i = InstructionFits Asked Passed May Single i × Takes (types_at given_type boolean i)
 
-    value_source : (v : TypedTree) → ValueFits Asked May Single v → SourceFits Asked May v
-    value_source v (inl source) = source
-    value_source v (inr (q, m, a, same, never, calls)) = absurd never
-
-    stored_source : (target e : TypedTree) → StoredFits Asked May Single target e → SourceFits Asked May e
-    stored_source target e (inl source) = source
-    stored_source target e (inr lone) = absurd lone.4
+    -- a lone call
+    lone_takes : (q : Pos) (m : ℕ) (a : TypedTree) → TakesIt p.instr (typed_tree.Call q m a) → Single m → Goal
+    lone_takes q m a takes single = inr (inl (lone_taken named has inside p there q m a takes single).0)
 
     found_here : Found p.instr
     found_here = (let all = fitted_there named has inside p there in (all.0, all.1))
@@ -693,25 +645,26 @@ module _ (table : Table) (typed : TypedProgram) (effects : Effects) (given : IsV
     others i is none found = plainly (types_at given_type boolean i) found.1 (plain_types i none found.0) (subst (TakesScalars s) (sym is) (plain_stores i none))
 
     takes_by : (i : Instruction) → p.instr ≡ i → IsFine s named.sub.result i → Found i → Goal
-    takes_by (Declare x v) is fine found = declared_takes x v is fine (value_source v found.0) found.1
-    takes_by (Assign target e) is (t, place, source) found = assigned_takes target e is t place found.0.0 (stored_source target e found.0.1) found.1
-    takes_by (Hold v) is fine found = returned_takes v is named.sub.result refl fine (value_source v found.0) found.1
+    takes_by (Declare x v) is fine found = elim found.0 [
+      | inl source ↦ declared_takes x v is fine source found.1
+      | inr (q, m, a, same, single, calls) ↦ lone_takes q m a (inl (x, is ∙ ap (Declare x) same)) single
+    ]
+    takes_by (Assign target e) is (t, place, source) found = elim found.0.1 [
+      | inl asked ↦ assigned_takes target e is t place found.0.0 asked found.1
+      | inr (q, m, a, same, single, calls, r, x, path, u, target_is, none) ↦
+          lone_takes q m a (inr (inl (r, x, path, u, is ∙ (λ j. Assign (target_is j) (same j)), none))) single
+    ]
+    takes_by (Hold v) is fine found = elim found.0 [
+      | inl source ↦ returned_takes v is named.sub.result refl fine source found.1
+      | inr (q, m, a, same, single, calls) ↦ lone_takes q m a (inr (inr (is ∙ ap Hold same))) single
+    ]
     takes_by i is fine found = others i is tt found
 
     pub body_takes : Goal
     body_takes = takes_by p.instr refl (fine_there named has inside p there) found_here
 
-  takes_there : (n : ℕ) → IsEntered program n → (named : NamedSub) → IsNamedSub (flow_named table typed) n named → (p : NamedPoint) → Has named.points p
+  pub takes_there : (n : ℕ) → IsEntered program n → (named : NamedSub) → IsNamedSub (flow_named table typed) n named → (p : NamedPoint) → Has named.points p
       → IsTaken s named.sub.result p
   takes_there n entered named stands p there =
       let has : Has (flow_named table typed) named = named_has (flow_named table typed) n named stands in
       elim (where_is named has) [ inl e ↦ package_takes named e p there | inr inside ↦ body_takes named has inside n entered stands p there ]
-
-  pub are_valued : AreValued table typed
-  are_valued = record {
-    lasting = stored_unheld;
-    passed = passed_unheld;
-    takes = takes_there;
-    seen = λ named has p there. inl (λ x within is. temporaries_named x is);
-    fills = fills_there;
-  }

@@ -38,7 +38,7 @@ is_any y = true
 
 abbrev pub stores_name : Typing → Option ℕ → TypedTree → Bool
 stores_name s None e = true
-stores_name s (Some x) e = not (is_anonymous (view_of s x)) || is_name_of is_any e
+stores_name s (Some x) e = (not (is_anonymous (view_of s x)) || is_formal s x) || is_name_of is_any e
 
 abbrev pub is_call : TypedTree → Bool
 is_call (Call p sub actuals) = true
@@ -49,18 +49,27 @@ abbrev pub gives_view : Typing → TypedTree → Bool
 gives_view s (Call p sub actuals) = traverses s.table (sub_at s sub).result
 gives_view s e = false
 
--- A view is declared with a name, and a borrower with one that is rooted in an older object; a view is
--- assigned a name. Or what a traversal function gives.
+-- A view is declared with a name, and a borrower with one that is rooted in an older object; a view that is no
+-- formal is assigned a name. Or what a traversal function gives.
 abbrev pub fits : Typing → Instruction → Bool
 fits s (Declare x v) = not (is_anonymous (view_of s x)) || (is_one_name_of (λ y. is_observer s x || nat_lt y x) v || gives_view s (first v))
 fits s (Assign target e) = stores_name s (whole target) e || gives_view s e
 fits s i = true
 
--- A call whose first actual is a name of an access value.
-abbrev pub IsTraversed : Typing → TypedTree → Type 0
-IsTraversed s e =
-    (r : Pos) × (n : ℕ) × (q : Pos) × (y : ℕ) × (path : TypedTree) × (u : ℕ) × (more : TypedTree) × (e ≡ Call r n (More (Name q y path u) more))
-    × Leads s (object_at s y).of path u × (is_owning s.table u || is_anonymous (full s.table u) ≡ true)
+-- The call of a traversal function whose first actual is a name of an access value that is rooted in no package object.
+pub record IsTraversed (s : Typing) (e : TypedTree) : Type 0 where
+  pub pos : Pos
+  pub sub : ℕ
+  pub name_pos : Pos
+  pub root : ℕ
+  pub path : TypedTree
+  pub of : ℕ
+  pub others : TypedTree
+  pub is : e ≡ Call pos sub (More (Name name_pos root path of) others)
+  pub gives : traverses s.table (sub_at s sub).result ≡ true
+  pub leads : Leads s (object_at s root).of path of
+  pub lasts : is_owning s.table of || is_anonymous (full s.table of) ≡ true
+  pub own : is_package_object s root ≡ false
 
 -- What a view is declared or assigned with isn't what a function gives; or it is such a call.
 abbrev pub NamesSource : Typing → Instruction → Type 0
