@@ -1,5 +1,5 @@
 -- Where what is passed for actuals is laid out, and what the acts of the call do there.
-use Rattle.std.proofs.Common.{◌≡◌, refl, ◌&&◌, sym, ap, ◌∙◌, subst, ◌⊎◌, inl, inr, ℕ, Bool, true, false, List, [], ◌∷◌, ◌++◌, Option, Some, None, ◌<◌}
+use Rattle.std.proofs.Common.{◌≡◌, refl, ◌&&◌, sym, ap, ◌∙◌, subst, ◌⊎◌, inl, inr, ℕ, Bool, true, false, List, [], ◌∷◌, ◌++◌, Option, Some, None}
 use Rattle.spark_base.proofs.Lists.{Has-append_left, Has-append_right}
 use Rattle.spark_base.specs.declared.position.Pos.{Pos}
 use Rattle.place_names.specs.declared.act.Act.TheVariants as act
@@ -30,7 +30,7 @@ use Rattle.soundness.proofs.Joined.{leaf_join}
 use Rattle.soundness.proofs.Steps.{no_leaf}
 use Rattle.soundness.proofs.Fixed.{matches_scalar}
 use Rattle.soundness.proofs.Scalars.{acts, acts_append, after_append, read_effect}
-use Rattle.owned_loans.specs.Views.{Around, Views, Viewed, IsForeign}
+use Rattle.owned_loans.specs.Views.{Around, Views, Viewed, IsOuter}
 use Rattle.owned_loans.proofs.Ended.{stands_itself}
 use Rattle.viewed_soundness.specs.Holds.{PartsAreNamed, Holds, sees_only, is_view, IsOwners}
 use Rattle.viewed_soundness.proofs.Names.{true_false}
@@ -45,6 +45,7 @@ use Rattle.viewed_steps.proofs.Released.{nothing_written}
 use Rattle.viewed_steps.proofs.Called as called
 use Rattle.viewed_steps.proofs.Puts as puts
 use Rattle.viewed_steps.proofs.Called.{way_to, neither}
+use Rattle.viewed_soundness.proofs.Given.{IsLow}
 
 module _ (h : Here) (settled : IsSettled h.typing.table) (hands : List Waiting) (leaks : List Leak) (m : Memory) (waits : List (List machine.Word))
     (other : Around (home h.typing h.frame)) (facts : List Fact) (v : Views)
@@ -57,7 +58,7 @@ module _ (h : Here) (settled : IsSettled h.typing.table) (hands : List Waiting) 
     (index_law : IndexLaw)
     (own_law : OwnsByShape h.typing.table)
     (parts_named : PartsAreNamed h.typing.table)
-    (formals_low : (x : ℕ) (w : Way) → v.way x ≡ Some w → is_view_formal h.typing x ≡ true → (foreign : IsForeign (home h.typing h.frame) w) × (foreign.0 < h.frame) × (0 < foreign.0))
+    (formals_low : (x : ℕ) (w : Way) → v.way x ≡ Some w → IsLow h.typing h.frame w)
     (procedure : Bool) where
   abbrev ways_of : List ℕ → List Passing
   ways_of = called.ways_of h settled hands leaks m waits other facts v kept well holds alone live in_formals index_law own_law parts_named formals_low procedure
@@ -130,7 +131,7 @@ module _ (h : Here) (settled : IsSettled h.typing.table) (hands : List Waiting) 
   -- Of a place that is emptied, what is under it is gone elsewhere, since the facts say no more that it was moved.
 
   module _ (around : Around (home h.typing h.frame)) (gone : Way → Type 0)
-      (apart : (y : ℕ) (w z : Way) → v.way y ≡ Some w → IsForeign (home h.typing h.frame) w → gone z → Under z w ⊎ Under w z → ⊥) where
+      (apart : (y : ℕ) (w z : Way) → v.way y ≡ Some w → IsOuter (home h.typing h.frame) v y w → gone z → Under z w ⊎ Under w z → ⊥) where
     abbrev ViewedWith : List Fact → Type 0
     ViewedWith known =
         Viewed (home h.typing h.frame) (sees_only h.typing) (gone_also (home h.typing h.frame) around gone) v (seen h.typing m hands leaks) known

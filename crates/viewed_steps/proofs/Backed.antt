@@ -29,7 +29,7 @@ use Rattle.soundness.proofs.Contents.{word_no}
 use Rattle.soundness.proofs.Steps.{matches_words, no_leaf, taken_slots, room}
 use Rattle.soundness.proofs.Lasting.{keeps, put_away}
 use Rattle.soundness.proofs.Returning.{Backs, formal_fixed}
-use Rattle.owned_loans.specs.Views.{Around, Views, ExcusedBy, Viewed, IsForeign, expand}
+use Rattle.owned_loans.specs.Views.{Around, Views, ExcusedBy, Viewed, expand, IsOuter}
 use Rattle.owned_loans.proofs.Safe.{off_view}
 use Rattle.owned_loans.proofs.Moves.{same_viewed}
 use Rattle.owned_loans.proofs.Meeting.{stands}
@@ -43,7 +43,7 @@ use Rattle.viewed_steps.proofs.Beside.{put_beside}
 use Rattle.viewed_steps.proofs.Alike.{Enters, moved_there, stored_there, one_then, if_back, backs_on, IsPlainSpot, fixed_plain, plain_place, one_there}
 use Rattle.viewed_steps.proofs.Entered.{matches_back, inside_plain, inside_named, inside_number, inside_itself}
 use Rattle.viewed_steps.proofs.Lodged.{cell_live}
-use Rattle.viewed_steps.proofs.Views.{AreAccess, AreFar, apart_by_base}
+use Rattle.viewed_steps.proofs.Views.{AreAccess, AreFar}
 
 same_names : {f x g y : ℕ} → memory.OfVariable f x ≡ memory.OfVariable g y → (f ≡ g) × (x ≡ y)
 same_names e = (cc, cc)
@@ -115,12 +115,13 @@ module _ (t : Turn) (settled : IsSettled (typing t).table) (own_law : OwnsByShap
       by_package false e = omega (arith, e)
 
   -- nothing of that meets what views see that belongs to other frames
-  left_apart : (returns : List Return) (y : ℕ) (w z : Way) → v.way y ≡ Some w → IsForeign (home s depth) w → IsLeft returns z → Under z w ⊎ Under w z → ⊥
-  left_apart returns y w z has foreign (x, base, none) meets =
-      apart_by_base w z foreign.0 foreign.1 (suc depth) x foreign.2 base (λ same. (let low = far y w has foreign in omega (arith, low, same))) meets
+  left_apart : (returns : List Return) (y : ℕ) (w z : Way) → v.way y ≡ Some w → IsOuter (home s depth) v y w → IsLeft returns z → Under z w ⊎ Under w z → ⊥
+  left_apart returns y w z has outer (x, base, none) meets =
+      let there : base_of w ≡ OfRoot (OfVariable (suc depth) x) = elim meets [ inl above ↦ base_under z w above ∙ base | inr below ↦ sym (base_under w z below) ∙ base ] in
+      let low = far y w has (suc depth, x, there, λ same. not_above x (sym same)) in omega (arith, low)
 
   pub apart_by : (returns more : List Return) (ways : List Way) (m : Memory) → ViewedAway returns ways m
-      → (y : ℕ) (w z : Way) → v.way y ≡ Some w → IsForeign (home s depth) w → AwayBy more ways z → Under z w ⊎ Under w z → ⊥
+      → (y : ℕ) (w z : Way) → v.way y ≡ Some w → IsOuter (home s depth) v y w → AwayBy more ways z → Under z w ⊎ Under w z → ⊥
   apart_by returns more ways m viewed y w z has foreign (inl gone) meets = viewed.whole y w z has foreign (inl gone) meets
   apart_by returns more ways m viewed y w z has foreign (inr (inl taken)) meets = viewed.whole y w z has foreign (inr (inl taken)) meets
   apart_by returns more ways m viewed y w z has foreign (inr (inr left)) meets = left_apart more y w z has foreign left meets
@@ -187,10 +188,10 @@ module _ (t : Turn) (settled : IsSettled (typing t).table) (own_law : OwnsByShap
     owns : (content s m hands (OfRoot (OfVariable (suc depth) r.formal))).owns ≡ true
     owns = ap not passed.owner
 
-    first_apart : (y : ℕ) (w z : Way) → v.way y ≡ Some w → IsForeign (home s depth) w → AwayBy rest (to ∷ ways) z → Under z w ⊎ Under w z → ⊥
+    first_apart : (y : ℕ) (w z : Way) → v.way y ≡ Some w → IsOuter (home s depth) v y w → AwayBy rest (to ∷ ways) z → Under z w ⊎ Under w z → ⊥
     first_apart = apart_by (r ∷ rest) rest (to ∷ ways) m viewed
 
-    second_apart : (y : ℕ) (w z : Way) → v.way y ≡ Some w → IsForeign (home s depth) w → AwayBy rest ways z → Under z w ⊎ Under w z → ⊥
+    second_apart : (y : ℕ) (w z : Way) → v.way y ≡ Some w → IsOuter (home s depth) v y w → AwayBy rest ways z → Under z w ⊎ Under w z → ⊥
     second_apart y w z has foreign (inl gone) meets = first_apart y w z has foreign (inl gone) meets
     second_apart y w z has foreign (inr (inl taken_there)) meets = first_apart y w z has foreign (inr (inl (taken_more to ways z taken_there))) meets
     second_apart y w z has foreign (inr (inr left)) meets = first_apart y w z has foreign (inr (inr left)) meets
@@ -207,12 +208,10 @@ module _ (t : Turn) (settled : IsSettled (typing t).table) (own_law : OwnsByShap
         not_named (home s depth) (suc depth) r.formal not_above t.0 t.1 (sym (base_under t.0 w t.2) ∙ base_under root w under)
     clean w under (inl (inl (u, moved, same))) =
         elim (stands (home s depth) observer v (seen s m hands leaks) facts viewed.views u (moved.0, viewed.clear.owned (name_of u) moved.1)) [
-          | inl own ↦ not_named (home s depth) (suc depth) r.formal not_above w (subst (Named (home s depth)) same own.0) (base_under root w under)
+          | inl own ↦ not_named (home s depth) (suc depth) r.formal not_above w (subst (Named (home s depth)) same own.named) (base_under root w under)
           | inr held ↦ (
-              let foreign = held.passed.foreign in
-              let low = far held.object held.way held.has foreign in
-              let at = sym foreign.2 ∙ sym (base_under held.way (expand v u) held.under) ∙ ap base_of same ∙ base_under root w under in
-              let frames = (same_variable foreign.0 foreign.1 (suc depth) r.formal at).0 in omega (arith, low, frames))
+              let at : base_of held.way ≡ OfRoot (OfVariable (suc depth) r.formal) = sym (base_under held.way (expand v u) held.under) ∙ ap base_of same ∙ base_under root w under in
+              let low = far held.object held.way held.has (suc depth, r.formal, at, λ is. not_above r.formal (sym is)) in omega (arith, low))
         ]
     clean w under (inr (inl o)) = whole r.formal w (base_under root w under) o
     clean w under (inr (inr (inl (k, has, p, is)))) =
@@ -322,7 +321,7 @@ module _ (t : Turn) (settled : IsSettled (typing t).table) (own_law : OwnsByShap
     clear_to : IsClearOf (home s depth) observer v second (AwayBy rest ways) second_apart to
     clear_to = record {
       own = λ y w has past.
-          off_view (home s depth) observer v (seen s mid (got ∷ hands) leaks) facts viewed_mid.views viewed_mid.clear to y w
+          off_view (home s depth) observer second v (seen s mid (got ∷ hands) leaks) facts viewed_mid to y w
           (inside_named s settled depth r.to to inside, plain_name) passed.unlent has
           (subst (λ z. Past z w) (sym (inside_itself s settled depth r.to to inside v only)) past);
       far = λ w n keeps_it past. none w n keeps_it;

@@ -1,8 +1,8 @@
 -- A move that a call makes, or its end: no fact changes, and what is gone after it is known otherwise.
-use Rattle.std.proofs.Common.{◌≡◌, refl, sym, ap, ◌∙◌, subst, ◌⊎◌, inl, inr, ℕ, suc, ◌<◌, Bool, true, false, List, [], ◌∷◌, Some, arith, if◌then◌else◌}
+use Rattle.std.proofs.Common.{◌≡◌, refl, sym, ap, ◌∙◌, subst, ◌⊎◌, inl, inr, ℕ, suc, ◌<◌, Bool, true, false, List, [], ◌∷◌, ◌++◌, Some, arith, if◌then◌else◌}
 use Rattle.spark_base.specs.Lists.{Has}
 use Rattle.place_names.specs.declared.fact.Fact.{Fact}
-use Rattle.place_names.specs.declared.fact.Fact.TheVariants.{Lent}
+use Rattle.place_names.specs.declared.fact.Fact.TheVariants.{Moved, Lent}
 use Rattle.place_names.specs.declared.rule.Loan.{Loan}
 use Rattle.place_names.specs.Names.{Name as PlaceName, overlaps}
 use Rattle.owned_ways.specs.Ways.{Step, OfVariable, OfHand, Loc, OfRoot, OfCell, Way, Object, Lost, Into, All, Gone, View, Reaches, IsSame, part, along, IsRooted, Under, Past, Named, base_of, number_of, name_of}
@@ -10,14 +10,15 @@ use Rattle.owned_ways.proofs.Locations.{under_along, under_itself}
 use Rattle.owned_ways.proofs.Named.{longer}
 use Rattle.owned_ways.proofs.Moving.{Given, keeps, owned_after, covered_after, known_after}
 use Rattle.owned_ways.proofs.Dropped.{named_base}
-use Rattle.owned_loans.specs.Views.{Around, Views, ExcusedBy, Viewed, IsForeign}
-use Rattle.owned_loans.proofs.Ways.{beginnings}
+use Rattle.owned_loans.specs.Views.{Around, Views, ExcusedBy, Viewed, AreShared, IsForeign, IsOuter}
+use Rattle.owned_loans.proofs.Ways.{Meet, beginnings, flip, meets_front, named_base_of}
 use Rattle.owned_loans.proofs.Moves.{view_on, reached}
 use Rattle.flow_paths.specs.Objects.{Typing, is_package_object}
 use Rattle.machine.specs.Memory.{Memory, Place}
 use Rattle.machine.specs.States.{Return}
 use Rattle.soundness.specs.Seen.{IsNear, content, word_in, home}
 use Rattle.viewed_steps.specs.Taken.{Lodge, IsInside, IsAmong, IsBare, TakenBy, AreTaken, AreCarried}
+use Rattle.spark_base.proofs.Lists.{Has-append_cases}
 
 -- where owners see the same, ways reach the same
 pub same_reaches : (s t : View) → IsSame s t → (w : Way) (l : Loc) → Reaches s w l → Reaches t w l
@@ -44,7 +45,7 @@ gone_also home other gone = record {
 }
 
 module _ (home : ℕ → ℕ) (observer : ℕ → Bool) (v : Views) (other : Around home) (gone : Way → Type 0)
-    (apart : (x : ℕ) (w z : Way) → v.way x ≡ Some w → IsForeign home w → gone z → Under z w ⊎ Under w z → ⊥) where
+    (apart : (x : ℕ) (w z : Way) → v.way x ≡ Some w → IsOuter home v x w → gone z → Under z w ⊎ Under w z → ⊥) where
   -- more may be gone
   pub more_gone : (s : View) (facts : List Fact) → ((w : Way) → other.gone w → gone w) → Viewed home observer other v s facts
       → Viewed home observer (gone_also home other gone) v s facts
@@ -56,6 +57,8 @@ module _ (home : ℕ → ℕ) (observer : ℕ → Bool) (v : Views) (other : Aro
     views = λ x w has. view_on home observer other v s s facts facts x w (viewed.views x w has) (λ seen n loan. loan)
         (reached home observer other v s facts x w (viewed.views x w has));
     whole = apart;
+    whole_away = viewed.whole_away;
+    shown = viewed.shown;
     past = viewed.past;
     lends = viewed.lends;
     far = viewed.far;
@@ -83,6 +86,8 @@ module _ (home : ℕ → ℕ) (observer : ℕ → Bool) (v : Views) (other : Aro
         view_on home observer other v s t facts facts x w view (λ seen n loan. loan)
         (keeps s t f k from to given w (OfCell (v.cell x)) (reached home observer other v s facts x w view) (λ p. off.own x w has p) (λ p. away.own x w has p)));
     whole = apart;
+    whole_away = viewed.whole_away;
+    shown = viewed.shown;
     past = viewed.past;
     lends = viewed.lends;
     far = λ w n held. keeps s t f k from to given w (OfCell n) (viewed.far w n held) (λ p. off.far w n held p) (λ p. away.far w n held p);
@@ -168,6 +173,17 @@ homed_apart s depth to (f, y, base, at_home) w z foreign under meets =
     let same = same_variable foreign.0 foreign.1 f y (sym foreign.2 ∙ there) in
     foreign.3 (same.0 ∙ at_home ∙ ap (home s depth) (sym same.1))
 
+-- nor does it meet what a view was given, where what others have lent doesn't
+pub homed_outer : (s : Typing) (depth : ℕ) (observer : ℕ → Bool) (lent : Loan → PlaceName → Type 0) (v : Views) (to : Way) → IsHomed s depth to
+    → AreShared (home s depth) observer lent v → ((l : Loan) (k : Way) → Named (home s depth) k → lent l (name_of k) → Meet to k → ⊥)
+    → (y : ℕ) (w z : Way) → v.way y ≡ Some w → IsOuter (home s depth) v y w → Under to z → Under z w ⊎ Under w z → ⊥
+homed_outer s depth observer lent v to homed shown unlent y w z has (inl foreign) under meets = homed_apart s depth to homed w z foreign under meets
+homed_outer s depth observer lent v to homed shown unlent y w z has (inr given) under meets =
+    let base : base_of w ≡ base_of to = elim meets [ inl above ↦ base_under z w above ∙ base_under to z under | inr below ↦ sym (base_under w z below) ∙ base_under to z under ] in
+    let named : Named (home s depth) w = named_base_of (home s depth) w homed.1 (base ∙ homed.2 ∙ ap (λ f. OfRoot (OfVariable f homed.1)) homed.3) in
+    let (l, (k, at_home, above, lent_it), changed) = shown y w has given named in
+    unlent l k at_home lent_it (meets_front k w to above (flip w to (meets_front to z w under (flip z w meets))))
+
 pub number_based : (home : ℕ → ℕ) (w : Way) (y : ℕ) → Named home w → base_of w ≡ OfRoot (OfVariable (home y) y) → number_of w ≡ y
 number_based home w y named base = (same_variable (home (number_of w)) (number_of w) (home y) y (sym (named_base home w named) ∙ base)).1
 
@@ -234,3 +250,67 @@ near_base b (Object (OfHand h)) f x near base = cc
 near_base b (Lost n) f x near base = absurd near
 near_base b (Into w i) f x near base = near_base b w f x near base
 near_base b (All w) f x near base = near_base b w f x near base
+
+-- what is known of places that were taken holds of fewer facts
+pub fewer_taken : (s : Typing) (cells : List Lodge) (m : Memory) (depth : ℕ) (all facts : List Fact) (scope : List ℕ) → ((f : Fact) → Has facts f → Has all f)
+    → (returns : List Return) (ways : List Way) → AreTaken s cells m depth all scope returns ways → AreTaken s cells m depth facts scope returns ways
+fewer_taken s cells m depth all facts scope part [] ways taken = taken
+fewer_taken s cells m depth all facts scope part (r ∷ rest) [] (copied, more) = (copied, fewer_taken s cells m depth all facts scope part rest [] more)
+fewer_taken s cells m depth all facts scope part (r ∷ rest) (to ∷ ways) (inl (copied, more)) =
+    inl (copied, fewer_taken s cells m depth all facts scope part rest (to ∷ ways) more)
+fewer_taken s cells m depth all facts scope part (r ∷ rest) (to ∷ ways) (inr ((passed, bare), apart, another, more)) =
+    inr (
+      (
+        record {
+          inside = passed.inside;
+          among = passed.among;
+          fits = passed.fits;
+          formal = passed.formal;
+          owner = passed.owner;
+          many = passed.many;
+          within = passed.within;
+          unlent = λ l h n has over. passed.unlent l h n (part (Lent l h n) has) over;
+          cleared = λ n has covered. passed.cleared n (part (Moved n) has) covered;
+        },
+        bare,
+      ),
+      apart,
+      another,
+      fewer_taken s cells m depth all facts scope part rest ways more,
+    )
+
+-- and of more, of which none is of such a place
+pub more_taken : (s : Typing) (cells : List Lodge) (m : Memory) (depth : ℕ) (facts beside : List Fact) (scope : List ℕ)
+    → ((n : PlaceName) → Has beside (Moved n) → ⊥) → (returns : List Return) (ways : List Way)
+    → ((to : Way) → Has ways to → (l : Loan) (h : ℕ) (n : PlaceName) → Has beside (Lent l h n) → overlaps n (name_of to) ≡ true → ⊥)
+    → AreTaken s cells m depth facts scope returns ways → AreTaken s cells m depth (facts ++ beside) scope returns ways
+more_taken s cells m depth facts beside scope none [] ways off taken = taken
+more_taken s cells m depth facts beside scope none (r ∷ rest) [] off (copied, more) = (copied, more_taken s cells m depth facts beside scope none rest [] off more)
+more_taken s cells m depth facts beside scope none (r ∷ rest) (to ∷ ways) off (inl (copied, more)) =
+    inl (copied, more_taken s cells m depth facts beside scope none rest (to ∷ ways) off more)
+more_taken s cells m depth facts beside scope none (r ∷ rest) (to ∷ ways) off (inr ((passed, bare), apart, another, more)) =
+    inr (
+      (
+        record {
+          inside = passed.inside;
+          among = passed.among;
+          fits = passed.fits;
+          formal = passed.formal;
+          owner = passed.owner;
+          many = passed.many;
+          within = passed.within;
+          unlent = λ l h n has over. elim (Has-append_cases facts beside (Lent l h n) has) [
+            | inl own ↦ passed.unlent l h n own over
+            | inr there ↦ off to (inl refl) l h n there over
+          ];
+          cleared = λ n has covered. elim (Has-append_cases facts beside (Moved n) has) [
+            | inl own ↦ passed.cleared n own covered
+            | inr there ↦ none n there
+          ];
+        },
+        bare,
+      ),
+      apart,
+      another,
+      more_taken s cells m depth facts beside scope none rest ways (λ way has. off way (inr has)) more,
+    )

@@ -8,8 +8,8 @@ use Rattle.std.specs.Prelude.{is_some}
 use Rattle.spark_base.specs.Lists.{Has}
 use Rattle.place_names.specs.declared.act.Act.{Act}
 use Rattle.place_names.specs.declared.fact.Fact.{Fact}
-use Rattle.place_names.specs.declared.fact.Fact.TheVariants.{Moved}
-use Rattle.place_names.specs.Names.{Name as PlaceName}
+use Rattle.place_names.specs.declared.fact.Fact.TheVariants.{Moved, Lent}
+use Rattle.place_names.specs.Names.{Name as PlaceName, overlaps}
 use Rattle.place_names.specs.Facts.{place}
 use Rattle.type_definitions.specs.Types.{Table}
 use Rattle.typed_tree.specs.declared.object.ObjectKind.{ObjectKind}
@@ -40,17 +40,17 @@ use Rattle.soundness.proofs.Contents.{bool_cases, word_no, word_dead}
 use Rattle.soundness.proofs.Steps.{no_leaf}
 use Rattle.soundness.proofs.Typings.{package_same, formal_same}
 use Rattle.soundness.proofs.Around.{same_or_not}
-use Rattle.owned_ways.proofs.Locations.{under_itself, past_under}
+use Rattle.owned_ways.proofs.Locations.{under_itself, past_under, under_along}
 use Rattle.soundness.proofs.Returning.{returned_kept, left_same, left_held, returns_lead, ends_lead, left_waits, ended_owned, Backs}
-use Rattle.owned_loans.specs.Views.{known_gone, Views, IsMovedBy, IsForeign, Viewed, ExcusedBy, Around, IsAway}
-use Rattle.owned_loans.proofs.Moves.{view_on, reached}
+use Rattle.owned_loans.specs.Views.{known_gone, Views, IsMovedBy, ExcusedBy, Around, IsAway, ViewedAlone, IsOuter, AreClear as FactsAreClear, AreViews}
+use Rattle.owned_loans.proofs.Moves.{view_on, reached, own_loan}
 use Rattle.owned_loans.proofs.Ended.{stands_itself}
 use Rattle.viewed_soundness.proofs.Names.{neither, true_false}
 use Rattle.viewed_steps.specs.Awaited.{AreFor, AreValues, temporaries_of, lasting_of, awaited, AreAwaited}
 use Rattle.viewed_steps.proofs.Waited.{others_only, lasting_within}
-use Rattle.viewed_steps.specs.Sound.{loan_by, ArePast, HoldsAt, ArePlaced, NoneAbove, ViewStage, stages_of, GoneElsewhere, IsWaiting, AreWaiting, ends_one, LeadsAlong, IsResting, HasTraversals, NoneGiven, AreTraversals}
+use Rattle.viewed_steps.specs.Sound.{loan_by, IsBeyond, HoldsAt, ArePlaced, NoneAbove, ViewStage, stages_of, GoneElsewhere, IsWaiting, AreWaiting, ends_one, LeadsAlong, IsResting, HasTraversals, NoneGiven, AreTraversals}
 use Rattle.viewed_steps.specs.Ready.{IsReady}
-use Rattle.viewed_steps.proofs.Waiting.{StandsBetween, all_between, handed, gone_low, kept_low, far, theirs, bare_still, some_frames, unused_there, BareElsewhere, bare_reached}
+use Rattle.viewed_steps.proofs.Waiting.{StandsBetween, all_between, handed, gone_low, kept_low, far, theirs, bare_still, some_frames, unused_there, BareElsewhere, bare_reached, lent_handed, none_moved}
 use Rattle.viewed_steps.proofs.Onward.{all_on}
 use Rattle.viewed_steps.proofs.Left.{owned_left, covered_left, reach_left, reach_before, gone_before, other_word, no_word, whole_there}
 use Rattle.viewed_steps.proofs.Standing.{or_right}
@@ -62,16 +62,20 @@ use Rattle.owned_ways.proofs.Dropped.{named_base}
 use Rattle.viewed_soundness.specs.Holds.{sees_only, is_view}
 use Rattle.owned_ways.proofs.Unique.{one_way}
 use Rattle.viewed_steps.specs.Taken.{TakenBy, Lodge, IsTakenIn, AreCarried}
-use Rattle.viewed_steps.proofs.Between.{home_low, homed_apart, base_under, same_variable, taken_from as words_taken, taken_base, IsHomed, number_based, base_along}
-use Rattle.viewed_steps.proofs.Outside.{IsSpared, kept_clear, bare_clear}
-use Rattle.viewed_steps.proofs.Apart.{kept_there, written_disturbs}
+use Rattle.viewed_steps.proofs.Between.{home_low, base_under, same_variable, taken_from as words_taken, IsHomed, number_based, base_along, homed_outer, more_taken}
+use Rattle.viewed_steps.proofs.Outside.{IsSpared, kept_clear, bare_clear, lent_clear}
+use Rattle.viewed_steps.proofs.Apart.{kept_there, written_disturbs, same_root}
 use Rattle.viewed_steps.proofs.Views.{base_named}
 use Rattle.flow_paths.specs.Effects.{written_by}
-use Rattle.viewed_steps.proofs.Backed.{AwayBy, ViewedAway, IsBack, all_given_back}
+use Rattle.viewed_steps.proofs.Backed.{away as away_back, AwayBy, ViewedAway, IsBack, all_given_back}
 use Rattle.viewed_steps.proofs.Whole.{leaves_whole}
-use Rattle.viewed_steps.proofs.Views.{AreAccess, AreFar, lies_far, apart_by_base}
+use Rattle.viewed_steps.proofs.Views.{AreAccess, AreFar, lies_far}
 use Rattle.soundness.proofs.Lasting.{keeps}
 use Rattle.viewed_steps.proofs.Withheld.{taken_passed}
+use Rattle.viewed_steps.proofs.Handed.{gone_lent, clear_with, apart_of, without_loans, lends_handed}
+use Rattle.owned_loans.proofs.Ways.{meet_base}
+use Rattle.spark_base.proofs.Lists.{Has-append_left, Has-append_cases}
+use Rattle.place_names.specs.declared.rule.Loan.{Loan}
 
 smaller : (f b low : ℕ) → f < suc b → (f ≡ low → ⊥) → low ≡ b → f < low
 smaller f b low less ne is =
@@ -109,10 +113,10 @@ module _ (table : Table) (typed : TypedProgram) (effects : Effects) (input : Lis
       (awaiting : AreAwaited table typed None (top ∷ stages_of (below ∷ more_frames)))
       (of_sub : IsNamedSub (flow_named table typed) top.frame.sub named) (at_point : IsAtPoint named.points top.frame.next p)
       (path : ControlPath (path_points program effects (sub_of program top.frame.sub)) top.before top.frame.next) (views : Views)
-      (viewed_before : Viewed (home s (suc (length rest))) (sees_only s) (known_gone (home s (suc (length rest))) (GoneElsewhere program effects (below ∷ more_frames))) views
+      (viewed_before : ViewedAlone (home s (suc (length rest))) (sees_only s) (known_gone (home s (suc (length rest))) (GoneElsewhere program effects (below ∷ more_frames))) views
       (view_here s state) (facts_of program effects top))
       (kept : Kept s state.memory (waiting_in state)) (scope : InScope s state.memory (suc (length rest)) (lasting_of s p.scope)) (holds : HoldsAt s (suc (length rest)) views state.memory p)
-      (placed_before : ArePlaced program (suc (length rest)) (facts_of program effects top) views p.scope × ArePast s (suc (length rest)) views (below ∷ more_frames)) (above : NoneAbove s (suc (length rest)) state.memory
+      (placed_before : ArePlaced program (suc (length rest)) (facts_of program effects top) views p.scope × IsBeyond program effects (suc (length rest)) views (below ∷ more_frames)) (above : NoneAbove s (suc (length rest)) state.memory
       × HasTraversals table typed (view_here s state) (record { stage = top; views = views; cells = [] } ∷ (below ∷ more_frames))) where
     abbrev outer : List Frame
     outer = below.stage.frame ∷ rest
@@ -123,7 +127,7 @@ module _ (table : Table) (typed : TypedProgram) (effects : Effects) (input : Lis
     abbrev depth : ℕ
     depth = suc (length rest)
 
-    abbrev between : (g : ViewStage) → Has (below ∷ more_frames) g → StandsBetween table typed effects unmoved_stage local state (suc (length rest)) g
+    abbrev between : (g : ViewStage) → Has (below ∷ more_frames) g → StandsBetween table typed effects unmoved_stage local state (suc (length rest)) (below ∷ more_frames) g
     between = innermost.between table typed effects input ready state top below more_frames rest named p frames deep stages running awaiting of_sub at_point path views viewed_before kept scope holds placed_before above
 
     abbrev waits_here : AreValues s top.frame.waits p.scope
@@ -147,7 +151,7 @@ module _ (table : Table) (typed : TypedProgram) (effects : Effects) (input : Lis
     abbrev acts_of_main : Instruction → List Act
     acts_of_main i = standing.acts_here table typed effects input ready state top older outer named p frames of_sub at_point i
 
-    abbrev viewed_own : Viewed (home s depth) (sees_only s) (known_gone (home s depth) (GoneElsewhere program effects older)) views (view_here s state) own_facts
+    abbrev viewed_own : ViewedAlone (home s depth) (sees_only s) (known_gone (home s depth) (GoneElsewhere program effects older)) views (view_here s state) own_facts
     viewed_own = innermost.viewed_own table typed effects input ready state top below more_frames rest named p frames deep stages running awaiting of_sub at_point path views viewed_before kept scope holds placed_before above
 
     abbrev placed : ArePlaced program (suc (length rest)) facts_now views p.scope
@@ -254,11 +258,14 @@ module _ (table : Table) (typed : TypedProgram) (effects : Effects) (input : Lis
 
     module _ (h : ViewStage) (others : List ViewStage) (stages_there : AreStages (stages_of (below ∷ (h ∷ others))) (below.stage.frame ∷ rest))
         (waiting : AreWaiting table typed effects state top.frame.sub top.frame.returns (below ∷ (h ∷ others)))
-        (well : Viewed (home s depth) (sees_only s) (known_gone (home s depth) (GoneElsewhere program effects (below ∷ (h ∷ others)))) views (view_here s state) own_facts)
+        (well : ViewedAlone (home s depth) (sees_only s) (known_gone (home s depth) (GoneElsewhere program effects (below ∷ (h ∷ others)))) views (view_here s state) own_facts)
         (still_awaited : AreAwaited table typed (awaited (sub_of program top.frame.sub) top.before) (stages_of (below ∷ (h ∷ others))))
         (is : p.instr ≡ Finish) where
       abbrev pub low : ℕ
       low = below.stage.depth
+
+      package_owns : (x : ℕ) → is_package_object s x ≡ true → sees_only s x ≡ false
+      package_owns = innermost.package_owns table typed effects input ready state top below more_frames rest named p frames deep stages running awaiting of_sub at_point path views viewed_before kept scope holds placed_before above
 
       low_is : below.stage.depth ≡ length rest
       low_is = stages_there.1
@@ -269,14 +276,33 @@ module _ (table : Table) (typed : TypedProgram) (effects : Effects) (input : Lis
       abbrev pub their_facts : List Fact
       their_facts = facts_of program effects below.stage
 
-      between_low : (g : ViewStage) → Has (h ∷ others) g → StandsBetween table typed effects unmoved_stage local state below.stage.depth g
+      pub between_low : (g : ViewStage) → Has (h ∷ others) g → StandsBetween table typed effects unmoved_stage local state below.stage.depth (h ∷ others) g
       between_low g has =
           all_between table typed effects unmoved_stage local state below.stage.frame.sub below.stage.depth below.stage.frame.returns (h ∷ others) rest stages_there.2
           (let same_depth = low_is in omega (arith, same_depth)) waiting.1 g has
 
       -- what concerns the frame below
       abbrev pub around_low : Around (home s below.stage.depth)
-      around_low = known_gone (home s below.stage.depth) (GoneElsewhere program effects (h ∷ others))
+      around_low = gone_lent table typed effects unmoved_stage local state below.stage.depth (h ∷ others) between_low
+
+      -- what they hand on, beside its facts
+      abbrev handed_low : List Fact
+      handed_low = handed table typed effects unmoved_stage local state below.stage.depth (h ∷ others) between_low
+
+      abbrev pub their_all : List Fact
+      their_all = their_facts ++ handed_low
+
+      clear_low : FactsAreClear (sees_only s) their_all
+      clear_low =
+          clear_with table typed effects unmoved_stage local state below.stage.depth (h ∷ others) between_low their_facts
+          (apart_of table typed effects unmoved_stage local state below.stage.depth (h ∷ others) between_low ready.accepted.effects_are below.stage waits.named waits.of_sub below.stage.frame.returns waiting.1) waits.clear
+
+      views_low : AreViews (home s below.stage.depth) (sees_only s) below.views (view_here s state) their_all
+      views_low x w has =
+          view_on (home s below.stage.depth) (sees_only s) (known_gone (home s below.stage.depth) (λ z. ⊥)) below.views (view_here s state) (view_here s state) their_facts their_all x w
+          (waits.views x w has)
+          (λ b n loan. own_loan (sees_only s) their_facts their_all (λ l k m own. Has-append_left their_facts handed_low (Lent l k m) own) b x n loan)
+          (reached (home s below.stage.depth) (sees_only s) (known_gone (home s below.stage.depth) (λ z. ⊥)) below.views (view_here s state) their_facts x w (waits.views x w has))
 
       pub free_low : (k : ℕ) (w : Way) → ways.Under (ways.Object (ways.OfHand k)) w → GoneElsewhere program effects (h ∷ others) w → ⊥
       free_low k w under away_there =
@@ -312,19 +338,27 @@ module _ (table : Table) (typed : TypedProgram) (effects : Effects) (input : Lis
       -- the state as the frame below sees it
       abbrev ViewedLow : List Return → List Way → Memory → Type 0
       ViewedLow returns ways_left m =
-          ViewedAway main_turn ready.accepted.settled ready.owns in_formals (waiting_in state) state.leaks below.stage.depth deep_low below.views far_low waits.holds.only their_facts
+          ViewedAway main_turn ready.accepted.settled ready.owns in_formals (waiting_in state) state.leaks below.stage.depth deep_low below.views far_low waits.holds.only their_all
           (lasting_of s waits.point.scope) around_low free_low whole_low none_kept below.cells begins_low returns ways_left m
+
+      abbrev pub away_none : Around (home s below.stage.depth)
+      away_none =
+          away_back main_turn ready.accepted.settled ready.owns in_formals (waiting_in state) state.leaks below.stage.depth deep_low below.views far_low waits.holds.only their_all
+          (lasting_of s waits.point.scope) around_low free_low whole_low none_kept below.cells begins_low [] []
 
       abbrev Away : Way → Type 0
       Away w =
-          AwayBy main_turn ready.accepted.settled ready.owns in_formals (waiting_in state) state.leaks below.stage.depth deep_low below.views far_low waits.holds.only their_facts
+          AwayBy main_turn ready.accepted.settled ready.owns in_formals (waiting_in state) state.leaks below.stage.depth deep_low below.views far_low waits.holds.only their_all
           (lasting_of s waits.point.scope) around_low free_low whole_low none_kept below.cells begins_low top.frame.returns below.stage.returns w
 
+      moved_more : (w : Way) → IsMovedBy (home s below.stage.depth) below.views their_facts w → IsMovedBy (home s below.stage.depth) below.views their_all w
+      moved_more w (u, (at_home, has), leads) = (u, (at_home, Has-append_left their_facts handed_low (Moved (ways.name_of u)) has), leads)
+
       known_low : (w : Way) (l : ways.Loc) → ways.IsRooted w → ways.Reaches (view_here s state) w l → (view_here s state).word l ≡ ways.Gone
-          → IsAway (home s below.stage.depth) below.views around_low their_facts w ⊎ Away w
+          → IsAway (home s below.stage.depth) below.views around_low their_all w ⊎ Away w
       known_low w l rooted r gone = elim (well.known w l rooted r gone) [
         | inl (inr none) ↦ absurd none
-        | inr (g, inl same_stage, inl moved) ↦ inl (inl (subst (λ (z : ViewStage). IsMovedBy (home s z.stage.depth) z.views (facts_of program effects z.stage) w) (sym same_stage) moved))
+        | inr (g, inl same_stage, inl moved) ↦ inl (inl (moved_more w (subst (λ (z : ViewStage). IsMovedBy (home s z.stage.depth) z.views (facts_of program effects z.stage) w) (sym same_stage) moved)))
         | inr (g, inl same_stage, inr taken) ↦ inr (inr (inl (subst (λ (z : ViewStage). TakenBy z.stage.returns w) (sym same_stage) taken)))
         | inr (g, inr has, what) ↦ inr (inl (g, has, what))
         | inl (inl (u, moved, leads)) ↦ elim (bool_cases (is_formal s (number_of u) || is_package_object s (number_of u))) [
@@ -357,42 +391,76 @@ module _ (table : Table) (typed : TypedProgram) (effects : Effects) (input : Lis
               named_base (home s depth) w at_home
               ∙ ap (λ f. OfRoot (OfVariable f (number_of w))) (ap (λ z. if z then 0 else depth) own_object ∙ deep_low)
 
+      -- what was taken begins at variables of the frame, or at package objects of which the others keep nothing
+      homed : (to : Way) → Has below.stage.returns to → IsHomed s below.stage.depth to
+      homed to has = words_taken s below.cells state.memory below.stage.depth their_facts (lasting_of s waits.point.scope) top.frame.returns below.stage.returns waits.taken to has
+
+      spared_to : (to : Way) (has : Has below.stage.returns to)
+          → IsSpared table typed effects unmoved_stage local state below.stage.depth (h ∷ others) between_low (homed to has).1
+      spared_to to has l name lent root =
+          let begin = homed to has in
+          let at : ways.base_of to ≡ OfRoot (OfVariable (home s below.stage.depth begin.1) begin.1) =
+          begin.2 ∙ ap (λ f. OfRoot (OfVariable f begin.1)) begin.3 in
+          let number : number_of to ≡ begin.1 = number_based (home s below.stage.depth) to begin.1 (base_named (home s below.stage.depth) to begin.1 at) at in
+          let (g, there, some, f, keeps, shared, kind, name_is) = lent in
+          let written = waits.written (number_of to) (taken_passed below to has) (ap (is_package_object s) (number ∙ sym root) ∙ shared) in
+          kept_there table typed effects ready.accepted.effects_are (unused_there table typed effects unmoved_stage local) state below.stage.frame.sub below.stage.frame.returns
+          (h ∷ others) waiting.1 g there some f keeps (ap (λ (z : PlaceName). is_package_object s z.root) name_is ∙ shared)
+          (written_disturbs table typed effects ready.accepted.effects_are (loan_by f) below.stage.frame.sub (place f).root
+          (subst (Has (written_by effects below.stage.frame.sub)) (number ∙ sym root ∙ ap (λ (z : PlaceName). z.root) (sym name_is)) written))
+
       -- nothing of that meets what views of the frame see that belongs to others
-      whole_away : (x : ℕ) (w z : Way) → below.views.way x ≡ Some w → IsForeign (home s below.stage.depth) w
-          → GoneElsewhere program effects (h ∷ others) z ⊎ (TakenBy below.stage.returns z
+      whole_away : (x : ℕ) (w z : Way) → below.views.way x ≡ Some w → IsOuter (home s below.stage.depth) below.views x w → GoneElsewhere program effects (h ∷ others) z ⊎ (TakenBy below.stage.returns z
           ⊎ ((y : ℕ) × (ways.base_of z ≡ OfRoot (OfVariable (suc below.stage.depth) y)) × ((r : Return) → Has top.frame.returns r → r.formal ≡ y → ⊥)))
           → ways.Under z w ⊎ ways.Under w z → ⊥
-      whole_away x w z has foreign (inl gone) meets = waiting.2 x w z has foreign gone meets
-      whole_away x w z has foreign (inr (inl taken)) meets =
-          let base = taken_base s below.stage.returns below.stage.depth
-          (words_taken s below.cells state.memory below.stage.depth their_facts (lasting_of s waits.point.scope) top.frame.returns below.stage.returns waits.taken) z taken in
-          homed_apart s below.stage.depth z base w z foreign (under_itself z) meets
-      whole_away x w z has foreign (inr (inr (y, base, none))) meets =
-          apart_by_base w z foreign.0 foreign.1 (suc below.stage.depth) y foreign.2 base (λ same. (let under = far_low x w has foreign in omega (arith, under, same))) meets
+      whole_away x w z has outer (inl gone) meets = waiting.2 x w z has outer gone meets
+      whole_away x w z has outer (inr (inl (to, taken, steps_on, is))) meets =
+          homed_outer s below.stage.depth (sees_only s) around_low.lent below.views to (homed to taken) waiting.3.1
+          (λ l k at_home lent met. lent_clear table typed effects unmoved_stage local state below.stage.depth (h ∷ others) between_low to (homed to taken) (spared_to to taken) k (sym (meet_base to k met)) l
+          (k, at_home, under_itself k, lent))
+          x w z has outer (subst (ways.Under to) (sym is) (under_along to to steps_on (under_itself to))) meets
+      whole_away x w z has outer (inr (inr (y, base, none))) meets =
+          let there : ways.base_of w ≡ OfRoot (OfVariable (suc below.stage.depth) y) =
+          elim meets [ inl over ↦ base_under z w over ∙ base | inr under ↦ sym (base_under w z under) ∙ base ] in
+          let at_low = home_low s below.stage.depth y in
+          let less = far_low x w has (suc below.stage.depth, y, there, λ same. omega (arith, same, at_low)) in omega (arith, less)
 
       pub viewed_low : ViewedLow top.frame.returns below.stage.returns state.memory
       viewed_low = record {
         owned = well.owned;
         covered = well.covered;
         known = known_low;
-        clear = waits.clear;
-        views = waits.views;
+        clear = clear_low;
+        views = views_low;
         whole = whole_away;
+        whole_away = λ x w z has given none. absurd none;
+        shown = waiting.3.1;
         past = λ x w has given plain k n none. absurd none;
-        lends = λ l n none. absurd none;
+        lends = lends_handed table typed effects unmoved_stage local state below.stage.depth (h ∷ others) between_low below.views their_facts (λ x w has. local x (waits.holds.only x w has)) package_owns;
         far = λ w n none. absurd none;
         bare = λ w n p none. absurd none;
       }
 
+      -- what is handed on is no part of what was taken
+      spared_handed : (to : Way) → Has below.stage.returns to → (l : Loan) (k : ℕ) (m : PlaceName) → Has handed_low (Lent l k m) → overlaps m (ways.name_of to) ≡ true → ⊥
+      spared_handed to has l k m there over =
+          let begin = homed to has in
+          let at : ways.base_of to ≡ OfRoot (OfVariable (home s below.stage.depth begin.1) begin.1) =
+          begin.2 ∙ ap (λ f. OfRoot (OfVariable f begin.1)) begin.3 in
+          let number : number_of to ≡ begin.1 = number_based (home s below.stage.depth) to begin.1 (base_named (home s below.stage.depth) to begin.1 at) at in
+          spared_to to has l m (lent_handed table typed effects unmoved_stage local state below.stage.depth (h ∷ others) between_low l k m there).1 (same_root m (ways.name_of to) over ∙ number)
+
       abbrev Backed : Memory → Type 0
       Backed m =
-          IsBack main_turn ready.accepted.settled ready.owns in_formals (waiting_in state) state.leaks below.stage.depth deep_low below.views far_low waits.holds.only their_facts
+          IsBack main_turn ready.accepted.settled ready.owns in_formals (waiting_in state) state.leaks below.stage.depth deep_low below.views far_low waits.holds.only their_all
           (lasting_of s waits.point.scope) around_low free_low whole_low none_kept below.cells begins_low top.frame.returns below.stage.returns state.memory m
 
       given_back : Backs Backed (steps.copied_back main_turn top.frame.returns (steps.start main_turn))
       given_back =
-          all_given_back main_turn ready.accepted.settled ready.owns in_formals (waiting_in state) state.leaks below.stage.depth deep_low below.views far_low waits.holds.only their_facts
-          (lasting_of s waits.point.scope) around_low free_low whole_low none_kept below.cells begins_low top.frame.returns below.stage.returns (steps.start main_turn) waits.taken
+          all_given_back main_turn ready.accepted.settled ready.owns in_formals (waiting_in state) state.leaks below.stage.depth deep_low below.views far_low waits.holds.only their_all
+          (lasting_of s waits.point.scope) around_low free_low whole_low none_kept below.cells begins_low top.frame.returns below.stage.returns (steps.start main_turn)
+          (more_taken s below.cells state.memory below.stage.depth their_facts handed_low (lasting_of s waits.point.scope) (none_moved table typed effects unmoved_stage local state below.stage.depth (h ∷ others) between_low) top.frame.returns below.stage.returns
+          (λ to has l k m there over. spared_handed to has l k m there over) waits.taken)
           (λ c has. ((waits.kept c has).reaches, (waits.kept c has).aside)) kept viewed_low
 
       module _ (mid : Memory) (on : Backed mid) (same_mid : top.frame.returns ≡ [] → mid ≡ state.memory) where
@@ -467,11 +535,18 @@ module _ (table : Table) (typed : TypedProgram) (effects : Effects) (input : Lis
               ]
             ]
 
+        -- without what is handed on
+        alone_mid : ViewedAlone (home s low) (sees_only s) away_none below.views mid_view their_facts
+        alone_mid =
+            without_loans table typed effects unmoved_stage local state below.stage.depth (h ∷ others) between_low away_none below.views mid_view their_all their_facts
+            (λ x w has. local x (waits.holds.only x w has)) package_owns (λ f has. Has-append_left their_facts handed_low f has)
+            (λ f has. Has-append_cases their_facts handed_low f has) on.viewed
+
         -- what is gone is known to those that are left
         known_left : (w : Way) (l : ways.Loc) → ways.IsRooted w → ways.Reaches left_view w l → left_view.word l ≡ ways.Gone
             → ExcusedBy (home s low) below.views (known_gone (home s low) (GoneElsewhere program effects (h ∷ others))) (facts_of program effects below.stage) w
         known_left w l rooted r gone =
-            elim (on.viewed.known w l rooted (reach_before s mid depth (waiting_in state) state.leaks nothing_mid w l r)
+            elim (alone_mid.known w l rooted (reach_before s mid depth (waiting_in state) state.leaks nothing_mid w l r)
             (gone_before s mid depth (waiting_in state) state.leaks nothing_mid l gone)) [
               | inl moved ↦ inl moved
               | inr (inl away_there) ↦ inr away_there
@@ -480,7 +555,7 @@ module _ (table : Table) (typed : TypedProgram) (effects : Effects) (input : Lis
                   whole_there s mid depth (waiting_in state) state.leaks nothing_mid w l x (base ∙ ap (λ f. OfRoot (OfVariable f x)) depths) r gone)
             ]
 
-        viewed_left : Viewed (home s low) (sees_only s) (known_gone (home s low) (GoneElsewhere program effects (h ∷ others))) below.views left_view
+        viewed_left : ViewedAlone (home s low) (sees_only s) (known_gone (home s low) (GoneElsewhere program effects (h ∷ others))) below.views left_view
             (facts_of program effects below.stage)
         viewed_left = record {
           owned = owned_left s mid depth (waiting_in state) state.leaks nothing_mid on.viewed.owned;
@@ -489,14 +564,10 @@ module _ (table : Table) (typed : TypedProgram) (effects : Effects) (input : Lis
           clear = waits.clear;
           views = λ x w has.
               view_on (home s low) (sees_only s) (known_gone (home s low) (λ z. ⊥)) below.views mid_view left_view
-              (facts_of program effects below.stage) (facts_of program effects below.stage) x w (on.viewed.views x w has) (λ b n loan. loan)
+              (facts_of program effects below.stage) (facts_of program effects below.stage) x w (alone_mid.views x w has) (λ b n loan. loan)
               (reach_left s mid depth (waiting_in state) state.leaks nothing_mid w (ways.OfCell (below.views.cell x))
-              (reached (home s low) (sees_only s) (known_gone (home s low) (λ z. ⊥)) below.views mid_view (facts_of program effects below.stage) x w (on.viewed.views x w has)));
-          whole = λ x w z has foreign gone meets. waiting.2 x w z has foreign gone meets;
-          past = λ x w has given plain k n none. absurd none;
-          lends = λ l n none. absurd none;
-          far = λ w n none. absurd none;
-          bare = λ w n p none. absurd none;
+              (reached (home s low) (sees_only s) (known_gone (home s low) (λ z. ⊥)) below.views mid_view (facts_of program effects below.stage) x w (alone_mid.views x w has)));
+          whole = λ x w z has outer gone meets. waiting.2 x w z has outer gone meets;
         }
 
         holds_there : HoldsAt s low below.views left_memory waits.point
@@ -537,24 +608,6 @@ module _ (table : Table) (typed : TypedProgram) (effects : Effects) (input : Lis
               in_cells = λ n q c out held. on.carried.in_cells n q c out (sym (left_there.1 n q) ∙ held);
               gone_cells = λ n q out gone. left_there.1 n q ∙ on.carried.gone_cells n q out gone;
             }
-
-        -- what was taken begins at variables of the frame, or at package objects of which the others keep nothing
-        homed : (to : Way) → Has below.stage.returns to → IsHomed s below.stage.depth to
-        homed to has = words_taken s below.cells state.memory below.stage.depth their_facts (lasting_of s waits.point.scope) top.frame.returns below.stage.returns waits.taken to has
-
-        spared_to : (to : Way) (has : Has below.stage.returns to)
-            → IsSpared table typed effects unmoved_stage local state below.stage.depth (h ∷ others) between_low (homed to has).1
-        spared_to to has l name lent root =
-            let begin = homed to has in
-            let at : ways.base_of to ≡ OfRoot (OfVariable (home s below.stage.depth begin.1) begin.1) =
-            begin.2 ∙ ap (λ f. OfRoot (OfVariable f begin.1)) begin.3 in
-            let number : number_of to ≡ begin.1 = number_based (home s below.stage.depth) to begin.1 (base_named (home s below.stage.depth) to begin.1 at) at in
-            let (g, there, some, f, keeps, shared, kind, name_is) = lent in
-            let written = waits.written (number_of to) (taken_passed below to has) (ap (is_package_object s) (number ∙ sym root) ∙ shared) in
-            kept_there table typed effects ready.accepted.effects_are (unused_there table typed effects unmoved_stage local) state below.stage.frame.sub below.stage.frame.returns
-            (h ∷ others) waiting.1 g there some f keeps (ap (λ (z : PlaceName). is_package_object s z.root) name_is ∙ shared)
-            (written_disturbs table typed effects ready.accepted.effects_are (loan_by f) below.stage.frame.sub (place f).root
-            (subst (Has (written_by effects below.stage.frame.sub)) (number ∙ sym root ∙ ap (λ (z : PlaceName). z.root) (sym name_is)) written))
 
         -- what is bare elsewhere in a cell isn't given back to
         bare_aside : (w : ways.Way) (n : ℕ) (q r : List Step) → BareElsewhere table typed effects unmoved_stage local (h ∷ others) w (ways.OfCell n) q
@@ -608,7 +661,7 @@ module _ (table : Table) (typed : TypedProgram) (effects : Effects) (input : Lis
             running = (waits.runs, waits.plain, others_left);
             awaited = subst (λ n. AreAwaited table typed n (stages_of (below ∷ (h ∷ others)))) (returned_then is) still_awaited;
             path = waits.path;
-            viewed = subst (λ z. Viewed (home s low) (sees_only s) (known_gone (home s low) (GoneElsewhere program effects (h ∷ others))) below.views z
+            viewed = subst (λ z. ViewedAlone (home s low) (sees_only s) (known_gone (home s low) (GoneElsewhere program effects (h ∷ others))) below.views z
                 (facts_of program effects below.stage)) view_left viewed_left;
             kept = subst (Kept s left_memory) (sym hands_left)
                 (returned_kept s mid depth (waiting_in state) state.leaks nothing_mid on.typed);
@@ -652,7 +705,7 @@ module _ (table : Table) (typed : TypedProgram) (effects : Effects) (input : Lis
       where
         by_rest : (r : List Frame) (m : List ViewStage) → rest ≡ r → more_frames ≡ m → AreStages (stages_of (below ∷ m)) (below.stage.frame ∷ r)
             → AreWaiting table typed effects state top.frame.sub top.frame.returns (below ∷ m)
-            → Viewed (home s depth) (sees_only s) (known_gone (home s depth) (GoneElsewhere program effects (below ∷ m))) views (view_here s state) own_facts
+            → ViewedAlone (home s depth) (sees_only s) (known_gone (home s depth) (GoneElsewhere program effects (below ∷ m))) views (view_here s state) own_facts
             → AreAwaited table typed (awaited (sub_of program top.frame.sub) top.before) (stages_of (below ∷ m)) → Along (turn main_turn Finish)
         by_rest [] [] same_rest same_more stages_there waiting well still =
             ends_lead main_turn Along (λ m. m ≡ state.memory)

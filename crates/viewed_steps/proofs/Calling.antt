@@ -40,7 +40,7 @@ use Rattle.place_names.specs.declared.act.Mode.TheVariants as mode
 use Rattle.owned_ways.specs.Ways.{Step, Way, after, AllowsAll, Past}
 use Rattle.owned_ways.specs.Ways as ways
 use Rattle.owned_ways.proofs.Locations.{reaches_along, named_along as rooted_along, past_under, under_along, under_itself}
-use Rattle.soundness.specs.Seen.{is_view_formal, IsNear, content, seen, home, trunk, word_in}
+use Rattle.soundness.specs.Seen.{IsNear, content, seen, home, trunk, word_in}
 use Rattle.owned_ways.proofs.Named.{longer}
 use Rattle.owned_ways.proofs.Dropped.{named_base}
 use Rattle.soundness.proofs.Contents.{word_root}
@@ -48,34 +48,33 @@ use Rattle.soundness.specs.Typed.{Kept}
 use Rattle.soundness.specs.Sound.{Stage, facts_of, AreStages, Uses, IsRunnable, InScope, IsNamedSub, IsAtPoint, view_of as view_here}
 use Rattle.soundness.proofs.Stays.{Quiet}
 use Rattle.soundness.proofs.Numbers.{index_law}
-use Rattle.soundness.proofs.Passing.{TakesAll, takes_each}
 use Rattle.soundness.proofs.Scalars.{acts}
 use Rattle.soundness.proofs.Points.{flow_at, sub_in_range, one_named, one_point}
-use Rattle.soundness.proofs.Inherited.{AreGlobal, global_after, global_allowed, global_apart}
+use Rattle.soundness.proofs.Inherited.{after_splits, AreGlobal, global_after, global_allowed, global_apart, Splits}
 use Rattle.soundness.proofs.Used.{used_global, globals_are}
 use Rattle.soundness.proofs.Around.{IsFar}
 use Rattle.soundness.proofs.Taking.{Takes}
 use Rattle.soundness.proofs.Eased.{eased}
 use Rattle.soundness.proofs.Scoped.{Inside}
-use Rattle.owned_loans.specs.Views.{expand, Around, known_gone, Views, IsForeign, Viewed}
-use Rattle.owned_loans.proofs.Ways.{under_on}
+use Rattle.owned_loans.specs.Views.{expand, Around, known_gone, Views, Viewed, ViewedAlone, IsOuter}
+use Rattle.owned_loans.proofs.Ways.{under_on, flip, meet_overlaps}
 use Rattle.owned_loans.proofs.Meeting.{stands}
 use Rattle.owned_loans.proofs.Moves.{expand_under}
 use Rattle.owned_loans.proofs.Meeting.{stands}
 use Rattle.viewed_soundness.proofs.Names.{true_false, owner_sees}
 use Rattle.viewed_soundness.specs.Holds.{Holds, is_view, sees_only, is_given, IsOwners}
 use Rattle.soundness.specs.Ready.{IsSupplied, Fills}
-use Rattle.viewed_steps.specs.Awaited.{AreValuesBut, temporaries_of, lasting_of, awaited, WaitsAt, AreAwaited, AreScalar, FillsTyped, TakesScalars}
+use Rattle.viewed_steps.specs.Awaited.{AreValuesBut, temporaries_of, lasting_of, awaited, WaitsAt, AreAwaited, AreOwnless, TakesPassed, FillsTyped, TakesScalars}
 use Rattle.viewed_steps.proofs.Waited.{late_scope, within_lasting, lasting_more, Shares}
-use Rattle.viewed_steps.specs.Sound.{IsCopiedBack, ArePast, HoldsAt, ArePlaced, NoneAbove, ViewStage, stages_of, GoneElsewhere, Disturbs, AreWaiting, IsResting, IsKindOfFormal, IsScalarObject, HasTraversals, passed_roots}
+use Rattle.viewed_steps.specs.Sound.{IsCopiedBack, IsBeyond, HoldsAt, ArePlaced, NoneAbove, ViewStage, stages_of, GoneElsewhere, Disturbs, AreWaiting, IsResting, IsKindOfFormal, IsScalarObject, HasTraversals, passed_roots}
 use Rattle.viewed_steps.specs.Ready.{IsReady, roots_passed, IsCalled, IsTraversalCall}
 use Rattle.viewed_steps.proofs.Followed.{IsTraversing}
 use Rattle.viewed_steps.specs.Taken.{Lodge, IsPassedOn}
 use Rattle.viewed_steps.proofs.Lent.{Spare, loans_stay}
 use Rattle.viewed_steps.proofs.Placed.{within_on, lasts_more, scope_on, placed_on}
 use Rattle.viewed_steps.proofs.Waiting.{StandsBetween, gone_low, beside_them, handed}
-use Rattle.viewed_steps.proofs.Between.{gone_also, more_gone, base_along, base_under, same_variable, not_named, IsHomed, homed_apart, number_based}
-use Rattle.viewed_steps.proofs.Called.{AreGiven, all_given, passes_to}
+use Rattle.viewed_steps.proofs.Between.{gone_also, more_gone, base_along, base_under, same_variable, not_named, IsHomed, homed_outer, number_based}
+use Rattle.viewed_steps.proofs.Called.{AreGiven, all_given, passes_to, spare_copies}
 use Rattle.viewed_steps.proofs.Acted.{all_laid_out, all_acted}
 use Rattle.viewed_steps.proofs.Outside.{IsSpared, gone_clear}
 use Rattle.viewed_steps.proofs.Globals.{copied_act, passed_unused}
@@ -93,7 +92,7 @@ use Rattle.viewed_steps.proofs.Standing as standing
 use Rattle.viewed_steps.proofs.Packages as packages
 use Rattle.viewed_steps.proofs.Innermost as innermost
 use Rattle.viewed_steps.proofs.Views.{AreAccess, AreFar, lies_far, base_named}
-use Rattle.viewed_steps.proofs.Seeing.{AreClear, AreLowRoots, AreOpenTo, open_to}
+use Rattle.viewed_steps.proofs.Seeing.{AreClear}
 use Rattle.viewed_steps.proofs.Lending.{named_has}
 use Rattle.viewed_steps.proofs.Followed as followed
 use Rattle.viewed_steps.proofs.Traversing.{all_traversed}
@@ -101,7 +100,12 @@ use Rattle.viewed_steps.proofs.Exclusive.{AreLent}
 use Rattle.owned_ways.proofs.Unique.{one_way}
 use Rattle.viewed_steps.proofs.Bared.{not_before}
 use Rattle.viewed_steps.proofs.CallActs as acting
+use Rattle.viewed_soundness.proofs.Given.{IsLow}
 use Rattle.viewed_steps.proofs.Withheld.{passed_from}
+use Rattle.viewed_steps.proofs.Handed.{gone_lent, with_gone, without_loans}
+use Rattle.viewed_steps.proofs.Inherited.{after_more}
+use Rattle.spark_base.proofs.Lists.{Has-append_left}
+use Rattle.viewed_steps.proofs.Supplied.{SuppliesAll, supplies_each}
 
 module _ (table : Table) (typed : TypedProgram) (effects : Effects) (input : List ℕ) (ready : IsReady table typed effects) where
   abbrev program : FlowProgram
@@ -129,10 +133,10 @@ module _ (table : Table) (typed : TypedProgram) (effects : Effects) (input : Lis
       (awaiting : AreAwaited table typed None (top ∷ stages_of (below ∷ more_frames)))
       (of_sub : IsNamedSub (flow_named table typed) top.frame.sub named) (at_point : IsAtPoint named.points top.frame.next p)
       (path : ControlPath (path_points program effects (sub_of program top.frame.sub)) top.before top.frame.next) (views : Views)
-      (viewed_before : Viewed (home s (suc (length rest))) (sees_only s) (known_gone (home s (suc (length rest))) (GoneElsewhere program effects (below ∷ more_frames))) views
+      (viewed_before : ViewedAlone (home s (suc (length rest))) (sees_only s) (known_gone (home s (suc (length rest))) (GoneElsewhere program effects (below ∷ more_frames))) views
       (view_here s state) (facts_of program effects top))
       (kept : Kept s state.memory (waiting_in state)) (scope : InScope s state.memory (suc (length rest)) (lasting_of s p.scope)) (holds : HoldsAt s (suc (length rest)) views state.memory p)
-      (placed_before : ArePlaced program (suc (length rest)) (facts_of program effects top) views p.scope × ArePast s (suc (length rest)) views (below ∷ more_frames)) (above : NoneAbove s (suc (length rest)) state.memory
+      (placed_before : ArePlaced program (suc (length rest)) (facts_of program effects top) views p.scope × IsBeyond program effects (suc (length rest)) views (below ∷ more_frames)) (above : NoneAbove s (suc (length rest)) state.memory
       × HasTraversals table typed (view_here s state) (record { stage = top; views = views; cells = [] } ∷ (below ∷ more_frames))) where
     abbrev outer : List Frame
     outer = below.stage.frame ∷ rest
@@ -143,7 +147,7 @@ module _ (table : Table) (typed : TypedProgram) (effects : Effects) (input : Lis
     abbrev depth : ℕ
     depth = suc (length rest)
 
-    abbrev between : (g : ViewStage) → Has (below ∷ more_frames) g → StandsBetween table typed effects unmoved_stage local state (suc (length rest)) g
+    abbrev between : (g : ViewStage) → Has (below ∷ more_frames) g → StandsBetween table typed effects unmoved_stage local state (suc (length rest)) (below ∷ more_frames) g
     between = innermost.between table typed effects input ready state top below more_frames rest named p frames deep stages running awaiting of_sub at_point path views viewed_before kept scope holds placed_before above
 
     abbrev other : Around (home s (suc (length rest)))
@@ -166,7 +170,7 @@ module _ (table : Table) (typed : TypedProgram) (effects : Effects) (input : Lis
 
     abbrev apart_from_them : (done : List Act) (v : Views) (view : ways.View) → ((x : ℕ) (w : Way) → v.way x ≡ Some w → is_view s x ≡ true)
         → Viewed (home s depth) (sees_only s) other v view (after done facts_now)
-        → Viewed (home s depth) (sees_only s) (known_gone (home s depth) (GoneElsewhere program effects older)) v view (after done own_facts)
+        → ViewedAlone (home s depth) (sees_only s) (known_gone (home s depth) (GoneElsewhere program effects older)) v view (after done own_facts)
     apart_from_them = innermost.apart_from_them table typed effects input ready state top below more_frames rest named p frames deep stages running awaiting of_sub at_point path views viewed_before kept scope holds placed_before above
 
     abbrev placed_own : ArePlaced program (suc (length rest)) own_facts views p.scope
@@ -185,7 +189,7 @@ module _ (table : Table) (typed : TypedProgram) (effects : Effects) (input : Lis
     given_words = (start main_turn).waits
 
     abbrev Plain : Type 0
-    Plain = AreScalar s (temporaries_of s (take (taken p.instr) p.scope))
+    Plain = AreOwnless s (temporaries_of s (take (taken p.instr) p.scope))
 
     abbrev named_there : Has (flow_named table typed) named
     named_there = innermost.named_there table typed effects input ready state top below more_frames rest named p frames deep stages running awaiting of_sub at_point path views viewed_before kept scope holds placed_before above
@@ -193,14 +197,11 @@ module _ (table : Table) (typed : TypedProgram) (effects : Effects) (input : Lis
     abbrev point_there_now : Has named.points p
     point_there_now = innermost.point_there_now table typed effects input ready state top below more_frames rest named p frames deep stages running awaiting of_sub at_point path views viewed_before kept scope holds placed_before above
 
-    abbrev takes_of : Plain → (i : Instruction) → p.instr ≡ i → Takes (taken i) given_words []
-    takes_of = innermost.takes_of table typed effects input ready state top below more_frames rest named p frames deep stages running awaiting of_sub at_point path views viewed_before kept scope holds placed_before above
-
     abbrev easy : Turn
     easy = eased main_turn
 
     abbrev viewed_easy : Plain → Viewed (home s depth) (sees_only s) other views (view_here s easy.state) facts_now × Kept s state.memory (waiting_in easy.state)
-    viewed_easy = innermost.viewed_easy table typed effects input ready state top below more_frames rest named p frames deep stages running awaiting of_sub at_point path views viewed_before kept scope holds placed_before above
+    viewed_easy = innermost.ownless_easy table typed effects input ready state top below more_frames rest named p frames deep stages running awaiting of_sub at_point path views viewed_before kept scope holds placed_before above
 
     abbrev placed_left : (facts : List Fact) → ArePlaced program (suc (length rest)) facts views p.scope → ArePlaced program (suc (length rest)) facts views left_scope
     placed_left = innermost.placed_left table typed effects input ready state top below more_frames rest named p frames deep stages running awaiting of_sub at_point path views viewed_before kept scope holds placed_before above
@@ -226,7 +227,7 @@ module _ (table : Table) (typed : TypedProgram) (effects : Effects) (input : Lis
       abbrev pub kinds : (x : ℕ) → Has formals x → IsKindOfFormal s x
       kinds = acting.kinds table typed effects input ready state top below more_frames rest named p frames deep stages running awaiting of_sub at_point path views viewed_before kept scope holds placed_before above n actuals result e
 
-      abbrev pub plain_there : Plain × TakesScalars s p.instr
+      abbrev pub plain_there : TakesPassed s actuals (temporaries_of s (take (taken p.instr) p.scope))
       plain_there = acting.plain_there table typed effects input ready state top below more_frames rest named p frames deep stages running awaiting of_sub at_point path views viewed_before kept scope holds placed_before above n actuals result e
 
       abbrev pub procedure : Bool
@@ -272,7 +273,7 @@ module _ (table : Table) (typed : TypedProgram) (effects : Effects) (input : Lis
           → (content s state.memory (waiting_in easy.state) (trunk l)).owns ≡ true
       live_now = acting.live_now table typed effects input ready state top below more_frames rest named p frames deep stages running awaiting of_sub at_point path views viewed_before kept scope holds placed_before above n actuals result e
 
-      abbrev pub formals_low : (x : ℕ) (w : Way) → views.way x ≡ Some w → is_view_formal s x ≡ true → (foreign : IsForeign (home s depth) w) × (foreign.0 < depth) × (0 < foreign.0)
+      abbrev pub formals_low : (x : ℕ) (w : Way) → views.way x ≡ Some w → IsLow s depth w
       formals_low = acting.formals_low table typed effects input ready state top below more_frames rest named p frames deep stages running awaiting of_sub at_point path views viewed_before kept scope holds placed_before above n actuals result e
 
       abbrev pub by_callee : (((x : ℕ) → Has formals x → (object_at s x).mode ≡ mode.In) × ((x : ℕ) → Has formals x → IsCopiedBack s x → ⊥)
@@ -283,23 +284,18 @@ module _ (table : Table) (typed : TypedProgram) (effects : Effects) (input : Lis
       abbrev pub clear_there : AreClear s facts_now formals actuals
       clear_there = acting.clear_there table typed effects input ready state top below more_frames rest named p frames deep stages running awaiting of_sub at_point path views viewed_before kept scope holds placed_before above n actuals result e
 
-      abbrev pub lows_there : AreLowRoots s depth views formals actuals
-      lows_there = acting.lows_there table typed effects input ready state top below more_frames rest named p frames deep stages running awaiting of_sub at_point path views viewed_before kept scope holds placed_before above n actuals result e
-
       abbrev pub Given : List Passed → Type 0
       Given passed =
           AreGiven (steps.here main_turn) ready.accepted.settled (waiting_in easy.state) state.leaks state.memory [] other facts_now views (viewed_easy plain_there.0).1 (viewed_easy plain_there.0).0 holds_now alone live_now in_formals
           index_law ready.owns ready.class.parts_named formals_low procedure formals actuals passed
 
       -- the values that the actuals take
-      pub taken_there : (on : List (List machine.Word)) × TakesAll formals actuals given_words on
-      taken_there = takes_each formals actuals given_words [] (takes_of plain_there.0 (Call n actuals result) e)
+      pub taken_there : (on : List (List machine.Word)) × SuppliesAll s state.memory formals actuals given_words on
+      taken_there = supplies_each s state.memory formals actuals given_words [] plain_there.1
+          (innermost.supplied_call table typed effects input ready state top below more_frames rest named p frames deep stages running awaiting of_sub at_point path views viewed_before kept scope holds placed_before above n actuals result e)
 
       abbrev pub then_now : Now
       then_now = record { memory = state.memory; waits = taken_there.0 }
-
-      opens_there : AreOpenTo s depth views facts_now formals actuals
-      opens_there = open_to s depth views facts_now formals actuals clear_there lows_there
 
       -- in the call of a traversal function
       module _ (f : ℕ) (traversed : traversed_formal s (sub_of program n) ≡ Some f) where
@@ -315,15 +311,15 @@ module _ (table : Table) (typed : TypedProgram) (effects : Effects) (input : Lis
         abbrev no_procedure : procedure ≡ false
         no_procedure = acting.no_procedure table typed effects input ready state top below more_frames rest named p frames deep stages running awaiting of_sub at_point path views viewed_before kept scope holds placed_before above n actuals result e f traversed
 
-        pub opens_these : AreOpenTo s depth views facts_now (f ∷ traversing.rest) (More first (made.call).others)
-        opens_these = subst (λ z. AreOpenTo s depth views facts_now z (More first (made.call).others)) traversing.formals (subst (AreOpenTo s depth views facts_now formals) made.actuals_are opens_there)
+        pub opens_these : AreClear s facts_now (f ∷ traversing.rest) (More first (made.call).others)
+        opens_these = subst (λ z. AreClear s facts_now z (More first (made.call).others)) traversing.formals (subst (AreClear s facts_now formals) made.actuals_are clear_there)
 
         pub back_these : AreOpenActuals s depth facts_now (f ∷ traversing.rest) (More first (made.call).others)
         back_these = subst (λ z. AreOpenActuals s depth facts_now z (More first (made.call).others)) traversing.formals (subst (AreOpenActuals s depth facts_now formals) made.actuals_are copied_there)
 
-        takes_these : TakesAll (f ∷ traversing.rest) (More first (made.call).others) given_words taken_there.0
-        takes_these = subst (λ z. TakesAll z (More first (made.call).others) given_words taken_there.0) traversing.formals
-            (subst (λ z. TakesAll formals z given_words taken_there.0) made.actuals_are taken_there.1)
+        takes_these : SuppliesAll s state.memory (f ∷ traversing.rest) (More first (made.call).others) given_words taken_there.0
+        takes_these = subst (λ z. SuppliesAll s state.memory z (More first (made.call).others) given_words taken_there.0) traversing.formals
+            (subst (λ z. SuppliesAll s state.memory formals z given_words taken_there.0) made.actuals_are taken_there.1)
 
         traversal_quiet : Quiet then_now Given (all_passed (steps.here main_turn) ways_there formals actuals (start main_turn))
         traversal_quiet =
@@ -344,7 +340,7 @@ module _ (table : Table) (typed : TypedProgram) (effects : Effects) (input : Lis
         | inr (f, traversed) ↦ traversal_quiet f traversed
         | inl none ↦ subst (λ z. Quiet then_now Given (all_passed (steps.here main_turn) z formals actuals (start main_turn))) (sym (passes_to program n none))
             (all_given (steps.here main_turn) ready.accepted.settled (waiting_in easy.state) state.leaks state.memory [] other facts_now views (viewed_easy plain_there.0).1 (viewed_easy plain_there.0).0 holds_now alone live_now in_formals
-            index_law ready.owns ready.class.parts_named formals_low procedure given_words taken_there.0 formals actuals kinds (acting.unseen_plain table typed effects input ready state top below more_frames rest named p frames deep stages running awaiting of_sub at_point path views viewed_before kept scope holds placed_before above n actuals result e none) called.actuals_stay opens_there copied_there taken_there.1
+            index_law ready.owns ready.class.parts_named formals_low procedure given_words taken_there.0 formals actuals kinds (acting.unseen_plain table typed effects input ready state top below more_frames rest named p frames deep stages running awaiting of_sub at_point path views viewed_before kept scope holds placed_before above n actuals result e none) called.actuals_stay clear_there copied_there taken_there.1
             (subst (λ z. AllowsAll facts_now (acts (flow.actual_values s z actuals))) (passes_to program n none) values_allowed))
       ]
 
@@ -455,9 +451,29 @@ module _ (table : Table) (typed : TypedProgram) (effects : Effects) (input : Lis
 
       -- the state is sound with views under the facts after the acts, and so it is beside the others
 
+      -- the facts after the acts with what frames around hand on
+      abbrev pub facts_all : List Fact
+      facts_all = after (acts copies) facts_now
+
+      pub all_called : (f : Fact) → Has facts_called f → Has facts_all f
+      all_called f has =
+          after_more (acts copies) own_facts facts_now (λ g own. Has-append_left own_facts handed_on g own) f (subst (λ z. Has z f) copies_leave has)
+
+      pub splits_all : Splits facts_all facts_called handed_on
+      splits_all f has = elim (after_splits (acts copies) facts_now own_facts handed_on (innermost.from_both table typed effects input ready state top below more_frames rest named p frames deep stages running awaiting of_sub at_point path views viewed_before kept scope holds placed_before above) f has) [
+        | inl own ↦ inl (subst (λ z. Has z f) (sym copies_leave) own)
+        | inr there ↦ inr there
+      ]
+
+      pub without_called : (around : Around (home s depth)) (view : ways.View) → Viewed (home s depth) (sees_only s) around views view facts_all
+          → ViewedAlone (home s depth) (sees_only s) around views view facts_called
+      without_called around view well =
+          without_loans table typed effects unmoved_stage local state depth older between around views view facts_all facts_called
+          (λ x w has. local x (holds.only x w has)) (innermost.package_owns table typed effects input ready state top below more_frames rest named p frames deep stages running awaiting of_sub at_point path views viewed_before kept scope holds placed_before above) all_called splits_all well
+
       module _ (passed : List Passed) (given : Given passed) where
         abbrev pub other_all : Around (home s depth)
-        other_all = known_gone (home s depth) (GoneElsewhere program effects older)
+        other_all = gone_lent table typed effects unmoved_stage local state depth older between
 
         pub far_views : AreFar (home s depth) views depth
         far_views = lies_far s depth views holds.lies
@@ -473,8 +489,20 @@ module _ (table : Table) (typed : TypedProgram) (effects : Effects) (input : Lis
         abbrev pub cells : List Lodge
         cells = cells_of s state.memory depth views view_now formals actuals passed (given_laid passed given)
 
-        well_before : Viewed (home s depth) (sees_only s) other_all views (view_here s easy.state) own_facts
-        well_before = apart_from_them [] views (view_here s easy.state) holds.only (viewed_easy plain_there.0).0
+        well_before : Viewed (home s depth) (sees_only s) other_all views (view_here s easy.state) facts_now
+        well_before = with_gone table typed effects unmoved_stage local state depth older between views (view_here s easy.state) facts_now (viewed_easy plain_there.0).0
+
+        -- no view begins at a variable of what is called
+        begins_low : (o : ℕ) (w : Way) → views.way o ≡ Some w → (f y : ℕ) → ways.base_of w ≡ ways.OfRoot (ways.OfVariable f y) → f ≡ suc depth → ⊥
+        begins_low o w has f y begins above_it = elim (holds.lies o w has) [
+          | inl at_home ↦ (let same = (same_variable (home s depth (ways.number_of w)) (ways.number_of w) f y (sym (named_base (home s depth) w at_home) ∙ begins)).0 in
+              not_above s ready.accepted.settled ready.owns in_formals (waiting_in easy.state) state.leaks depth views far_views holds.only facts_all next_there cells (ways.number_of w) (same ∙ above_it))
+          | inr (foreign, low, some) ↦ (let same = (same_variable foreign.0 foreign.1 f y (sym foreign.2 ∙ begins)).0 in omega (arith, low, same, above_it))
+        ]
+
+        -- loans stay through the acts
+        loan_all : (l : Loan) (h : ℕ) (m : PlaceName) → Has facts_now (Lent l h m) → Has facts_all (Lent l h m)
+        loan_all l h m has = loans_stay s copies (spare_copies s ready.owns procedure formals actuals) facts_now l h m has
 
         -- what is taken
         no_overlap : ((r : Report) → Has (overlap_reports s (alias.passed formals actuals)) r → ⊥) ⊎ ((x : ℕ) → Has formals x → IsCopiedBack s x → IsScalarObject s x)
@@ -496,48 +524,51 @@ module _ (table : Table) (typed : TypedProgram) (effects : Effects) (input : Lis
             (ready.valued.passed named (standing.named_in table typed effects input ready state top older outer named p frames of_sub at_point) p
             (standing.point_in_named table typed effects input ready state top older outer named p frames of_sub at_point) n actuals result e y has)
 
-        pub all_passed_ways : (ways_taken : List Way) × ArePassedOn s state.memory cells depth facts_called next_there formals passed ways_taken outs
+        pub all_passed_ways : (ways_taken : List Way) × ArePassedOn s state.memory cells depth facts_all next_there formals passed ways_taken outs
             × ((k : Way) → Has ways_taken k → IsNamedBy s formals actuals k)
         all_passed_ways =
-            all_passed_on s ready.owns ready.accepted.settled state.memory cells depth views view_now facts_called next_there procedure formals actuals passed own_facts laid kinds
+            all_passed_on s ready.owns ready.accepted.settled state.memory cells depth views view_now facts_all next_there procedure formals actuals passed facts_now laid kinds
             called.local called.differ
-            within_next no_overlap copies_leave copies_own (λ c has. has)
+            within_next no_overlap refl copies_allowed (λ c has. has)
 
         abbrev pub ways_taken : List Way
         ways_taken = all_passed_ways.0
 
         -- they begin at variables of the frame, or of package objects
         pub homed : (to : Way) → Has ways_taken to → IsHomed s depth to
-        homed to has = passed_base s state.memory cells depth facts_called next_there formals passed ways_taken outs all_passed_ways.1 to has
+        homed to has = passed_base s state.memory cells depth facts_all next_there formals passed ways_taken outs all_passed_ways.1 to has
 
         out_base : (o : Out) → Has outs o → IsHomed s depth o.way
         out_base o has =
-            passed_base s state.memory cells depth facts_called next_there formals passed ways_taken outs all_passed_ways.1 o.way
-            (outs_taken s state.memory cells depth facts_called next_there formals passed ways_taken outs all_passed_ways.1 o has)
+            passed_base s state.memory cells depth facts_all next_there formals passed ways_taken outs all_passed_ways.1 o.way
+            (outs_taken s state.memory cells depth facts_all next_there formals passed ways_taken outs all_passed_ways.1 o has)
 
         abbrev outs_gone : Way → Type 0
         outs_gone w = GoneElsewhere program effects older w ⊎ IsUnderOne outs w
 
-        outs_apart : (y : ℕ) (w z : Way) → views.way y ≡ Some w → IsForeign (home s depth) w → outs_gone z → ways.Under z w ⊎ ways.Under w z → ⊥
+        outs_apart : (y : ℕ) (w z : Way) → views.way y ≡ Some w → IsOuter (home s depth) views y w → outs_gone z → ways.Under z w ⊎ ways.Under w z → ⊥
         outs_apart y w z has foreign (inl gone) meets = well_before.whole y w z has foreign gone meets
-        outs_apart y w z has foreign (inr (o, has_o, under)) meets =
-            homed_apart s depth o.way (out_base o has_o) w z foreign under meets
+        outs_apart y w z has outer (inr (o, has_o, under)) meets =
+            let taken = outs_taken s state.memory cells depth facts_all next_there formals passed ways_taken outs all_passed_ways.1 o has_o in
+            let one = passed_one s state.memory cells depth facts_all next_there formals passed ways_taken outs all_passed_ways.1 o.way taken in
+            homed_outer s depth (sees_only s) other_all.lent views o.way (out_base o has_o) well_before.shown
+            (λ l at at_home lent over. (one.2).unlent l (ways.number_of at) (ways.name_of at)
+            (loan_all l (ways.number_of at) (ways.name_of at) (well_before.lends l (ways.name_of at) lent).has) (meet_overlaps at o.way (flip o.way at over)))
+            y w z has outer under meets
 
         -- the state is sound with views under the facts after the acts, where what is to be emptied may be gone
         abbrev pub around_outs : Around (home s depth)
         around_outs = gone_also (home s depth) other_all outs_gone
 
-        pub well_all : Viewed (home s depth) (sees_only s) around_outs views (view_here s easy.state) facts_called
+        pub well_all : Viewed (home s depth) (sees_only s) around_outs views (view_here s easy.state) facts_all
         well_all =
-            subst (Viewed (home s depth) (sees_only s) around_outs views (view_here s easy.state))
-            (sym copies_leave)
-            (all_acted (steps.here main_turn) ready.accepted.settled (waiting_in easy.state) state.leaks state.memory [] other facts_now views (viewed_easy plain_there.0).1 (viewed_easy plain_there.0).0 holds_now alone live_now in_formals
-            index_law ready.owns ready.class.parts_named formals_low procedure other_all outs_gone outs_apart formals actuals passed own_facts given (λ w under. inr under)
-            (more_gone (home s depth) (sees_only s) views other_all outs_gone outs_apart (view_here s easy.state) own_facts (λ w gone. inl gone) well_before))
+            all_acted (steps.here main_turn) ready.accepted.settled (waiting_in easy.state) state.leaks state.memory [] other facts_now views (viewed_easy plain_there.0).1 (viewed_easy plain_there.0).0 holds_now alone live_now in_formals
+            index_law ready.owns ready.class.parts_named formals_low procedure other_all outs_gone outs_apart formals actuals passed facts_now given (λ w under. inr under)
+            (more_gone (home s depth) (sees_only s) views other_all outs_gone outs_apart (view_here s easy.state) facts_now (λ w gone. inl gone) well_before)
 
         -- the names of those cells
-        pub named_cell : (c : Lodge) → Has cells c → IsCellNamed s depth facts_called views view_now formals actuals passed c
-        named_cell c has = cells_named s ready.accepted.settled ready.owns state.memory depth facts_called procedure views view_now formals actuals passed own_facts laid copies_leave copies_own c has
+        pub named_cell : (c : Lodge) → Has cells c → IsCellNamed s depth facts_all views view_now formals actuals passed c
+        named_cell c has = cells_named s ready.accepted.settled ready.owns state.memory depth facts_all procedure views view_now formals actuals passed facts_now laid refl copies_allowed c has
 
         pub cell_root : (c : Lodge) (has : Has cells c) → ways.number_of c.name ≡ ways.number_of (named_cell c has).whole
         cell_root c has = sym (longer c.name (named_cell c has).whole (named_cell c has).begins).root
@@ -551,26 +582,26 @@ module _ (table : Table) (typed : TypedProgram) (effects : Effects) (input : Lis
         -- their ways begin at variables of the frame, or of package objects
         pub cell_begins : (c : Lodge) → Has cells c → (g : ℕ) × (y : ℕ) × (ways.base_of c.way ≡ ways.OfRoot (ways.OfVariable g y)) × (g ≡ suc depth → ⊥)
         cell_begins c has =
-            elim (stands (home s depth) (sees_only s) views (view_here s easy.state) facts_called well_all.views c.name (cell_plain c has)) [
+            elim (stands (home s depth) (sees_only s) views (view_here s easy.state) facts_all well_all.views c.name (cell_plain c has)) [
               | inl own ↦ (
-                  let named_there : ways.Named (home s depth) c.way = subst (ways.Named (home s depth)) (named_cell c has).leads own.0 in (
+                  let named_there : ways.Named (home s depth) c.way = subst (ways.Named (home s depth)) (named_cell c has).leads own.named in (
                     home s depth (ways.number_of c.way),
                     ways.number_of c.way,
                     named_base (home s depth) c.way named_there,
-                    not_above s ready.accepted.settled ready.owns in_formals (waiting_in easy.state) state.leaks depth views far_views holds.only facts_called next_there cells (ways.number_of c.way),
+                    not_above s ready.accepted.settled ready.owns in_formals (waiting_in easy.state) state.leaks depth views far_views holds.only facts_all next_there cells (ways.number_of c.way),
                   ))
               | inr held_there ↦ (
-                  let foreign = held_there.passed.foreign in (
-                    foreign.0,
-                    foreign.1,
-                    ap ways.base_of (sym (named_cell c has).leads) ∙ base_under held_there.way (expand views c.name) held_there.under ∙ foreign.2,
-                    (λ same. (let low = far_views held_there.object held_there.way held_there.has foreign in omega (arith, low, same))),
+                  let (f, y, begins) = held_there.passed.begins in (
+                    f,
+                    y,
+                    ap ways.base_of (sym (named_cell c has).leads) ∙ base_under held_there.way (expand views c.name) held_there.under ∙ begins,
+                    begins_low held_there.object held_there.way held_there.has f y begins,
                   ))
             ]
 
         -- one of another place
         housed_aside : (c : Lodge) (has : Has cells c) (k : Place) → k.base ≡ memory.OfCell c.cell
-            → (u : Way) × Has ways_taken u × IsPassedOn s cells depth facts_called next_there (named_cell c has).by.formal k u → (to : Way) → Has ways_taken to → ways.Past to c.way → ⊥
+            → (u : Way) × Has ways_taken u × IsPassedOn s cells depth facts_all next_there (named_cell c has).by.formal k u → (to : Way) → Has ways_taken to → ways.Past to c.way → ⊥
         housed_aside c has k base (u, has_u, one) to taken past = elim (one.inside).stands [
           | inl variable ↦ (let never : memory.OfVariable (one.inside).frame (one.inside).object ≡ memory.OfCell c.cell = sym variable.2 ∙ base in cc)
           | inr cell ↦ (
@@ -582,7 +613,7 @@ module _ (table : Table) (typed : TypedProgram) (effects : Effects) (input : Lis
               let trunk_is : c.way ≡ (one.inside).trunk = one_way view well_all.owned c.way (one.inside).trunk (ways.OfCell c.cell) (named_cell c has).reaches reach in
               let goes_on : u ≡ ways.along c.way (one.inside).steps = (one.inside).way ∙ ap (λ z. ways.along z (one.inside).steps) (sym trunk_is) in
               let below : ways.Under c.way u = subst (ways.Under c.way) (sym goes_on) (under_along c.way c.way (one.inside).steps (under_itself c.way)) in
-              elim (passed_pair s state.memory cells depth facts_called next_there formals passed ways_taken outs all_passed_ways.1 to u taken has_u) [
+              elim (passed_pair s state.memory cells depth facts_all next_there formals passed ways_taken outs all_passed_ways.1 to u taken has_u) [
                 | inl same ↦ not_before c.way (one.inside).steps (subst (λ z. ways.Past z c.way) (same ∙ goes_on) past)
                 | inr apart ↦ apart.0 (under_on to c.way u (past_under to c.way past) below)
               ])
@@ -594,7 +625,7 @@ module _ (table : Table) (typed : TypedProgram) (effects : Effects) (input : Lis
         -- one of a scalar place
         scalar_aside : (c : Lodge) (has : Has cells c) → IsScalarObject s (named_cell c has).by.formal → (to : Way) → Has ways_taken to → ways.Past to c.way → ⊥
         scalar_aside c has scalar to taken past =
-            let one = passed_one s state.memory cells depth facts_called next_there formals passed ways_taken outs all_passed_ways.1 to taken in
+            let one = passed_one s state.memory cells depth facts_all next_there formals passed ways_taken outs all_passed_ways.1 to taken in
             let inside = (one.2).inside in
             let itself : expand views to ≡ to = inside_itself s ready.accepted.settled depth one.1 to inside views holds.only in
             let plain_to : sees_only s (ways.number_of to) ≡ false =
@@ -603,7 +634,7 @@ module _ (table : Table) (typed : TypedProgram) (effects : Effects) (input : Lis
             let cell = named_cell c has in
             let below : ways.Under c.way (expand views cell.whole) =
             subst (λ z. ways.Under z (expand views cell.whole)) cell.leads (expand_under views c.name cell.whole (λ r is. absurd (cell.deep r is)) cell.begins) in
-            names_off (home s depth) (sees_only s) views (view_here s easy.state) facts_called well_all.views well_all.clear to cell.whole
+            names_off (home s depth) (sees_only s) around_outs views (view_here s easy.state) facts_all well_all to cell.whole
             (inside_named s ready.accepted.settled depth one.1 to inside, plain_to) (cell.named, cell.plain) (one.2).unlent cell.unlent
             (λ over. taken_apart to taken c has scalar over)
             (under_on (expand views to) c.way (expand views cell.whole) (subst (λ z. ways.Under z c.way) (sym itself) (past_under to c.way past)) below)
@@ -623,7 +654,7 @@ module _ (table : Table) (typed : TypedProgram) (effects : Effects) (input : Lis
         pub cell_aside : (c : Lodge) → Has cells c → (to : Way) → Has ways_taken to → ways.Past to c.way → ⊥
         cell_aside c has to taken past = elim (named_cell c has).sort [
           | inl scalar ↦ scalar_aside c has scalar to taken past
-          | inr (k, base, from, many) ↦ housed_aside c has k base (from_taken s state.memory cells depth facts_called next_there formals passed ways_taken outs all_passed_ways.1
+          | inr (k, base, from, many) ↦ housed_aside c has k base (from_taken s state.memory cells depth facts_all next_there formals passed ways_taken outs all_passed_ways.1
               (named_cell c has).by.formal k from many) to taken past
         ]
 
@@ -732,15 +763,13 @@ module _ (table : Table) (typed : TypedProgram) (effects : Effects) (input : Lis
                       let frames_same = (same_variable there.0 there.1 (suc depth) x (sym there.2 ∙ base_along (ways.Object root) q)).0 in
                       let less = there.3 in omega (arith, frames_same, less))
                   | inl (inr none) ↦ absurd none
-                  | inl (inl (u, moved, leads)) ↦ elim (stands (home s depth) (sees_only s) views (view_here s easy.state) own_facts well_before.views u
+                  | inl (inl (u, moved, leads)) ↦ elim (stands (home s depth) (sees_only s) views (view_here s easy.state) facts_now well_before.views u
                       (moved.0, well_before.clear.owned (ways.name_of u) moved.1)) [
                         | inl own ↦ not_named (home s depth) (suc depth) x
-                            (not_above s ready.accepted.settled ready.owns in_formals (waiting_in easy.state) state.leaks depth views far_views holds.only facts_called next_there cells) w
-                            (subst (ways.Named (home s depth)) leads own.0) (base_along (ways.Object root) q)
+                            (not_above s ready.accepted.settled ready.owns in_formals (waiting_in easy.state) state.leaks depth views far_views holds.only facts_all next_there cells) w
+                            (subst (ways.Named (home s depth)) leads own.named) (base_along (ways.Object root) q)
                         | inr held_there ↦ (
-                            let foreign = held_there.passed.foreign in
-                            let low = far_views held_there.object held_there.way held_there.has foreign in
-                            let at = sym foreign.2 ∙ sym (base_under held_there.way (expand views u) held_there.under) ∙ ap ways.base_of leads ∙ base_along (ways.Object root) q in
-                            let frames_same = (same_variable foreign.0 foreign.1 (suc depth) x at).0 in omega (arith, low, frames_same))
+                            let at = sym (base_under held_there.way (expand views u) held_there.under) ∙ ap ways.base_of leads ∙ base_along (ways.Object root) q in
+                            begins_low held_there.object held_there.way held_there.has (suc depth) x at refl)
                       ]
                 ])

@@ -20,7 +20,7 @@ use Rattle.soundness.specs.Typed.{Matches, Kept, Spot, IsMade, loc_of}
 use Rattle.soundness.proofs.Joined.{trunk_part, steps_part}
 use Rattle.soundness.proofs.Contents.{bool_cases, word_yes, word_part, word_root, stored_step, stored_whole, taken_step}
 use Rattle.soundness.proofs.Steps.{put_count, put_freed, stores, takes}
-use Rattle.owned_loans.specs.Views.{Around, Views, ExcusedBy, Viewed, IsForeign}
+use Rattle.owned_loans.specs.Views.{Around, Views, ExcusedBy, Viewed, IsOuter}
 use Rattle.owned_loans.proofs.Moves.{no_hand, view_rooted}
 use Rattle.viewed_steps.specs.Taken.{IsVariableAt, IsCellAt, IsInside, trunk_type}
 use Rattle.viewed_steps.proofs.Lodged.{lodged_spot, cell_live}
@@ -171,7 +171,7 @@ frame_of : (f y e x : ℕ) → OfRoot (OfVariable f y) ≡ OfRoot (OfVariable e 
 frame_of f y e x is = cc
 
 module _ (home : ℕ → ℕ) (observer : ℕ → Bool) (v : Views) (other : Around home) (gone : Way → Type 0)
-    (met_apart : (x : ℕ) (w z : Way) → v.way x ≡ Some w → IsForeign home w → gone z → Under z w ⊎ Under w z → ⊥) (s : View) (facts : List Fact)
+    (met_apart : (x : ℕ) (w z : Way) → v.way x ≡ Some w → IsOuter home v x w → gone z → Under z w ⊎ Under w z → ⊥) (s : View) (facts : List Fact)
     (viewed : Viewed home observer other v s facts) where
   pub hand_clear : (h : ℕ) → IsClearOf home observer v other gone met_apart (Object (OfHand h))
   hand_clear h = record {
@@ -199,7 +199,7 @@ module _ (home : ℕ → ℕ) (observer : ℕ → Bool) (v : Views) (other : Aro
 -- ---- what goes
 
 module _ (s : Typing) (settled : IsSettled s.table) (home : ℕ → ℕ) (observer : ℕ → Bool) (v : Views) (other : Around home) (gone : Way → Type 0)
-    (met_apart : (x : ℕ) (w z : Way) → v.way x ≡ Some w → IsForeign home w → gone z → Under z w ⊎ Under w z → ⊥) where
+    (met_apart : (x : ℕ) (w z : Way) → v.way x ≡ Some w → IsOuter home v x w → gone z → Under z w ⊎ Under w z → ⊥) where
   abbrev whole_slots : Memory → Place → List Slot → List Slot
   whole_slots m k slots = take k.at (slots_at s m k.base) ++ slots ++ drop (k.at + length slots) (slots_at s m k.base)
 

@@ -19,7 +19,7 @@ use Rattle.place_names.specs.declared.act.Mode.TheVariants as mode
 use Rattle.spark_base.proofs.Lists.{Has-append_cases, Has-filter}
 use Rattle.soundness.proofs.Contents.{bool_cases}
 use Rattle.std.specs.List.{filter}
-use Rattle.owned_loans.specs.Views.{Around, Views, AreClear, expand, Viewed, IsForeign}
+use Rattle.owned_loans.specs.Views.{Around, Views, AreClear, expand, Viewed, IsOuter}
 use Rattle.owned_loans.proofs.Moves.{view_on, reached, own_loan, lends_on}
 use Rattle.viewed_steps.proofs.Between.{gone_also, IsClearOf}
 
@@ -134,7 +134,7 @@ out_left home v facts to owning access named itself = record {
 }
 
 module _ (home : ℕ → ℕ) (observer : ℕ → Bool) (v : Views) (other : Around home) (gone : Way → Type 0)
-    (apart : (x : ℕ) (w z : Way) → v.way x ≡ Some w → IsForeign home w → gone z → Under z w ⊎ Under w z → ⊥) where
+    (apart : (x : ℕ) (w z : Way) → v.way x ≡ Some w → IsOuter home v x w → gone z → Under z w ⊎ Under w z → ⊥) where
   -- An act that takes back what was moved at a way or past it: meanwhile others know of that.
   pub taken_back : (s : View) (u : Way) (facts facts' : List Fact) → Viewed home observer other v s facts → AreLeft home v facts facts' u
       → ((w : Way) → other.gone w → gone w) → ((w : Way) → Under u w → gone w)
@@ -155,6 +155,8 @@ module _ (home : ℕ → ℕ) (observer : ℕ → Bool) (v : Views) (other : Aro
         view_on home observer other v s s facts facts' x w (viewed.views x w has) (λ b n loan. own_loan observer facts facts' left.loans b x n loan)
         (reached home observer other v s facts x w (viewed.views x w has));
     whole = apart;
+    whole_away = viewed.whole_away;
+    shown = viewed.shown;
     past = viewed.past;
     lends = λ k n lent. lends_on observer v facts facts' left.loans k n (viewed.lends k n lent);
     far = viewed.far;
@@ -187,6 +189,8 @@ module _ (home : ℕ → ℕ) (observer : ℕ → Bool) (v : Views) (other : Aro
         view_on home observer other v s t facts facts' x w (viewed.views x w has) (λ b n loan. own_loan observer facts facts' left.loans b x n loan)
         (keeps_off s t l d viewed.owned u rooted reaches w (OfCell (v.cell x)) (reached home observer other v s facts x w (viewed.views x w has)) (λ past. off.own x w has past));
     whole = apart;
+    whole_away = viewed.whole_away;
+    shown = viewed.shown;
     past = viewed.past;
     lends = λ k n lent. lends_on observer v facts facts' left.loans k n (viewed.lends k n lent);
     far = λ w n held. keeps_off s t l d viewed.owned u rooted reaches w (OfCell n) (viewed.far w n held) (λ past. off.far w n held past);

@@ -17,7 +17,7 @@ use Rattle.soundness.proofs.Contents.{word_part, word_root}
 use Rattle.soundness.proofs.Defaults.{none_default}
 use Rattle.soundness.proofs.Memories.{put_other}
 use Rattle.soundness.proofs.Lasting.{keeps, lengths, less_kept, declared_kept}
-use Rattle.owned_loans.specs.Views.{Around, Views, expand, Viewed, IsForeign}
+use Rattle.owned_loans.specs.Views.{Around, Views, expand, Viewed, IsOuter}
 use Rattle.owned_loans.proofs.Safe.{off_view}
 use Rattle.owned_loans.proofs.Moves.{same_viewed}
 use Rattle.viewed_soundness.specs.Holds.{is_view, sees_only}
@@ -37,7 +37,7 @@ module _ (s : Typing) (settled : IsSettled s.table) (own_law : OwnsByShape s.tab
     (hands : List Waiting) (leaks : List Leak) (depth : ℕ) (v : Views) (only : (x : ℕ) (w : Way) → v.way x ≡ Some w → is_view s x ≡ true) (facts : List Fact)
     (scope : List ℕ) (cells : List Lodge)
     (other : Around (home s depth)) (gone : Way → Type 0)
-    (gone_apart : (y : ℕ) (w z : Way) → v.way y ≡ Some w → IsForeign (home s depth) w → gone z → Under z w ⊎ Under w z → ⊥)
+    (gone_apart : (y : ℕ) (w z : Way) → v.way y ≡ Some w → IsOuter (home s depth) v y w → gone z → Under z w ⊎ Under w z → ⊥)
     (x : ℕ) (k : Place) (to : Way) (passed : IsPassedOn s cells depth facts scope x k to) (none_kept : (w : Way) (n : ℕ) → other.kept w n → ⊥)
     (m : Memory) (typed : Kept s m hands) (viewed : Viewed (home s depth) (sees_only s) other v (seen s m hands leaks) facts)
     (blank : (p : List Step) → word_in s.table (content s m [] (OfRoot (OfVariable (suc depth) x))) p ≡ Empty)
@@ -68,7 +68,7 @@ module _ (s : Typing) (settled : IsSettled s.table) (own_law : OwnsByShape s.tab
   clear_to : IsClearOf (home s depth) (sees_only s) v other gone gone_apart to
   clear_to = record {
     own = λ y w has past.
-        off_view (home s depth) (sees_only s) v (seen s m hands leaks) facts viewed.views viewed.clear to y w
+        off_view (home s depth) (sees_only s) other v (seen s m hands leaks) facts viewed to y w
         (inside_named s settled depth k to passed.inside, plain_name) passed.unlent has (subst (λ z. Past z w) (sym itself) past);
     far = λ w n keeps_it past. none_kept w n keeps_it;
   }

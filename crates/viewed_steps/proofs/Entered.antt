@@ -28,14 +28,14 @@ use Rattle.soundness.proofs.Moments.{number_part}
 use Rattle.soundness.proofs.Steps.{matches_words, plain_end, alike, taken_slots, room}
 use Rattle.soundness.proofs.Lasting.{keeps, declared_kept}
 use Rattle.soundness.proofs.Stays.{One}
-use Rattle.owned_loans.specs.Views.{Around, Views, expand, ExcusedBy, Viewed, IsForeign}
+use Rattle.owned_loans.specs.Views.{Around, Views, expand, ExcusedBy, Viewed, IsOuter}
 use Rattle.owned_loans.proofs.Safe.{off_view}
 use Rattle.owned_loans.proofs.Others.{clean_away}
-use Rattle.owned_loans.proofs.Ways.{lifts, lifted_root}
+use Rattle.owned_loans.proofs.Ways.{lifts, lifted_root, flip, meet_overlaps}
 use Rattle.viewed_soundness.proofs.Names.{both_no, true_false, view_access, not_view, owner_sees}
 use Rattle.viewed_soundness.proofs.Evaluated.{matches_named}
 use Rattle.viewed_steps.specs.Taken.{Lodge, trunk_type, IsPlainPlace, AreCarried, IsInside, IsPassedOn, IsBare, IsApartFrom}
-use Rattle.viewed_steps.proofs.Between.{IsHomed, homed_apart, gone_also, IsClearOf, base_along, base_under, same_variable}
+use Rattle.viewed_steps.proofs.Between.{IsHomed, homed_outer, gone_also, IsClearOf, base_along, base_under, same_variable}
 use Rattle.viewed_steps.proofs.Carried.{inside_homed, inside_low, carried_gone, carried_held_cell, carried_gone_cell, carried_beside_cell, inside_other, inside_at, inside_spot, inside_reached, inside_base, inside_rooted, inside_owns, inside_word, carried_bare, carried_held, carried_beside, carried_off_stays, carried_off}
 use Rattle.viewed_steps.proofs.Outs.{Out, HasStill, places_apart, ways_apart}
 use Rattle.viewed_steps.proofs.Beside.{put_beside}
@@ -323,10 +323,12 @@ module _ (s : Typing) (settled : IsSettled s.table) (own_law : OwnsByShape s.tab
     abbrev with_it : Around (home s depth)
     with_it = gone_also (home s depth) other (λ w. other.gone w ⊎ ((p : List Step) × (w ≡ along to p)))
 
-    with_apart : (y : ℕ) (w z : Way) → v.way y ≡ Some w → IsForeign (home s depth) w → with_it.gone z → Under z w ⊎ Under w z → ⊥
+    with_apart : (y : ℕ) (w z : Way) → v.way y ≡ Some w → IsOuter (home s depth) v y w → with_it.gone z → Under z w ⊎ Under w z → ⊥
     with_apart y w z has foreign (inl gone) meets = viewed.whole y w z has foreign gone meets
-    with_apart y w z has foreign (inr (p, is)) meets =
-        homed_apart s depth to (inside_homed s depth k to passed.inside) w z foreign (subst (Under to) (sym is) (under_along to to p (under_itself to))) meets
+    with_apart y w z has outer (inr (p, is)) meets =
+        homed_outer s depth (sees_only s) other.lent v to (inside_homed s depth k to passed.inside) viewed.shown
+        (λ l at at_home lent over. passed.unlent l (number_of at) (name_of at) (viewed.lends l (name_of at) lent).has (meet_overlaps at to (flip to at over)))
+        y w z has outer (subst (Under to) (sym is) (under_along to to p (under_itself to))) meets
 
     spot : Spot s m hands k at
     spot = inside_spot s depth k to passed.inside settled m hands leaks typed there
@@ -349,7 +351,7 @@ module _ (s : Typing) (settled : IsSettled s.table) (own_law : OwnsByShape s.tab
     clear_to : IsClearOf (home s depth) (sees_only s) v other with_it.gone with_apart to
     clear_to = record {
       own = λ y w has past.
-          off_view (home s depth) (sees_only s) v (seen s m hands leaks) facts viewed.views viewed.clear to y w (named_to, plain_name) passed.unlent has
+          off_view (home s depth) (sees_only s) other v (seen s m hands leaks) facts viewed to y w (named_to, plain_name) passed.unlent has
           (subst (λ z. Past z w) (sym itself) past);
       far = λ w n keeps_it past. open_there.none w n keeps_it;
     }

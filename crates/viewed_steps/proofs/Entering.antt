@@ -18,13 +18,13 @@ use Rattle.soundness.proofs.Lasting.{keeps}
 use Rattle.soundness.specs.Seen.{content, trunk, steps_in, word_in, seen, home}
 use Rattle.soundness.specs.Changes.{Checks, leaks_at}
 use Rattle.soundness.specs.Typed.{OwnsByShape, Kept}
-use Rattle.owned_loans.specs.Views.{Around, Views, Viewed, IsForeign}
+use Rattle.owned_loans.specs.Views.{Around, Views, Viewed, IsOuter}
 use Rattle.owned_loans.proofs.Ways.{beginnings}
 use Rattle.owned_loans.proofs.Moves.{same_viewed}
 use Rattle.viewed_soundness.specs.Holds.{sees_only, is_view}
 use Rattle.viewed_steps.specs.Taken.{Lodge, AreCarried, TakenBy, IsPassedOn, IsBare, IsApartFrom, AreTaken}
 use Rattle.viewed_steps.proofs.Left.{cells_same}
-use Rattle.viewed_steps.proofs.Between.{IsHomed, homed_apart, carried_same, carried_then, same_reaches, gone_also, more_gone, base_along, base_under, taken_more}
+use Rattle.viewed_steps.proofs.Between.{IsHomed, carried_same, carried_then, same_reaches, gone_also, more_gone, base_along, base_under, taken_more}
 use Rattle.viewed_steps.proofs.Carried.{inside_homed, inside_low, start_reached, inside_at, inside_spot, inside_owns, inside_word}
 use Rattle.viewed_steps.proofs.Alike.{IsLaidIn, plain_place}
 use Rattle.viewed_steps.proofs.Views.{AreFar, AreAccess}
@@ -226,9 +226,6 @@ module _ (s : Typing) (settled : IsSettled s.table) (own_law : OwnsByShape s.tab
   hand_base : (h f x : ℕ) → OfRoot (OfHand h) ≡ OfRoot (OfVariable f x) → ⊥
   hand_base h f x e = cc
 
-  pub below_apart : (to : Way) → IsHomed s depth to → (y : ℕ) (w z : Way) → v.way y ≡ Some w → IsForeign (home s depth) w → Under to z → Under z w ⊎ Under w z → ⊥
-  below_apart to from y w z has foreign under meets = homed_apart s depth to from w z foreign under meets
-
   pub along_under : (to w : Way) → (p : List Step) × (w ≡ along to p) → Under to w
   along_under to w (p, is) = subst (Under to) (sym is) (under_along to to p (under_itself to))
 
@@ -410,12 +407,12 @@ module _ (s : Typing) (settled : IsSettled s.table) (own_law : OwnsByShape s.tab
       let here : ViewedIn (outs_also other (out ∷ later)) leaks m = subst (λ z. ViewedIn (outs_also other z) leaks m) same viewed in
       let found : List Leak = leaks ++ leaks_at s pos before k in
       let mine = still_checks x k to one pos leaks before m at_first (still out (subst (λ z. Has z out) (sym same) (inl refl))) in
-      let gone_apart : (y : ℕ) (w z : Way) → v.way y ≡ Some w → IsForeign (home s depth) w → (outs_also (away other to) later).gone z → Under z w ⊎ Under w z → ⊥ =
+      let gone_apart : (y : ℕ) (w z : Way) → v.way y ≡ Some w → IsOuter (home s depth) v y w → (outs_also (away other to) later).gone z → Under z w ⊎ Under w z → ⊥ =
       λ y w z has foreign o meets. elim o [
         | inr (other_one, has_one, under) ↦ viewed.whole y w z has foreign (inr (other_one, subst (λ z. Has z other_one) (sym same) (inr has_one), under)) meets
         | inl before ↦ elim before [
           | inl gone ↦ viewed.whole y w z has foreign (inl gone) meets
-          | inr at ↦ below_apart to root y w z has foreign (along_under to z at) meets
+          | inr at ↦ viewed.whole y w z has foreign (inr (out, subst (λ z. Has z out) (sym same) (inl refl), along_under to z at)) meets
         ]
       ] in
       subst (λ z. Enter other leaks (leaks ++ found_in s before outs) (x ∷ formals) (z ∷ passed) (to ∷ ways) m (with_formals s (suc depth) (x ∷ formals) (z ∷ passed) m)) (sym is)

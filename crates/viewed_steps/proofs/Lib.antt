@@ -45,6 +45,7 @@ pub mod Seeing
 pub mod Clear
 pub mod First
 pub mod Reading
+pub mod Supplied
 pub mod Copies
 pub mod Puts
 pub mod Called
@@ -52,6 +53,10 @@ pub mod Acted
 -- the views of what is called
 pub mod Exclusive
 pub mod Opening
+-- what a call shows
+pub mod Showing
+pub mod Handed
+pub mod Written
 pub mod Backed
 pub mod Whole
 pub mod Passed
@@ -83,6 +88,7 @@ pub mod Followed
 pub mod Begun
 pub mod CallActs
 pub mod Calling
+pub mod CallShows
 pub mod CallBegins
 pub mod Stepping
 pub mod Main

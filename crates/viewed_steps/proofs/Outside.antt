@@ -27,7 +27,7 @@ module _ (table : Table) (typed : TypedProgram) (effects : Effects)
     (unmoved : (e : Stage) → e.frame.sub ≡ 0 → (name : Name) → Has (facts_of (flow_program table typed) effects e) (Moved name) → ⊥)
     (local : (x : ℕ) → is_view (flow_typing (flow_program table typed)) x ≡ true
     → is_package_object (flow_typing (flow_program table typed)) x ≡ false) (state : State) (depth : ℕ) (older : List ViewStage)
-    (between : (g : ViewStage) → Has older g → StandsBetween table typed effects unmoved local state depth g) where
+    (between : (g : ViewStage) → Has older g → StandsBetween table typed effects unmoved local state depth older g) where
   abbrev program : FlowProgram
   program = flow_program table typed
 
@@ -39,7 +39,7 @@ module _ (table : Table) (typed : TypedProgram) (effects : Effects)
   IsSpared y = (l : Loan) (n : Name) → LentElsewhere table typed effects unmoved local older l n → n.root ≡ y → ⊥
 
   module _ (to : Way) (from : IsHomed s depth to) (spared : IsSpared from.1) where
-    lent_clear : (w : Way) → base_of w ≡ base_of to → (l : Loan) → IsLentFor table typed effects unmoved local state depth older between l w → ⊥
+    pub lent_clear : (w : Way) → base_of w ≡ base_of to → (l : Loan) → IsLentFor table typed effects unmoved local state depth older between l w → ⊥
     lent_clear w same l (k, named, under, lent) =
         spared l (name_of k) lent
         (same_variable (home s depth (number_of k)) (number_of k) from.0 from.1

@@ -12,11 +12,10 @@ use Rattle.place_names.specs.Facts.{place}
 use Rattle.flow_paths.specs.declared.report.Effects.{Effects}
 use Rattle.flow_paths.specs.Laid.{FlowProgram}
 use Rattle.owned_ways.specs.Ways.{Way, number_of}
-use Rattle.soundness.specs.Sound.{facts_of}
 use Rattle.soundness.proofs.Contents.{bool_cases}
 use Rattle.soundness.proofs.Used.{any_has}
 use Rattle.viewed_steps.specs.Taken.{Lodge}
-use Rattle.viewed_steps.specs.Sound.{ViewStage, passed_roots, is_passed, withheld}
+use Rattle.viewed_steps.specs.Sound.{ViewStage, known_at, passed_roots, is_passed, withheld}
 
 any_root : (ys : List ℕ) (x : ℕ) → list_any (λ y. y == x) ys ≡ true → Has ys x
 any_root [] x e = cc
@@ -32,31 +31,31 @@ true_or_not false e n = cc
 module _ (program : FlowProgram) (effects : Effects) (g : ViewStage) where
   -- a fact on an object that isn't passed, or such an object
   pub kept_cases : (f : Fact) → Has (withheld program effects g) f
-      → (Has (facts_of program effects g.stage) f × (Has (passed_roots g) (place f).root → ⊥))
+      → (Has (known_at program effects g.stage) f × (Has (passed_roots g) (place f).root → ⊥))
       ⊎ ((y : ℕ) × Has (passed_roots g) y × (f ≡ Moved (object y)))
   kept_cases f has =
-      elim (Has-append_cases (filter (λ f. not (is_passed g f)) (facts_of program effects g.stage)) (map (λ y. Moved (object y)) (passed_roots g)) f has) [
+      elim (Has-append_cases (filter (λ f. not (is_passed g f)) (known_at program effects g.stage)) (map (λ y. Moved (object y)) (passed_roots g)) f has) [
         | inl fact ↦ (
-            let both = Has-filter (λ f. not (is_passed g f)) (facts_of program effects g.stage) f fact in
+            let both = Has-filter (λ f. not (is_passed g f)) (known_at program effects g.stage) f fact in
             inl (both.0, λ passed. true_or_not (is_passed g f) (any_has (λ y. y == (place f).root) (passed_roots g) (place f).root passed (eq-eqb (place f).root (place f).root refl)) both.1))
         | inr root ↦ (let from = Has-map_from (λ y. Moved (object y)) (passed_roots g) f root in inr (from.0, from.1, sym from.2))
       ]
 
   pub kept_root : (y : ℕ) → Has (passed_roots g) y → Has (withheld program effects g) (Moved (object y))
   kept_root y has =
-      Has-append_right (filter (λ f. not (is_passed g f)) (facts_of program effects g.stage)) (map (λ y. Moved (object y)) (passed_roots g)) (Moved (object y))
+      Has-append_right (filter (λ f. not (is_passed g f)) (known_at program effects g.stage)) (map (λ y. Moved (object y)) (passed_roots g)) (Moved (object y))
       (Has-map (λ y. Moved (object y)) (passed_roots g) y has)
 
-  pub kept_fact : (f : Fact) → Has (facts_of program effects g.stage) f → Has (withheld program effects g) f ⊎ Has (passed_roots g) (place f).root
+  pub kept_fact : (f : Fact) → Has (known_at program effects g.stage) f → Has (withheld program effects g) f ⊎ Has (passed_roots g) (place f).root
   kept_fact f has = elim (bool_cases (is_passed g f)) [
     | inl passed ↦ inr (any_root (passed_roots g) (place f).root passed)
-    | inr other ↦ inl (Has-append_left (filter (λ f. not (is_passed g f)) (facts_of program effects g.stage)) (map (λ y. Moved (object y)) (passed_roots g)) f
-        (Has-filter_passes (λ f. not (is_passed g f)) (facts_of program effects g.stage) f has (ap not other)))
+    | inr other ↦ inl (Has-append_left (filter (λ f. not (is_passed g f)) (known_at program effects g.stage)) (map (λ y. Moved (object y)) (passed_roots g)) f
+        (Has-filter_passes (λ f. not (is_passed g f)) (known_at program effects g.stage) f has (ap not other)))
   ]
 
   -- its loans are those of facts
   pub kept_loan : (l : Loan) (h : ℕ) (n : Name) → Has (withheld program effects g) (Lent l h n)
-      → Has (facts_of program effects g.stage) (Lent l h n) × (Has (passed_roots g) n.root → ⊥)
+      → Has (known_at program effects g.stage) (Lent l h n) × (Has (passed_roots g) n.root → ⊥)
   kept_loan l h n has = elim (kept_cases (Lent l h n) has) [
     | inl fact ↦ fact
     | inr (y, passed, is) ↦ (let no : Lent l h n ≡ Moved (object y) = is in cc)
