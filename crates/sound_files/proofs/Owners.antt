@@ -35,7 +35,6 @@ use Rattle.sound_files.specs.Class.{IsScalarAt, IsFitActual, AreFitActuals, AreS
 use Rattle.sound_files.proofs.Functions.{FunctionsTakeIn}
 use Rattle.sound_files.proofs.Weaker.{code_weaker}
 use Rattle.sound_files.proofs.Called.{at_number}
-use Rattle.sound_files.proofs.Results.{results_fit}
 use Rattle.sound_files.proofs.Classes.{all_of, signature_at, signature_same, signature_there, mode_same, scalar_results}
 
 module _ (p : Program) where
@@ -198,7 +197,6 @@ module _ (p : Program) where
   -- It is a part of this one.
   pub calls_functions : CallsFunctions p → CallsWithOwners p
   calls_functions calls = record {
-    results = results_fit p calls.results;
     formals = λ x is. inl (view_scalar calls.formals x is);
     passed = code_passed calls.formals calls.copied;
     shown = inr (λ sub has q there n actuals result is. scalar_shown calls.formals (LendsShared wide sub) (sub_of flow n).formals actuals);

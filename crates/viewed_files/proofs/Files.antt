@@ -78,7 +78,9 @@ use Rattle.sound_files.proofs.Declared.{declared_known, formals_apart}
 use Rattle.sound_files.proofs.Owners.{kinds_there, modes_there, main_there, passed_there, owners_shown}
 use Rattle.sound_files.proofs.Classes.{are_answered}
 use Rattle.typed_runs.specs.Code.{NamesOwners, WithinStep}
-use Rattle.typed_files.proofs.Main.{files_fine, files_steps, files_used}
+use Rattle.typed_runs.proofs.Results.{results_there}
+use Rattle.viewed_soundness.proofs.Outcomes.{named_plain}
+use Rattle.typed_files.proofs.Main.{files_code, files_fine, files_steps, files_used}
 use Rattle.sound_files.proofs.Main.{files_orderly}
 use Rattle.viewed_steps.specs.Ready.{IsReady}
 use Rattle.viewed_steps.proofs.Main.{ready_sound}
@@ -488,7 +490,11 @@ module _ (files : List (List SourceUnit)) where
                   (fits sub has q there n actuals result is)
             ];
         order = order;
-        results = λ sub has. calls.results sub (subst (λ subs. Has subs sub) (sym rest_is) has);
+        results = λ sub has.
+            results_there p laws.owns integers truths (λ t i. named_plain table (component_type table t i) (component_named t i))
+            (λ t. named_plain table (element_type table t) (element_named t)) (λ t d c n is. named_plain table d (target_named t d c n is))
+            (files_firsts files apart ended up named no_fault) (formals_differ p text_orderly.once) (files_code files apart ended up named no_fault) sub
+            (subst (λ subs. Has subs sub) (sym order.subs) (inr has));
         answered = subst (AreAnswered table (typed_of p)) rest_is (are_answered p (files_bodies files up named) typed);
         passes = passes;
         passed = passed;
