@@ -24,7 +24,7 @@ use Rattle.ready_laws.specs.InOrder.{IsInOrder, AreAnswered, AreStill, ArePassed
 use Rattle.soundness.specs.Seen.{is_view_formal}
 use Rattle.viewed_soundness.specs.Holds.{PartsAreNamed, is_given, is_exclusive, lends_first}
 use Rattle.viewed_steps.specs.Traversals.{GivesView, IsSourceName}
-use Rattle.viewed_steps.specs.Sound.{IsScalarObject, IsKindOfFormal, AreKeptPlaces, LendsShared, AreShownOwn, IsStoredAt}
+use Rattle.viewed_steps.specs.Sound.{IsScalarObject, IsKindOfFormal, AreKeptPlaces, IsStoredAt}
 use Rattle.viewed_steps.specs.Ready.{IsOwnPlace, IsActualTo}
 use Rattle.view_laws.specs.InOrder.{AreViewsInOrder}
 
@@ -96,9 +96,6 @@ pub record IsViewProgram (table : Table) (typed : TypedProgram) (effects : Effec
       (result : Option ℕ) → p.instr ≡ Call n actuals result
       → ((x : ℕ) → Has (sub_of (flow_program table typed) n).formals x → is_formal (flow_typing (flow_program table typed)) x ≡ true)
       → AreKeptPlaces (flow_typing (flow_program table typed)) (sub_of (flow_program table typed) n).formals actuals
-  pub shown : (sub : FlowSub) → Has (flow_program table typed).subs sub → (p : FlowPoint) → Has sub.points p → (n : ℕ) (actuals : TypedTree)
-      (result : Option ℕ) → p.instr ≡ Call n actuals result
-      → AreShownOwn (flow_typing (flow_program table typed)) (LendsShared (flow_typing (flow_program table typed)) sub) (sub_of (flow_program table typed) n).formals actuals
   -- formals of anonymous access types are the first ones of traversal functions, whose first formals see
   pub firsts : (n x : ℕ) → Has (sub_at (flow_typing (flow_program table typed)) n).formals x → is_anonymous (view_of (flow_typing (flow_program table typed)) x) ≡ true
       → traversed_of (traverses (flow_program table typed).table (sub_at (flow_typing (flow_program table typed)) n).result)
