@@ -37,6 +37,7 @@ use Rattle.flow_paths.specs.Laid.{FlowSub}
 use Rattle.flow_paths.specs.Effects.{asks_for_end, path_points}
 use Rattle.flow_paths.specs.Aliases.{alias_reports}
 use Rattle.flow_paths.specs.Views.{encloses_within}
+use Rattle.viewed_soundness.specs.Taken.{GivesPlainly}
 use Rattle.soundness.specs.Sound.{calls_procedures, goes_through_none}
 use Rattle.program_check.specs.Sources.{flow_of}
 use Rattle.file_positions.specs.Texts.{AreParsed}
@@ -44,7 +45,6 @@ use Rattle.file_positions.proofs.Cuts.{cut_in_order}
 use Rattle.called_subs.specs.Called.{Calls, CodeCalls}
 use Rattle.order_laws.specs.Orderly.{typed_of, typing_in}
 use Rattle.sound_files.specs.Class.{CallsProcedures, IsScalarAt, IsShownAt, FormalsAreKinds, laid_in, AreFitActuals, PassFitActuals, AreOwnersShown, ShowOwners}
-use Rattle.sound_files.proofs.Results.{results_fit}
 use Rattle.viewed_files.proofs.Files.{parsed_called_sound}
 use Rattle.accepted_runs.proofs.Runs.{RunsAreSound}
 use Rattle.accepted_runs.specs.Classes.{AreInSecondViewClass}
@@ -145,19 +145,19 @@ abbrev laid : Typing
 laid = laid_in (program_of files)
 
 pub passed : PassFitActuals (program_of files)
-unfolding computes naming typing lowering Calls CodeCalls goes_through_none
+unfolding computes naming typing lowering Calls CodeCalls goes_through_none GivesPlainly
 passed =
     of_three (λ sub. CodeCalls (λ n actuals. AreFitActuals laid (sub_at laid n).formals actuals) sub.body) _ _ _ tt (tt, tt)
-    (tt, ((((λ is. inr (inr (refl, refl))), tt), (tt, tt)), tt))
+    (tt, ((((λ is. inr (inr (refl, tt))), tt), (tt, tt)), ((((λ is. inr (inr (refl, (tt, tt)))), tt), ((tt, tt), tt)), tt)))
 
 pub shown : ShowOwners (program_of files)
 unfolding computes naming typing lowering Calls CodeCalls
 shown =
     of_three (λ sub. CodeCalls (λ n actuals. AreOwnersShown laid (sub_at laid n).formals actuals) sub.body) _ _ _ tt (tt, tt)
-    (tt, ((((λ view y has. absurd (true≢false (sym view))), tt), (tt, tt)), tt))
+    (tt, ((((λ view y has. absurd (true≢false (sym view))), tt), (tt, tt)), ((((λ view y has. absurd (true≢false (sym view))), tt), ((tt, tt), tt)), tt)))
 
 pub class : AreInSecondViewClass files
-class = record { main = 2; is_main = is_main; calls = record { results = results_fit (program_of files) (inl calls); formals = formals; passed = passed; shown = inl shown } }
+class = record { main = 2; is_main = is_main; calls = record { formals = formals; passed = passed; shown = inl shown } }
 
 -- ---- nothing is reported of it
 

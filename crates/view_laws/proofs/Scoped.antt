@@ -44,7 +44,7 @@ use Rattle.soundness.proofs.Points.{IsLaid, flow_at}
 use Rattle.soundness.proofs.Typings.{Agree, flow_agrees, instruction_same, package_same}
 use Rattle.soundness.proofs.Contents.{bool_cases}
 use Rattle.soundness.proofs.Passing.{plain_type, signature_there, signature_is as signature_of}
-use Rattle.scope_laws.specs.Alone.{GivesScalar, GivesNamed, GivesSeen}
+use Rattle.scope_laws.specs.Alone.{GivesScalar, GivesOwnless, GivesNamed, GivesSeen}
 use Rattle.scope_laws.proofs.Followed.{IsFollowed, sub_followed}
 use Rattle.scope_laws.proofs.Given.{Takes, sub_given}
 use Rattle.scope_laws.specs.Code.{roots, objects_of}
@@ -351,7 +351,7 @@ module _ (table : Table) (typed : TypedProgram) (effects : Effects) (given : IsV
     | inl e ↦ absurd (valued.no_call table typed effects given named e p there n actuals (Some t) is)
     | inr inside ↦ (
         let body = valued.body table typed effects given named has inside in
-        elim (sub_followed (setting_from own body.2 body.0) body.0 (GivesScalar own) (GivesScalar own) (GivesNamed own) (GivesSeen own) (valued.weaker table typed effects given) (valued.weaker table typed effects given)
+        elim (sub_followed (setting_from own body.2 body.0) body.0 (GivesScalar own) (GivesOwnless own) (GivesNamed own) (GivesSeen own) (valued.weaker table typed effects given) (valued.wider table typed effects given)
         (given.results body.0 body.1)
         p (subst (λ (z : NamedSub). Has z.points p) (sym body.4) there) n actuals t is) [
           | inl plain ↦ absurd (not_plain plain)

@@ -58,7 +58,7 @@ use Rattle.owned_loans.specs.Views.{Around, known_gone, Views, Viewed, ViewedAlo
 use Rattle.viewed_soundness.specs.Holds.{Holds, is_view, sees_only, IsOwners, is_exclusive, AllKeep, is_fixed, is_given, lends_first, is_first}
 use Rattle.viewed_soundness.proofs.Given.{IsLow}
 use Rattle.viewed_soundness.proofs.Evaluated.{live_trunk, keep_both}
-use Rattle.viewed_steps.specs.Awaited.{temporaries_of, lasting_of, AreAwaited, AreScalar, TakesScalars, StoresNone}
+use Rattle.viewed_steps.specs.Awaited.{temporaries_of, lasting_of, AreAwaited, AreOwnless, TakesPassed, TakesScalars, StoresNone}
 use Rattle.viewed_steps.specs.Sound.{Disturbs, IsCopiedBack, IsBeyond, HoldsAt, ArePlaced, NoneAbove, ViewStage, stages_of, GoneElsewhere, AreWaiting, IsResting, IsKindOfFormal, HasTraversals}
 use Rattle.viewed_steps.specs.Ready.{IsReady, IsCalled, IsTraversalCall, IsSeen, AreActualsTo}
 use Rattle.owned_loans.proofs.Allowed.{Cleared}
@@ -160,10 +160,7 @@ module _ (table : Table) (typed : TypedProgram) (effects : Effects) (input : Lis
     viewed = innermost.viewed table typed effects input ready state top below more_frames rest named p frames deep stages running awaiting of_sub at_point path views viewed_before kept scope holds placed_before above
 
     abbrev Plain : Type 0
-    Plain = AreScalar s (temporaries_of s (take (taken p.instr) p.scope))
-
-    abbrev plain_here : StoresNone p.instr → Plain × TakesScalars s p.instr
-    plain_here = innermost.plain_here table typed effects input ready state top below more_frames rest named p frames deep stages running awaiting of_sub at_point path views viewed_before kept scope holds placed_before above
+    Plain = AreOwnless s (temporaries_of s (take (taken p.instr) p.scope))
 
     abbrev named_there : Has (flow_named table typed) named
     named_there = innermost.named_there table typed effects input ready state top below more_frames rest named p frames deep stages running awaiting of_sub at_point path views viewed_before kept scope holds placed_before above
@@ -178,7 +175,7 @@ module _ (table : Table) (typed : TypedProgram) (effects : Effects) (input : Lis
     easy = eased main_turn
 
     abbrev viewed_easy : Plain → Viewed (home s depth) (sees_only s) other views (view_here s easy.state) facts_now × Kept s state.memory (waiting_in easy.state)
-    viewed_easy = innermost.viewed_easy table typed effects input ready state top below more_frames rest named p frames deep stages running awaiting of_sub at_point path views viewed_before kept scope holds placed_before above
+    viewed_easy = innermost.ownless_easy table typed effects input ready state top below more_frames rest named p frames deep stages running awaiting of_sub at_point path views viewed_before kept scope holds placed_before above
 
     module _ (n : ℕ) (actuals : TypedTree) (result : Option ℕ) (e : p.instr ≡ Call n actuals result) where
       pub called : IsCalled table typed n actuals result
@@ -211,9 +208,9 @@ module _ (table : Table) (typed : TypedProgram) (effects : Effects) (input : Lis
           by_kind true is =
               let never : None ≡ Some x = sym (ap (λ b. traversed_of b (sub_of program n).formals) none) ∙ ready.traversing.firsts n (called.runs).entered x has is in cc
 
-      -- what a call takes is of scalar types
-      pub plain_there : Plain × TakesScalars s p.instr
-      plain_there = plain_here (subst StoresNone (sym e) tt)
+      -- what a call takes owns nothing
+      pub plain_there : TakesPassed s actuals (temporaries_of s (take (taken p.instr) p.scope))
+      plain_there = innermost.taken_call table typed effects input ready state top below more_frames rest named p frames deep stages running awaiting of_sub at_point path views viewed_before kept scope holds placed_before above n actuals result e
 
       abbrev pub procedure : Bool
       procedure = not (is_some (sub_of program n).result)

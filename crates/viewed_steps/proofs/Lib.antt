@@ -45,6 +45,7 @@ pub mod Seeing
 pub mod Clear
 pub mod First
 pub mod Reading
+pub mod Supplied
 pub mod Copies
 pub mod Puts
 pub mod Called

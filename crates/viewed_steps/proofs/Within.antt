@@ -99,22 +99,8 @@ use Rattle.soundness.proofs.Lasting.{keeps}
 use Rattle.viewed_soundness.proofs.Evaluated.{Given, GivenOn, Ready, checked_on, keep_both}
 use Rattle.viewed_steps.proofs.Declared.{declared_goes, first_fades}
 use Rattle.viewed_steps.proofs.EachInstruction as each
+use Rattle.viewed_steps.proofs.Supplied.{of_types}
 use Rattle.viewed_steps.proofs.Views.{AreAccess, all_held}
-
--- What temporaries are filled with has their types.
-pub of_types : (s : Typing) (types xs : List ℕ) (values : List Waiting) → AreFilled s types xs → AreFor s values xs → AreOfTypes s types values
-of_types s [] [] [] filled there = tt
-of_types s [] [] (v ∷ values) filled there = absurd there
-of_types s [] (x ∷ xs) values filled there = absurd filled
-of_types s (t ∷ types) [] values filled there = absurd filled
-of_types s (t ∷ types) (x ∷ xs) [] filled there = absurd there
-of_types s (t ∷ types) (x ∷ xs) (v ∷ values) filled there = ((one filled.0 there.0.0, there.0.1), of_types s types xs values filled.1 there.1)
-  where
-    one : Fits s t x → Fits s v.of x → ((is_scalar (full s.table t) ≡ true) × (is_scalar (full s.table v.of) ≡ true)) ⊎ (t ≡ v.of)
-    one (inl both) (inl mine) = inl (both.0, mine.0)
-    one (inl both) (inr same) = inl (both.0, ap (λ z. is_scalar (full s.table z)) same ∙ both.1)
-    one (inr is) (inl mine) = inl (ap (λ z. is_scalar (full s.table z)) is ∙ mine.1, mine.0)
-    one (inr is) (inr same) = inr (is ∙ sym same)
 
 module _ (table : Table) (typed : TypedProgram) (effects : Effects) (input : List ℕ) (ready : IsReady table typed effects) where
   abbrev program : FlowProgram

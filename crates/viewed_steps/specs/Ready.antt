@@ -31,8 +31,7 @@ use Rattle.soundness.specs.Ready.{root_of, stored_at, AreScoped, AreNew, AreElab
 use Rattle.typed_laws.specs.Needed.{Matches, Leads, Stays, Gives, IsPlace}
 use Rattle.soundness.specs.Seen.{is_view_formal}
 use Rattle.viewed_soundness.specs.Holds.{sees_only, is_fixed, AllKeep, IsNamed, is_given}
-use Rattle.viewed_soundness.specs.Taken.{GivesPlainly}
-use Rattle.viewed_steps.specs.Awaited.{is_held, IsTaken, FillsTyped, TakesAlone}
+use Rattle.viewed_steps.specs.Awaited.{is_held, IsTakenAt, FillsTyped, TakesAlone}
 use Rattle.viewed_steps.specs.Traversals.{IsSourceName, TraversalCall, IsViewTaker, IsBorrowTaker}
 use Rattle.type_definitions.specs.declared.table.Shape.TheVariants as shape
 use Rattle.type_definitions.specs.Types.{shape_of}
@@ -63,14 +62,14 @@ abbrev pub AreNamedIn : Typing → List ℕ → Type 0
 AreNamedIn s xs = (x : ℕ) → Has xs x → is_temporary_object s x ≡ true → is_anonymous (view_of s x) ≡ false
 
 -- What waits: what is stored at or passed is no temporary that owns; what is taken is of scalar types, or
--- what a function gave, alone, or what a value is made of; and what is filled fits.
+-- what a function gave, alone, or what a value is made of, or for actuals and owns nothing; and what is filled fits.
 pub record AreValued (table : Table) (typed : TypedProgram) : Type 0 where
   pub lasting : (sub : NamedSub) → Has (flow_named table typed) sub → (p : NamedPoint) → Has sub.points p → (x : ℕ) → Has (stored_at p.instr) x
       → is_held (flow_typing (flow_program table typed)) x ≡ false
   pub passed : (sub : NamedSub) → Has (flow_named table typed) sub → (p : NamedPoint) → Has sub.points p → (n : ℕ) (actuals : TypedTree) (result : Option ℕ)
       → p.instr ≡ Call n actuals result → (x : ℕ) → Has (roots_passed actuals) x → is_held (flow_typing (flow_program table typed)) x ≡ false
   pub takes : (n : ℕ) → IsEntered (flow_program table typed) n → (sub : NamedSub) → IsNamedSub (flow_named table typed) n sub → (p : NamedPoint) → Has sub.points p
-      → IsTaken (flow_typing (flow_program table typed)) sub.sub.result p
+      → IsTakenAt (flow_typing (flow_program table typed)) sub.sub.result p
   -- what is of an anonymous access type is taken at once
   pub seen : (sub : NamedSub) → Has (flow_named table typed) sub → (p : NamedPoint) → Has sub.points p
       → AreNamedIn (flow_typing (flow_program table typed)) p.scope
@@ -96,15 +95,11 @@ IsSeen s x typed.Null = Unit {0}
 IsSeen s x (Name p y path u) = Leads s (object_at s y).of path u × IsAccessAs s u (object_at s x).of
 IsSeen s x e = ⊥
 
--- One of a type that owns nothing gets a scalar value, or another one of its type: a copy of what a name stands
--- for, or an aggregate, in which functions give scalar parts alone.
-abbrev pub IsCopyOf : Typing → ℕ → TypedTree → Type 0
-IsCopyOf s x e = Gives s (object_at s x).of e × GivesPlainly s e
-
+-- One of a type that owns nothing gets a value of its type, a scalar one or another one.
 abbrev pub IsValueTo : Typing → ℕ → TypedTree → Type 0
 IsValueTo s x e =
-    (IsScalarObject s x × Stays s e)
-    ⊎ ((is_scalar (full s.table (object_at s x).of) ≡ false) × IsNamed s.table (object_at s x).of × IsCopyOf s x e)
+    Gives s (object_at s x).of e
+    × ((IsScalarObject s x × Stays s e) ⊎ ((is_scalar (full s.table (object_at s x).of) ≡ false) × IsNamed s.table (object_at s x).of))
 
 -- What is passed for a formal of mode `in` is shown, where its type owns or is an anonymous access type.
 abbrev pub is_shown_type : Typing → ℕ → Bool
