@@ -14,7 +14,7 @@ use Rattle.type_definitions.specs.Types.{Table, full, is_scalar, is_owning}
 use Rattle.typed_tree.specs.Trees.{TypedTree, More}
 use Rattle.typed_tree.specs.Programs.{TypedProgram}
 use Rattle.flow_paths.specs.declared.report.Effects.{Effects}
-use Rattle.flow_paths.specs.Instructions.{Instruction, Call}
+use Rattle.flow_paths.specs.Instructions.{Call}
 use Rattle.flow_paths.specs.Objects.{Typing, object_at, is_anonymous, is_package_object, view_of, Passing}
 use Rattle.place_names.specs.Reports.{Report}
 use Rattle.flow_paths.specs.Aliases.{overlap_reports, passed_reports, call_reports}
@@ -53,7 +53,6 @@ use Rattle.soundness.proofs.Points.{flow_at, sub_in_range, one_named, one_point}
 use Rattle.soundness.proofs.Inherited.{after_splits, AreGlobal, global_after, global_allowed, global_apart, Splits}
 use Rattle.soundness.proofs.Used.{used_global, globals_are}
 use Rattle.soundness.proofs.Around.{IsFar}
-use Rattle.soundness.proofs.Taking.{Takes}
 use Rattle.soundness.proofs.Eased.{eased}
 use Rattle.soundness.proofs.Scoped.{Inside}
 use Rattle.owned_loans.specs.Views.{expand, Around, known_gone, Views, Viewed, ViewedAlone, IsOuter}
@@ -62,9 +61,9 @@ use Rattle.owned_loans.proofs.Meeting.{stands}
 use Rattle.owned_loans.proofs.Moves.{expand_under}
 use Rattle.owned_loans.proofs.Meeting.{stands}
 use Rattle.viewed_soundness.proofs.Names.{true_false, owner_sees}
-use Rattle.viewed_soundness.specs.Holds.{Holds, is_view, sees_only, is_given, IsOwners}
+use Rattle.viewed_soundness.specs.Holds.{Holds, is_view, sees_only, IsOwners}
 use Rattle.soundness.specs.Ready.{IsSupplied, Fills}
-use Rattle.viewed_steps.specs.Awaited.{AreValuesBut, temporaries_of, lasting_of, awaited, WaitsAt, AreAwaited, AreOwnless, TakesPassed, FillsTyped, TakesScalars}
+use Rattle.viewed_steps.specs.Awaited.{AreValuesBut, temporaries_of, lasting_of, awaited, WaitsAt, AreAwaited, AreOwnless, TakesPassed, FillsTyped}
 use Rattle.viewed_steps.proofs.Waited.{late_scope, within_lasting, lasting_more, Shares}
 use Rattle.viewed_steps.specs.Sound.{IsCopiedBack, IsBeyond, HoldsAt, ArePlaced, NoneAbove, ViewStage, stages_of, GoneElsewhere, Disturbs, AreWaiting, IsResting, IsKindOfFormal, IsScalarObject, HasTraversals, passed_roots}
 use Rattle.viewed_steps.specs.Ready.{IsReady, roots_passed, IsCalled, IsTraversalCall}
@@ -96,7 +95,7 @@ use Rattle.viewed_steps.proofs.Seeing.{AreClear}
 use Rattle.viewed_steps.proofs.Lending.{named_has}
 use Rattle.viewed_steps.proofs.Followed as followed
 use Rattle.viewed_steps.proofs.Traversing.{all_traversed}
-use Rattle.viewed_steps.proofs.Exclusive.{AreLent}
+use Rattle.viewed_steps.proofs.Exclusive.{ChangesLent, AreLent}
 use Rattle.owned_ways.proofs.Unique.{one_way}
 use Rattle.viewed_steps.proofs.Bared.{not_before}
 use Rattle.viewed_steps.proofs.CallActs as acting
@@ -277,7 +276,7 @@ module _ (table : Table) (typed : TypedProgram) (effects : Effects) (input : Lis
       formals_low = acting.formals_low table typed effects input ready state top below more_frames rest named p frames deep stages running awaiting of_sub at_point path views viewed_before kept scope holds placed_before above n actuals result e
 
       abbrev pub by_callee : (((x : ℕ) → Has formals x → (object_at s x).mode ≡ mode.In) × ((x : ℕ) → Has formals x → IsCopiedBack s x → ⊥)
-          × ((x : ℕ) → Has formals x → is_given s x ≡ true → sees_only s x ≡ true))
+          × ChangesLent s facts_now formals actuals)
           ⊎ AreLent s facts_now formals actuals
       by_callee = acting.by_callee table typed effects input ready state top below more_frames rest named p frames deep stages running awaiting of_sub at_point path views viewed_before kept scope holds placed_before above n actuals result e
 

@@ -75,9 +75,17 @@ AreKeptPlaces s (x ∷ formals) (More e rest) =
     (is_in (object_at s x).mode ≡ false → (goes_through_none e ≡ true) ⊎ IsReachedBack s x e) × AreKeptPlaces s formals rest
 AreKeptPlaces s formals actuals = Unit {0}
 
+-- In each call of a function that gives a borrower, the actual of its first formal doesn't overlap what other formals see.
+abbrev pub LendsApart : FlowProgram → Type 0
+LendsApart program =
+    (sub : FlowSub) → Has program.subs sub → (p : FlowPoint) → Has sub.points p → (n : ℕ) (actuals : TypedTree) (result : Option ℕ)
+    → p.instr ≡ Call n actuals result → (a b : alias.Passed) → Has (alias.passed (sub_of program n).formals actuals) a
+    → Has (alias.passed (sub_of program n).formals actuals) b → lends_first (flow_typing program) a.formal (sub_at (flow_typing program) n) ≡ true
+    → (a.formal ≡ b.formal → ⊥) → is_given (flow_typing program) b.formal ≡ true → overlaps a.actual.name b.actual.name ≡ true → ⊥
+
 -- Anonymous access types are those of objects and results alone; formals are such, those of functions of mode
 -- `in`, and what they are shown isn't changed through them, but through the first one of a function that gives a
--- borrower, which is shown alone; those of procedures of mode `in` that own nothing are of access-to-variable
+-- borrower; those of procedures of mode `in` that own nothing are of access-to-variable
 -- types; actuals are copied back to as above.
 pub record IsViewClass (program : FlowProgram) : Type 0 where
   pub parts_named : PartsAreNamed program.table
@@ -85,8 +93,7 @@ pub record IsViewClass (program : FlowProgram) : Type 0 where
   pub functions : (n t : ℕ) → (sub_at (flow_typing program) n).result ≡ Some t → (x : ℕ) → Has (sub_at (flow_typing program) n).formals x
       → is_formal (flow_typing program) x ≡ true → is_given (flow_typing program) x ≡ true → lends_first (flow_typing program) x (sub_at (flow_typing program) n) ≡ false
       → is_exclusive (flow_typing program) x ≡ false
-  pub lends : (n x y : ℕ) → lends_first (flow_typing program) x (sub_at (flow_typing program) n) ≡ true → Has (sub_at (flow_typing program) n).formals y
-      → is_given (flow_typing program) y ≡ true → y ≡ x
+  pub lends : LendsApart program
   pub modes : (n t : ℕ) → (sub_at (flow_typing program) n).result ≡ Some t → (x : ℕ) → Has (sub_at (flow_typing program) n).formals x
       → (object_at (flow_typing program) x).mode ≡ mode.In
   pub procedures : (n : ℕ) → (sub_at (flow_typing program) n).result ≡ None → (x : ℕ) → Has (sub_at (flow_typing program) n).formals x
