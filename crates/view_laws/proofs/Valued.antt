@@ -18,7 +18,7 @@ use Rattle.typed_tree.specs.Programs.{TypedProgram, text_io}
 use Rattle.flow_paths.specs.declared.report.Effects.{Effects}
 use Rattle.flow_paths.specs.Instructions.{Instruction, Declare, Assign, Call, Output, Input, Release, Test, Choose, Start, Evaluate, LeaveLoop, Hold}
 use Rattle.flow_paths.specs.Objects.{Typing, Signature, object_at, sub_at, traverses, is_variable, is_formal, is_formal_kind, is_anonymous, is_observer, is_package_object, has_scope_end, view_of}
-use Rattle.flow_paths.specs.Names.{has_call, whole_object}
+use Rattle.flow_paths.specs.Names.{has_call, first, whole_object}
 use Rattle.flow_paths.specs.Points.{NamedPoint}
 use Rattle.flow_paths.specs.Laid.{FlowProgram, NamedSub, temporary_object, result_of, named_subs, all_named, sub_points, flow_sub, typing_of, flow_typing, flow_program, flow_named}
 use Rattle.flow_paths.specs.Scopes.{taken, is_temporary}
@@ -57,7 +57,7 @@ use Rattle.viewed_steps.proofs.Sources.{leads_or}
 use Rattle.viewed_steps.specs.Sound.{IsScalarObject}
 use Rattle.viewed_steps.specs.Traversals.{GivesView}
 use Rattle.viewed_steps.specs.Ready.{roots_passed}
-use Rattle.view_laws.specs.InOrder.{is_name_of, is_list_end, is_any, stores_name, gives_view, fits}
+use Rattle.view_laws.specs.InOrder.{is_name_of, is_list_end, is_any, stores_name, gives_view, is_rooted_in, gives_from, fits}
 use Rattle.view_laws.specs.Program.{IsViewProgram}
 use Rattle.view_laws.proofs.Acts.{no_anonymous}
 use Rattle.view_laws.proofs.Formals.{passed_named}
@@ -107,6 +107,19 @@ declared_fit true true l g view e = refl
 declared_fit true false l true view e = refl
 declared_fit true false l false view e = cc
 declared_fit false n l g view e = cc
+
+-- what a traversal function gives that is called with such a name
+pub from_gives : (s : Typing) (test : ℕ → Bool) (e : TypedTree) → gives_from test s e ≡ true → gives_view s e ≡ true
+from_gives s test (typed_tree.Call p sub actuals) is = first_of (traverses s.table (sub_at s sub).result) (is_rooted_in test (first actuals)) is
+  where
+    first_of : (a b : Bool) → a && b ≡ true → a ≡ true
+    first_of true b e = refl
+    first_of false b e = cc
+from_gives s test e is = cc
+
+gives_so : (n g h : Bool) → (g ≡ true → h ≡ true) → n || g ≡ true → n || h ≡ true
+gives_so true g h so e = refl
+gives_so false g h so e = so e
 
 stored_fit : (a f n g : Bool) → a ≡ true → f ≡ false → ((not a || f) || n) || g ≡ true → n || g ≡ true
 stored_fit true false n g view none e = e
@@ -606,8 +619,11 @@ module _ (table : Table) (typed : TypedProgram) (effects : Effects) (given : IsV
 
         fit_here : is_anonymous (view_of s x) ≡ true → is_name_of (λ y. is_observer own x || nat_lt y x) e || gives_view own e ≡ true
         fit_here view =
-            declared_fit (is_anonymous (view_of own x)) (is_name_of (λ y. is_observer own x || nat_lt y x) e) (is_list_end rest) (gives_view own e) (sym (view_same x lasts_here) ∙ view)
-            (sym (ap (fits own) is) ∙ above.declared x (typed_tree.More e rest) is)
+            gives_so (is_name_of (λ y. is_observer own x || nat_lt y x) e) (gives_from (λ y. is_observer own x || nat_lt y x) own e) (gives_view own e)
+            (from_gives own (λ y. is_observer own x || nat_lt y x) e)
+            (declared_fit (is_anonymous (view_of own x)) (is_name_of (λ y. is_observer own x || nat_lt y x) e) (is_list_end rest) (gives_from (λ y. is_observer own x || nat_lt y x) own e)
+            (sym (view_same x lasts_here) ∙ view)
+            (sym (ap (fits own) is) ∙ above.declared x (typed_tree.More e rest) is))
 
         calls_here : is_anonymous (view_of s x) ≡ true → CallsOnly Asked Passed (typed_tree.More e rest)
         calls_here view = (name_only (λ y. is_observer own x || nat_lt y x) e (fit_here view) asked.0, subst (CallsOnly Asked Passed) (sym last) tt)

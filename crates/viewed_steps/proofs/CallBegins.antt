@@ -61,7 +61,7 @@ use Rattle.viewed_soundness.specs.Holds.{Holds, is_view, sees_only, IsOwners, is
 use Rattle.viewed_soundness.proofs.Given.{IsLow, low_there, low_begins}
 use Rattle.viewed_steps.specs.Awaited.{temporaries_of, lasting_of, awaited, WaitsAt, AreAwaited, AreOwnless, TakesPassed, TakesScalars}
 use Rattle.viewed_steps.proofs.Waited.{within_lasting, Shares, plain_unheld}
-use Rattle.viewed_steps.specs.Sound.{IsCopiedBack, IsBeyond, AreUnmet, HoldsAt, ArePlaced, NoneAbove, ViewStage, stages_of, GoneElsewhere, Disturbs, IsWaiting, AreWaiting, calls_one, LeadsAlong, IsResting, IsKindOfFormal, AreReturned, withheld, KeptBy, IsWayOf, IsBareOf, HasTraversals, NoneGiven, IsTraversal, passed_roots, lent_to, shown_at, shown_one, known_at, LentBy}
+use Rattle.viewed_steps.specs.Sound.{IsCopiedBack, IsBeyond, AreUnmet, HoldsAt, ArePlaced, NoneAbove, ViewStage, stages_of, GoneElsewhere, Disturbs, IsWaiting, AreWaiting, calls_one, LeadsAlong, IsResting, IsKindOfFormal, AreReturned, withheld, KeptBy, IsWayOf, IsBareOf, HasTraversals, NoneGiven, IsTraversal, passed_roots, shown_at, shown_one, known_at, LentBy}
 use Rattle.viewed_steps.specs.Ready.{IsReady, IsCalled}
 use Rattle.viewed_steps.specs.Taken.{TakenBy, AreTaken, AreCarried, Lodge}
 use Rattle.viewed_steps.proofs.Apart.{moved_same}
@@ -464,10 +464,10 @@ module _ (table : Table) (typed : TypedProgram) (effects : Effects) (input : Lis
             ]) q taken r k held
 
         -- what is shown
-        shown_here : (f : Fact) → Has (shown_at program waits_stage) f → IsShownOf s (lent_to result) (alias.passed formals actuals) f
+        shown_here : (f : Fact) → Has (shown_at program waits_stage) f → IsShownOf s (alias.passed formals actuals) f
         shown_here f has = shows.shown_of table typed effects input ready state top below more_frames rest named p frames deep stages running awaiting of_sub at_point path views viewed_before kept scope holds placed_before above n actuals result e f (subst (λ z. Has z f) (shows.shown_is table typed effects input ready state top below more_frames rest named p frames deep stages running awaiting of_sub at_point path views viewed_before kept scope holds placed_before above n actuals result e all_passed_ways.0) has)
 
-        known_is : known_at program effects waits_stage ≡ facts_called ++ flat_map (shown_one s (lent_to result)) (alias.passed formals actuals)
+        known_is : known_at program effects waits_stage ≡ facts_called ++ flat_map (shown_one s) (alias.passed formals actuals)
         known_is = λ j. facts_there j ++ shows.shown_is table typed effects input ready state top below more_frames rest named p frames deep stages running awaiting of_sub at_point path views viewed_before kept scope holds placed_before above n actuals result e all_passed_ways.0 j
 
         same_loan : {l k : Loan} {h b : ℕ} {m q : PlaceName} → Lent l h m ≡ Lent k b q → (l ≡ k) × (m ≡ q)
@@ -836,7 +836,7 @@ module _ (table : Table) (typed : TypedProgram) (effects : Effects) (input : Lis
                 (subst (λ d. SeesFirst s d (at_successor.0).instr n views (callee_views.way f)) (sym deep)
                 (opened_first (steps.here main_turn) ready.accepted.settled (waiting_in easy.state) state.leaks state.memory [] other facts_now views (viewed_easy plain_there.0).1
                 (viewed_easy plain_there.0).0 holds_now alone live_now in_formals index_law ready.owns ready.class.parts_named formals_low procedure formals actuals passed callee_views opened.1 f traversing.rest made.call traversing.formals made.actuals_are (followed.differ table typed effects input ready state top older outer named p frames of_sub at_point path n actuals result e f traversed) n (at_successor.0).instr
-                (taker_takes s n made.call named.sub.result (at_successor.0).instr (made.taker call_point.0 call_point.2 at_successor.0 at_successor.1)) made.own))
+                (taker_takes s n made.call named.sub.result (at_successor.0).instr (made.taker call_point.0 call_point.2 at_successor.0 at_successor.1))))
                 f traversed
 
             formal_lasts : (k : ObjectKind) → is_formal_kind k ≡ true → is_temporary k ≡ false

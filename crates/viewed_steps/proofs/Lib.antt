@@ -82,6 +82,7 @@ pub mod CallEnds
 -- calls of traversal functions
 pub mod Unlent
 pub mod Taker
+pub mod TakerActs
 pub mod Traversing
 pub mod Successor
 pub mod Followed

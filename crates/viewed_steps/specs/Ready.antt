@@ -26,7 +26,7 @@ use Rattle.flow_paths.specs.Views.{encloses, scope_of, traversed_formal, sub_act
 use Rattle.machine.specs.States.{sub_of}
 use Rattle.machine.specs.Owners.{is_in}
 use Rattle.soundness.specs.Typed.{OwnsByShape}
-use Rattle.soundness.specs.Sound.{Accepted, IsNamedSub, IsAtPoint, IsProcedure, IsRunnable, is_temporary_object, has_returned, IsEntered}
+use Rattle.soundness.specs.Sound.{Accepted, IsNamedSub, IsAtPoint, IsProcedure, IsRunnable, is_temporary_object, has_returned, IsEntered, Uses}
 use Rattle.soundness.specs.Ready.{root_of, stored_at, AreScoped, AreNew, AreElaborated, AreReturning}
 use Rattle.typed_laws.specs.Needed.{Matches, Leads, Stays, Gives, IsPlace}
 use Rattle.soundness.specs.Seen.{is_view_formal}
@@ -203,12 +203,11 @@ pub record ViewsAreOrderly (table : Table) (typed : TypedProgram) : Type 0 where
 
 -- ---- traversal functions
 
--- The call of one: its first actual is a name that is rooted in no package object; and the point that it leads to takes
--- the result, which borrows if a borrower is given.
+-- The call of one: its first actual is a name; and the point that it leads to takes the result, which borrows if a borrower
+-- is given.
 pub record IsTraversalCall (s : Typing) (sub : NamedSub) (next : List ℕ) (n : ℕ) (actuals : TypedTree) : Type 0 where
   pub call : TraversalCall
   pub actuals_are : actuals ≡ More (Name call.name_pos call.root call.path call.of) call.others
-  pub own : is_package_object s call.root ≡ false
   pub taker : (k : ℕ) → Has next k → (q : NamedPoint) → IsAtPoint sub.points k q → IsViewTaker s n call sub.sub.result q.instr
   pub borrows : gives_variable s (sub_at s n).result ≡ true → (sees_only s call.root ≡ false)
       × ((k : ℕ) → Has next k → (q : NamedPoint) → IsAtPoint sub.points k q → IsBorrowTaker s n call sub.sub.result q.instr)
@@ -233,6 +232,11 @@ pub record AreTraversing (table : Table) (typed : TypedProgram) (effects : Effec
       → (e last : TypedTree) → p.instr ≡ Hold (More e last)
       → (of : ℕ) → sub.sub.result ≡ Some of → is_anonymous (full (flow_program table typed).table of) ≡ true
       → (e ≡ Null) ⊎ ((q : Pos) × (y : ℕ) × (path : TypedTree) × (u : ℕ) × IsSourceName (flow_typing (flow_program table typed)) of e q y path u)
+  -- what is called that gives a borrower doesn't use the package object that its first actual is rooted in
+  pub spared : (sub : FlowSub) → Has (flow_program table typed).subs sub → (p : FlowPoint) → Has sub.points p → (n : ℕ) (actuals : TypedTree) (result : Option ℕ)
+      → p.instr ≡ Call n actuals result → gives_variable (flow_typing (flow_program table typed)) (sub_at (flow_typing (flow_program table typed)) n).result ≡ true
+      → (q : Pos) (y : ℕ) (path : TypedTree) (u : ℕ) (more : TypedTree) → actuals ≡ More (Name q y path u) more
+      → is_package_object (flow_typing (flow_program table typed)) y ≡ true → Uses effects n y → ⊥
   -- what is called is taken
   pub followed : (sub : NamedSub) → Has (flow_named table typed) sub → (p : NamedPoint) → Has sub.points p → (n : ℕ) (actuals : TypedTree) (result : Option ℕ)
       → p.instr ≡ Call n actuals result → (f : ℕ) → traversed_formal (flow_typing (flow_program table typed)) (sub_of (flow_program table typed) n) ≡ Some f
