@@ -61,7 +61,7 @@ use Rattle.soundness.proofs.Passing.{signature_is}
 use Rattle.owned_ways.proofs.Dropped.{named_base}
 use Rattle.viewed_soundness.specs.Holds.{sees_only, is_view}
 use Rattle.owned_ways.proofs.Unique.{one_way}
-use Rattle.viewed_steps.specs.Taken.{TakenBy, Lodge, IsTakenIn, AreCarried}
+use Rattle.viewed_steps.specs.Taken.{TakenBy, Lodge, IsTakenIn, AreCarried, AreTaken}
 use Rattle.viewed_steps.proofs.Between.{home_low, base_under, same_variable, taken_from as words_taken, IsHomed, number_based, base_along, homed_outer, more_taken}
 use Rattle.viewed_steps.proofs.Outside.{IsSpared, kept_clear, bare_clear, lent_clear}
 use Rattle.viewed_steps.proofs.Apart.{kept_there, written_disturbs, same_root}
@@ -450,6 +450,11 @@ module _ (table : Table) (typed : TypedProgram) (effects : Effects) (input : Lis
           let number : number_of to ≡ begin.1 = number_based (home s below.stage.depth) to begin.1 (base_named (home s below.stage.depth) to begin.1 at) at in
           spared_to to has l m (lent_handed table typed effects unmoved_stage local state below.stage.depth (h ∷ others) between_low l k m there).1 (same_root m (ways.name_of to) over ∙ number)
 
+      pub taken_low : AreTaken s below.cells state.memory below.stage.depth their_all (lasting_of s waits.point.scope) top.frame.returns below.stage.returns
+      taken_low =
+          more_taken s below.cells state.memory below.stage.depth their_facts handed_low (lasting_of s waits.point.scope) (none_moved table typed effects unmoved_stage local state below.stage.depth (h ∷ others) between_low) top.frame.returns below.stage.returns
+          (λ to has l k m there over. spared_handed to has l k m there over) waits.taken
+
       abbrev Backed : Memory → Type 0
       Backed m =
           IsBack main_turn ready.accepted.settled ready.owns in_formals (waiting_in state) state.leaks below.stage.depth deep_low below.views far_low waits.holds.only their_all
@@ -459,8 +464,7 @@ module _ (table : Table) (typed : TypedProgram) (effects : Effects) (input : Lis
       given_back =
           all_given_back main_turn ready.accepted.settled ready.owns in_formals (waiting_in state) state.leaks below.stage.depth deep_low below.views far_low waits.holds.only their_all
           (lasting_of s waits.point.scope) around_low free_low whole_low none_kept below.cells begins_low top.frame.returns below.stage.returns (steps.start main_turn)
-          (more_taken s below.cells state.memory below.stage.depth their_facts handed_low (lasting_of s waits.point.scope) (none_moved table typed effects unmoved_stage local state below.stage.depth (h ∷ others) between_low) top.frame.returns below.stage.returns
-          (λ to has l k m there over. spared_handed to has l k m there over) waits.taken)
+          taken_low
           (λ c has. ((waits.kept c has).reaches, (waits.kept c has).aside)) kept viewed_low
 
       module _ (mid : Memory) (on : Backed mid) (same_mid : top.frame.returns ≡ [] → mid ≡ state.memory) where
