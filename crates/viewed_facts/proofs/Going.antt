@@ -23,7 +23,7 @@ use Rattle.soundness.specs.Seen.{home, seen}
 use Rattle.soundness.specs.Typed.{Kept}
 use Rattle.soundness.specs.Sound.{Stage, facts_of, AreStages, IsRunnable, InScope, IsNamedSub, IsAtPoint, IsNoCall, IsOnward, view_of as view_here}
 use Rattle.soundness.proofs.Points.{sub_there}
-use Rattle.owned_loans.specs.Views.{known_gone, Views, expand, ViewedAlone, IsOuter}
+use Rattle.owned_loans.specs.Views.{known_gone, Views, expand, ViewedAlone}
 use Rattle.viewed_steps.specs.Sound.{IsBeyond, IsResting, HoldsAt, ArePlaced, NoneAbove, ViewStage, stages_of, GoneElsewhere, AreWaiting, IsRunning, AreTurned, AreLeft, Follows, steps_on, leaves_scope, begins_main, returns_one, calls_one, ends_one, LeadsAlong, IsSound, HasTraversals, loan_by, IsWaiting, LentBy}
 use Rattle.viewed_steps.specs.Awaited.{AreAwaited, lasting_of}
 use Rattle.viewed_steps.specs.Ready.{IsReady}
@@ -36,20 +36,22 @@ use Rattle.owned_ways.proofs.Named.{longer}
 use Rattle.owned_loans.proofs.Meeting.{stands}
 use Rattle.viewed_steps.proofs.Views.{same_lies, base_named}
 use Rattle.viewed_facts.proofs.Calls.{carried_told, lies_low, passed_of, passed_clean}
+use Rattle.viewed_steps.proofs.Handed.{AreApart, apart_of}
+use Rattle.std.proofs.Common.{Option, None}
+use Rattle.place_names.specs.declared.rule.Loan.TheVariants.{Borrowed}
 use Rattle.viewed_steps.specs.Taken.{AreCarried, Lodge, IsTakenIn}
 use Rattle.viewed_facts.proofs.Frames.{IsDefiniteHere}
 use Rattle.viewed_facts.proofs.Told.{told_next}
 use Rattle.viewed_facts.proofs.ScopeEnds.{told_left}
 use Rattle.place_names.specs.Facts.{place}
-use Rattle.viewed_steps.proofs.Between.{base_under, taken_from, IsHomed, number_based, homed_outer}
+use Rattle.viewed_steps.proofs.Between.{base_under, taken_from, IsHomed, number_based}
 use Rattle.viewed_steps.proofs.Apart.{kept_there, written_disturbs}
-use Rattle.viewed_steps.proofs.Outside.{IsSpared, gone_clear, lent_clear}
+use Rattle.viewed_steps.proofs.Outside.{IsSpared, gone_clear}
 use Rattle.owned_ways.proofs.Unique.{one_way}
 use Rattle.owned_ways.proofs.Locations.{reaches_along, under_along, under_itself}
 use Rattle.exact_facts.proofs.Memories.{same_reach}
 use Rattle.viewed_facts.proofs.Steps.{based_variable}
 use Rattle.viewed_steps.proofs.Withheld.{taken_passed}
-use Rattle.owned_loans.proofs.Ways.{meet_base}
 
 module _ (table : Table) (typed : TypedProgram) (effects : Effects) (input : List ℕ) (ready : IsReady table typed effects) where
   abbrev program : FlowProgram
@@ -150,8 +152,8 @@ module _ (table : Table) (typed : TypedProgram) (effects : Effects) (input : Lis
       → (f : ℕ) × (x : ℕ) × (base_of w ≡ OfRoot (OfVariable f x)) × (f < suc top.stage.depth))
       (around_clear : (next : ViewStage) (around : List ViewStage) → older ≡ next ∷ around → (to : Way) → Has next.stage.returns to
       → (w : Way) → GoneElsewhere (flow_program table typed) effects around w → Under to w → ⊥)
-      (around_apart : (next : ViewStage) (around : List ViewStage) → older ≡ next ∷ around → (to : Way) → Has next.stage.returns to
-      → (x : ℕ) (w : Way) → next.views.way x ≡ Some w → IsOuter (home (flow_typing (flow_program table typed)) next.stage.depth) next.views x w → Under to w ⊎ Under w to → ⊥)
+      (own_clear : (next : ViewStage) (around : List ViewStage) → older ≡ next ∷ around → (to : Way) → Has next.stage.returns to
+      → (w : Way) → IsDefiniteBy (home (flow_typing (flow_program table typed)) next.stage.depth) next.views (facts_of (flow_program table typed) effects next.stage) w → Under to w → ⊥)
       (owned : Owned (view_here (flow_typing (flow_program table typed)) state))
       (told : Told (seen (flow_typing (flow_program table typed)) state.memory [] []) (IsDefiniteOf (flow_program table typed) effects (top ∷ older)))
       (next : ViewStage) (around : List ViewStage)
@@ -178,17 +180,9 @@ module _ (table : Table) (typed : TypedProgram) (effects : Effects) (input : Lis
     -- what the frames moved is in no place that the call took
     off_places : (cells : List Lodge) → older ≡ record { stage = next.stage; views = next.views; cells = cells } ∷ around → (g : ViewStage) → Has older g
         → (w : Way) → Definite g w → (to : Way) → Has next.stage.returns to → Under to w → ⊥
-    off_places cells same g has w definite to there under = elim (between (with_cells cells) (subst (λ gs. Has gs (with_cells cells)) (sym same) (inl refl))) [
-      | inl first ↦ subst (λ z. Has z to) (first.1).2 there
-      | inr (some, less, callee, backs, waits, shared) ↦ elim (subst (λ gs. Has gs g) same has) [
-        | inl is ↦ (
-            let passed = passed_of s cells state.memory next.stage.depth (facts_of program effects next.stage) (lasting_of s waits.point.scope) backs next.stage.returns waits.taken to there in
-            let own : Definite next w = same_stage (with_cells cells) g is w definite in
-            passed_clean s ready.accepted.settled cells next.stage.depth (facts_of program effects next.stage) (lasting_of s waits.point.scope) passed.0 to passed.1 next.views (view_here s state) waits.holds.only
-            waits.views waits.clear (around_apart (with_cells cells) around same to there) w own under)
-        | inr other ↦
-            around_clear (with_cells cells) around same to there w (gone_by g around other w definite) under
-      ]
+    off_places cells same g has w definite to there under = elim (subst (λ gs. Has gs g) same has) [
+      | inl is ↦ own_clear (with_cells cells) around same to there w (same_stage (with_cells cells) g is w definite) under
+      | inr other ↦ around_clear (with_cells cells) around same to there w (gone_by g around other w definite) under
     ]
 
     onward_told : IsOnward top.stage next.stage → Stays top.stage.depth i top.views next.views → around ≡ older → AllTold after_step.memory (next ∷ around)
@@ -265,30 +259,37 @@ module _ (table : Table) (typed : TypedProgram) (effects : Effects) (input : Lis
       all_between table typed effects unmoved_stage local state top.frame.sub top.depth top.frame.returns (below ∷ more) outer stages.2
       (let deep = stages.1 in omega (arith, deep)) running.2 g has
 
-  -- ---- a place that was taken from the frame that waits
+  -- ---- the places that were taken from a frame that waits
 
-  module _ (state : State) (next h : ViewStage) (others : List ViewStage) (outer : List Frame) (stages : AreStages (stages_of (next ∷ (h ∷ others))) outer) (callee : ℕ)
-      (backs : List Return) (waiting : AreWaiting table typed effects state callee backs (next ∷ (h ∷ others))) (to : Way) (has : Has next.stage.returns to) where
-    between_rest : (outer : List Frame) → AreStages (stages_of (next ∷ (h ∷ others))) outer → (g : ViewStage) → Has (h ∷ others) g → Between state next.stage.depth (h ∷ others) g
-    between_rest [] stages g has = absurd stages
-    between_rest (f ∷ rest) stages g has =
-        all_between table typed effects unmoved_stage local state next.stage.frame.sub next.stage.depth next.stage.frame.returns (h ∷ others) rest stages.2
-        (let deep = stages.1 in omega (arith, deep)) waiting.1 g has
-
-    between_low : (g : ViewStage) → Has (h ∷ others) g → Between state next.stage.depth (h ∷ others) g
-    between_low = between_rest outer stages
-
-    waits : IsWaiting table typed effects state callee backs next
+  module _ (state : State) (callee : ℕ) (backs : List Return) (next h : ViewStage) (others : List ViewStage) (rest : List Frame) (deep : next.stage.depth ≡ length rest)
+      (stages : AreStages (stages_of (h ∷ others)) rest) (waiting : AreWaiting table typed effects state callee backs (next ∷ (h ∷ others))) where
+    abbrev waits : IsWaiting table typed effects state callee backs next
     waits = waiting.0
 
-    homed : IsHomed s next.stage.depth to
-    homed = taken_from s next.cells state.memory next.stage.depth (facts_of program effects next.stage) (lasting_of s waits.point.scope) backs next.stage.returns waits.taken to has
+    abbrev low : ℕ
+    low = next.stage.depth
 
-    spared_to : IsSpared table typed effects unmoved_stage local state next.stage.depth (h ∷ others) between_low homed.1
-    spared_to l name lent root =
-        let at : base_of to ≡ OfRoot (OfVariable (home s next.stage.depth homed.1) homed.1) =
-        homed.2 ∙ ap (λ f. OfRoot (OfVariable f homed.1)) homed.3 in
-        let number : number_of to ≡ homed.1 = number_based (home s next.stage.depth) to homed.1 (base_named (home s next.stage.depth) to homed.1 at) at in
+    abbrev their_facts : List Fact
+    their_facts = facts_of program effects next.stage
+
+    between_low : (g : ViewStage) → Has (h ∷ others) g → Between state low (h ∷ others) g
+    between_low g has =
+        all_between table typed effects unmoved_stage local state next.stage.frame.sub low next.stage.frame.returns (h ∷ others) rest stages
+        (let same = deep in omega (arith, same)) waiting.1 g has
+
+    homed : (to : Way) → Has next.stage.returns to → IsHomed s low to
+    homed to has = taken_from s next.cells state.memory low their_facts (lasting_of s waits.point.scope) backs next.stage.returns waits.taken to has
+
+    rooted_there : (to : Way) (has : Has next.stage.returns to) → number_of to ≡ (homed to has).1
+    rooted_there to has =
+        let at : base_of to ≡ OfRoot (OfVariable (home s low (homed to has).1) (homed to has).1) =
+        (homed to has).2 ∙ ap (λ f. OfRoot (OfVariable f (homed to has).1)) (homed to has).3 in
+        number_based (home s low) to (homed to has).1 (base_named (home s low) to (homed to has).1 at) at
+
+    -- the frame writes these objects, so the others keep nothing of them
+    spared_to : (to : Way) (has : Has next.stage.returns to) → IsSpared table typed effects unmoved_stage local state low (h ∷ others) between_low (homed to has).1
+    spared_to to has l name lent root =
+        let number = rooted_there to has in
         let (g, there, some_there, f, keeps, shared, kind, name_is) = lent in
         let written = waits.written (number_of to) (taken_passed next to has) (ap (is_package_object s) (number ∙ sym root) ∙ shared) in
         kept_there table typed effects ready.accepted.effects_are (unused_there table typed effects unmoved_stage local) state next.stage.frame.sub next.stage.frame.returns
@@ -296,40 +297,63 @@ module _ (table : Table) (typed : TypedProgram) (effects : Effects) (input : Lis
         (written_disturbs table typed effects ready.accepted.effects_are (loan_by f) next.stage.frame.sub (place f).root
         (subst (Has (written_by effects next.stage.frame.sub)) (number ∙ sym root ∙ ap (λ (z : PlaceName). z.root) (sym name_is)) written))
 
-    -- what is gone for the frames around isn't in it
-    clear_low : (w : Way) → GoneElsewhere program effects (h ∷ others) w → Under to w → ⊥
-    clear_low w gone under =
-        gone_clear table typed effects unmoved_stage local state next.stage.depth (h ∷ others) between_low to homed spared_to w gone (base_under to w under)
+    -- what is gone for the frames around it is in no such place
+    others_clear : (to : Way) → Has next.stage.returns to → (w : Way) → GoneElsewhere program effects (h ∷ others) w → Under to w → ⊥
+    others_clear to has w gone under =
+        gone_clear table typed effects unmoved_stage local state low (h ∷ others) between_low to (homed to has) (spared_to to has) w gone (base_under to w under)
 
-    -- nor does what the frame's views see of others meet it
-    apart_low : (x : ℕ) (w : Way) → next.views.way x ≡ Some w → IsOuter (home s next.stage.depth) next.views x w → Under to w ⊎ Under w to → ⊥
-    apart_low x w view outer meets =
-        homed_outer s next.stage.depth (sees_only s) (LentBy program effects (h ∷ others)) next.views to homed waiting.3.1
-        (λ l k at_home lent met. lent_clear table typed effects unmoved_stage local state next.stage.depth (h ∷ others) between_low to homed spared_to k (sym (meet_base to k met)) l
-        (k, at_home, under_itself k, lent))
-        x w to view outer (under_itself to) meets
+    -- nor is what it moved itself
+    mine_clear : (to : Way) → Has next.stage.returns to → (w : Way) → Definite next w → Under to w → ⊥
+    mine_clear to has w definite under =
+        let passed = passed_of s next.cells state.memory low their_facts (lasting_of s waits.point.scope) backs next.stage.returns waits.taken to has in
+        passed_clean s ready.accepted.settled next.cells low their_facts (lasting_of s waits.point.scope) passed.0 to passed.1 next.views (view_here s state) waits.holds.only
+        waits.views waits.clear (LentBy program effects (h ∷ others)) (λ l n lent. no_way n.root lent.5 (next.views.way n.root) refl) (waiting.3).1
+        (λ n lent root. spared_to to has Borrowed n lent (root ∙ rooted_there to has))
+        (λ m moved n lent root. apart.own_moved m moved Borrowed n lent root)
+        (λ b m lends n lent root. apart.own_borrowed b m lends Borrowed n lent root) w definite under
+      where
+        apart : AreApart table typed effects unmoved_stage local state low (h ∷ others) between_low their_facts
+        apart = apart_of table typed effects unmoved_stage local state low (h ∷ others) between_low ready.accepted.effects_are next.stage waits.named waits.of_sub next.stage.frame.returns waiting.1
 
+        no_way : (x : ℕ) → is_package_object s x ≡ true → (o : Option Way) → next.views.way x ≡ o → next.views.way x ≡ None
+        no_way x shared None is = is
+        no_way x shared (Some w) is = (let no : true ≡ false = sym shared ∙ local x (waits.holds.only x w is) in cc)
+
+  -- of the frame that the innermost one returns to
   clear_around : (state : State) (top : Stage) (views : Views) (older : List ViewStage) (fs : List Frame) → AreStages (top ∷ stages_of older) fs
       → IsRunning table typed effects state (record { stage = top; views = views; cells = [] }) older → (next : ViewStage) (around : List ViewStage) → older ≡ next ∷ around
       → (to : Way) → Has next.stage.returns to → (w : Way) → GoneElsewhere program effects around w → Under to w → ⊥
-  clear_around state top views older [] stages running next around same to has w gone under = absurd stages
-  clear_around state top views [] (f ∷ outer) stages running next around same to has w gone under = cc
-  clear_around state top views (below ∷ more) (f ∷ outer) stages running next [] same to has w (g, none, gone) under = none
-  clear_around state top views (below ∷ more) (f ∷ outer) stages running next (h ∷ others) same to has w gone under =
-      clear_low state next h others outer (subst (λ gs. AreStages (stages_of gs) outer) same stages.2) top.frame.sub top.frame.returns
-      (subst (AreWaiting table typed effects state top.frame.sub top.frame.returns) same running.2) to has w gone under
+  clear_around state top views older fs stages running next [] same to has w (g, none, gone) under = none
+  clear_around state top views older fs stages running next (h ∷ others) same to has w gone under =
+      by_frames fs (subst (λ gs. AreStages (top ∷ stages_of gs) fs) same stages)
+    where
+      waiting : AreWaiting table typed effects state top.frame.sub top.frame.returns (next ∷ (h ∷ others))
+      waiting = (subst (IsRunning table typed effects state (record { stage = top; views = views; cells = [] })) same running).2
 
-  apart_around : (state : State) (top : Stage) (views : Views) (older : List ViewStage) (fs : List Frame) → AreStages (top ∷ stages_of older) fs
+      by_frames : (fs : List Frame) → AreStages (top ∷ stages_of (next ∷ (h ∷ others))) fs → ⊥
+      by_frames [] there = there
+      by_frames (f ∷ []) there = there.2
+      by_frames (f ∷ (b ∷ rest)) (frame, deep, (frame_below, deep_below, around_there)) =
+          others_clear state top.frame.sub top.frame.returns next h others rest deep_below around_there waiting to has w gone under
+
+  clear_own : (state : State) (top : Stage) (views : Views) (older : List ViewStage) (fs : List Frame) → AreStages (top ∷ stages_of older) fs
       → IsRunning table typed effects state (record { stage = top; views = views; cells = [] }) older → (next : ViewStage) (around : List ViewStage) → older ≡ next ∷ around
-      → (to : Way) → Has next.stage.returns to → (x : ℕ) (w : Way) → next.views.way x ≡ Some w → IsOuter (home s next.stage.depth) next.views x w → Under to w ⊎ Under w to → ⊥
-  apart_around state top views older [] stages running next around same to has x w view o meets = absurd stages
-  apart_around state top views [] (f ∷ outer) stages running next around same to has x w view o meets = cc
-  apart_around state top views (below ∷ more) (f ∷ outer) stages running next [] same to has x w view o meets =
-      let first = (subst (AreWaiting table typed effects state top.frame.sub top.frame.returns) same running.2).0 in
-      let none : Some w ≡ None = sym view ∙ first.2 x in cc
-  apart_around state top views (below ∷ more) (f ∷ outer) stages running next (h ∷ others) same to has x w view o meets =
-      apart_low state next h others outer (subst (λ gs. AreStages (stages_of gs) outer) same stages.2) top.frame.sub top.frame.returns
-      (subst (AreWaiting table typed effects state top.frame.sub top.frame.returns) same running.2) to has x w view o meets
+      → (to : Way) → Has next.stage.returns to → (w : Way) → Definite next w → Under to w → ⊥
+  clear_own state top views older fs stages running next [] same to has w definite under =
+      let waiting : AreWaiting table typed effects state top.frame.sub top.frame.returns (next ∷ []) =
+      (subst (IsRunning table typed effects state (record { stage = top; views = views; cells = [] })) same running).2 in
+      subst (λ z. Has z to) (((waiting.0).1).2) has
+  clear_own state top views older fs stages running next (h ∷ others) same to has w definite under =
+      by_frames fs (subst (λ gs. AreStages (top ∷ stages_of gs) fs) same stages)
+    where
+      waiting : AreWaiting table typed effects state top.frame.sub top.frame.returns (next ∷ (h ∷ others))
+      waiting = (subst (IsRunning table typed effects state (record { stage = top; views = views; cells = [] })) same running).2
+
+      by_frames : (fs : List Frame) → AreStages (top ∷ stages_of (next ∷ (h ∷ others))) fs → ⊥
+      by_frames [] there = there
+      by_frames (f ∷ []) there = there.2
+      by_frames (f ∷ (b ∷ rest)) (frame, deep, (frame_below, deep_below, around_there)) =
+          mine_clear state top.frame.sub top.frame.returns next h others rest deep_below around_there waiting to has w definite under
 
   none_then : (top : Stage) → top.frame.sub ≡ 0 → (v : Views) (w : Way) → Here top.depth v (facts_then top) [] w → ⊥
   none_then top first v w (inr (g, has, definite)) = has
@@ -417,7 +441,7 @@ module _ (table : Table) (typed : TypedProgram) (effects : Effects) (input : Lis
             (between_of state sound.top sound.views sound.older state.frames sound.stages sound.running)
             (own_low state sound)
             (clear_around state sound.top sound.views sound.older state.frames sound.stages sound.running)
-            (apart_around state sound.top sound.views sound.older state.frames sound.stages sound.running) sound.viewed.owned exact (record { stage = (leads.0).top; views = (leads.0).views; cells = [] }) (leads.0).older
+            (clear_own state sound.top sound.views sound.older state.frames sound.stages sound.running) sound.viewed.owned exact (record { stage = (leads.0).top; views = (leads.0).views; cells = [] }) (leads.0).older
             (λ on stays. step_told state sound.top sound.views sound.older state.frames refl sound.stages sound.running sound.awaited sound.path sound.viewed sound.kept sound.named sound.of_sub sound.point
             sound.at_point sound.scope sound.holds (sound.placed, sound.past) (sound.none_above, sound.traversals) exact after_step is (leads.0).views (
               (leads.0).holds.only,

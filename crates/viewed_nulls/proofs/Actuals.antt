@@ -69,6 +69,7 @@ use Rattle.viewed_steps.specs.Ready.{is_shown_type}
 use Rattle.viewed_steps.specs.Traversals.{TraversalCall}
 use Rattle.viewed_steps.proofs.Traversing.{first_actual}
 use Rattle.viewed_steps.proofs.Called.{shown_given}
+use Rattle.viewed_soundness.proofs.Given.{IsLow}
 use Rattle.viewed_steps.proofs.Reading.{index_reads}
 use Rattle.viewed_soundness.specs.Holds.{is_given}
 use Rattle.std.proofs.Common.{◌||◌}
@@ -80,7 +81,6 @@ use Rattle.soundness.specs.Ready.{root_of}
 use Rattle.type_definitions.specs.Types as types
 use Rattle.type_definitions.specs.declared.table.Shape.TheVariants as shape
 use Rattle.typed_tree.specs.Trees as typed
-use Rattle.viewed_soundness.proofs.Given.{IsLow}
 
 -- A name that goes through no access value to a place of no anonymous type is that of no view.
 own_variable : (table : Table) (t u : ℕ) (way : List run.Step) (w : Way) → ((z : Way) → Past z (way_along way w) → ⊥) → Starts table t way u → IsNamed table u

@@ -19,7 +19,7 @@ use Rattle.soundness.specs.Seen.{seen, home, is_view_formal}
 use Rattle.soundness.specs.Changes.{leaks_at}
 use Rattle.soundness.specs.Typed.{OwnsByShape, Kept, Spot, IsFixed}
 use Rattle.soundness.proofs.Returning.{formal_fixed}
-use Rattle.owned_loans.specs.Views.{Around, Views, ExcusedBy, Viewed, IsOuter}
+use Rattle.owned_loans.specs.Views.{Around, Views, ExcusedBy, IsOuter, Viewed}
 use Rattle.owned_loans.proofs.Moves.{same_viewed}
 use Rattle.viewed_steps.specs.Taken.{IsInside, IsTaken, AreTaken, Lodge, IsPlainPlace, IsCopiedTo}
 use Rattle.viewed_steps.proofs.Between.{more_gone, same_reaches, IsHomed}
@@ -182,11 +182,8 @@ module _ (s : Typing) (settled : IsSettled s.table) (own_law : OwnsByShape s.tab
         | inr (other_one, has_one, under) ↦ viewed.whole y w z has foreign (inr (other_one, subst (λ z. Has z other_one) (sym same) (inr has_one), under)) meets
         | inl at_first ↦ elim at_first [
           | inl gone ↦ viewed.whole y w z has foreign (inl gone) meets
-          | inr at ↦ viewed.whole y w z has foreign (inr (
-            out,
-            subst (λ z. Has z out) (sym same) (inl refl),
-            entering.along_under s settled own_law in_formals hands depth v far sees facts scope cells begins to z at,
-          )) meets
+          | inr at ↦ viewed.whole y w z has foreign
+              (inr (out, subst (λ z. Has z out) (sym same) (inl refl), entering.along_under s settled own_law in_formals hands depth v far sees facts scope cells begins to z at)) meets
         ]
       ] in
       subst (λ z. AreWhollyPassed s (suc depth) (x ∷ formals) (z ∷ passed) m) (sym is) (

@@ -61,7 +61,7 @@ use Rattle.soundness.proofs.Passing.{signature_is}
 use Rattle.owned_ways.proofs.Dropped.{named_base}
 use Rattle.viewed_soundness.specs.Holds.{sees_only, is_view}
 use Rattle.owned_ways.proofs.Unique.{one_way}
-use Rattle.viewed_steps.specs.Taken.{TakenBy, Lodge, IsTakenIn, AreCarried, AreTaken}
+use Rattle.viewed_steps.specs.Taken.{AreTaken, TakenBy, Lodge, IsTakenIn, AreCarried}
 use Rattle.viewed_steps.proofs.Between.{home_low, base_under, same_variable, taken_from as words_taken, IsHomed, number_based, base_along, homed_outer, more_taken}
 use Rattle.viewed_steps.proofs.Outside.{IsSpared, kept_clear, bare_clear, lent_clear}
 use Rattle.viewed_steps.proofs.Apart.{kept_there, written_disturbs, same_root}
