@@ -1,4 +1,6 @@
 -- A value that owns nothing, for a formal of mode `in`, is the same in memories that agree.
+use Rattle.flow_paths.specs.Names.{waiting}
+use Rattle.soundness.proofs.Taking.{Takes}
 use Rattle.std.proofs.Common.{◌≡◌, refl, sym, ap, ◌∙◌, subst, ◌⊎◌, inl, inr, ℕ, suc, ◌+◌, ◌<◌, Bool, true, false, ◌||◌, List, [], ◌∷◌, ◌++◌, drop, get_or, arith, if◌then◌else◌}
 use Rattle.spark_base.specs.Lists.{Has}
 use Rattle.place_names.specs.declared.act.Act.{Act}
