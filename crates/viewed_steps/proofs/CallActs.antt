@@ -58,7 +58,7 @@ use Rattle.owned_loans.specs.Views.{Around, known_gone, Views, Viewed, ViewedAlo
 use Rattle.viewed_soundness.specs.Holds.{Holds, is_view, sees_only, IsOwners, is_exclusive, AllKeep, is_fixed, is_given, lends_first, is_first}
 use Rattle.viewed_soundness.proofs.Given.{IsLow}
 use Rattle.viewed_soundness.proofs.Evaluated.{live_trunk, keep_both}
-use Rattle.viewed_steps.specs.Awaited.{temporaries_of, lasting_of, AreAwaited, AreOwnless, TakesPassed, TakesScalars, StoresNone}
+use Rattle.viewed_steps.specs.Awaited.{temporaries_of, lasting_of, AreAwaited, AreOwnless, TakesPassed}
 use Rattle.viewed_steps.specs.Sound.{Disturbs, IsCopiedBack, IsBeyond, HoldsAt, ArePlaced, NoneAbove, ViewStage, stages_of, GoneElsewhere, AreWaiting, IsResting, IsKindOfFormal, HasTraversals}
 use Rattle.viewed_steps.specs.Ready.{IsReady, IsCalled, IsTraversalCall, IsSeen, AreActualsTo}
 use Rattle.owned_loans.proofs.Allowed.{Cleared}

@@ -59,7 +59,7 @@ use Rattle.owned_loans.proofs.Moves.{expand_under}
 use Rattle.viewed_soundness.proofs.Names.{true_false, owner_sees, given_view}
 use Rattle.viewed_soundness.specs.Holds.{Holds, is_view, sees_only, IsOwners, is_given}
 use Rattle.viewed_soundness.proofs.Given.{IsLow, low_there, low_begins}
-use Rattle.viewed_steps.specs.Awaited.{temporaries_of, lasting_of, awaited, WaitsAt, AreAwaited, AreOwnless, TakesPassed, TakesScalars}
+use Rattle.viewed_steps.specs.Awaited.{temporaries_of, lasting_of, awaited, WaitsAt, AreAwaited, AreOwnless, TakesPassed}
 use Rattle.viewed_steps.proofs.Waited.{within_lasting, Shares, plain_unheld}
 use Rattle.viewed_steps.specs.Sound.{IsCopiedBack, IsBeyond, AreUnmet, HoldsAt, ArePlaced, NoneAbove, ViewStage, stages_of, GoneElsewhere, Disturbs, IsWaiting, AreWaiting, calls_one, LeadsAlong, IsResting, IsKindOfFormal, AreReturned, withheld, KeptBy, IsWayOf, IsBareOf, HasTraversals, NoneGiven, IsTraversal, passed_roots, shown_at, shown_one, known_at, LentBy}
 use Rattle.viewed_steps.specs.Ready.{IsReady, IsCalled}

@@ -47,7 +47,7 @@ use Rattle.viewed_steps.proofs.Entered.{IsFit}
 use Rattle.viewed_steps.proofs.Lent.{ends, Spare, spare_both, spare_naming}
 use Rattle.soundness.proofs.Keeping.{scalar}
 use Rattle.viewed_steps.proofs.Copies.{copies_read}
-use Rattle.viewed_steps.proofs.Reading.{no_reads, both_reads, naming_adds, index_reads, reads_in}
+use Rattle.viewed_steps.proofs.Reading.{no_reads, both_reads, naming_adds, index_reads}
 use Rattle.viewed_steps.proofs.Puts as puts
 use Rattle.viewed_soundness.proofs.Given.{IsLow}
 use Rattle.viewed_soundness.specs.Taken.{types_taken, TakesFit}

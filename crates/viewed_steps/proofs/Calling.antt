@@ -14,7 +14,7 @@ use Rattle.type_definitions.specs.Types.{Table, full, is_scalar, is_owning}
 use Rattle.typed_tree.specs.Trees.{TypedTree, More}
 use Rattle.typed_tree.specs.Programs.{TypedProgram}
 use Rattle.flow_paths.specs.declared.report.Effects.{Effects}
-use Rattle.flow_paths.specs.Instructions.{Instruction, Call}
+use Rattle.flow_paths.specs.Instructions.{Call}
 use Rattle.flow_paths.specs.Objects.{Typing, object_at, is_anonymous, is_package_object, view_of, Passing}
 use Rattle.place_names.specs.Reports.{Report}
 use Rattle.flow_paths.specs.Aliases.{overlap_reports, passed_reports, call_reports}
@@ -53,7 +53,6 @@ use Rattle.soundness.proofs.Points.{flow_at, sub_in_range, one_named, one_point}
 use Rattle.soundness.proofs.Inherited.{after_splits, AreGlobal, global_after, global_allowed, global_apart, Splits}
 use Rattle.soundness.proofs.Used.{used_global, globals_are}
 use Rattle.soundness.proofs.Around.{IsFar}
-use Rattle.soundness.proofs.Taking.{Takes}
 use Rattle.soundness.proofs.Eased.{eased}
 use Rattle.soundness.proofs.Scoped.{Inside}
 use Rattle.owned_loans.specs.Views.{expand, Around, known_gone, Views, Viewed, ViewedAlone, IsOuter}
@@ -64,7 +63,7 @@ use Rattle.owned_loans.proofs.Meeting.{stands}
 use Rattle.viewed_soundness.proofs.Names.{true_false, owner_sees}
 use Rattle.viewed_soundness.specs.Holds.{Holds, is_view, sees_only, is_given, IsOwners}
 use Rattle.soundness.specs.Ready.{IsSupplied, Fills}
-use Rattle.viewed_steps.specs.Awaited.{AreValuesBut, temporaries_of, lasting_of, awaited, WaitsAt, AreAwaited, AreOwnless, TakesPassed, FillsTyped, TakesScalars}
+use Rattle.viewed_steps.specs.Awaited.{AreValuesBut, temporaries_of, lasting_of, awaited, WaitsAt, AreAwaited, AreOwnless, TakesPassed, FillsTyped}
 use Rattle.viewed_steps.proofs.Waited.{late_scope, within_lasting, lasting_more, Shares}
 use Rattle.viewed_steps.specs.Sound.{IsCopiedBack, IsBeyond, HoldsAt, ArePlaced, NoneAbove, ViewStage, stages_of, GoneElsewhere, Disturbs, AreWaiting, IsResting, IsKindOfFormal, IsScalarObject, HasTraversals, passed_roots}
 use Rattle.viewed_steps.specs.Ready.{IsReady, roots_passed, IsCalled, IsTraversalCall}
