@@ -52,7 +52,7 @@ use Rattle.gathered_laws.specs.Views.{AreViews}
 use Rattle.gathered_laws.proofs.Parts as parts
 use Rattle.anonymous_types.proofs.Main as anonymous
 use Rattle.typed_laws.specs.Fine.{Laws, counts, lists}
-use Rattle.typed_steps.specs.Steps.{AreTyped as AreStepsTyped}
+use Rattle.typed_steps.specs.Steps.{IsTypedStep, AreTyped as AreStepsTyped}
 use Rattle.typed_points.specs.Meant.{AreMeantUnits, typing_meant}
 use Rattle.machine.specs.States.{sub_of}
 use Rattle.machine.specs.Owners.{is_in, is_in_formal}
