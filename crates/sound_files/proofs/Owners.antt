@@ -8,6 +8,7 @@ use Rattle.type_definitions.specs.Types.{Table, full, is_scalar, is_owning}
 use Rattle.type_definitions.specs.Whole.{known_of}
 use Rattle.typed_tree.specs.declared.object.Object.{Object}
 use Rattle.typed_tree.specs.Trees.{TypedTree, More, Name, Call as CallIn}
+use Rattle.typed_tree.specs.Trees as typed
 use Rattle.typed_tree.specs.Programs.{TypedSub, typed_program}
 use Rattle.flow_paths.specs.Instructions.{Call, Instruction, Declare, Assign, Hold}
 use Rattle.flow_paths.specs.Objects.{Typing, Signature, object_at, sub_at, is_formal_kind, is_formal, is_state, is_anonymous, is_named_access, is_package_object, view_of, is_borrowing}
@@ -16,6 +17,7 @@ use Rattle.flow_paths.specs.Laid.{FlowSub, FlowProgram, flow_typing, flow_progra
 use Rattle.flow_paths.specs.Acts.{gives_variable}
 use Rattle.flow_paths.specs.Names.{has_call}
 use Rattle.viewed_soundness.specs.Holds.{is_given}
+use Rattle.viewed_soundness.specs.Taken.{GivesPlainly}
 use Rattle.type_definitions.specs.declared.judgement.View.{View}
 use Rattle.type_definitions.specs.declared.judgement.View.TheVariants as view
 use Rattle.machine.specs.States.{no_sub, sub_of}
@@ -26,7 +28,7 @@ use Rattle.machine.specs.Run.{no_point}
 use Rattle.soundness.proofs.Passing.{signature_is}
 use Rattle.soundness.proofs.Typings.{Agree, flow_agrees, formal_same}
 use Rattle.viewed_steps.specs.Sound.{LendsShared}
-use Rattle.called_subs.specs.Called.{PointCalls, CodeCalls}
+use Rattle.called_subs.specs.Called.{Calls, PointCalls, CodeCalls}
 use Rattle.called_subs.proofs.Main.{points_asked_at}
 use Rattle.called_subs.proofs.Statements.{IsFineSub}
 use Rattle.ready_laws.specs.InOrder.{IsSub}
@@ -37,6 +39,17 @@ use Rattle.sound_files.proofs.Weaker.{code_weaker}
 use Rattle.sound_files.proofs.Called.{at_number}
 use Rattle.sound_files.proofs.Results.{results_fit}
 use Rattle.sound_files.proofs.Classes.{all_of, signature_at, signature_same, signature_there, mode_same, scalar_results}
+
+-- In an expression without calls none gives a value.
+pub plainly_given : (s : Typing) (e : TypedTree) → Calls (λ n actuals. ⊥) e → GivesPlainly s e
+unfolding Calls GivesPlainly
+plainly_given s (CallIn q n a) none = absurd none.0
+plainly_given s (typed.Parens e) none = plainly_given s e none
+plainly_given s (typed.Aggregate t es) none = plainly_given s es none
+plainly_given s (typed.Alike t e) none = plainly_given s e none
+plainly_given s (typed.New t v) none = plainly_given s v none
+plainly_given s (More e rest) none = (plainly_given s e none.0, plainly_given s rest none.1)
+plainly_given s e none = tt
 
 module _ (p : Program) where
   abbrev table : Table
