@@ -189,13 +189,13 @@ module _ (p : Program) (once : Once (map (λ (o : DeclaredObject). o.number) (pr
   functions_see n t x is has lends =
       none_of (is_named_access (view_of wide x)) (list_any (is_of_procedure x) wide.subs) (list_any (lends_first wide x) wide.subs)
       (λ any. (let found = any_from (is_of_procedure x) wide.subs any in
-          let none = and_first (not (is_some (found.0).result)) (list_any (λ y. y == x) (found.0).formals) found.2 in
-          let listed_there = listed (found.0).formals x (and_second (not (is_some (found.0).result)) (list_any (λ y. y == x) (found.0).formals) found.2) in
-          no_result (found.0).result t none (ap (λ (z : Signature). z.result) (sym (same found.0 found.1 listed_there)) ∙ is)))
+      let none = and_first (not (is_some (found.0).result)) (list_any (λ y. y == x) (found.0).formals) found.2 in
+      let listed_there = listed (found.0).formals x (and_second (not (is_some (found.0).result)) (list_any (λ y. y == x) (found.0).formals) found.2) in
+      no_result (found.0).result t none (ap (λ (z : Signature). z.result) (sym (same found.0 found.1 listed_there)) ∙ is)))
       (λ any. (let found = any_from (lends_first wide x) wide.subs any in
-          let first = first_has (found.0).formals x (and_second (gives_variable wide (found.0).result) (is_first x (found.0).formals) found.2) in
-          let no : true ≡ false = sym found.2 ∙ ap (lends_first wide x) (sym (same found.0 found.1 first)) ∙ lends in
-          cc))
+      let first = first_has (found.0).formals x (and_second (gives_variable wide (found.0).result) (is_first x (found.0).formals) found.2) in
+      let no : true ≡ false = sym found.2 ∙ ap (lends_first wide x) (sym (same found.0 found.1 first)) ∙ lends in
+      cc))
     where
       mine : Has wide.subs (sub_at wide n)
       mine = elim (got wide.subs n) [

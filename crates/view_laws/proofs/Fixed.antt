@@ -302,7 +302,7 @@ module _ (table : Table) (typed : TypedProgram) (effects : Effects) (given : IsV
     unfixed a h m e =
         fixed_none (is_observer s m.root) (is_given s m.root) (is_exclusive s m.root) (is_nil m.sels) (changed_plain a h m e)
         (λ is. (let found = changed_formal a h m e is in
-            (own_exclusive m.root (changed_named a h m e).0 is found.0 found.1, flipped (is_nil m.sels) found.2)))
+        (own_exclusive m.root (changed_named a h m e).0 is found.0 found.1, flipped (is_nil m.sels) found.2)))
 
     -- nor is what a call of a procedure lends
     pub unlent : (a : Placed) → Has at.acts a → (k m : PlaceName) (how : Mode) (owning access : Bool) → a.act ≡ act.Actual k how owning access → lends a.act ≡ Some m
@@ -437,9 +437,9 @@ module _ (table : Table) (typed : TypedProgram) (effects : Effects) (given : IsV
     root_own z steps u leads none y (inr never) a h e = absurd never
     root_own z steps u leads none y (inl same) a h e =
         subst (λ k. is_view_formal s k ≡ false) same (by_true (is_view_formal s z) (λ view.
-            (let found = changed_formal a h (name_of z steps) e (ap (λ b. b || (is_in_formal s z && is_anonymous (view_of s z))) view) in
-            let access = unnamed_access (shape_of s.table (object_at s z).of) found.1 in
-            no_part z steps u leads access.0 access.1 access.2 access.3 none found.2)))
+        (let found = changed_formal a h (name_of z steps) e (ap (λ b. b || (is_in_formal s z && is_anonymous (view_of s z))) view) in
+        let access = unnamed_access (shape_of s.table (object_at s z).of) found.1 in
+        no_part z steps u leads access.0 access.1 access.2 access.3 none found.2)))
 
     own_root : (m : Mode) (owning access : Bool) → is_in m ≡ false → (e : TypedTree) (t : ℕ) → IsPlace s e t → goes_through_none e ≡ true
         → ((a : Placed) → Has (actual_act (passing_by m owning access) e) a → Has at.acts a) → IsOwnPlace s e

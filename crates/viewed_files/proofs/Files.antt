@@ -316,8 +316,8 @@ module _ (files : List (List SourceUnit)) where
           (subst (λ (rows : Table). lists (shape_of rows boolean) ≡ true) same_table laws.listed)
           (subst (λ (rows : Table). (t : ℕ) → words rows t ≡ words_of (words rows) (shape_of rows t)) same_table laws.word_law) owns typed kinds fit
           (λ sub has q there n actuals result is.
-              subst (λ fs. NamesOwners (flow_typing flow_of_files) fs actuals) (ap (λ (z : flow.Signature). z.formals) (signature_is flow_of_files n))
-              (subst (λ i. WithinStep (flow_typing flow_of_files) sub.result i) is (files_used files apart ended up named no_fault sub has q there).1).0.0)
+          subst (λ fs. NamesOwners (flow_typing flow_of_files) fs actuals) (ap (λ (z : flow.Signature). z.formals) (signature_is flow_of_files n))
+          (subst (λ i. WithinStep (flow_typing flow_of_files) sub.result i) is (files_used files apart ended up named no_fault sub has q there).1).0.0)
 
       main_in : IsSub (bodies_of p) order.number order.main
       main_in = subst (λ rest. IsSub rest order.number order.main) (sym rest_is) order.stands
