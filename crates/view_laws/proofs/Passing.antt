@@ -33,7 +33,7 @@ use Rattle.ready_laws.proofs.Subs.{setting_from, body_at, one_named}
 use Rattle.ready_laws.proofs.Ready as ordered
 use Rattle.ready_laws.proofs.Ready.{seen_has}
 use Rattle.viewed_steps.specs.Sound.{IsScalarObject}
-use Rattle.viewed_steps.specs.Ready.{AreDifferent, ArePassed, IsCopyOf, IsActualTo, AreActualsTo, IsCalled, AreCalled}
+use Rattle.viewed_steps.specs.Ready.{AreDifferent, ArePassed, IsCopyOf, AreActualsTo, IsCalled, AreCalled}
 use Rattle.viewed_steps.proofs.Placed.{within_on}
 use Rattle.view_laws.specs.Program.{IsPassedTo, ArePassedTo, PassActuals}
 use Rattle.view_laws.proofs.Formals.{first_scope, has_within, has_reversed, once_different, passed_named}

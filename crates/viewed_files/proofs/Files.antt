@@ -1,6 +1,6 @@
 -- Borrowers and observers of files that break no rule are in order, and the runs of their program are sound where
 -- nothing is reported, results are of scalar types or stand alone, and formals are of scalar types or of mode `in out`.
-use Rattle.std.proofs.Common.{◌≡◌, refl, sym, ap, ◌∙◌, subst, ◌⊎◌, inl, inr, ℕ, Bool, true, false, ◌&&◌, List, [], ◌∷◌, Some, None, is_some}
+use Rattle.std.proofs.Common.{◌≡◌, refl, sym, ap, ◌∙◌, subst, inl, inr, ℕ, Bool, true, false, ◌&&◌, List, [], ◌∷◌, Some, None}
 use Rattle.spark_base.specs.Lists.{Has}
 use Rattle.place_names.specs.declared.act.Mode.{Mode}
 use Rattle.place_names.specs.declared.act.Mode.TheVariants as mode
@@ -52,7 +52,7 @@ use Rattle.soundness.specs.Typed.{OwnsByShape}
 use Rattle.soundness.proofs.Passing.{plain_type, signature_is}
 use Rattle.soundness.specs.Sound.{Accepted, RunIsSound}
 use Rattle.soundness.proofs.Points.{flow_table}
-use Rattle.viewed_soundness.specs.Holds.{PartsAreNamed, is_exclusive}
+use Rattle.viewed_soundness.specs.Holds.{PartsAreNamed}
 use Rattle.ready_laws.specs.InOrder.{IsInOrder, IsSub, AreAnswered, AreStill, ArePassed}
 use Rattle.ready_laws.proofs.Actuals.{typed_passed}
 use Rattle.order_laws.specs.Orderly.{typed_of, typing_in, bodies_of, IsOrderly}
@@ -83,7 +83,7 @@ use Rattle.sound_files.proofs.Main.{files_orderly}
 use Rattle.viewed_steps.specs.Ready.{IsReady}
 use Rattle.viewed_steps.proofs.Main.{ready_sound}
 use Rattle.view_laws.specs.InOrder.{AreViewsInOrder}
-use Rattle.viewed_steps.specs.Sound.{IsScalarObject, IsShown, IsKindOfFormal, LendsShared}
+use Rattle.viewed_steps.specs.Sound.{IsScalarObject, IsKindOfFormal, LendsShared}
 use Rattle.view_laws.specs.Program.{PassActuals, IsViewProgram}
 use Rattle.view_laws.proofs.Ready.{views_ready}
 use Rattle.viewed_files.proofs.Sources.{scalar_plain}
