@@ -34,6 +34,7 @@ use Rattle.flow_paths.specs.Effects.{AreEffects}
 use Rattle.flow_paths.specs.Instructions.{Instruction, Declare, Assign, Call, Hold}
 use Rattle.flow_paths.specs.Objects.{Typing}
 use Rattle.flow_paths.specs.Objects as flow
+use Rattle.flow_paths.specs.Acts.{gives_variable}
 use Rattle.flow_paths.specs.Points.{FlowPoint}
 use Rattle.flow_paths.specs.Laid.{FlowSub, FlowProgram, flow_typing, flow_program}
 use Rattle.flow_paths.specs.Reports.{AreReports}
@@ -458,7 +459,7 @@ module _ (files : List (List SourceUnit)) where
           step : IsTypedStep wide sub.result (Call n actuals result)
           step = subst (λ i. IsTypedStep wide sub.result i) is (typed sub has q there)
 
-          given_some : (o : Option ℕ) → flow.gives_variable wide o ≡ true → is_some o ≡ true
+          given_some : (o : Option ℕ) → gives_variable wide o ≡ true → is_some o ≡ true
           given_some None e = cc
           given_some (Some t) e = refl
 
