@@ -34,6 +34,7 @@ use Rattle.flow_paths.specs.Effects.{AreEffects}
 use Rattle.flow_paths.specs.Instructions.{Instruction, Declare, Assign, Call, Hold}
 use Rattle.flow_paths.specs.Objects.{Typing}
 use Rattle.flow_paths.specs.Objects as flow
+use Rattle.flow_paths.specs.Acts.{gives_variable}
 use Rattle.flow_paths.specs.Points.{FlowPoint}
 use Rattle.flow_paths.specs.Laid.{FlowSub, FlowProgram, flow_typing, flow_program}
 use Rattle.flow_paths.specs.Reports.{AreReports}
@@ -52,7 +53,7 @@ use Rattle.gathered_laws.specs.Views.{AreViews}
 use Rattle.gathered_laws.proofs.Parts as parts
 use Rattle.anonymous_types.proofs.Main as anonymous
 use Rattle.typed_laws.specs.Fine.{Laws, counts, lists}
-use Rattle.typed_steps.specs.Steps.{AreTyped as AreStepsTyped}
+use Rattle.typed_steps.specs.Steps.{IsTypedStep, AreTyped as AreStepsTyped}
 use Rattle.typed_points.specs.Meant.{AreMeantUnits, typing_meant}
 use Rattle.machine.specs.States.{sub_of}
 use Rattle.machine.specs.Owners.{is_in, is_in_formal}
@@ -465,7 +466,7 @@ module _ (files : List (List SourceUnit)) where
           step : IsTypedStep wide sub.result (Call n actuals result)
           step = subst (λ i. IsTypedStep wide sub.result i) is (typed sub has q there)
 
-          given_some : (o : Option ℕ) → flow.gives_variable wide o ≡ true → is_some o ≡ true
+          given_some : (o : Option ℕ) → gives_variable wide o ≡ true → is_some o ≡ true
           given_some None e = cc
           given_some (Some t) e = refl
 
