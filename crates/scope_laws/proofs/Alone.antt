@@ -17,7 +17,7 @@ use Rattle.flow_paths.specs.Prep.{Setting, held, with_held, prep}
 use Rattle.flow_paths.specs.Layout.{Around, within_loop, within_block, with_scope, declared, from, ending, ends, uses, uses_both, uses_second_first, laid, laid_branches, laid_branch, laid_whens, laid_when}
 use Rattle.flow_paths.specs.Laid.{declared_within, around_body, scope_at_end, function_end, procedure_end, sub_points}
 use Rattle.scope_laws.specs.Code.{objects_of}
-use Rattle.scope_laws.specs.Alone.{CallsOnly, ValueFits, SourceFits, CodeFits, BranchesFit, BranchFits, AlternativesFit, AlternativeFits}
+use Rattle.scope_laws.specs.Alone.{CallsWithin, IsMade, CallsOnly, ValueFits, SourceFits, CodeFits, BranchesFit, BranchFits, AlternativesFit, AlternativeFits}
 use Rattle.scope_laws.proofs.Lists.{has_reverse}
 use Rattle.scope_laws.proofs.Given.{Takes, none_held, none_before}
 
@@ -42,11 +42,13 @@ drop_none [] = refl
 drop_none (x ∷ xs) = refl
 
 -- A point is so, or what is in scope is good but for the last one, which the point takes alone.
-abbrev pub IsFine : (ask alone good : ℕ → Type 0) → NamedPoint → Type 0
-IsFine ask alone good p =
+abbrev pub IsFine : List NamedPoint → (ask alone good : ℕ → Type 0) → NamedPoint → Type 0
+IsFine whole ask alone good p =
     IsGoodPoint ask alone good p
-    ⊎ ((t : ℕ) × (rest : List ℕ) × (p.scope ≡ t ∷ rest) × AllGood good rest × (q : Pos) × (n : ℕ) × (a : TypedTree) × Takes p.instr (typed.Call q n a)
+    ⊎ (((t : ℕ) × (rest : List ℕ) × (p.scope ≡ t ∷ rest) × AllGood good rest × (q : Pos) × (n : ℕ) × (a : TypedTree) × Takes p.instr (typed.Call q n a)
     × alone n)
+    ⊎ ((t : ℕ) × (rest : List ℕ) × (p.scope ≡ t ∷ rest) × AllGood good rest × (e : TypedTree) × (n : ℕ) × Takes p.instr e × CallsWithin ask n e × IsMade e
+    × alone n × (r : NamedPoint) × Has whole r × (a : TypedTree) × (r.instr ≡ instruction.Call n a (Some t))))
 
 module _ (s : Setting) (whole : List NamedPoint) (ask alone good : ℕ → Type 0) (weaker : (n : ℕ) → ask n → alone n)
     (fills : (r : NamedPoint) → Has whole r → (n : ℕ) (a : TypedTree) (t : ℕ) → r.instr ≡ instruction.Call n a (Some t) → ask n → good t)
@@ -204,16 +206,67 @@ module _ (s : Setting) (whole : List NamedPoint) (ask alone good : ℕ → Type 
   prep_good (New t e) at scope k only within fine = prep_good e (0 ∷ at) scope k only within fine
   prep_good _ at scope k only within fine = λ p has. absurd has
 
+  -- what holds the value of one call within an expression
+  abbrev IsHeldBy : ℕ → TypedTree → Place → List ℕ → List PointName → Type 0
+  IsHeldBy n e at scope k =
+      (t : ℕ) × (held s e at ≡ t ∷ []) × AreGood (prep s e at scope k) × (r : NamedPoint) × Has whole r × (a : TypedTree) × (r.instr ≡ instruction.Call n a (Some t))
+
+  held_within : (n : ℕ) → alone n → (e : TypedTree) (at : Place) (scope : List ℕ) (k : List PointName) → CallsWithin ask n e → Within (prep s e at scope k) → AllGood good scope
+      → IsHeldBy n e at scope k
+  unfolding held prep CallsWithin
+  held_within n may (typed.Call p sub actuals) at scope k (same, only) within fine =
+      let before : List NamedPoint = prep s actuals (0 ∷ at) scope (row_at at 0 ∷ []) in (
+        s.temporary at,
+        refl,
+        points_both before _ (prep_good actuals (0 ∷ at) scope (row_at at 0 ∷ []) only (first_of before _ within) fine)
+            (points_one _ (evaluated_good actuals (0 ∷ at) scope (row_at at 0 ∷ []) only (first_of before _ within) fine) (subst alone (sym same) may)),
+        _,
+        within _ (Has-append_right before (_ ∷ []) _ (inl refl)),
+        actuals,
+        ap (λ m. instruction.Call m actuals (Some (s.temporary at))) same,
+      )
+  held_within n may (Parens e) at scope k calls within fine = held_within n may e (0 ∷ at) scope k calls within fine
+  held_within n may (Aggregate t es) at scope k calls within fine = held_within n may es (0 ∷ at) scope k calls within fine
+  held_within n may (New t (typed.More a b)) at scope k calls within fine = held_within n may (typed.More a b) (0 ∷ at) scope k (inl calls) within fine
+  held_within n may (typed.More a b) at scope k (inl (mine, none)) within fine =
+      let inner : List ℕ = with_held s a (0 ∷ at) scope in
+      let behind : List NamedPoint = prep s b (1 ∷ at) inner k in
+      let before : List NamedPoint = prep s a (0 ∷ at) scope (entry behind k) in
+      let h = held_within n may a (0 ∷ at) scope (entry behind k) mine (first_of before behind within) fine in (
+        h.0,
+        (λ j. none_held s b (1 ∷ at) none j ++ h.1 j),
+        points_both before behind h.2 (subst AreGood (sym (none_before s b (1 ∷ at) inner k none)) (λ p has. absurd has)),
+        h.3,
+        h.4,
+        h.5,
+        h.6,
+      )
+  held_within n may (typed.More a b) at scope k (inr (none, mine)) within fine =
+      let inner : List ℕ = with_held s a (0 ∷ at) scope in
+      let behind : List NamedPoint = prep s b (1 ∷ at) inner k in
+      let before : List NamedPoint = prep s a (0 ∷ at) scope (entry behind k) in
+      let fine_inner : AllGood good inner = subst (AllGood good) (sym (ap (λ z. z ++ scope) (none_held s a (0 ∷ at) none))) fine in
+      let h = held_within n may b (1 ∷ at) inner k mine (second_of before behind within) fine_inner in (
+        h.0,
+        (λ j. h.1 j ++ none_held s a (0 ∷ at) none j),
+        points_both before behind (subst AreGood (sym (none_before s a (0 ∷ at) scope (entry behind k) none)) (λ p has. absurd has)) h.2,
+        h.3,
+        h.4,
+        h.5,
+        h.6,
+      )
+  held_within n may e at scope k calls within fine = absurd calls
+
   -- ---- the points of statements
 
   abbrev AreFine : List NamedPoint → Type 0
-  AreFine ps = (p : NamedPoint) → Has ps p → IsFine ask alone good p
+  AreFine ps = (p : NamedPoint) → Has ps p → IsFine whole ask alone good p
 
   fine_both : (ps qs : List NamedPoint) → AreFine ps → AreFine qs → AreFine (ps ++ qs)
   fine_both ps qs h g p has = elim (Has-append_cases ps qs p has) [ inl l ↦ h p l | inr r ↦ g p r ]
 
-  fine_one : (p : NamedPoint) → IsFine ask alone good p → AreFine (p ∷ [])
-  fine_one p h q (inl same) = subst (IsFine ask alone good) same h
+  fine_one : (p : NamedPoint) → IsFine whole ask alone good p → AreFine (p ∷ [])
+  fine_one p h q (inl same) = subst (IsFine whole ask alone good) same h
   fine_one p h q (inr never) = absurd never
 
   as_fine : (ps : List NamedPoint) → AreGood ps → AreFine ps
@@ -248,12 +301,18 @@ module _ (s : Setting) (whole : List NamedPoint) (ask alone good : ℕ → Type 
   -- the value of a declaration or of a return
   value_fine : (at : Place) (p : Pos) (v : TypedTree) (i : Instruction) (w : Around) (next : List PointName) → ((e : TypedTree) → v ≡ typed.More e NoMore → Takes i e)
       → (CallsOnly ask v → TakesAsked ask alone i) → ValueFits ask alone v → Within (uses s at p v i w next) → AllGood good w.scope → AreFine (uses s at p v i w next)
-  unfolding held prep
+  unfolding held prep CallsWithin has_call
   value_fine at p v i w next takes asked (inl only) within fine = uses_good at p v i w next only within fine (asked only)
-  value_fine at p v i w next takes asked (inr (q, n, a, is, may, only)) within fine =
+  value_fine at p v i w next takes asked (inr (inr (n, e, is, may, calls, made))) within fine =
+      let before : List NamedPoint = prep s v (0 ∷ at) w.scope (row_at at 0 ∷ []) in
+      let calls_there : CallsWithin ask n v = subst (CallsWithin ask n) (sym is) (inl (calls, refl)) in
+      let h = held_within n may v (0 ∷ at) w.scope (row_at at 0 ∷ []) calls_there (first_of before _ within) fine in
+      fine_both before _ (as_fine before h.2)
+      (fine_one _ (inr (inr (h.0, w.scope, ap (λ z. z ++ w.scope) h.1, fine, e, n, takes e is, calls, made, may, h.3, h.4, h.5, h.6))))
+  value_fine at p v i w next takes asked (inr (inl (q, n, a, is, may, only))) within fine =
       let before : List NamedPoint = prep s v (0 ∷ at) w.scope (row_at at 0 ∷ []) in
       fine_both before _ (as_fine before (alone_before (first_of before _ within)))
-      (fine_one _ (inr (
+      (fine_one _ (inr (inl (
         s.temporary (0 ∷ 0 ∷ at),
         w.scope,
         ap (λ z. with_held s z (0 ∷ at) w.scope) is,
@@ -263,7 +322,7 @@ module _ (s : Setting) (whole : List NamedPoint) (ask alone good : ℕ → Type 
         a,
         takes (typed.Call q n a) is,
         may,
-      )))
+      ))))
     where
       alone_before : Within (prep s v (0 ∷ at) w.scope (row_at at 0 ∷ [])) → AreGood (prep s v (0 ∷ at) w.scope (row_at at 0 ∷ []))
       alone_before inside =
@@ -290,7 +349,31 @@ module _ (s : Setting) (whole : List NamedPoint) (ask alone good : ℕ → Type 
       (points_both before behind (prep_good e (1 ∷ at) w.scope (entry behind (row_at at 0 ∷ [])) plain first fine)
       (prep_good target (0 ∷ at) inner (row_at at 0 ∷ []) only second fine_inner))
       (points_one _ (evaluated_good target (0 ∷ at) inner (row_at at 0 ∷ []) only second fine_inner) plain))
-  assign_fine at p target e w next only (inr (q, n, a, is, may, plain, r, x, path, u, target_is, none)) within fine =
+  assign_fine at p target e w next only (inr (inr (n, may, calls, made, r, x, path, u, target_is, none))) within fine =
+      let inner : List ℕ = with_held s e (1 ∷ at) w.scope in
+      let behind : List NamedPoint = prep s target (0 ∷ at) inner (row_at at 0 ∷ []) in
+      let before : List NamedPoint = prep s e (1 ∷ at) w.scope (entry behind (row_at at 0 ∷ [])) in
+      let h = held_within n may e (1 ∷ at) w.scope (entry behind (row_at at 0 ∷ [])) calls (first_of before behind (first_of (before ++ behind) _ within)) fine in
+      fine_both (before ++ behind) _
+      (fine_both before behind (as_fine before h.2)
+      (subst (λ z. AreFine (prep s z (0 ∷ at) inner (row_at at 0 ∷ []))) (sym target_is) (subst AreFine (sym (none_before s path (0 ∷ 0 ∷ at) inner (row_at at 0 ∷ []) none)) (λ y has. absurd has))))
+      (fine_one _ (inr (inr (
+        h.0,
+        w.scope,
+        ap (λ z. held s z (0 ∷ at) ++ inner) target_is ∙ ap (λ z. z ++ inner) (none_held s path (0 ∷ 0 ∷ at) none) ∙ ap (λ z. z ++ w.scope) h.1,
+        fine,
+        e,
+        n,
+        inr (inl (r, x, path, u, ap (λ z. instruction.Assign z e) target_is, none)),
+        calls,
+        made,
+        may,
+        h.3,
+        h.4,
+        h.5,
+        h.6,
+      ))))
+  assign_fine at p target e w next only (inr (inl (q, n, a, is, may, plain, r, x, path, u, target_is, none))) within fine =
       let inner : List ℕ = with_held s e (1 ∷ at) w.scope in
       let behind : List NamedPoint = prep s target (0 ∷ at) inner (row_at at 0 ∷ []) in
       let before : List NamedPoint = prep s e (1 ∷ at) w.scope (entry behind (row_at at 0 ∷ [])) in
@@ -298,7 +381,7 @@ module _ (s : Setting) (whole : List NamedPoint) (ask alone good : ℕ → Type 
       (fine_both before behind
       (as_fine before (call_before (entry behind (row_at at 0 ∷ [])) (first_of before behind (first_of (before ++ behind) _ within))))
       (subst (λ z. AreFine (prep s z (0 ∷ at) inner (row_at at 0 ∷ []))) (sym target_is) (subst AreFine (sym (none_before s path (0 ∷ 0 ∷ at) inner (row_at at 0 ∷ []) none)) (λ y has. absurd has))))
-      (fine_one _ (inr (
+      (fine_one _ (inr (inl (
         s.temporary (1 ∷ at),
         w.scope,
         scope_is inner (ap (λ z. with_held s z (1 ∷ at) w.scope) is),
@@ -308,7 +391,7 @@ module _ (s : Setting) (whole : List NamedPoint) (ask alone good : ℕ → Type 
         a,
         inr (inl (r, x, path, u, (λ j. instruction.Assign (target_is j) (is j)), none)),
         may,
-      )))
+      ))))
     where
       scope_is : (inner : List ℕ) → inner ≡ s.temporary (1 ∷ at) ∷ w.scope → with_held s target (0 ∷ at) inner ≡ s.temporary (1 ∷ at) ∷ w.scope
       scope_is inner same =
@@ -454,7 +537,7 @@ module _ (s : Setting) (whole : List NamedPoint) (ask alone good : ℕ → Type 
 pub sub_fine : (s : Setting) (sub : TypedSub) (ask alone good : ℕ → Type 0) → ((n : ℕ) → ask n → alone n)
     → ((r : NamedPoint) → Has (sub_points s sub) r → (n : ℕ) (a : TypedTree) (t : ℕ) → r.instr ≡ instruction.Call n a (Some t) → ask n → good t)
     → ((r : NamedPoint) → Has (sub_points s sub) r → (t : ℕ) (e : TypedTree) (op : ShortCircuit) → r.instr ≡ instruction.Evaluate t e (Some op) → good t)
-    → CodeFits ask alone sub.body → AllGood good (objects_of sub) → (p : NamedPoint) → Has (sub_points s sub) p → IsFine ask alone good p
+    → CodeFits ask alone sub.body → AllGood good (objects_of sub) → (p : NamedPoint) → Has (sub_points s sub) p → IsFine (sub_points s sub) ask alone good p
 sub_fine s sub ask alone good weaker fills truths fits objects =
     fine_both s (sub_points s sub) ask alone good weaker fills truths (laid s sub.body (0 ∷ []) (around_body s sub) _) _
     (laid_fine s (sub_points s sub) ask alone good weaker fills truths sub.body (0 ∷ []) (around_body s sub) _ fits

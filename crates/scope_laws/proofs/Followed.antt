@@ -14,17 +14,22 @@ use Rattle.flow_paths.specs.Points.{Place, PointName, row_at, NamedPoint, point,
 use Rattle.flow_paths.specs.Prep.{Setting, with_held, prep}
 use Rattle.flow_paths.specs.Layout.{Around, within_loop, within_block, from, ending, ends, uses, uses_both, uses_second_first, laid, laid_branches, laid_branch, laid_whens, laid_when}
 use Rattle.flow_paths.specs.Laid.{around_body, scope_at_end, function_end, procedure_end, sub_points}
-use Rattle.scope_laws.specs.Alone.{CallsOnly, ValueFits, SourceFits, CodeFits, BranchesFit, BranchFits, AlternativesFit, AlternativeFits}
+use Rattle.scope_laws.specs.Alone.{CallsWithin, IsMade, CallsOnly, ValueFits, SourceFits, CodeFits, BranchesFit, BranchFits, AlternativesFit, AlternativeFits}
 use Rattle.scope_laws.proofs.Given.{Takes, none_before}
 
 -- The one successor of a point takes what a function gives.
 abbrev pub IsFollowed : List NamedPoint → NamedPoint → ℕ → TypedTree → Type 0
 IsFollowed whole p n a = (q : NamedPoint) × Has whole q × (p.next ≡ q.name ∷ []) × (r : Pos) × Takes q.instr (typed.Call r n a)
 
--- Each function that points call is as asked; or what it gives is taken next.
+-- Or what it gives is within what a point takes that is made.
+abbrev pub IsWithinOne : (ℕ → Type 0) → List NamedPoint → ℕ → Type 0
+IsWithinOne ask whole n = (q : NamedPoint) × Has whole q × (e : TypedTree) × Takes q.instr e × CallsWithin ask n e × IsMade e
+
+-- Each function that points call is as asked; or what it gives is taken next, or within what is made.
 abbrev pub AreFollowed : (ℕ → Type 0) → List NamedPoint → Type 0
 AreFollowed ask ps =
-    (p : NamedPoint) → Has ps p → (n : ℕ) (a : TypedTree) (t : ℕ) → p.instr ≡ instruction.Call n a (Some t) → ask n ⊎ IsFollowed ps p n a
+    (p : NamedPoint) → Has ps p → (n : ℕ) (a : TypedTree) (t : ℕ) → p.instr ≡ instruction.Call n a (Some t)
+    → ask n ⊎ (IsFollowed ps p n a ⊎ IsWithinOne ask ps n)
 
 module _ (s : Setting) (ask alone : ℕ → Type 0) where
   -- all of them are as asked
@@ -83,6 +88,50 @@ module _ (s : Setting) (ask alone : ℕ → Type 0) where
   prep_asked (New t e) at scope k fits = prep_asked e (0 ∷ at) scope k fits
   prep_asked _ at scope k fits = λ p has n a t is. absurd has
 
+  -- those of an expression with one call that gives a part of its value are as asked, but for that one
+  abbrev AreOrThis : ℕ → List NamedPoint → Type 0
+  AreOrThis n ps = (p : NamedPoint) → Has ps p → (m : ℕ) (a : TypedTree) (t : ℕ) → p.instr ≡ instruction.Call m a (Some t) → ask m ⊎ (m ≡ n)
+
+  these : (n : ℕ) (ps qs : List NamedPoint) → AreOrThis n ps → AreOrThis n qs → AreOrThis n (ps ++ qs)
+  these n ps qs h g p has = elim (Has-append_cases ps qs p has) [ inl l ↦ h p l | inr r ↦ g p r ]
+
+  asked_these : (n : ℕ) (ps : List NamedPoint) → AreAsked ps → AreOrThis n ps
+  asked_these n ps asked p has m a t is = inl (asked p has m a t is)
+
+  this_call : (n : ℕ) (p : NamedPoint) (m : ℕ) (a : TypedTree) (t : ℕ) → p.instr ≡ instruction.Call m a (Some t) → m ≡ n → AreOrThis n (p ∷ [])
+  this_call n p m a t is same q (inl one) k b u other = inr (sym (same_sub m k a b t u (sym is ∙ ap (λ (z : NamedPoint). z.instr) one ∙ other)) ∙ same)
+    where
+      same_sub : (m k : ℕ) (a b : TypedTree) (t u : ℕ) → instruction.Call m a (Some t) ≡ instruction.Call k b (Some u) → m ≡ k
+      same_sub m k a b t u e = cc
+  this_call n p m a t is same q (inr never) k b u other = absurd never
+
+  prep_within : (n : ℕ) (e : TypedTree) (at : Place) (scope : List ℕ) (k : List PointName) → CallsWithin ask n e → AreOrThis n (prep s e at scope k)
+  unfolding prep CallsWithin
+  prep_within n (typed.Call p sub actuals) at scope k (same, inner) =
+      these n (prep s actuals (0 ∷ at) scope (row_at at 0 ∷ [])) _ (asked_these n _ (prep_asked actuals (0 ∷ at) scope (row_at at 0 ∷ []) inner))
+      (this_call n _ sub actuals (s.temporary at) refl same)
+  prep_within n (Parens e) at scope k calls = prep_within n e (0 ∷ at) scope k calls
+  prep_within n (Aggregate t es) at scope k calls = prep_within n es (0 ∷ at) scope k calls
+  prep_within n (New t (typed.More a b)) at scope k calls = prep_within n (typed.More a b) (0 ∷ at) scope k (inl calls)
+  prep_within n (typed.More a b) at scope k (inl (mine, none)) =
+      these n (prep s a (0 ∷ at) scope _) _ (prep_within n a (0 ∷ at) scope _ mine)
+      (subst (AreOrThis n) (sym (none_before s b (1 ∷ at) (with_held s a (0 ∷ at) scope) k none)) (λ p never. absurd never))
+  prep_within n (typed.More a b) at scope k (inr (none, mine)) =
+      these n (prep s a (0 ∷ at) scope _) _ (subst (AreOrThis n) (sym (none_before s a (0 ∷ at) scope _ none)) (λ p never. absurd never))
+      (prep_within n b (1 ∷ at) _ k mine)
+  prep_within n e at scope k calls = absurd calls
+
+  -- the user comes last
+  follow_within : (n : ℕ) (ps : List NamedPoint) (u : NamedPoint) (e : TypedTree) → AreOrThis n ps → Takes u.instr e → CallsWithin ask n e → IsMade e → CallsNone u.instr
+      → AreFollowed ask (ps ++ u ∷ [])
+  follow_within n ps u e before takes calls made none p has m a t is = elim (Has-append_cases ps (u ∷ []) p has) [
+    | inl l ↦ elim (before p l m a t is) [
+      | inl asked ↦ inl asked
+      | inr same ↦ inr (inr (u, Has-append_right ps (u ∷ []) u (inl refl), e, takes, subst (λ z. CallsWithin ask z e) (sym same) calls, made))
+    ]
+    | inr later ↦ inl (asked_one u none p later m a t is)
+  ]
+
   -- ---- points that follow each other
 
   abbrev Follow : List NamedPoint → Type 0
@@ -93,8 +142,16 @@ module _ (s : Setting) (ask alone : ℕ → Type 0) where
 
   follow_both : (ps qs : List NamedPoint) → Follow ps → Follow qs → Follow (ps ++ qs)
   follow_both ps qs h g p has n a t is = elim (Has-append_cases ps qs p has) [
-    | inl l ↦ elim (h p l n a t is) [ inl asked ↦ inl asked | inr (q, there, next, r, takes) ↦ inr (q, Has-append_left ps qs q there, next, r, takes) ]
-    | inr r ↦ elim (g p r n a t is) [ inl asked ↦ inl asked | inr (q, there, next, r, takes) ↦ inr (q, Has-append_right ps qs q there, next, r, takes) ]
+    | inl l ↦ elim (h p l n a t is) [
+      | inl asked ↦ inl asked
+      | inr (inl (q, there, next, r, takes)) ↦ inr (inl (q, Has-append_left ps qs q there, next, r, takes))
+      | inr (inr (q, there, e, takes, calls, made)) ↦ inr (inr (q, Has-append_left ps qs q there, e, takes, calls, made))
+    ]
+    | inr r ↦ elim (g p r n a t is) [
+      | inl asked ↦ inl asked
+      | inr (inl (q, there, next, r, takes)) ↦ inr (inl (q, Has-append_right ps qs q there, next, r, takes))
+      | inr (inr (q, there, e, takes, calls, made)) ↦ inr (inr (q, Has-append_right ps qs q there, e, takes, calls, made))
+    ]
   ]
 
   -- a call and what takes its value
@@ -109,13 +166,13 @@ module _ (s : Setting) (ask alone : ℕ → Type 0) where
           let both : instruction.Call n a (Some t) ≡ instruction.Call k b (Some o) = sym is ∙ ap (λ (z : NamedPoint). z.instr) same ∙ other in
           let sub : n ≡ k = cc in
           let actuals : a ≡ b = cc in
-          inr (
+          inr (inl (
             u,
             Has-append_right (ps ++ c ∷ []) (qs ++ u ∷ []) u (Has-append_right qs (u ∷ []) u (inl refl)),
             ap (λ (z : NamedPoint). z.next) (sym same) ∙ next,
             q,
             subst (λ z. Takes u.instr (typed.Call q z b)) sub (subst (λ z. Takes u.instr (typed.Call q n z)) actuals takes),
-          ))
+          )))
     ]
   ]
 
@@ -130,9 +187,12 @@ module _ (s : Setting) (ask alone : ℕ → Type 0) where
   -- a value that is declared with or returned
   value_follows : (at : Place) (p : Pos) (v : TypedTree) (i : Instruction) (w : Around) (next : List PointName) → ((e : TypedTree) → v ≡ typed.More e NoMore → Takes i e)
       → CallsNone i → ValueFits ask alone v → Follow (uses s at p v i w next)
-  unfolding prep
+  unfolding prep CallsWithin has_call
   value_follows at p v i w next takes none (inl only) = all_asked (uses s at p v i w next) (uses_asked at p v i w next only none)
-  value_follows at p v i w next takes none (inr (q, n, a, is, may, only)) =
+  value_follows at p v i w next takes none (inr (inr (n, e, is, may, calls, made))) =
+      follow_within n (prep s v (0 ∷ at) w.scope (row_at at 0 ∷ [])) _ e
+      (prep_within n v (0 ∷ at) w.scope (row_at at 0 ∷ []) (subst (CallsWithin ask n) (sym is) (inl (calls, refl)))) (takes e is) calls made none
+  value_follows at p v i w next takes none (inr (inl (q, n, a, is, may, only))) =
       let actuals : List NamedPoint = prep s a (0 ∷ 0 ∷ 0 ∷ at) w.scope (row_at (0 ∷ 0 ∷ at) 0 ∷ []) in
       let call : NamedPoint = point (row_at (0 ∷ 0 ∷ at) 0) q (instruction.Call n a (Some (s.temporary (0 ∷ 0 ∷ at)))) (with_held s a (0 ∷ 0 ∷ 0 ∷ at) w.scope) (row_at at 0 ∷ []) in
       let user : NamedPoint = point (row_at at 0) p i (with_held s v (0 ∷ at) w.scope) next in
@@ -152,7 +212,12 @@ module _ (s : Setting) (ask alone : ℕ → Type 0) where
       (asked_both (prep s e (1 ∷ at) w.scope _) (prep s target (0 ∷ at) _ (row_at at 0 ∷ [])) (prep_asked e (1 ∷ at) w.scope _ plain)
       (prep_asked target (0 ∷ at) _ (row_at at 0 ∷ []) only))
       (asked_one _ (λ n a t e. cc)))
-  assign_follows at p target e w next only (inr (q, n, a, is, may, plain, r, x, path, u, target_is, none)) =
+  assign_follows at p target e w next only (inr (inr (n, may, calls, made, r, x, path, u, target_is, none))) =
+      follow_within n (prep s e (1 ∷ at) w.scope _ ++ prep s target (0 ∷ at) _ (row_at at 0 ∷ [])) _ e
+      (these n (prep s e (1 ∷ at) w.scope _) (prep s target (0 ∷ at) _ (row_at at 0 ∷ [])) (prep_within n e (1 ∷ at) w.scope _ calls)
+      (asked_these n _ (prep_asked target (0 ∷ at) _ (row_at at 0 ∷ []) only)))
+      (inr (inl (r, x, path, u, ap (λ z. instruction.Assign z e) target_is, none))) calls made (λ n a t e. cc)
+  assign_follows at p target e w next only (inr (inl (q, n, a, is, may, plain, r, x, path, u, target_is, none))) =
       let actuals : List NamedPoint = prep s a (0 ∷ 1 ∷ at) w.scope (row_at (1 ∷ at) 0 ∷ []) in
       let inner : List ℕ = with_held s e (1 ∷ at) w.scope in
       let behind : List NamedPoint = prep s target (0 ∷ at) inner (row_at at 0 ∷ []) in

@@ -28,19 +28,40 @@ CallsOnly ask (New t v) = CallsOnly ask v
 CallsOnly ask (typed.More e rest) = CallsOnly ask e × CallsOnly ask rest
 CallsOnly ask e = Unit {0}
 
+-- One call, of this function, gives the value or a part of it, and there is no other but in its actuals.
+unfoldable pub CallsWithin : (ℕ → Type 0) → ℕ → TypedTree → Type 0
+CallsWithin ask n (typed.Call p sub actuals) = (sub ≡ n) × CallsOnly ask actuals
+CallsWithin ask n (Parens e) = CallsWithin ask n e
+CallsWithin ask n (New t (typed.More e rest)) = CallsWithin ask n e × (has_call rest ≡ false)
+CallsWithin ask n (Aggregate t es) = CallsWithin ask n es
+CallsWithin ask n (typed.More e rest) = (CallsWithin ask n e × (has_call rest ≡ false)) ⊎ ((has_call e ≡ false) × CallsWithin ask n rest)
+CallsWithin ask n e = ⊥
+
+-- An aggregate or an allocator.
+abbrev pub IsMade : TypedTree → Type 0
+IsMade (Parens e) = IsMade e
+IsMade (Aggregate t es) = Unit {0}
+IsMade (New t v) = Unit {0}
+IsMade e = ⊥
+
 -- ---- statements
 
--- A value whose calls are as asked, or what one call gives whose actuals are so, of a function that may stand alone.
+-- A value whose calls are as asked, or what one call gives whose actuals are so, of a function that may stand alone, or
+-- within an aggregate or an allocator.
 abbrev pub ValueFits : (ask alone : ℕ → Type 0) → TypedTree → Type 0
 ValueFits ask alone v =
-    CallsOnly ask v ⊎ ((q : Pos) × (n : ℕ) × (a : TypedTree) × (v ≡ typed.More (typed.Call q n a) NoMore) × alone n × CallsOnly ask a)
+    CallsOnly ask v
+    ⊎ (((q : Pos) × (n : ℕ) × (a : TypedTree) × (v ≡ typed.More (typed.Call q n a) NoMore) × alone n × CallsOnly ask a)
+    ⊎ ((n : ℕ) × (e : TypedTree) × (v ≡ typed.More e NoMore) × alone n × CallsWithin ask n e × IsMade e))
 
 -- Likewise where it is assigned. The name that it is assigned to has no call.
 abbrev pub SourceFits : (ask alone : ℕ → Type 0) → TypedTree → TypedTree → Type 0
 SourceFits ask alone target e =
     CallsOnly ask e
-    ⊎ ((q : Pos) × (n : ℕ) × (a : TypedTree) × (e ≡ typed.Call q n a) × alone n × CallsOnly ask a
+    ⊎ (((q : Pos) × (n : ℕ) × (a : TypedTree) × (e ≡ typed.Call q n a) × alone n × CallsOnly ask a
     × (r : Pos) × (x : ℕ) × (path : TypedTree) × (u : ℕ) × (target ≡ Name r x path u) × (has_call path ≡ false))
+    ⊎ ((n : ℕ) × alone n × CallsWithin ask n e × IsMade e
+    × (r : Pos) × (x : ℕ) × (path : TypedTree) × (u : ℕ) × (target ≡ Name r x path u) × (has_call path ≡ false)))
 
 -- So are the expressions of code.
 unfoldable mutual

@@ -37,7 +37,7 @@ use Rattle.typed_laws.specs.Needed.{Matches, Stays, Leads, Gives, GivesParts, Gi
 use Rattle.viewed_soundness.specs.Holds.{IsNamed, PartsAreNamed}
 use Rattle.viewed_soundness.proofs.Evaluated.{matches_named}
 use Rattle.viewed_steps.specs.Sound.{IsCopiedBack, IsKindOfFormal}
-use Rattle.viewed_steps.specs.Ready.{IsActualTo, AreActualsTo}
+use Rattle.view_laws.specs.Program.{IsPassedTo, ArePassedTo}
 use Rattle.viewed_steps.proofs.Read.{scalar_named}
 use Rattle.viewed_steps.proofs.Called.{way_to}
 use Rattle.scope_laws.specs.Code.{roots}
@@ -719,7 +719,7 @@ module _ (s : Typing) (own_law : OwnsByShape s.table) (parts_named : PartsAreNam
   shown_good true access e xs named = λ a has. absurd has
 
   -- by the mode
-  copied_good : (x : ℕ) (m : Mode) → (object_at s x).mode ≡ m → (owning access : Bool) (e : TypedTree) (xs : List ℕ) → IsKindOfFormal s x → IsActualTo s x m e
+  copied_good : (x : ℕ) (m : Mode) → (object_at s x).mode ≡ m → (owning access : Bool) (e : TypedTree) (xs : List ℕ) → IsKindOfFormal s x → IsPassedTo s x m e
       → ((y : ℕ) → Has (roots e) y → Has xs y) → AreGood (actual_act (passing_by m owning access) e) xs
   unfolding roots
   copied_good x mode.In is owning access e xs kind actual named = shown_good owning access e xs named
@@ -738,7 +738,7 @@ module _ (s : Typing) (own_law : OwnsByShape s.table) (parts_named : PartsAreNam
       both_in e = cc
   copied_good x mode.InOut is owning access e xs kind (u, never, matches, which) named = absurd never
 
-  pub copies_good : (procedure : Bool) (formals : List ℕ) (actuals : TypedTree) (xs : List ℕ) → ((x : ℕ) → Has formals x → IsKindOfFormal s x) → AreActualsTo s formals actuals
+  pub copies_good : (procedure : Bool) (formals : List ℕ) (actuals : TypedTree) (xs : List ℕ) → ((x : ℕ) → Has formals x → IsKindOfFormal s x) → ArePassedTo s formals actuals
       → ((y : ℕ) → Has (roots actuals) y → Has xs y) → AreGood (actual_acts (map (way_to s own_law procedure) formals) actuals) xs
   unfolding roots
   copies_good procedure [] actuals xs kinds stay named a has = absurd has

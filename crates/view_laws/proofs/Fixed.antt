@@ -2,7 +2,7 @@
 -- one of the subprogram itself which it may change through.
 use Rattle.std.specs.Prelude.{IsTrue}
 use Rattle.std.specs.List.{list_any}
-use Rattle.std.proofs.Common.{◌≡◌, refl, sym, ap, ◌∙◌, subst, ◌⊎◌, inl, inr, ℕ, Bool, true, false, not, ◌&&◌, ◌||◌, ◌==◌, eq-eqb, List, [], ◌∷◌, ◌++◌, map, Option, Some, is_some}
+use Rattle.std.proofs.Common.{◌≡◌, refl, sym, ap, ◌∙◌, subst, ◌⊎◌, inl, inr, ℕ, Bool, true, false, not, ◌&&◌, ◌||◌, ◌==◌, ◌<◌, eq-eqb, arith, List, [], ◌∷◌, ◌++◌, map, length, Option, Some, is_some}
 use Rattle.spark_base.specs.declared.position.Pos.{Pos}
 use Rattle.spark_base.specs.Lists.{Has}
 use Rattle.spark_base.proofs.Lists.{Has-append_left, Has-append_right, Has-map, Has-map_from}
@@ -15,15 +15,18 @@ use Rattle.place_names.specs.declared.rule.Rule.TheVariants as rule
 use Rattle.place_names.specs.declared.selector.Sel.{Sel}
 use Rattle.place_names.specs.declared.selector.Sel.TheVariants as sel
 use Rattle.place_names.specs.Names.{Name as PlaceName, extend}
-use Rattle.type_definitions.specs.Types.{Table, is_nil, is_owning}
+use Rattle.type_definitions.specs.declared.table.Shape.{Shape}
+use Rattle.type_definitions.specs.declared.table.Shape.TheVariants as shape
+use Rattle.type_definitions.specs.Types.{Table, shape_of, is_nil, is_owning}
+use Rattle.type_definitions.specs.Types as types
 use Rattle.typed_tree.specs.declared.object.ObjectKind.{ObjectKind}
 use Rattle.typed_tree.specs.declared.object.ObjectKind.TheVariants as object_kind
-use Rattle.typed_tree.specs.Trees.{TypedTree, Name, More}
+use Rattle.typed_tree.specs.Trees.{TypedTree, Name, Component, Designated, Element, NoMore, More}
 use Rattle.typed_tree.specs.Programs.{TypedProgram}
 use Rattle.flow_paths.specs.declared.report.Effects.{Effects}
 use Rattle.flow_paths.specs.Instructions.{Call, Input}
 use Rattle.flow_paths.specs.Objects.{Typing, passing_by, passings, object_at, sub_at, is_variable, is_borrower, is_borrowing, traverses, is_formal, is_formal_kind, is_named_access, is_observer, is_anonymous, is_package_object, has_scope_end, view_of}
-use Rattle.flow_paths.specs.Names.{name_of}
+use Rattle.flow_paths.specs.Names.{selectors, name_of}
 use Rattle.flow_paths.specs.Acts.{placed, acts_in, acts_of, gives_variable, actual_values, actual_act, actual_acts}
 use Rattle.flow_paths.specs.Points.{NamedPoint, FlowPoint}
 use Rattle.flow_paths.specs.Laid.{FlowSub, FlowProgram, NamedSub, signature, kept_roots, sub_facts, flow_sub, typing_of, flow_typing, flow_program, flow_named}
@@ -32,14 +35,15 @@ use Rattle.flow_paths.specs.Views.{changes, lends, ConstantView, of_observer, of
 use Rattle.machine.specs.States.{sub_of}
 use Rattle.machine.specs.Owners.{is_in, is_in_formal}
 use Rattle.soundness.specs.Ready.{root_of}
-use Rattle.viewed_steps.specs.Ready.{AreUnobserved}
+use Rattle.viewed_steps.specs.Ready.{IsOwnPlace, IsActualTo, AreActualsTo, AreUnobserved}
 use Rattle.viewed_steps.proofs.Called.{way_to, passes_to}
 use Rattle.soundness.specs.Seen.{is_view_formal}
 use Rattle.soundness.proofs.Points.{flow_at}
-use Rattle.typed_laws.specs.Needed.{IsFine}
+use Rattle.typed_laws.specs.Needed.{Leads, IsPlace, IsFine}
+use Rattle.soundness.specs.Sound.{goes_through_none}
 use Rattle.viewed_soundness.specs.Holds.{is_given, is_of_procedure, is_first, is_exclusive, lends_first, sees_only, is_fixed, KeepsObserved, AllKeep}
 use Rattle.scope_laws.specs.Order.{named_in}
-use Rattle.view_laws.specs.Program.{IsViewProgram}
+use Rattle.view_laws.specs.Program.{IsPassedTo, ArePassedTo, IsViewProgram}
 use Rattle.view_laws.proofs.Calls.{point_good}
 use Rattle.view_laws.proofs.Reports.{unchanged, not_observed}
 use Rattle.view_laws.proofs.Scoped as scoped
@@ -280,26 +284,25 @@ module _ (table : Table) (typed : TypedProgram) (effects : Effects) (given : IsV
           ∙ ap (λ b. b || list_any (lends_first s x) s.subs) any)
     ]
 
-    -- So what is changed isn't fixed.
-    pub unfixed : (a : Placed) → Has at.acts a → (m : PlaceName) → changes a.act ≡ Some m → is_fixed s m ≡ false
-    unfixed a h m e =
-        fixed_none (is_observer s m.root) (is_given s m.root) (is_exclusive s m.root) (is_nil m.sels) (changed_plain a h m e) through
+    -- a formal of mode `in` that is changed is changed through
+    changed_formal : (a : Placed) → Has at.acts a → (m : PlaceName) → changes a.act ≡ Some m → is_given s m.root ≡ true
+        → (is_function sub ≡ false) × (is_named_access (view_of s m.root) ≡ true) × (has_selector m ≡ true)
+    changed_formal a h m e is =
+        let formal = given_formal m.root is in
+        may_change (is_formal s m.root) (is_in_mode (object_at s m.root).mode) (is_named_access (view_of s m.root)) (has_selector m) (is_function sub)
+        (both_first (is_formal s m.root) (is_in (object_at s m.root).mode) formal)
+        (both_second (is_formal s m.root) (is_in (object_at s m.root).mode) formal) (λ view. no_view (of_formal view))
+        (λ view. no_view (in_function (outer (is_function sub) (is_formal s m.root) (is_package_object s m.root) view)))
       where
         no_view : ConstantView s sub m → ⊥
         no_view view = given.accepted.no_reports.complete (text_report a.pos rule.V1 m) (on_views sub in_program (changed at a m (in_sub, h) e view))
 
-        formal_in : (is : is_given s m.root ≡ true) → (is_function sub ≡ false) × (is_named_access (view_of s m.root) ≡ true) × (has_selector m ≡ true)
-        formal_in is =
-            let formal = given_formal m.root is in
-            may_change (is_formal s m.root) (is_in_mode (object_at s m.root).mode) (is_named_access (view_of s m.root)) (has_selector m) (is_function sub)
-            (both_first (is_formal s m.root) (is_in (object_at s m.root).mode) formal)
-            (both_second (is_formal s m.root) (is_in (object_at s m.root).mode) formal) (λ view. no_view (of_formal view))
-            (λ view. no_view (in_function (outer (is_function sub) (is_formal s m.root) (is_package_object s m.root) view)))
-
-        through : is_given s m.root ≡ true → (is_exclusive s m.root ≡ true) × (is_nil m.sels ≡ false)
-        through is =
-            let found = formal_in is in
-            (own_exclusive m.root (changed_named a h m e).0 is found.0 found.1, flipped (is_nil m.sels) found.2)
+    -- So what is changed isn't fixed.
+    pub unfixed : (a : Placed) → Has at.acts a → (m : PlaceName) → changes a.act ≡ Some m → is_fixed s m ≡ false
+    unfixed a h m e =
+        fixed_none (is_observer s m.root) (is_given s m.root) (is_exclusive s m.root) (is_nil m.sels) (changed_plain a h m e)
+        (λ is. (let found = changed_formal a h m e is in
+            (own_exclusive m.root (changed_named a h m e).0 is found.0 found.1, flipped (is_nil m.sels) found.2)))
 
     -- nor is what a call of a procedure lends
     pub unlent : (a : Placed) → Has at.acts a → (k m : PlaceName) (how : Mode) (owning access : Bool) → a.act ≡ act.Actual k how owning access → lends a.act ≡ Some m
@@ -401,15 +404,85 @@ module _ (table : Table) (typed : TypedProgram) (effects : Effects) (given : IsV
     all_open procedure [] actuals acts = tt
     all_open procedure (x ∷ formals) actuals acts = tt
 
+    call_acts : (n : ℕ) (actuals : TypedTree) (result : Option ℕ) → p.instr ≡ Call n actuals result → (a : Placed)
+        → Has (actual_acts (map (way_to s given.owns (not (is_some (sub_of program n).result))) (sub_of program n).formals) actuals) a → Has at.acts a
+    call_acts n actuals result is a h =
+        let call = scoped.plainly table typed effects given sub in_program at in_sub n actuals result is in
+        act_there a (subst (λ i. Has (acts_of (record { typing = s; result = named.sub.result; roots = kept }) p.pos i) a) (sym is)
+        (Has-append_right (actual_values s (passings s (sub_at s n)) actuals) (actual_acts (passings s (sub_at s n)) actuals) a
+        (subst (λ ways. Has (actual_acts ways actuals) a) (sym (passes_to program n call.no_traversal)) h)))
+
     -- It isn't rooted in what only sees.
     pub unobserved : (n : ℕ) (actuals : TypedTree) (result : Option ℕ) → p.instr ≡ Call n actuals result → AreUnobserved s (sub_of program n).formals actuals
     unobserved n actuals result is =
-        let call = scoped.plainly table typed effects given sub in_program at in_sub n actuals result is in
-        let procedure : Bool = not (is_some (sub_of program n).result) in
-        all_open procedure (sub_of program n).formals actuals
-        (λ a h. act_there a (subst (λ i. Has (acts_of (record { typing = s; result = named.sub.result; roots = kept }) p.pos i) a) (sym is)
-        (Has-append_right (actual_values s (passings s (sub_at s n)) actuals) (actual_acts (passings s (sub_at s n)) actuals) a
-        (subst (λ ways. Has (actual_acts ways actuals) a) (sym (passes_to program n call.no_traversal)) h))))
+        all_open (not (is_some (sub_of program n).result)) (sub_of program n).formals actuals (λ a h. call_acts n actuals result is a h)
+
+    -- Nor, where it goes through no access value, in a formal of mode `in`.
+    no_part : (z : ℕ) (steps : TypedTree) (t : ℕ) → Leads s (object_at s z).of steps t → (d : ℕ) (k n : Bool) → shape_of s.table (object_at s z).of ≡ shape.Access d k n
+        → goes_through_none steps ≡ true → has_selector (name_of z steps) ≡ true → ⊥
+    unfolding Leads goes_through_none selectors
+    no_part z (Component i rest) t leads d k n is none some =
+        (let less : i < 0 = subst (λ cs. i < length cs) (ap types.components_of is) leads.0 in omega (arith, less))
+    no_part z (Element index low high rest) t leads d k n is none some = (let both : shape.Elements low high leads.0 ≡ shape.Access d k n = sym leads.1 ∙ is in cc)
+    no_part z (Designated rest) t leads d k n is none some = cc
+    no_part z NoMore t leads d k n is none some = cc
+    no_part z steps t leads d k n is none some = absurd leads
+
+    unnamed_access : (v : Shape) → is_named_access (types.view_of v) ≡ true → (d : ℕ) × (k : Bool) × (n : Bool) × (v ≡ shape.Access d k n)
+    unnamed_access (shape.Access d k n) is = (d, k, n, refl)
+    unnamed_access v is = cc
+
+    root_own : (z : ℕ) (steps : TypedTree) (u : ℕ) → Leads s (object_at s z).of steps u → goes_through_none steps ≡ true → (y : ℕ) → Has (z ∷ []) y
+        → (a : Placed) → Has at.acts a → changes a.act ≡ Some (name_of z steps) → is_view_formal s y ≡ false
+    root_own z steps u leads none y (inr never) a h e = absurd never
+    root_own z steps u leads none y (inl same) a h e =
+        subst (λ k. is_view_formal s k ≡ false) same (by_true (is_view_formal s z) (λ view.
+            (let found = changed_formal a h (name_of z steps) e (ap (λ b. b || (is_in_formal s z && is_anonymous (view_of s z))) view) in
+            let access = unnamed_access (shape_of s.table (object_at s z).of) found.1 in
+            no_part z steps u leads access.0 access.1 access.2 access.3 none found.2)))
+
+    own_root : (m : Mode) (owning access : Bool) → is_in m ≡ false → (e : TypedTree) (t : ℕ) → IsPlace s e t → goes_through_none e ≡ true
+        → ((a : Placed) → Has (actual_act (passing_by m owning access) e) a → Has at.acts a) → IsOwnPlace s e
+    unfolding goes_through_none
+    own_root mode.In owning access back e t place none acts y root = cc
+    own_root mode.Out owning access back (Name q z steps u) t place none acts y root =
+        root_own z steps u place.0 none y root (placed q (act.Actual (name_of z steps) mode.Out owning access)) (acts _ (inl refl)) refl
+    own_root mode.Out owning access back e t place none acts y root = absurd place
+    own_root mode.InOut owning access back (Name q z steps u) t place none acts y root =
+        root_own z steps u place.0 none y root (placed q (act.Actual (name_of z steps) mode.InOut owning access)) (acts _ (inl refl)) refl
+    own_root mode.InOut owning access back e t place none acts y root = absurd place
+
+    one_owned : (x : ℕ) (m : Mode) (e : TypedTree) (owning access : Bool) → IsPassedTo s x m e → ((a : Placed) → Has (actual_act (passing_by m owning access) e) a → Has at.acts a)
+        → IsActualTo s x m e
+    one_owned x mode.In e owning access passed acts = passed
+    one_owned x mode.Out e owning access (t, place, fits, which) acts = (
+      t,
+      place,
+      fits,
+      elim which [ inl plain ↦ inl plain | inr (inl none) ↦ inr (own_root mode.Out owning access refl e t place none acts) | inr (inr roots) ↦ inr roots ],
+    )
+    one_owned x mode.InOut e owning access (t, place, fits, which) acts = (
+      t,
+      place,
+      fits,
+      elim which [ inl plain ↦ inl plain | inr (inl none) ↦ inr (own_root mode.InOut owning access refl e t place none acts) | inr (inr roots) ↦ inr roots ],
+    )
+
+    each_owned : (procedure : Bool) (formals : List ℕ) (actuals : TypedTree) → ArePassedTo s formals actuals
+        → ((a : Placed) → Has (actual_acts (map (way_to s given.owns procedure) formals) actuals) a → Has at.acts a) → AreActualsTo s formals actuals
+    each_owned procedure (x ∷ formals) (More e rest) passed acts = (
+      one_owned x (object_at s x).mode e (is_owning s.table (object_at s x).of) (procedure && is_named_access (view_of s x)) passed.0
+          (λ a h. acts a (Has-append_left (actual_act (way_to s given.owns procedure x) e) (actual_acts (map (way_to s given.owns procedure) formals) rest) a h)),
+      each_owned procedure formals rest passed.1
+          (λ a h. acts a (Has-append_right (actual_act (way_to s given.owns procedure x) e) (actual_acts (map (way_to s given.owns procedure) formals) rest) a h)),
+    )
+    each_owned procedure [] actuals passed acts = passed
+    each_owned procedure (x ∷ formals) actuals passed acts = passed
+
+    owned : (n : ℕ) (actuals : TypedTree) (result : Option ℕ) → p.instr ≡ Call n actuals result → ArePassedTo s (sub_of program n).formals actuals
+        → AreActualsTo s (sub_of program n).formals actuals
+    owned n actuals result is passed =
+        each_owned (not (is_some (sub_of program n).result)) (sub_of program n).formals actuals passed (λ a h. call_acts n actuals result is a h)
 
   -- Nothing is moved, written or freed through an observer, or through a formal that owns nothing and isn't changed through.
   pub all_kept : (sub : FlowSub) → Has program.subs sub → (p : FlowPoint) → Has sub.points p → AllKeep (is_fixed s) (map (λ (a : Placed). a.act) p.acts)
@@ -420,3 +493,12 @@ module _ (table : Table) (typed : TypedProgram) (effects : Effects) (given : IsV
       subst (λ (z : FlowPoint). AllKeep (is_fixed s) (map (λ (a : Placed). a.act) z.acts)) q.2
       (all_keep (is_fixed s) (flow_at own named.0 q.0).acts (λ a h m e. unfixed named.0 named.1 q.0 q.1 a h m e)
       (λ a h k m how owning access is e. unlent named.0 named.1 q.0 q.1 a h k m how owning access is e))
+
+  -- What is copied back to is in an object that is no formal of mode `in`.
+  pub actuals_owned : (sub : FlowSub) → Has program.subs sub → (p : FlowPoint) → Has sub.points p → (n : ℕ) (actuals : TypedTree) (result : Option ℕ)
+      → p.instr ≡ Call n actuals result → ((x : ℕ) → Has (sub_of program n).formals x → is_formal s x ≡ true) → AreActualsTo s (sub_of program n).formals actuals
+  unfolding flow_program
+  actuals_owned sub has p there n actuals result is known =
+      let named = Has-map_from (flow_sub own) (flow_named table typed) sub has in
+      let q = Has-map_from (λ (z : NamedPoint). flow_at own named.0 z) (named.0).points p (subst (λ (z : FlowSub). Has z.points p) (sym named.2) there) in
+      owned named.0 named.1 q.0 q.1 n actuals result (ap (λ (z : FlowPoint). z.instr) q.2 ∙ is) (given.passes sub has p there n actuals result is known)

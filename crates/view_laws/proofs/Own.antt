@@ -24,7 +24,7 @@ use Rattle.ready_laws.proofs.Ready.{seen_has}
 use Rattle.view_laws.specs.Program.{IsViewProgram}
 use Rattle.view_laws.proofs.Scoped as scoped
 use Rattle.view_laws.proofs.Valued as valued
-use Rattle.view_laws.proofs.Valued.{dropped_has, beside_first, takes_one}
+use Rattle.view_laws.proofs.Valued.{dropped_has, beside_first, takes_one, takes_within, within_waits}
 
 no_formal : (k : ObjectKind) → is_temporary k ≡ true → is_formal_kind k ≡ true → ⊥
 no_formal object_kind.Temporary held formal = cc
@@ -63,7 +63,7 @@ module _ (table : Table) (typed : TypedProgram) (effects : Effects) (given : IsV
   in_points : (r : NamedPoint) → Has (sub_points (setting_from own (body.2) (body.0)) (body.0)) r → Has named.points r
   in_points r there = subst (λ (z : NamedSub). Has z.points r) (body.4) there
 
-  point_fine : (p : NamedPoint) → Has named.points p → IsFine (GivesScalar own) (GivesNamed own) IsOwn p
+  point_fine : (p : NamedPoint) → Has named.points p → IsFine (sub_points (setting_from own (body.2) (body.0)) (body.0)) (GivesScalar own) (GivesNamed own) IsOwn p
   point_fine p there =
       sub_fine (setting_from own (body.2) (body.0)) (body.0) (GivesScalar own) (GivesNamed own) IsOwn (valued.weaker table typed effects given)
       (λ r at n a t is asked. temporary_own t (subst (λ i. Fills s i (drop (taken i) r.scope)) is (supplied r (in_points r at))))
@@ -73,7 +73,10 @@ module _ (table : Table) (typed : TypedProgram) (effects : Effects) (given : IsV
   left_own : (p : NamedPoint) → Has named.points p → (x : ℕ) → Has (drop (taken p.instr) p.scope) x → IsOwn x
   left_own p there x in_left = elim (point_fine p there) [
     | inl (all, asked) ↦ all x (dropped_has (taken p.instr) p.scope x in_left)
-    | inr (t, rest, scope, all, q, n, a, takes, may) ↦ (
+    | inr (inr (t, rest, scope, all, e, n, takes, calls, made, may, r, at, a, call)) ↦ (
+        let one = takes_within p.instr e takes (within_waits (GivesScalar own) n e calls) in
+        all x (beside_first 0 t rest x (subst (λ xs. Has (drop 1 xs) x) scope (subst (λ k. Has (drop k p.scope) x) one in_left))))
+    | inr (inl (t, rest, scope, all, q, n, a, takes, may)) ↦ (
         let one = takes_one p.instr q n a takes in
         all x (beside_first one.0 t rest x (subst (λ xs. Has (drop (suc one.0) xs) x) scope (subst (λ k. Has (drop k p.scope) x) one.1 in_left))))
   ]

@@ -12,6 +12,7 @@ use Rattle.typed_tree.specs.Programs.{TypedSub, TypedProgram}
 use Rattle.flow_paths.specs.declared.report.Effects.{Effects}
 use Rattle.flow_paths.specs.Instructions.{Instruction, Declare, Call, Finish}
 use Rattle.flow_paths.specs.Objects.{Typing, Signature, object_at, sub_at, is_formal, is_anonymous, is_package_object, has_scope_end, view_of}
+use Rattle.flow_paths.specs.Points.{FlowPoint}
 use Rattle.flow_paths.specs.Laid.{FlowSub, FlowProgram, NamedSub, all_named, named_sub, sub_temporaries, declared_within, typing_of, flow_typing, flow_program, flow_named}
 use Rattle.flow_paths.specs.Scopes.{taken, is_within}
 use Rattle.machine.specs.States.{sub_of}
@@ -34,7 +35,7 @@ use Rattle.ready_laws.proofs.Ready.{seen_has}
 use Rattle.viewed_steps.specs.Sound.{IsScalarObject}
 use Rattle.viewed_steps.specs.Ready.{AreDifferent, ArePassed, IsCopyOf, IsActualTo, AreActualsTo, IsCalled, AreCalled}
 use Rattle.viewed_steps.proofs.Placed.{within_on}
-use Rattle.view_laws.specs.Program.{PassActuals}
+use Rattle.view_laws.specs.Program.{IsPassedTo, ArePassedTo, PassActuals}
 use Rattle.view_laws.proofs.Formals.{first_scope, has_within, has_reversed, once_different, passed_named}
 
 -- ---- actuals of scalar types
@@ -44,7 +45,7 @@ module _ (s : Typing) where
   scalar_back t u (inl e) plain = matches_scalar s u t (inl (sym e)) plain
   scalar_back t u (inr both) plain = both.0
 
-  plain_place : (x : ℕ) (e : TypedTree) → IsScalarObject s x → IsActualTo s x mode.InOut e → IsActualBy s mode.InOut e
+  plain_place : (x : ℕ) (e : TypedTree) → IsScalarObject s x → IsPassedTo s x mode.InOut e → IsActualBy s mode.InOut e
   plain_place x e plain (t, place, fits, which) = (t, place, scalar_back t (object_at s x).of fits plain)
 
   copy_stays : (x : ℕ) (e : TypedTree) → IsScalarObject s x → IsCopyOf s x e → Stays s e
@@ -52,12 +53,12 @@ module _ (s : Typing) where
   copy_stays x (Name p y path u) plain (leads, fits) = (leads, scalar_back u (object_at s x).of fits plain)
   copy_stays x e plain never = absurd never
 
-  plain_actual : OwnsByShape s.table → (x : ℕ) (m : Mode) (e : TypedTree) → IsScalarObject s x → IsActualTo s x m e → IsActualBy s m e
+  plain_actual : OwnsByShape s.table → (x : ℕ) (m : Mode) (e : TypedTree) → IsScalarObject s x → IsPassedTo s x m e → IsActualBy s m e
   plain_actual owns x mode.In e plain actual = elim (actual.0 (plain_type s owns (object_at s x).of plain)) [ inl value ↦ value.1 | inr copy ↦ copy_stays x e plain copy.1 ]
   plain_actual owns x mode.Out e plain actual = plain_place x e plain actual
   plain_actual owns x mode.InOut e plain actual = plain_place x e plain actual
 
-  pub plain_actuals : OwnsByShape s.table → (formals : List ℕ) (actuals : TypedTree) → ((x : ℕ) → Has formals x → IsScalarObject s x) → AreActualsTo s formals actuals
+  pub plain_actuals : OwnsByShape s.table → (formals : List ℕ) (actuals : TypedTree) → ((x : ℕ) → Has formals x → IsScalarObject s x) → ArePassedTo s formals actuals
       → AreActuals s formals actuals
   plain_actuals owns [] actuals plain are = tt
   plain_actuals owns (x ∷ formals) (More e rest) plain are =
@@ -158,7 +159,9 @@ module _ (table : Table) (typed : TypedProgram) (effects : Effects) (accepted : 
       ∙ (order.local order.main (in_rest order.number order.main order.stands)).formals x
       (subst (λ z. Has z x) (ap (λ (z : Signature). z.formals) (signature_is program (suc order.number)) ∙ formals_are order.number order.main order.stands) has)
 
-  module _ (passed_to : PassActuals (flow_program table typed)) where
+  module _ (passed_to : (sub : FlowSub) → Has (flow_program table typed).subs sub → (p : FlowPoint) → Has sub.points p → (n : ℕ) (actuals : TypedTree) (result : Option ℕ)
+      → p.instr ≡ Call n actuals result → ((x : ℕ) → Has (sub_of (flow_program table typed) n).formals x → is_formal s x ≡ true)
+      → AreActualsTo s (sub_of (flow_program table typed) n).formals actuals) where
     -- what is called is one of the bodies
     by_number : (n k : ℕ) (callee : TypedSub) (actuals : TypedTree) (result : Option ℕ) → n ≡ suc k → IsSub order.rest k callee
         → AreActualsTo s (sub_of program n).formals actuals → (IsRunnable table typed n × (is_some (sub_of program n).result ≡ is_some result))

@@ -123,7 +123,7 @@ module _ (table : Table) (typed : TypedProgram) (effects : Effects) (given : IsV
     new = scoped.are_new table typed effects given;
     elaborated = scoped.are_elaborated table typed effects given;
     orderly = views_orderly;
-    called = passing.called_to table typed effects given.accepted given.owns given.order given.answered given.passed given.still given.passes;
+    called = passing.called_to table typed effects given.accepted given.owns given.order given.answered given.passed given.still (fixed.actuals_owned table typed effects given);
     returning = scoped.are_returning table typed effects given;
     valued = valued.are_valued table typed effects given;
     traversing = scoped.are_traversing table typed effects given;

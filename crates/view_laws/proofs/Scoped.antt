@@ -232,6 +232,8 @@ module _ (table : Table) (typed : TypedProgram) (effects : Effects) (given : IsV
     given = given_through;
     returned = λ n entered named of_named p there e last is of result view. absurd (none_gives n entered
         (ap (traverses s.table) (ap (λ (z : FlowSub). z.result) (sub_there table typed n named of_named) ∙ result) ∙ view));
+    followed = λ sub has p there n actuals result is f traversed.
+        absurd (none_traverses n f (inr (flow_sub own sub, in_program sub has, flow_at own sub p, Has-map (λ (q : NamedPoint). flow_at own sub q) sub.points p there, actuals, result, is)) traversed);
     ending = ordered.are_closed table typed effects given.accepted given.owns given.order given.answered given.passed given.still;
   }
 

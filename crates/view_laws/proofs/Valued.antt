@@ -27,9 +27,9 @@ use Rattle.soundness.proofs.Passing.{plain_type, signature_is}
 use Rattle.soundness.proofs.Successors.{not_true}
 use Rattle.soundness.proofs.Typings.{Agree, flow_agrees}
 use Rattle.soundness.proofs.Waits.{no_waits}
-use Rattle.viewed_soundness.specs.Taken.{GivesPlainly}
+use Rattle.viewed_soundness.specs.Taken.{GivesPlainly, IsFed}
 use Rattle.viewed_soundness.proofs.Evaluated.{gives_plainly}
-use Rattle.scope_laws.specs.Alone.{CallsOnly, GivesScalar, GivesNamed}
+use Rattle.scope_laws.specs.Alone.{CallsOnly, CallsWithin, GivesScalar, GivesNamed, IsMade as IsMadeTree}
 use Rattle.scope_laws.specs.Order.{named_in}
 use Rattle.scope_laws.proofs.Lists.{within_has}
 use Rattle.scope_laws.proofs.Given.{Takes, sub_given}
@@ -39,7 +39,7 @@ use Rattle.scope_laws.proofs.Alone.{AllGood, TakesAsked, IsFine, sub_fine}
 use Rattle.ready_laws.proofs.Subs.{setting_from, IsOfBody, subs_of}
 use Rattle.ready_laws.proofs.Ready as ordered
 use Rattle.ready_laws.proofs.Ready.{seen_has, stored_named}
-use Rattle.viewed_steps.specs.Awaited.{is_held, AreScalar, TakesScalars, IsTaken, FillsTyped, AreNamedResults}
+use Rattle.viewed_steps.specs.Awaited.{IsMade, is_held, AreScalar, TakesScalars, IsTaken, FillsTyped, AreNamedResults}
 use Rattle.viewed_steps.specs.Sound.{IsScalarObject}
 use Rattle.viewed_steps.specs.Ready.{roots_passed, AreValued}
 use Rattle.view_laws.specs.Program.{IsViewProgram}
@@ -100,6 +100,65 @@ no_call_taken : (i : Instruction) (q : Pos) (n m : ℕ) (a b : TypedTree) (r : O
 no_call_taken i q n m a b r (inl (x, is)) call = (let both : Declare x (typed_tree.More (typed_tree.Call q n a) NoMore) ≡ Call m b r = sym is ∙ call in cc)
 no_call_taken i q n m a b r (inr (inl (p, x, path, u, is, none))) call = (let both : Assign (Name p x path u) (typed_tree.Call q n a) ≡ Call m b r = sym is ∙ call in cc)
 no_call_taken i q n m a b r (inr (inr is)) call = (let both : Hold (typed_tree.More (typed_tree.Call q n a) NoMore) ≡ Call m b r = sym is ∙ call in cc)
+
+-- ---- one call within an aggregate or an allocator
+
+mutual
+  unfolding CallsWithin waiting
+
+  pub within_waits : (ask : ℕ → Type 0) (n : ℕ) (e : TypedTree) → CallsWithin ask n e → waiting e ≡ 1
+  within_waits ask n (typed_tree.Call p sub actuals) calls = refl
+  within_waits ask n (Parens e) calls = within_waits ask n e calls
+  within_waits ask n (New t (typed_tree.More e more)) (calls, none) =
+      (let one = within_waits ask n e calls in let nothing = no_waits more none in omega (arith, one, nothing))
+  within_waits ask n (Aggregate t es) calls = within_waits ask n es calls
+  within_waits ask n (typed_tree.More e more) (inl (calls, none)) =
+      (let one = within_waits ask n e calls in let nothing = no_waits more none in omega (arith, one, nothing))
+  within_waits ask n (typed_tree.More e more) (inr (none, calls)) =
+      (let one = within_waits ask n more calls in let nothing = no_waits e none in omega (arith, one, nothing))
+  within_waits ask n e calls = absurd calls
+
+mutual
+  unfolding CallsWithin IsFed
+
+  within_fed : (s : Typing) (ask : ℕ → Type 0) (n of : ℕ) → (sub_at s n).result ≡ Some of → (e : TypedTree) → CallsWithin ask n e → IsFed s of e
+  within_fed s ask n of result (typed_tree.Call p sub actuals) calls = ap (λ m. (sub_at s m).result) calls.0 ∙ result
+  within_fed s ask n of result (Parens e) calls = within_fed s ask n of result e calls
+  within_fed s ask n of result (New t (typed_tree.More e more)) calls = (within_fed s ask n of result e calls.0, calls.1)
+  within_fed s ask n of result (Aggregate t es) calls = within_fed s ask n of result es calls
+  within_fed s ask n of result (typed_tree.More e more) (inl calls) = inl (within_fed s ask n of result e calls.0, calls.1)
+  within_fed s ask n of result (typed_tree.More e more) (inr calls) = inr (calls.0, within_fed s ask n of result more calls.1)
+  within_fed s ask n of result e calls = absurd calls
+
+mutual
+  unfolding CallsWithin GivesPlainly
+
+  within_gives : (s : Typing) (ask : ℕ → Type 0) (n : ℕ) → GivesScalar s n → (e : TypedTree) → CallsWithin ask n e → GivesPlainly s e
+  within_gives s ask n scalar (typed_tree.Call p sub actuals) calls = λ k is. scalar k (ap (λ m. (sub_at s m).result) (sym calls.0) ∙ is)
+  within_gives s ask n scalar (Parens e) calls = within_gives s ask n scalar e calls
+  within_gives s ask n scalar (New t (typed_tree.More e more)) calls = (within_gives s ask n scalar e calls.0, gives_plainly s more (inl calls.1))
+  within_gives s ask n scalar (Aggregate t es) calls = within_gives s ask n scalar es calls
+  within_gives s ask n scalar (typed_tree.More e more) (inl calls) = (within_gives s ask n scalar e calls.0, gives_plainly s more (inl calls.1))
+  within_gives s ask n scalar (typed_tree.More e more) (inr calls) = (gives_plainly s e (inl calls.0), within_gives s ask n scalar more calls.1)
+  within_gives s ask n scalar e calls = absurd calls
+
+made_there : (e : TypedTree) → IsMadeTree e → IsMade e
+made_there (Parens e) made = made_there e made
+made_there (Aggregate t es) made = tt
+made_there (New t v) made = tt
+made_there e made = absurd made
+
+pub takes_within : (i : Instruction) (e : TypedTree) → Takes i e → waiting e ≡ 1 → taken i ≡ 1
+unfolding waiting
+takes_within i e (inl (x, is)) one = ap taken is ∙ (let same : waiting e + 0 ≡ 1 = omega (arith, one) in same)
+takes_within i e (inr (inl (p, x, path, u, is, none))) one =
+    ap taken is ∙ (let nothing = no_waits path none in let same : waiting e + waiting path ≡ 1 = omega (arith, one, nothing) in same)
+takes_within i e (inr (inr is)) one = ap taken is ∙ (let same : waiting e + 0 ≡ 1 = omega (arith, one) in same)
+
+pub no_call_takes : (i : Instruction) (e : TypedTree) (m : ℕ) (b : TypedTree) (r : Option ℕ) → Takes i e → i ≡ Call m b r → ⊥
+no_call_takes i e m b r (inl (x, is)) call = (let both : Declare x (typed_tree.More e NoMore) ≡ Call m b r = sym is ∙ call in cc)
+no_call_takes i e m b r (inr (inl (p, x, path, u, is, none))) call = (let both : Assign (Name p x path u) e ≡ Call m b r = sym is ∙ call in cc)
+no_call_takes i e m b r (inr (inr is)) call = (let both : Hold (typed_tree.More e NoMore) ≡ Call m b r = sym is ∙ call in cc)
 
 -- an object is declared with this value, or it is assigned
 abbrev pub IsSourceOf : Instruction → TypedTree → Type 0
@@ -222,7 +281,7 @@ module _ (table : Table) (typed : TypedProgram) (effects : Effects) (given : IsV
     truth_type r there t e op is =
         ap (λ k. is_scalar (full s.table k)) (filled_there named inside r there t boolean (subst (λ i. Gives own i t boolean) (sym is) (refl, refl))) ∙ given.truths
 
-    point_fine : (p : NamedPoint) → Has named.points p → IsFine Asked May Good p
+    point_fine : (p : NamedPoint) → Has named.points p → IsFine (sub_points (setting_from own (body.2) (body.0)) (body.0)) Asked May Good p
     point_fine p there =
         sub_fine (setting_from own (body.2) (body.0)) (body.0) Asked May Good weaker (λ r at. fills_good r (in_points r at)) (λ r at t e op is temporary. truth_type r (in_points r at) t e op is)
         (given.results (body.0) (body.1))
@@ -233,7 +292,10 @@ module _ (table : Table) (typed : TypedProgram) (effects : Effects) (given : IsV
     left_good : (p : NamedPoint) → Has named.points p → AllGood Good (drop (taken p.instr) p.scope)
     left_good p there x in_left = elim (point_fine p there) [
       | inl (all, asked) ↦ all x (dropped_has (taken p.instr) p.scope x in_left)
-      | inr (t, rest, scope, all, q, n, a, takes, may) ↦ (
+      | inr (inr (t, rest, scope, all, e, n, takes, calls, made, may, r, at, a, call)) ↦ (
+          let one = takes_within p.instr e takes (within_waits Asked n e calls) in
+          all x (beside_first 0 t rest x (subst (λ xs. Has (drop 1 xs) x) scope (subst (λ k. Has (drop k p.scope) x) one in_left))))
+      | inr (inl (t, rest, scope, all, q, n, a, takes, may)) ↦ (
           let one = takes_one p.instr q n a takes in
           all x (beside_first one.0 t rest x (subst (λ xs. Has (drop (suc one.0) xs) x) scope (subst (λ k. Has (drop k p.scope) x) one.1 in_left))))
     ]
@@ -283,12 +345,40 @@ module _ (table : Table) (typed : TypedProgram) (effects : Effects) (given : IsV
     call_scalars i q n a (inr (inr is)) scalar = subst (TakesScalars s) (sym is) (scalar, tt)
 
     body_takes : (p : NamedPoint) → Has named.points p → IsTaken s p
+    unfolding GivesPlainly
     body_takes p there = elim (point_fine p there) [
       | inl (all, asked) ↦ inl (scalars (take (taken p.instr) p.scope) (λ x more. all x (taken_has (taken p.instr) p.scope x more)), takes_scalars p.instr asked)
-      | inr (t, rest, scope, all, q, n, a, takes, may) ↦ alone t rest scope all q n a takes
+      | inr (inr (t, rest, scope, all, e, n, takes, calls, made, may, r, at, a, call)) ↦ within t rest scope all e n takes calls made r at a call
+      | inr (inl (t, rest, scope, all, q, n, a, takes, may)) ↦ alone t rest scope all q n a takes
           (sub_given (setting_from own (body.2) (body.0)) (body.0) p (subst (λ (z : NamedSub). Has z.points p) (sym (body.4)) there) q n a takes)
     ]
       where
+        within_scalars : (i : Instruction) (e : TypedTree) (n : ℕ) → Takes i e → CallsWithin Asked n e → GivesScalar s n → TakesScalars s i
+        within_scalars i e n (inl (x, is)) calls scalar = subst (TakesScalars s) (sym is) (within_gives s Asked n scalar e calls, tt)
+        within_scalars i e n (inr (inl (p, x, path, u, is, none))) calls scalar = subst (TakesScalars s) (sym is) (within_gives s Asked n scalar e calls)
+        within_scalars i e n (inr (inr is)) calls scalar = subst (TakesScalars s) (sym is) (within_gives s Asked n scalar e calls, tt)
+
+        within : (t : ℕ) (rest : List ℕ) → p.scope ≡ t ∷ rest → AllGood Good rest → (e : TypedTree) (n : ℕ) → Takes p.instr e → CallsWithin Asked n e → IsMadeTree e
+            → (r : NamedPoint) → Has (sub_points (setting_from own (body.2) (body.0)) (body.0)) r → (a : TypedTree) → r.instr ≡ Call n a (Some t) → IsTaken s p
+        within t rest scope all e n takes calls made r at a call =
+            let found = call_type r (in_points r at) n a t call in
+            let answer : (sub_at s n).result ≡ Some (object_at s t).of = ap (λ (z : Signature). z.result) (sub_same n) ∙ found.1 ∙ ap (λ k. Some k) (sym found.2) in
+            by (is_scalar (full s.table (object_at s t).of)) refl answer
+          where
+            good_scope : IsScalarObject s t → AllGood Good p.scope
+            good_scope scalar x more = elim (subst (λ xs. Has xs x) scope more) [
+              | inl same ↦ subst Good same (λ temporary. scalar)
+              | inr later ↦ all x later
+            ]
+
+            by : (b : Bool) → is_scalar (full s.table (object_at s t).of) ≡ b → (sub_at s n).result ≡ Some (object_at s t).of → IsTaken s p
+            by true scalar answer =
+                inl (
+                  scalars (take (taken p.instr) p.scope) (λ x more. good_scope scalar x (taken_has (taken p.instr) p.scope x more)),
+                  within_scalars p.instr e n takes calls (λ k is. ap (λ m. is_scalar (full s.table m)) (let both : Some k ≡ Some (object_at s t).of = sym is ∙ answer in let same : k ≡ (object_at s t).of = cc in same) ∙ scalar),
+                )
+            by false others_are answer = inr (inr (t, rest, scope, e, within_fed s Asked n (object_at s t).of answer e calls, others_are, takes, made_there e made))
+
         alone : (t : ℕ) (rest : List ℕ) → p.scope ≡ t ∷ rest → AllGood Good rest → (q : Pos) (n : ℕ) (a : TypedTree) → Takes p.instr (typed_tree.Call q n a)
             → (u : ℕ) × (others : List ℕ) × (p.scope ≡ u ∷ others) × (r : NamedPoint) × Has (sub_points (setting_from own (body.2) (body.0)) (body.0)) r × (r.instr ≡ Call n a (Some u))
             → IsTaken s p
@@ -309,7 +399,7 @@ module _ (table : Table) (typed : TypedProgram) (effects : Effects) (given : IsV
                   scalars (take (taken p.instr) p.scope) (λ x more. first_good scalar x (taken_has (taken p.instr) p.scope x more)),
                   call_scalars p.instr q n a takes (λ k is. ap (λ m. is_scalar (full s.table m)) (let both : Some k ≡ Some (object_at s u).of = sym is ∙ answer in let same : k ≡ (object_at s u).of = cc in same) ∙ scalar),
                 )
-            by false others_are answer = inr (u, others, also, q, n, a, answer, others_are, takes)
+            by false others_are answer = inr (inl (u, others, also, q, n, a, answer, others_are, takes))
 
     -- ---- what is filled
 
@@ -337,7 +427,8 @@ module _ (table : Table) (typed : TypedProgram) (effects : Effects) (given : IsV
     body_named : (p : NamedPoint) → Has named.points p → (n : ℕ) (actuals : TypedTree) (t : ℕ) → p.instr ≡ Call n actuals (Some t) → May n
     body_named p there n actuals t is = elim (point_fine p there) [
       | inl (all, asked) ↦ subst (TakesAsked Asked May) is asked
-      | inr (x, rest, scope, all, q, m, a, takes, may) ↦ absurd (no_call_taken p.instr q m n a actuals (Some t) takes is)
+      | inr (inl (x, rest, scope, all, q, m, a, takes, may)) ↦ absurd (no_call_taken p.instr q m n a actuals (Some t) takes is)
+      | inr (inr (x, rest, scope, all, e, m, takes, calls, made, may, r, at, b, call)) ↦ absurd (no_call_takes p.instr e n actuals (Some t) takes is)
     ]
 
     pub source_named : (p : NamedPoint) → Has named.points p → (q : Pos) (n : ℕ) (a : TypedTree) → IsSourceOf p.instr (typed_tree.Call q n a) → May n
@@ -347,9 +438,19 @@ module _ (table : Table) (typed : TypedProgram) (effects : Effects) (given : IsV
         | inl (x, rest, is) ↦ weaker n (subst (TakesAsked Asked May) is asked).0.0
         | inr (target, is) ↦ weaker n (subst (TakesAsked Asked May) is asked).0
       ]
-      | inr (t, rest, scope, all, r, m, b, takes, may) ↦ subst May (one p.instr r m b takes source) may
+      | inr (inl (t, rest, scope, all, r, m, b, takes, may)) ↦ subst May (one p.instr r m b takes source) may
+      | inr (inr (t, rest, scope, all, e, m, takes, calls, made, may, r, at, b, call)) ↦ absurd (subst IsMadeTree (same_source p.instr e takes source) made)
     ]
       where
+        same_source : (i : Instruction) (e : TypedTree) → Takes i e → IsSourceOf i (typed_tree.Call q n a) → e ≡ typed_tree.Call q n a
+        same_source i e (inl (x, is)) (inl (y, rest, also)) = (let both : Declare x (typed_tree.More e NoMore) ≡ Declare y (typed_tree.More (typed_tree.Call q n a) rest) = sym is ∙ also in cc)
+        same_source i e (inl (x, is)) (inr (target, also)) = (let both : Declare x (typed_tree.More e NoMore) ≡ Assign target (typed_tree.Call q n a) = sym is ∙ also in cc)
+        same_source i e (inr (inl (k, x, path, u, is, none))) (inl (y, rest, also)) =
+            (let both : Assign (Name k x path u) e ≡ Declare y (typed_tree.More (typed_tree.Call q n a) rest) = sym is ∙ also in cc)
+        same_source i e (inr (inl (k, x, path, u, is, none))) (inr (target, also)) = (let both : Assign (Name k x path u) e ≡ Assign target (typed_tree.Call q n a) = sym is ∙ also in cc)
+        same_source i e (inr (inr is)) (inl (y, rest, also)) = (let both : Hold (typed_tree.More e NoMore) ≡ Declare y (typed_tree.More (typed_tree.Call q n a) rest) = sym is ∙ also in cc)
+        same_source i e (inr (inr is)) (inr (target, also)) = (let both : Hold (typed_tree.More e NoMore) ≡ Assign target (typed_tree.Call q n a) = sym is ∙ also in cc)
+
         one : (i : Instruction) (r : Pos) (m : ℕ) (b : TypedTree) → Takes i (typed_tree.Call r m b) → IsSourceOf i (typed_tree.Call q n a) → m ≡ n
         one i r m b (inl (x, is)) (inl (y, rest, also)) =
             (let both : Declare x (typed_tree.More (typed_tree.Call r m b) NoMore) ≡ Declare y (typed_tree.More (typed_tree.Call q n a) rest) = sym is ∙ also in cc)
@@ -432,7 +533,8 @@ module _ (table : Table) (typed : TypedProgram) (effects : Effects) (given : IsV
   filled_named sub has q there t fills =
       by q.instr fills (elim (sub_fine (unnumbered own) sub Asked May (λ x. Unit {0}) weaker (λ r at n a x is asked. tt) (λ r at x e op is. tt) (given.results sub has) (λ x object. tt) q there) [
         | inl (all, asked) ↦ (λ n a x is. subst (TakesAsked Asked May) is asked)
-        | inr (x, rest, scope, all, p, m, b, takes, may) ↦ (λ n a y is. absurd (no_call_taken q.instr p m n b a (Some y) takes is))
+        | inr (inl (x, rest, scope, all, p, m, b, takes, may)) ↦ (λ n a y is. absurd (no_call_taken q.instr p m n b a (Some y) takes is))
+        | inr (inr (x, rest, scope, all, e, m, takes, calls, made, may, r, at, b, call)) ↦ (λ n a y is. absurd (no_call_takes q.instr e n a (Some y) takes is))
       ]) refl
     where
       plain : (k : ℕ) → is_scalar (full s.table k) ≡ true → is_anonymous (full own.table k) ≡ false

@@ -80,7 +80,7 @@ module _ (h : Here) (settled : IsSettled h.typing.table) (leaks : List Leak) (wa
   quiet_on on m P facts facts' (Raises e n) is less exact = tt
   quiet_on on m P facts facts' (Traps t n) none less exact = tt
 
-  done_exact : {A B : Type 0} (facts : List Fact) (x : Evaluated A) (g : A → B) → ExactTo facts x → ExactTo facts (followed_by x (λ a n. Done (g a) n))
+  pub done_exact : {A B : Type 0} (facts : List Fact) (x : Evaluated A) (g : A → B) → ExactTo facts x → ExactTo facts (followed_by x (λ a n. Done (g a) n))
   done_exact facts (Done a n) g exact = exact
   done_exact facts (Raises e n) g exact = tt
   done_exact facts (Traps t n) g exact = tt
@@ -173,7 +173,7 @@ module _ (h : Here) (settled : IsSettled h.typing.table) (leaks : List Leak) (wa
 
   -- ---- allocators
 
-  allocated_exact : (on : List (List machine.Word)) (t : ℕ) (hands : List Waiting) (facts : List Fact) (x : Evaluated (List machine.Word)) → GivenIn on t hands facts x → ExactTo facts x
+  pub allocated_exact : (on : List (List machine.Word)) (t : ℕ) (hands : List Waiting) (facts : List Fact) (x : Evaluated (List machine.Word)) → GivenIn on t hands facts x → ExactTo facts x
       → ExactTo facts (followed_by x (allocated t))
   allocated_exact on t hands facts (Done ws k) (ready, long, same) exact = by_test (nat_le (live_words k.memory + length ws) heap_words)
     where
@@ -188,7 +188,7 @@ module _ (h : Here) (settled : IsSettled h.typing.table) (leaks : List Leak) (wa
 
   -- ---- all together
 
-  then_parts : (mid : List (List machine.Word)) (u : ℕ) (hands : List Waiting) (facts facts' : List Fact) (x : Evaluated (List machine.Word))
+  pub then_parts : (mid : List (List machine.Word)) (u : ℕ) (hands : List Waiting) (facts facts' : List Fact) (x : Evaluated (List machine.Word))
       (f : List machine.Word → Now → Evaluated (List machine.Word)) → GivenIn mid u hands facts x → ExactTo facts x
       → ((ws : List machine.Word) (n : Now) → GivenIn mid u hands facts (Done ws n) → Exact n.memory facts → ExactTo facts' (f ws n))
       → ExactTo facts' (followed_by x f)
@@ -283,7 +283,7 @@ module _ (h : Here) (settled : IsSettled h.typing.table) (leaks : List Leak) (wa
     exact_on e want gives calls before on takes m hands facts ready allowed own keep exact = absurd gives
 
     -- the parts of an aggregate from the i-th on
-    parts_exact : (es : TypedTree) (t i : ℕ) → GivesParts h.typing t i es → GivesPlainly h.typing es
+    pub parts_exact : (es : TypedTree) (t i : ℕ) → GivesParts h.typing t i es → GivesPlainly h.typing es
         → is_record (shape_of h.typing.table t) || is_array (shape_of h.typing.table t) ≡ true
         → (before on : List (List machine.Word)) → Takes (waiting es) before on → (m : Memory) (hands : List Waiting) (facts : List Fact)
         → ReadyIn m hands facts → AllowsAll facts (acts (acts_in h.typing es)) → AllKeep (is_fixed h.typing) (acts (acts_in h.typing es)) → Exact m facts

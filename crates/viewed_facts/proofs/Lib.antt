@@ -2,6 +2,7 @@ pub mod Steps
 pub mod Checks
 pub mod Memories
 pub mod Evaluated
+pub mod Fed
 pub mod Stored
 pub mod Instructions
 pub mod Releases

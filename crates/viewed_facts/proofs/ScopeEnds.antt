@@ -38,7 +38,7 @@ use Rattle.soundness.proofs.Eased.{eased}
 use Rattle.soundness.proofs.Around.{IsFar}
 use Rattle.owned_loans.specs.Views.{Around, known_gone, Views, Viewed}
 use Rattle.viewed_steps.specs.Sound.{ArePast, IsResting, HoldsAt, ArePlaced, NoneAbove, ViewStage, stages_of, GoneElsewhere, AreWaiting, AreLeft, HasTraversals}
-use Rattle.viewed_steps.specs.Awaited.{AreAwaited, lasting_of, AreScalar, temporaries_of, TakesScalars}
+use Rattle.viewed_steps.specs.Awaited.{AreAwaited, lasting_of, AreScalar, temporaries_of, TakesScalars, StoresNone}
 use Rattle.viewed_steps.specs.Ready.{IsReady}
 use Rattle.viewed_steps.proofs.Waiting.{StandsBetween, beside_them, handed}
 use Rattle.viewed_steps.proofs.Standing as standing
@@ -179,11 +179,7 @@ module _ (table : Table) (typed : TypedProgram) (effects : Effects) (input : Lis
 
     module _ (y : ℕ) (is : p.instr ≡ EndScope y) where
       plain_end : Plainly
-      plain_end = innermost.plain_here table typed effects input ready state top below more_frames rest named p frames deep stages running awaiting of_sub at_point path views viewed_before kept scope holds placed_before above (λ call by. elim by [
-        | inl (z, other_instr) ↦ (let never : EndScope y ≡ Declare z (More call NoMore) = sym is ∙ other_instr in cc)
-        | inr (inl (r, z, steps_there, w, other_instr, calls)) ↦ (let never : EndScope y ≡ Assign (Name r z steps_there w) call = sym is ∙ other_instr in cc)
-        | inr (inr other_instr) ↦ (let never : EndScope y ≡ Hold (More call NoMore) = sym is ∙ other_instr in cc)
-      ])
+      plain_end = innermost.plain_here table typed effects input ready state top below more_frames rest named p frames deep stages running awaiting of_sub at_point path views viewed_before kept scope holds placed_before above (subst StoresNone (sym is) tt)
 
       no_call_there : IsNoCall p.instr
       no_call_there n actuals result same = (let never : EndScope y ≡ Call n actuals result = sym is ∙ same in cc)

@@ -43,6 +43,7 @@ use Rattle.soundness.proofs.Around.{IsFar}
 use Rattle.owned_loans.specs.Views.{Around, known_gone, Views, Viewed}
 use Rattle.viewed_soundness.proofs.Names.{true_false, free_formal, plain_named}
 use Rattle.viewed_soundness.proofs.Outcomes.{IsGood, assigned_acts}
+use Rattle.viewed_steps.specs.Awaited.{IsMade}
 use Rattle.viewed_steps.specs.Sound.{ArePast, IsResting, HoldsAt, ArePlaced, NoneAbove, ViewStage, stages_of, GoneElsewhere, AreWaiting, IsStoredAt, AreTurned, HasTraversals}
 use Rattle.viewed_steps.specs.Awaited.{AreAwaited, lasting_of, AreScalar, temporaries_of, TakesScalars}
 use Rattle.viewed_steps.specs.Ready.{AreOrderly, IsReady}
@@ -209,7 +210,14 @@ module _ (table : Table) (typed : TypedProgram) (effects : Effects) (input : Lis
       plain_there q x u e k z path_of o named_so is =
           elim (innermost.taken_there table typed effects input ready state top below more_frames rest named p frames deep stages running awaiting of_sub at_point path views viewed_before kept scope holds placed_before above) [
             | inl plain ↦ plain
-            | inr taken_alone ↦ absurd (elim taken_alone.8 [
+            | inr (inr within) ↦ absurd (elim within.6 [
+              | inl (y, other_instr) ↦ (let never : Assign (Name q x NoMore u) e ≡ Declare y (More within.3 NoMore) = sym is ∙ other_instr in cc)
+              | inr (inl (r, y, steps_there, w, same, calls)) ↦ (
+                  let there : Assign (Name q x NoMore u) e ≡ Assign (Name r y steps_there w) within.3 = sym is ∙ same in
+                  subst IsMade (sym (assigned_same there) ∙ named_so) within.7)
+              | inr (inr other_instr) ↦ (let never : Assign (Name q x NoMore u) e ≡ Hold (More within.3 NoMore) = sym is ∙ other_instr in cc)
+            ])
+            | inr (inl taken_alone) ↦ absurd (elim taken_alone.8 [
               | inl (y, other_instr) ↦ (let never : Assign (Name q x NoMore u) e ≡ Declare y (More (CallIn taken_alone.3 taken_alone.4 taken_alone.5) NoMore) = sym is ∙ other_instr in cc)
               | inr (inl (r, y, steps_there, w, same, calls)) ↦ (
                   let there : Assign (Name q x NoMore u) e ≡ Assign (Name r y steps_there w) (CallIn taken_alone.3 taken_alone.4 taken_alone.5) = sym is ∙ same in

@@ -2,7 +2,7 @@
 -- observers that is ready.
 use Rattle.std.proofs.Common.{◌≡◌, refl, sym, ap, ◌∙◌, subst, ◌⊎◌, inl, inr, ℕ, suc, Bool, true, false, not, List, [], ◌∷◌, ◌++◌, length, is_some, append-nil, Option, Some, None, if◌then◌else◌, drop, get_or}
 use Rattle.viewed_soundness.proofs.Names.{plain_named}
-use Rattle.viewed_steps.specs.Awaited.{AreAwaited, awaited, lasting_of, TakesScalars, TakesAlone}
+use Rattle.viewed_steps.specs.Awaited.{AreAwaited, awaited, lasting_of, TakesScalars, TakesAlone, StoresNone}
 use Rattle.viewed_steps.proofs.Alone as alone_value
 use Rattle.viewed_soundness.proofs.Evaluated.{gives_plainly}
 use Rattle.spark_base.specs.declared.position.Pos.{Pos}
@@ -434,13 +434,7 @@ module _ (table : Table) (typed : TypedProgram) (effects : Effects) (input : Lis
         plain_call : Plain
         plain_call =
             (innermost.plain_here table typed effects input ready state top below more_frames rest named p frames deep stages running awaiting of_sub at_point path views viewed_before kept scope holds placed_before above
-            (λ c by. elim by [
-              | inl (y, is) ↦ (let no : Call k actuals result ≡ Declare y (More c NoMore) = sym e ∙ is in cc)
-              | inr more ↦ elim more [
-                | inl (r, y, path_there, u, is, calls) ↦ (let no : Call k actuals result ≡ Assign (Name r y path_there u) c = sym e ∙ is in cc)
-                | inr is ↦ (let no : Call k actuals result ≡ Hold (More c NoMore) = sym e ∙ is in cc)
-              ]
-            ])).0
+            (subst StoresNone (sym e) tt)).0
 
         -- with the values that wait under plain types
         so_easy : IsReadyIn (steps.here main_turn) ready.accepted.settled state.leaks other alone in_formals index_law ready.owns views ready.class.parts_named

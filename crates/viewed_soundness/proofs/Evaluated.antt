@@ -121,7 +121,7 @@ module _ (h : Here) (settled : IsSettled h.typing.table) (leaks : List Leak) (wa
       ap (λ z. (content h.typing m hands (trunk z)).owns) e ∙ ap not (owned.live k c held)
 
   -- nor has one of a hand
-  spared_hand : (k : ℕ) (w : Way) → Under (Object (OfHand k)) w → other.gone w → ⊥
+  pub spared_hand : (k : ℕ) (w : Way) → Under (Object (OfHand k)) w → other.gone w → ⊥
   spared_hand k w under o = alone w (near_under h.frame (Object (OfHand k)) w under tt) o
 
   -- a scalar value
@@ -163,7 +163,7 @@ module _ (h : Here) (settled : IsSettled h.typing.table) (leaks : List Leak) (wa
   checked_given t want hands facts x given = checked_on waits t want hands facts x given
 
   -- another type that matches
-  retyped_given : (on : List (List machine.Word)) (t want : ℕ) (hands : List Waiting) (facts : List Fact) → Matches h.typing.table t want → (x : Evaluated (List machine.Word))
+  pub retyped_given : (on : List (List machine.Word)) (t want : ℕ) (hands : List Waiting) (facts : List Fact) → Matches h.typing.table t want → (x : Evaluated (List machine.Word))
       → GivenOn on t hands facts x → GivenOn on want hands facts x
   retyped_given on t want hands facts fits (Done ws n) (ready, long, same) = (
     record {
@@ -290,7 +290,7 @@ module _ (h : Here) (settled : IsSettled h.typing.table) (leaks : List Leak) (wa
     holds = ready.holds;
   }
 
-  allocated_given : (on : List (List machine.Word)) (t want d : ℕ) (c n : Bool) (hands : List Waiting) (facts : List Fact) → IsNamed h.typing.table want
+  pub allocated_given : (on : List (List machine.Word)) (t want d : ℕ) (c n : Bool) (hands : List Waiting) (facts : List Fact) → IsNamed h.typing.table want
       → shape_of h.typing.table want ≡ shape.Access d c n
       → Matches h.typing.table d t → (x : Evaluated (List machine.Word)) → GivenOn on t (record { of = want; words = [] } ∷ hands) facts x
       → GivenOn on want hands facts (followed_by x (allocated t))
@@ -380,7 +380,7 @@ module _ (h : Here) (settled : IsSettled h.typing.table) (leaks : List Leak) (wa
   -- ---- aggregates
 
   -- a part goes after the words of the hand below
-  part_joined : (m : Memory) (hands : List Waiting) (facts : List Fact) (t u : ℕ) (acc ws : List machine.Word) (step : Step)
+  pub part_joined : (m : Memory) (hands : List Waiting) (facts : List Fact) (t u : ℕ) (acc ws : List machine.Word) (step : Step)
       → has_part h.typing.table t (step ∷ []) ≡ true → offset_in h.typing.table t (step ∷ []) ≡ length acc
       → type_in h.typing.table t (step ∷ []) ≡ u → length ws ≡ words h.typing.table u
       → Ready m (record { of = u; words = ws } ∷ record { of = t; words = acc } ∷ hands) facts
@@ -409,7 +409,7 @@ module _ (h : Here) (settled : IsSettled h.typing.table) (leaks : List Leak) (wa
   Grows on t acc hands facts (Raises e n) = Unit {0}
   Grows on t acc hands facts (Traps e n) = ⊥
 
-  grown : (on : List (List machine.Word)) (t : ℕ) (acc ws : List machine.Word) (hands : List Waiting) (facts : List Fact) (x : Evaluated (List machine.Word))
+  pub grown : (on : List (List machine.Word)) (t : ℕ) (acc ws : List machine.Word) (hands : List Waiting) (facts : List Fact) (x : Evaluated (List machine.Word))
       → Grows on t (acc ++ ws) hands facts x → Grows on t acc hands facts (followed_by x (λ more now. Done (ws ++ more) now))
   grown on t acc ws hands facts (Done more n) given = subst (λ z. GivenOn on t hands facts (Done z n)) (append_assoc acc ws more) given
   grown on t acc ws hands facts (Raises e n) given = tt
@@ -423,7 +423,7 @@ module _ (h : Here) (settled : IsSettled h.typing.table) (leaks : List Leak) (wa
   then_grown mid on u t acc hands facts facts' (Raises e n) f given next = tt
   then_grown mid on u t acc hands facts facts' (Traps e n) f none next = none
 
-  all_grown : (on : List (List machine.Word)) (t : ℕ) (hands : List Waiting) (facts : List Fact) (x : Evaluated (List machine.Word)) → Grows on t [] hands facts x → GivenOn on t hands facts x
+  pub all_grown : (on : List (List machine.Word)) (t : ℕ) (hands : List Waiting) (facts : List Fact) (x : Evaluated (List machine.Word)) → Grows on t [] hands facts x → GivenOn on t hands facts x
   all_grown on t hands facts (Done ws n) given = given
   all_grown on t hands facts (Raises e n) given = tt
   all_grown on t hands facts (Traps e n) none = none
@@ -439,10 +439,10 @@ module _ (h : Here) (settled : IsSettled h.typing.table) (leaks : List Leak) (wa
   elements_plain t (shape.Fields cs) e is none = cc
   elements_plain t (shape.Same of) e is none = cc
 
-  abbrev repeats : ℕ → List machine.Word → Now → Evaluated (List machine.Word)
+  abbrev pub repeats : ℕ → List machine.Word → Now → Evaluated (List machine.Word)
   repeats t ws now = Done (machine.repeated (machine.element_count h.typing.table t) ws) now
 
-  repeated_given : (on : List (List machine.Word)) (t : ℕ) (hands : List Waiting) (facts : List Fact) → is_array (shape_of h.typing.table t) ≡ true
+  pub repeated_given : (on : List (List machine.Word)) (t : ℕ) (hands : List Waiting) (facts : List Fact) → is_array (shape_of h.typing.table t) ≡ true
       → is_owning h.typing.table (machine.element_type h.typing.table t) ≡ false → (x : Evaluated (List machine.Word))
       → GivenOn on (machine.element_type h.typing.table t) hands facts x → GivenOn on t hands facts (followed_by x (repeats t))
   repeated_given on t hands facts array none (Done ws n) (ready, long, same) =
@@ -476,7 +476,7 @@ module _ (h : Here) (settled : IsSettled h.typing.table) (leaks : List Leak) (wa
   )
   nulls_given on t m hands facts array one ready false = tt
 
-  matches_plain : (t u : ℕ) → Matches h.typing.table t u → is_scalar (full h.typing.table t) ≡ true → is_scalar (full h.typing.table u) ≡ true
+  pub matches_plain : (t u : ℕ) → Matches h.typing.table t u → is_scalar (full h.typing.table t) ≡ true → is_scalar (full h.typing.table u) ≡ true
   matches_plain t u (inl same) plain = ap (λ z. is_scalar (view_shape z)) (sym same) ∙ plain
   matches_plain t u (inr both) plain = both.1
 
@@ -581,7 +581,7 @@ module _ (h : Here) (settled : IsSettled h.typing.table) (leaks : List Leak) (wa
     evaluated_on e want gives calls before on takes m hands facts ready allowed own keep = absurd gives
 
     -- the parts of an aggregate from the i-th on, after those before
-    parts_given : (es : TypedTree) (t i : ℕ) → GivesParts h.typing t i es → GivesPlainly h.typing es
+    pub parts_given : (es : TypedTree) (t i : ℕ) → GivesParts h.typing t i es → GivesPlainly h.typing es
         → i + tree_count es ≡ field_count (shape_of h.typing.table t)
         → is_record (shape_of h.typing.table t) || is_array (shape_of h.typing.table t) ≡ true
         → (before on : List (List machine.Word)) → Takes (waiting es) before on

@@ -4,6 +4,9 @@ pub mod Names
 pub mod Stays
 pub mod Moments
 pub mod Evaluated
+pub mod Lifted
+pub mod Hands
+pub mod Fed
 pub mod Stored
 pub mod Viewing
 pub mod Sources

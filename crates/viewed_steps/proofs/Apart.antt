@@ -28,7 +28,7 @@ both_first : (a b : Bool) → a && b ≡ true → a ≡ true
 both_first true b e = refl
 both_first false b e = cc
 
-same_root : (n m : Name) → overlaps n m ≡ true → n.root ≡ m.root
+pub same_root : (n m : Name) → overlaps n m ≡ true → n.root ≡ m.root
 same_root n m over = eqb-true n.root m.root (both_first (n.root == m.root) (agree_along n.sels m.sels) over)
 
 pub moved_same : (n m : Name) → Moved n ≡ Moved m → n ≡ m

@@ -1,31 +1,40 @@
 -- The acts of a call: its actuals are read, moved or lent, and what is copied back may be.
-use Rattle.std.proofs.Common.{◌≡◌, refl, sym, ap, ◌∙◌, subst, ◌⊎◌, inl, inr, ℕ, suc, ◌<◌, true, false, List, [], ◌∷◌, ◌++◌, map, take, length, arith, Option, Some, None, is_some, Bool, not, ◌||◌, ◌&&◌}
+use Rattle.std.proofs.Common.{◌≡◌, refl, sym, ap, ◌∙◌, subst, ◌⊎◌, inl, inr, ℕ, suc, ◌<◌, true, false, List, [], ◌∷◌, ◌++◌, map, take, length, arith, Option, Some, None, is_some, Bool, not, ◌||◌, ◌&&◌, eq-eqb}
 use Rattle.std.specs.Prelude.{is_some}
 use Rattle.spark_base.specs.Lists.{Has}
+use Rattle.spark_base.proofs.Lists.{Has-append_cases, Has-append_right, Has-map_from}
 use Rattle.place_names.specs.declared.act.Act.{Act}
 use Rattle.place_names.specs.declared.act.Placed.{Placed}
 use Rattle.place_names.specs.declared.fact.Fact.{Fact}
 use Rattle.place_names.specs.declared.fact.Fact.TheVariants.{Moved, Lent}
-use Rattle.place_names.specs.Names.{Name as PlaceName}
+use Rattle.place_names.specs.Names.{Name as PlaceName, overlaps}
+use Rattle.place_names.specs.Facts.{adds, effect}
+use Rattle.place_names.specs.Rules.{moved_or_lent}
+use Rattle.place_names.specs.declared.rule.Loan.{Loan}
+use Rattle.place_names.specs.declared.rule.Loan.TheVariants.{Borrowed}
 use Rattle.place_names.specs.declared.act.Mode.TheVariants as mode
-use Rattle.type_definitions.specs.Types.{Table, is_owning}
+use Rattle.type_definitions.specs.Types.{Table, full, is_owning}
 use Rattle.typed_tree.specs.Trees.{TypedTree, Name, NoMore, More}
 use Rattle.typed_tree.specs.Programs.{TypedProgram}
 use Rattle.flow_paths.specs.declared.report.Effects.{Effects}
 use Rattle.flow_paths.specs.Instructions.{Instruction, Call, EndScope, Declare, Assign, Hold}
-use Rattle.flow_paths.specs.Objects.{Typing, object_at, sub_at, is_anonymous, is_package_object, view_of, traverses, passings, Passing, Signature, passing, is_observer, is_formal}
+use Rattle.flow_paths.specs.Objects.{Typing, object_at, sub_at, is_anonymous, is_package_object, view_of, traverses, passings, Passing, Signature, passing, is_observer, is_observing, is_formal}
 use Rattle.place_names.specs.Reports.{Report}
 use Rattle.flow_paths.specs.Aliases.{overlap_reports, passed_reports, call_reports}
 use Rattle.flow_paths.specs.Aliases as alias
+use Rattle.flow_paths.specs.Acts.{gives_variable}
 use Rattle.flow_paths.specs.Acts as flow
 use Rattle.flow_paths.specs.Points.{NamedPoint}
 use Rattle.flow_paths.specs.Laid.{FlowProgram, NamedSub, flow_sub, typing_of, flow_typing, flow_program, flow_named}
-use Rattle.flow_paths.specs.Paths.{ControlPath}
+use Rattle.flow_paths.specs.Names.{written}
+use Rattle.flow_paths.specs.Paths.{ControlPath, facts_before}
 use Rattle.flow_paths.specs.Effects.{path_points, globals_of, called_acts}
-use Rattle.flow_paths.specs.Scopes.{taken}
+use Rattle.flow_paths.specs.Scopes.{taken, scope_behind, Leads}
+use Rattle.flow_paths.specs.Views.{traversed_formal, traversed_of}
 use Rattle.machine.specs.States.{Frame, State, sub_of}
 use Rattle.machine.specs.Step.{Turn, turn, start, led, successor}
 use Rattle.machine.specs.Step as steps
+use Rattle.machine.specs.Typed.{successors}
 use Rattle.machine.specs.Owners.{is_in_formal, waiting_in, is_in}
 use Rattle.place_names.specs.declared.act.Mode.TheVariants as mode
 use Rattle.owned_ways.specs.Ways.{Step, Way, after, AllowsAll, Past}
@@ -37,20 +46,28 @@ use Rattle.soundness.specs.Sound.{Stage, facts_of, AreStages, IsRunnable, InScop
 use Rattle.soundness.proofs.Numbers.{index_law}
 use Rattle.soundness.proofs.Lasting.{keeps}
 use Rattle.soundness.proofs.Passing.{AreReads, reads_keep, signature_is}
-use Rattle.soundness.proofs.Scalars.{acts, acts_append, allows_both}
-use Rattle.soundness.proofs.Used.{called_are, fact_added}
+use Rattle.soundness.proofs.Contents.{bool_cases}
+use Rattle.soundness.proofs.Inherited.{global_after}
+use Rattle.soundness.proofs.Points.{flow_at}
+use Rattle.soundness.proofs.Scalars.{acts, acts_append, after_append, allows_both}
+use Rattle.soundness.proofs.Successors.{below_one, successor_there}
+use Rattle.soundness.proofs.Used.{called_are, fact_added, added_after, globals_are}
 use Rattle.soundness.proofs.Around.{IsFar}
 use Rattle.soundness.proofs.Eased.{eased}
 use Rattle.owned_loans.specs.Views.{Around, known_gone, Views, IsForeign, Viewed}
-use Rattle.viewed_soundness.specs.Holds.{Holds, is_view, sees_only, IsOwners, is_exclusive, AllKeep, is_fixed}
+use Rattle.owned_loans.proofs.Allowed.{Cleared}
+use Rattle.owned_loans.proofs.Safe.{Unlent}
+use Rattle.viewed_soundness.specs.Holds.{Holds, is_view, sees_only, IsOwners, is_given, is_exclusive, lends_first, is_first, AllKeep, is_fixed}
 use Rattle.viewed_soundness.proofs.Given.{IsLow}
 use Rattle.viewed_soundness.proofs.Evaluated.{live_trunk, keep_both}
-use Rattle.viewed_steps.specs.Awaited.{temporaries_of, lasting_of, AreAwaited, AreScalar, TakesScalars, IsTakenBy}
+use Rattle.viewed_steps.specs.Awaited.{temporaries_of, lasting_of, AreAwaited, AreScalar, TakesScalars, StoresNone}
 use Rattle.viewed_steps.specs.Sound.{IsCopiedBack, ArePast, HoldsAt, ArePlaced, NoneAbove, ViewStage, stages_of, GoneElsewhere, AreWaiting, IsResting, IsKindOfFormal, HasTraversals, LendsShared, AreShownOwn}
-use Rattle.viewed_steps.specs.Ready.{IsReady, IsCalled}
+use Rattle.viewed_steps.specs.Ready.{IsReady, IsCalled, IsTraversalCall, IsSeen, AreActualsTo}
+use Rattle.viewed_steps.specs.Traversals.{traversed_name}
 use Rattle.viewed_steps.proofs.Lent.{Spare, spare_both}
-use Rattle.viewed_steps.proofs.Waiting.{StandsBetween, beside_them, handed}
-use Rattle.viewed_steps.proofs.Called.{values_are_read, passes_to, spare_reads, spare_copies}
+use Rattle.viewed_steps.proofs.Apart.{same_root}
+use Rattle.viewed_steps.proofs.Waiting.{StandsBetween, beside_them, handed, lent_handed}
+use Rattle.viewed_steps.proofs.Called.{values_are_read, call_adds_none, passes_to, spare_reads, spare_copies}
 use Rattle.viewed_steps.proofs.LaidOut.{AreOpenActuals}
 use Rattle.viewed_steps.proofs.Passed.{apart_or, apart_there}
 use Rattle.viewed_steps.proofs.Cells.{are_kept, all_in, all_open}
@@ -58,11 +75,17 @@ use Rattle.viewed_steps.proofs.Standing.{or_right}
 use Rattle.viewed_steps.proofs.Standing as standing
 use Rattle.viewed_steps.proofs.Packages as packages
 use Rattle.viewed_steps.proofs.Innermost as innermost
-use Rattle.viewed_steps.proofs.Views.{AreAccess, all_held, not_elsewhere}
+use Rattle.viewed_steps.proofs.Views.{AreAccess, AreUnseen, given_cases, all_held, not_elsewhere}
 use Rattle.viewed_steps.proofs.Seeing.{AreClear, IsLowRoot, AreLowRoots}
 use Rattle.viewed_steps.proofs.Roots.{view_goes}
 use Rattle.soundness.specs.Ready.{root_of}
 use Rattle.viewed_steps.proofs.Clear.{all_clear}
+use Rattle.viewed_steps.proofs.First.{way_named, first_allowed, first_keeps}
+use Rattle.viewed_steps.proofs.Followed as followed
+use Rattle.viewed_steps.proofs.Followed.{IsTraversing}
+use Rattle.viewed_steps.proofs.Lending.{named_has}
+use Rattle.viewed_steps.proofs.Traversing.{first_actual, first_reads}
+use Rattle.viewed_soundness.proofs.Names.{true_false}
 use Rattle.viewed_steps.proofs.Exclusive.{first_true, second_true, mode_in, sees_shown, AreLent, are_lent, lent_clears}
 
 module _ (table : Table) (typed : TypedProgram) (effects : Effects) (input : List ℕ) (ready : IsReady table typed effects) where
@@ -139,7 +162,7 @@ module _ (table : Table) (typed : TypedProgram) (effects : Effects) (input : Lis
     abbrev Plain : Type 0
     Plain = AreScalar s (temporaries_of s (take (taken p.instr) p.scope))
 
-    abbrev plain_here : ((call : TypedTree) → IsTakenBy p.instr call → ⊥) → Plain × TakesScalars s p.instr
+    abbrev plain_here : StoresNone p.instr → Plain × TakesScalars s p.instr
     plain_here = innermost.plain_here table typed effects input ready state top below more_frames rest named p frames deep stages running awaiting of_sub at_point path views viewed_before kept scope holds placed_before above
 
     abbrev named_there : Has (flow_named table typed) named
@@ -147,6 +170,9 @@ module _ (table : Table) (typed : TypedProgram) (effects : Effects) (input : Lis
 
     abbrev point_there_now : Has named.points p
     point_there_now = innermost.point_there_now table typed effects input ready state top below more_frames rest named p frames deep stages running awaiting of_sub at_point path views viewed_before kept scope holds placed_before above
+
+    abbrev successors_there : length main_turn.point.next ≡ successors p.instr
+    successors_there = innermost.successors_there table typed effects input ready state top below more_frames rest named p frames deep stages running awaiting of_sub at_point path views viewed_before kept scope holds placed_before above
 
     abbrev easy : Turn
     easy = eased main_turn
@@ -166,78 +192,277 @@ module _ (table : Table) (typed : TypedProgram) (effects : Effects) (input : Lis
       pub kinds : (x : ℕ) → Has formals x → IsKindOfFormal s x
       kinds x has = ready.class.formals x (called.formals x has)
 
-      -- results are of no anonymous types
-      pub no_traversal : traverses s.table (sub_of program n).result ≡ false
-      no_traversal = by_result (sub_of program n).result refl
+      -- a traversal function is called, or another subprogram
+      abbrev pub Traverses : Type 0
+      Traverses = (f : ℕ) × (traversed_formal s (sub_of program n) ≡ Some f)
+
+      pub traverses_or : (traverses s.table (sub_of program n).result ≡ false) ⊎ Traverses
+      traverses_or = elim (bool_cases (traverses s.table (sub_of program n).result)) [
+        | inl gives ↦ inr (ready.traversing.formal n (called.runs).entered gives)
+        | inr none ↦ inl none
+      ]
+
+      -- another one has no formal of an anonymous access type
+      pub unseen_plain : traverses s.table (sub_of program n).result ≡ false → AreUnseen s formals
+      unseen_plain none x has = by_kind (is_anonymous (view_of s x)) refl
         where
-          by_result : (r : Option ℕ) → (sub_of program n).result ≡ r → traverses s.table r ≡ false
-          by_result None is = refl
-          by_result (Some of) is =
-              ready.class.results (flow_sub own named) (standing.in_program table typed effects input ready state top older outer named p frames of_sub at_point) main_turn.point
-              (standing.in_sub table typed effects input ready state top older outer named p frames of_sub at_point) n actuals result e of is
+          by_kind : (b : Bool) → is_anonymous (view_of s x) ≡ b → b ≡ false
+          by_kind false is = refl
+          by_kind true is =
+              let never : None ≡ Some x = sym (ap (λ b. traversed_of b (sub_of program n).formals) none) ∙ ready.traversing.firsts n (called.runs).entered x has is in cc
 
       -- what a call takes is of scalar types
       pub plain_there : Plain × TakesScalars s p.instr
-      plain_there = plain_here (λ call by. elim by [
-        | inl (x, is) ↦ (let never : Call n actuals result ≡ Declare x (More call NoMore) = sym e ∙ is in cc)
-        | inr (inl (q, x, steps, u, is, calls)) ↦ (let never : Call n actuals result ≡ Assign (Name q x steps u) call = sym e ∙ is in cc)
-        | inr (inr is) ↦ (let never : Call n actuals result ≡ Hold (More call NoMore) = sym e ∙ is in cc)
-      ])
+      plain_there = plain_here (subst StoresNone (sym e) tt)
 
       abbrev pub procedure : Bool
       procedure = not (is_some (sub_of program n).result)
 
       abbrev pub ways_there : List Passing
-      ways_there = map (passing s (not (is_some (sub_of program n).result))) formals
-
-      pub ways_are : passings s (sub_at s n) ≡ ways_there
-      ways_are = passes_to program n no_traversal
+      ways_there = passings s (sub_at s n)
 
       -- the acts: actuals are read, or their indexes are; then come those of what is copied back, and
       -- those on package objects
       abbrev pub values : List Placed
       values = flow.actual_values s ways_there actuals
 
-      abbrev pub copies : List Placed
-      copies = flow.actual_acts ways_there actuals
+      abbrev true_copies : List Placed
+      true_copies = flow.actual_acts ways_there actuals
 
-      pub values_are : standing.acts_by table typed effects input ready state top older outer named p frames of_sub at_point s p.instr ≡ values ++ copies
-      values_are =
-          ap (standing.acts_by table typed effects input ready state top older outer named p frames of_sub at_point s) e
-          ∙ ap (λ z. flow.actual_values s z actuals ++ flow.actual_acts z actuals) ways_are
+      -- as if the first actual had one in the call of a traversal function, too
+      abbrev pub copies : List Placed
+      copies = flow.actual_acts (map (passing s procedure) formals) actuals
+
+      values_are : standing.acts_by table typed effects input ready state top older outer named p frames of_sub at_point s p.instr ≡ values ++ true_copies
+      values_are = ap (standing.acts_by table typed effects input ready state top older outer named p frames of_sub at_point s) e
+
+      -- the point that it leads to
+      pub call_point : (k : ℕ) × (successor main_turn 0 ≡ Some k) × Has main_turn.point.next k
+      call_point = successor_there main_turn 0 (subst (λ z. 0 < z) (sym (successors_there ∙ ap successors e)) below_one)
+
+      next_at : (q : NamedPoint) × IsAtPoint named.points call_point.0 q × Leads s (scope_behind p) q.scope
+      next_at = standing.next_at table typed effects input ready state top older outer named p frames of_sub at_point path call_point.0 call_point.2
+
+      -- What both have in common.
+      record IsActing : Type 0 where
+        pub reads : AreReads values
+        pub spare : Spare s true_copies
+        pub same : (facts : List Fact) → after (acts true_copies) facts ≡ after (acts copies) facts
+        pub own : AllowsAll own_facts (acts true_copies) → AllowsAll own_facts (acts copies)
+        pub now : AllowsAll facts_now (acts true_copies) → AllowsAll facts_now (acts copies)
+        pub among : ((x : ℕ) → Has formals x → IsCopiedBack s x → ⊥) ⊎ (copies ≡ true_copies)
+
+      plain_acts : traverses s.table (sub_of program n).result ≡ false → IsActing
+      plain_acts none =
+          let ways_are : ways_there ≡ map (passing s procedure) formals = passes_to program n none in
+          let copies_are : true_copies ≡ copies = ap (λ z. flow.actual_acts z actuals) ways_are in record {
+            reads = subst (λ z. AreReads (flow.actual_values s z actuals)) (sym ways_are)
+                (values_are_read s ready.owns procedure formals actuals (unseen_plain none) called.actuals_stay);
+            spare = subst (Spare s) (sym copies_are) (spare_copies s ready.owns procedure formals actuals);
+            same = λ facts. ap (λ z. after (acts z) facts) copies_are;
+            own = subst (λ z. AllowsAll own_facts (acts z)) copies_are;
+            now = subst (λ z. AllowsAll facts_now (acts z)) copies_are;
+            among = inr (sym copies_are);
+          }
+
+      -- nothing that overlaps an object of the frame itself is handed on
+      clear_now : (u : Way) → is_package_object s (ways.number_of u) ≡ false → Cleared own_facts u → Cleared facts_now u
+      clear_now u local_root clear = (
+        λ h m has over. elim (Has-append_cases own_facts handed_on (Lent Borrowed h m) has) [
+          | inl mine ↦ clear.0 h m mine over
+          | inr there ↦ not_there Borrowed h m there over
+        ],
+        λ m has over. elim (Has-append_cases own_facts handed_on (Moved m) has) [
+          | inl mine ↦ clear.1 m mine over
+          | inr there ↦ innermost.not_handed table typed effects input ready state top below more_frames rest named p frames deep stages running awaiting of_sub at_point path views viewed_before kept scope holds placed_before above m there
+        ],
+      )
+        where
+          not_there : (l : Loan) (h : ℕ) (m : PlaceName) → Has handed_on (Lent l h m) → overlaps m (ways.name_of u) ≡ true → ⊥
+          not_there l h m there over =
+              let lent = lent_handed table typed effects unmoved_stage local state depth older between l h m there in
+              true_false (is_package_object s m.root) (lent.1).5 (ap (is_package_object s) (same_root m (ways.name_of u) over) ∙ local_root)
+
+      unlent_now : (u : Way) → is_package_object s (ways.number_of u) ≡ false → Unlent own_facts u → Unlent facts_now u
+      unlent_now u local_root free l h m has over = elim (Has-append_cases own_facts handed_on (Lent l h m) has) [
+        | inl mine ↦ free l h m mine over
+        | inr there ↦ (
+            let lent = lent_handed table typed effects unmoved_stage local state depth older between l h m there in
+            true_false (is_package_object s m.root) (lent.1).5 (ap (is_package_object s) (same_root m (ways.name_of u) over) ∙ local_root))
+      ]
+
+      joined : (facts : List Fact) (a b : List Act) → AllowsAll facts a → AllowsAll (after a facts) b → AllowsAll facts (a ++ b)
+      joined facts [] b one two = two
+      joined facts (c ∷ a) b one two = (one.0, joined (effect c facts) a b one.1 two)
+
+      -- ---- the call of a traversal function
+
+      module _ (f : ℕ) (traversed : traversed_formal s (sub_of program n) ≡ Some f) where
+        abbrev pub made : IsTraversalCall s named (flow_at own named p).next n actuals
+        made = followed.made table typed effects input ready state top older outer named p frames of_sub at_point path n actuals result e f traversed
+
+        abbrev pub traversing : IsTraversing program n f
+        traversing = followed.ways_are table typed effects input ready state top older outer named p frames of_sub at_point path n actuals result e f traversed
+
+        abbrev pub first : TypedTree
+        first = first_actual s ready.owns made.call
+
+        abbrev others : List Placed
+        others = flow.actual_acts (map (passing s false) traversing.rest) (made.call).others
+
+        abbrev pub unseen_others : AreUnseen s traversing.rest
+        unseen_others = followed.unseen table typed effects input ready state top older outer named p frames of_sub at_point path n actuals result e f traversed
+
+        abbrev pub seen_first : IsSeen s f first
+        seen_first = followed.seen_first table typed effects input ready state top older outer named p frames of_sub at_point path n actuals result e f traversed
+
+        abbrev pub others_stay : AreActualsTo s traversing.rest (made.call).others
+        others_stay = followed.others_stay table typed effects input ready state top older outer named p frames of_sub at_point path n actuals result e f traversed
+
+        pub no_procedure : procedure ≡ false
+        no_procedure = ap (λ r. not (is_some r)) traversing.result
+
+        abbrev first_acts : List Placed
+        first_acts = flow.actual_act (passing s false f) first
+
+        true_are : true_copies ≡ others
+        true_are = λ j. flow.actual_acts (traversing.ways j) (made.actuals_are j)
+
+        copies_are : copies ≡ first_acts ++ others
+        copies_are = λ j. flow.actual_acts (map (passing s (no_procedure j)) (traversing.formals j)) (made.actuals_are j)
+
+        root_there : (u : Way) → ways.name_of u ≡ traversed_name made.call → is_package_object s (ways.number_of u) ≡ false
+        root_there u called_so = ap (λ (m : PlaceName). is_package_object s m.root) called_so ∙ made.own
+
+        pub clear_own : (u : Way) → ways.name_of u ≡ traversed_name made.call → Cleared own_facts u
+        clear_own u called_so =
+            followed.clear_at_call table typed effects input ready state top older outer named p frames of_sub at_point path n actuals result e f traversed
+            call_point.0 call_point.2 next_at.0 next_at.1 u called_so
+
+        pub clear_first : (u : Way) → ways.name_of u ≡ traversed_name made.call → Cleared facts_now u
+        clear_first u called_so = clear_now u (root_there u called_so) (clear_own u called_so)
+
+        pub free_first : gives_variable s (sub_at s n).result ≡ true → (u : Way) → ways.name_of u ≡ traversed_name made.call → Unlent facts_now u
+        free_first borrows u called_so =
+            unlent_now u (root_there u called_so)
+            (followed.unlent_at_call table typed effects input ready state top older outer named p frames of_sub at_point path n actuals result e f traversed
+            call_point.0 call_point.2 next_at.0 next_at.1 ((made.borrows borrows).1 call_point.0 call_point.2 next_at.0 next_at.1) u called_so)
+
+        abbrev pub first_mode : (object_at s f).mode ≡ mode.In
+        first_mode = followed.first_mode table typed effects input ready state top older outer named p frames of_sub at_point path n actuals result e f traversed
+
+        with_first : (facts : List Fact) → ((u : Way) → ways.name_of u ≡ traversed_name made.call → Cleared facts u)
+            → AllowsAll facts (acts true_copies) → AllowsAll facts (acts copies)
+        with_first facts clear allowed =
+            subst (λ z. AllowsAll facts (acts z)) (sym copies_are)
+            (subst (AllowsAll facts) (sym (acts_append first_acts others))
+            (joined facts (acts first_acts) (acts others) (first_allowed s made.call facts f first_mode clear)
+            (subst (λ z. AllowsAll z (acts others)) (sym (first_keeps s made.call facts f first_mode)) (subst (λ z. AllowsAll facts (acts z)) true_are allowed))))
+
+        traversal_acts : IsActing
+        traversal_acts = record {
+          reads = subst AreReads (λ j. flow.actual_values s (sym traversing.ways j) (sym made.actuals_are j)) (first_reads s ready.owns traversing.rest made.call seen_first.0 unseen_others others_stay);
+          spare = subst (Spare s) (sym true_are) (spare_copies s ready.owns false traversing.rest (made.call).others);
+          same = λ facts. ap (λ z. after (acts z) facts) true_are ∙ ap (after (acts others)) (sym (first_keeps s made.call facts f first_mode))
+              ∙ sym (after_append (acts first_acts) (acts others) facts) ∙ ap (λ z. after z facts) (sym (acts_append first_acts others)) ∙ ap (λ z. after (acts z) facts) (sym copies_are);
+          own = with_first own_facts clear_own;
+          now = with_first facts_now clear_first;
+          among = inl (λ x has back. back (followed.modes_there table typed effects input ready state top older outer named p frames of_sub at_point path n actuals result e f traversed x
+              (subst (λ z. Has z x) traversing.formals has)));
+        }
+
+      -- ---- both
+
+      acting : IsActing
+      acting = elim traverses_or [ inl none ↦ plain_acts none | inr (f, traversed) ↦ traversal_acts f traversed ]
 
       pub reads_there : AreReads values
-      reads_there = values_are_read s ready.owns procedure formals actuals called.actuals_stay
+      reads_there = acting.reads
 
-      pub call_acts : standing.whole_acts table typed effects input ready state top older outer named p frames of_sub at_point p.instr ≡ acts (values ++ copies) ++ globals_of program effects n
+      call_acts : standing.whole_acts table typed effects input ready state top older outer named p frames of_sub at_point p.instr ≡ acts (values ++ true_copies) ++ globals_of program effects n
       call_acts =
           ap (λ z. acts (z ++ called_acts program effects p.pos p.instr)) values_are
-          ∙ acts_append (values ++ copies) (called_acts program effects p.pos p.instr)
-          ∙ ap (λ i. acts (values ++ copies) ++ acts (called_acts program effects p.pos i)) e
-          ∙ ap (λ z. acts (values ++ copies) ++ z) (called_are program effects ready.accepted.effects_are p.pos n actuals result)
+          ∙ acts_append (values ++ true_copies) (called_acts program effects p.pos p.instr)
+          ∙ ap (λ i. acts (values ++ true_copies) ++ acts (called_acts program effects p.pos i)) e
+          ∙ ap (λ z. acts (values ++ true_copies) ++ z) (called_are program effects ready.accepted.effects_are p.pos n actuals result)
 
       abbrev pub facts_called : List Fact
       facts_called = after (acts (values ++ copies)) own_facts
 
-      pub each_allowed : AllowsAll own_facts (acts (values ++ copies)) × AllowsAll facts_called (globals_of program effects n)
+      both_leave : (placed : List Placed) → after (acts (values ++ placed)) own_facts ≡ after (acts placed) own_facts
+      both_leave placed =
+          ap (λ z. after z own_facts) (acts_append values placed) ∙ after_append (acts values) (acts placed) own_facts
+          ∙ ap (after (acts placed)) (reads_keep values reads_there own_facts)
+
+      -- the values are read alone
+      pub copies_leave : facts_called ≡ after (acts copies) own_facts
+      copies_leave = both_leave copies
+
+      true_leave : after (acts (values ++ true_copies)) own_facts ≡ facts_called
+      true_leave = both_leave true_copies ∙ acting.same own_facts ∙ sym copies_leave
+
+      pub call_effect : after (standing.whole_acts table typed effects input ready state top older outer named p frames of_sub at_point p.instr) own_facts ≡ after (globals_of program effects n) facts_called
+      call_effect = ap (λ z. after z own_facts) call_acts ∙ after_append (acts (values ++ true_copies)) (globals_of program effects n) own_facts
+          ∙ ap (after (globals_of program effects n)) true_leave
+
+      each_allowed : AllowsAll own_facts (acts (values ++ true_copies)) × AllowsAll (after (acts (values ++ true_copies)) own_facts) (globals_of program effects n)
       each_allowed =
-          allows_both own_facts (acts (values ++ copies)) (globals_of program effects n)
+          allows_both own_facts (acts (values ++ true_copies)) (globals_of program effects n)
           (subst (AllowsAll own_facts) call_acts (standing.allowed_whole table typed effects input ready state top older outer named p frames of_sub at_point path))
+
+      pub globals_allowed : AllowsAll facts_called (globals_of program effects n)
+      globals_allowed = subst (λ z. AllowsAll z (globals_of program effects n)) true_leave each_allowed.1
+
+      pub copies_own : AllowsAll own_facts (acts copies)
+      copies_own =
+          acting.own (subst (λ z. AllowsAll z (acts true_copies)) (reads_keep values reads_there own_facts)
+          (allows_both own_facts (acts values) (acts true_copies) (subst (AllowsAll own_facts) (acts_append values true_copies) each_allowed.0)).1)
 
       pub spare_call : Spare s (values ++ copies)
       spare_call = spare_both s values copies (spare_reads s values reads_there) (spare_copies s ready.owns procedure formals actuals)
 
-      both_allowed : AllowsAll facts_now (acts values) × AllowsAll (after (acts values) facts_now) (acts copies)
+      true_spare : Spare s (values ++ true_copies)
+      true_spare = spare_both s values true_copies (spare_reads s values reads_there) acting.spare
+
+      both_allowed : AllowsAll facts_now (acts values) × AllowsAll (after (acts values) facts_now) (acts true_copies)
       both_allowed =
-          allows_both facts_now (acts values) (acts copies) (subst (AllowsAll facts_now) (acts_append values copies)
+          allows_both facts_now (acts values) (acts true_copies) (subst (AllowsAll facts_now) (acts_append values true_copies)
           (subst (λ z. AllowsAll facts_now (acts z)) values_are
-          (allowed_now (subst (Spare s) (sym values_are) spare_call) (subst (λ z. AllowsAll own_facts (acts z)) (sym values_are) each_allowed.0))))
+          (allowed_now (subst (Spare s) (sym values_are) true_spare) (subst (λ z. AllowsAll own_facts (acts z)) (sym values_are) each_allowed.0))))
 
       pub values_allowed : AllowsAll facts_now (acts values)
       values_allowed = both_allowed.0
 
+      true_allowed : AllowsAll facts_now (acts true_copies)
+      true_allowed = subst (λ z. AllowsAll z (acts true_copies)) (reads_keep values reads_there facts_now) both_allowed.1
+
       pub copies_allowed : AllowsAll facts_now (acts copies)
-      copies_allowed = subst (λ z. AllowsAll z (acts copies)) (reads_keep values reads_there facts_now) both_allowed.1
+      copies_allowed = acting.now true_allowed
+
+      -- the acts of what is copied back to are those of the call
+      pub back_there : (x : ℕ) → Has formals x → IsCopiedBack s x → (a : Placed) → Has copies a
+          → Has (standing.acts_by table typed effects input ready state top older outer named p frames of_sub at_point s p.instr) a
+      back_there x has back a there = elim acting.among [
+        | inl none ↦ absurd (none x has back)
+        | inr same ↦ subst (λ z. Has z a) (sym values_are) (Has-append_right values true_copies a (subst (λ z. Has z a) same there))
+      ]
+
+      -- the call adds no fact
+      pub adds_none : (f : Fact) → Has facts_called f → Has own_facts f
+      adds_none f has = elim traverses_or [
+        | inr (x, traversed) ↦ subst (λ z. Has z f) (sym called_facts ∙ followed.facts_stay table typed effects input ready state top older outer named p frames of_sub at_point path n actuals result e x traversed) has
+        | inl none ↦ elim (added_after program effects ready.accepted.effects_are (acts (values ++ copies)) own_facts f has) [
+          | inl was ↦ was
+          | inr (a, there, new) ↦ (
+              let from = Has-map_from (λ (z : Placed). z.act) (values ++ copies) a there in
+              absurd (call_adds_none s ready.owns procedure formals actuals (unseen_plain none) called.actuals_stay from.0
+              (subst (λ z. Has (flow.actual_values s z actuals ++ copies) from.0) (passes_to program n none) from.1) f (subst (λ z. Has (adds z) f) (sym from.2) new)))
+        ]
+      ]
+        where
+          called_facts : facts_before (standing.points table typed effects input ready state top older outer named p frames of_sub at_point) (top.frame.next ∷ top.before) ≡ facts_called
+          called_facts = standing.facts_whole table typed effects input ready state top older outer named p frames of_sub at_point path ∙ call_effect
+              ∙ global_after (globals_of program effects n) facts_called (globals_are program effects ready.accepted.effects_are n)
 
       -- nothing that was moved leads to what is copied back to
       pub copied_there : AreOpenActuals s depth facts_now formals actuals
@@ -283,11 +508,16 @@ module _ (table : Table) (typed : TypedProgram) (effects : Effects) (input : Lis
       there_formals : (x : ℕ) → Has formals x → Has (sub_at s n).formals x
       there_formals x has = subst (λ z. Has z x) (sym (ap (λ (z : Signature). z.formals) (signature_is program n))) has
 
-      copies_keep : AllKeep (is_fixed s) (acts copies)
-      copies_keep =
-          (keep_both (is_fixed s) (acts values) (acts copies) (subst (AllKeep (is_fixed s)) (acts_append values copies)
+      copies_keep : copies ≡ true_copies → AllKeep (is_fixed s) (acts copies)
+      copies_keep same =
+          subst (λ z. AllKeep (is_fixed s) (acts z)) (sym same)
+          (keep_both (is_fixed s) (acts values) (acts true_copies) (subst (AllKeep (is_fixed s)) (acts_append values true_copies)
           (subst (λ z. AllKeep (is_fixed s) (acts z)) values_are
           (standing.keeps_there table typed effects input ready state top older outer named p frames of_sub at_point)))).1
+
+      -- a formal that is given, of no anonymous access type, owns by its type
+      given_owns : (x : ℕ) → is_anonymous (view_of s x) ≡ false → is_given s x ≡ true → is_view_formal s x ≡ true
+      given_owns x unseen given = elim (given_cases s x given) [ inl formal ↦ formal | inr anonymous ↦ absurd (true_false (is_anonymous (view_of s x)) anonymous unseen) ]
 
       -- what formals of a procedure that own nothing are lent
       lent_there : (sub_of program n).result ≡ None → AreLent s facts_now formals actuals
@@ -297,42 +527,114 @@ module _ (table : Table) (typed : TypedProgram) (effects : Effects) (input : Lis
           (standing.in_program table typed effects input ready state top older outer named p frames of_sub at_point) main_turn.point
           (standing.in_sub table typed effects input ready state top older outer named p frames of_sub at_point) n actuals result e called.answers is)
           (subst (λ b. AllowsAll facts_now (acts (flow.actual_acts (map (passing s b) formals) actuals))) of_procedure copies_allowed)
-          (subst (λ b. AllKeep (is_fixed s) (acts (flow.actual_acts (map (passing s b) formals) actuals))) of_procedure copies_keep)
-          (λ y has formal. record {
+          (subst (λ b. AllKeep (is_fixed s) (acts (flow.actual_acts (map (passing s b) formals) actuals))) of_procedure (copies_keep (ap (λ z. flow.actual_acts z actuals) (sym (passes_to program n no_traversal)))))
+          (λ y has given. (let formal = given_owns y (unseen_plain no_traversal y has) given in record {
             of_in = mode_in (object_at s y).mode (second_true (is_formal s y) (is_in (object_at s y).mode) (first_true (is_in_formal s y) (is_owning s.table (object_at s y).of) formal));
             owning = second_true (is_in_formal s y) (is_owning s.table (object_at s y).of) formal;
             access = ready.class.procedures n (ap (λ (z : Signature). z.result) (signature_is program n) ∙ is) y (there_formals y has) (called.formals y has) formal;
-          })
+          }))
         where
+          no_traversal : traverses s.table (sub_of program n).result ≡ false
+          no_traversal = ap (traverses s.table) is
+
           of_procedure : procedure ≡ true
           of_procedure = ap (λ r. not (is_some r)) is
 
+      -- what the first formal of a function that gives a borrower is lent; it is shown alone
+      lent_first : (f : ℕ) → traversed_formal s (sub_of program n) ≡ Some f → gives_variable s (sub_at s n).result ≡ true → AreLent s facts_now formals actuals
+      lent_first f traversed borrows y has given m of =
+          let only : y ≡ f = ready.class.lends n f y lends (there_formals y has) given in
+          record {
+            of_in = ap (λ z. (object_at s z).mode) only ∙ first_mode f traversed;
+            given = given;
+            plain = ap (λ (z : PlaceName). sees_only s z.root) (name_there only) ∙ ((made f traversed).borrows borrows).0;
+            clear = λ fact there over. free fact there (subst (λ z. moved_or_lent z fact ≡ true) (name_there only) over);
+            apart = λ b there differs met over. elim met [
+              | inl back ↦ back (all_in_mode b.formal (named_has formals actuals b there))
+              | inr shown ↦ differs (only ∙ sym (ready.class.lends n f b.formal lends (there_formals b.formal (named_has formals actuals b there)) shown))
+            ];
+          }
+        where
+          all_in_mode : (x : ℕ) → Has formals x → (object_at s x).mode ≡ mode.In
+          all_in_mode x has = followed.modes_there table typed effects input ready state top older outer named p frames of_sub at_point path n actuals result e f traversed x
+              (subst (λ z. Has z x) (traversing f traversed).formals has)
+
+          lends : lends_first s f (sub_at s n) ≡ true
+          lends = ap (λ b. b && is_first f (sub_at s n).formals) borrows
+              ∙ ap (is_first f) (ap (λ (z : Signature). z.formals) (signature_is program n) ∙ (traversing f traversed).formals) ∙ eq-eqb f f refl
+
+          -- the name is the first one
+          name_there : y ≡ f → m.name ≡ traversed_name (made f traversed).call
+          name_there only = by_place (Has-append_cases (alias.passed_as f (written (first f traversed))) (alias.passed (traversing f traversed).rest ((made f traversed).call).others)
+              (record { formal = y; actual = m })
+              (subst (λ z. Has z (record { formal = y; actual = m })) (λ j. alias.passed ((traversing f traversed).formals j) ((made f traversed).actuals_are j)) of))
+            where
+              by_place : Has (alias.passed_as f (written (first f traversed))) (record { formal = y; actual = m })
+                  ⊎ Has (alias.passed (traversing f traversed).rest ((made f traversed).call).others) (record { formal = y; actual = m }) → m.name ≡ traversed_name (made f traversed).call
+              by_place (inl (inl same)) = sym (ap (λ (b : alias.Passed). b.actual.name) same)
+              by_place (inl (inr none)) = absurd none
+              by_place (inr later) =
+                  absurd ((followed.differ table typed effects input ready state top older outer named p frames of_sub at_point path n actuals result e f traversed).0
+                  y (named_has (traversing f traversed).rest ((made f traversed).call).others (record { formal = y; actual = m }) later) only)
+
+          free : (fact : Fact) → Has facts_now fact → moved_or_lent (traversed_name (made f traversed).call) fact ≡ true → ⊥
+          free (Moved z) there over =
+              let u = way_named (traversed_name (made f traversed).call) in
+              (clear_first f traversed u.0 u.1).1 z there (subst (λ q. overlaps z q ≡ true) (sym u.1) over)
+          free (Lent l h z) there over =
+              let u = way_named (traversed_name (made f traversed).call) in
+              free_first f traversed borrows u.0 u.1 l h z there (subst (λ q. overlaps z q ≡ true) (sym u.1) over)
+
       -- a function has formals of mode `in` alone
       pub by_callee : (((x : ℕ) → Has formals x → (object_at s x).mode ≡ mode.In) × ((x : ℕ) → Has formals x → IsCopiedBack s x → ⊥)
-          × ((x : ℕ) → Has formals x → is_view_formal s x ≡ true → sees_only s x ≡ true))
+          × ((x : ℕ) → Has formals x → is_given s x ≡ true → sees_only s x ≡ true))
           ⊎ AreLent s facts_now formals actuals
       by_callee = by_result (sub_of program n).result refl
         where
-          by_result : (r : Option ℕ) → (sub_of program n).result ≡ r
-              → (((x : ℕ) → Has formals x → (object_at s x).mode ≡ mode.In) × ((x : ℕ) → Has formals x → IsCopiedBack s x → ⊥)
-              × ((x : ℕ) → Has formals x → is_view_formal s x ≡ true → sees_only s x ≡ true))
-              ⊎ AreLent s facts_now formals actuals
-          by_result (Some of) is =
-              let answers : (sub_at s n).result ≡ Some of = ap (λ (z : Signature). z.result) (signature_is program n) ∙ is in
-              let modes : (x : ℕ) → Has formals x → (object_at s x).mode ≡ mode.In = (λ x has. ready.class.modes n of answers x (there_formals x has)) in
-              inl (
-                modes,
-                (λ x has back. back (modes x has)),
-                λ x has formal.
-                    sees_shown (is_observer s x) (is_view_formal s x) (is_in_formal s x && is_anonymous (view_of s x)) (is_exclusive s x) formal
-                    (ready.class.functions n of answers x (there_formals x has) (called.formals x has) formal),
-              )
+          AllSee : Type 0
+          AllSee = ((x : ℕ) → Has formals x → (object_at s x).mode ≡ mode.In) × ((x : ℕ) → Has formals x → IsCopiedBack s x → ⊥)
+              × ((x : ℕ) → Has formals x → is_given s x ≡ true → sees_only s x ≡ true)
+
+          by_result : (r : Option ℕ) → (sub_of program n).result ≡ r → AllSee ⊎ AreLent s facts_now formals actuals
+          by_result (Some of) is = by_kind (bool_cases (gives_variable s (sub_at s n).result))
+            where
+              answers : (sub_at s n).result ≡ Some of
+              answers = ap (λ (z : Signature). z.result) (signature_is program n) ∙ is
+
+              modes : (x : ℕ) → Has formals x → (object_at s x).mode ≡ mode.In
+              modes x has = ready.class.modes n of answers x (there_formals x has)
+
+              no_borrower : (t : ℕ) → traverses s.table (Some t) ≡ false → gives_variable s (Some t) ≡ true → ⊥
+              no_borrower t none borrows = true_false (traverses s.table (Some t)) (ap (λ b. b || is_observing (full s.table t)) borrows) none
+
+              by_kind : (gives_variable s (sub_at s n).result ≡ true) ⊎ (gives_variable s (sub_at s n).result ≡ false) → AllSee ⊎ AreLent s facts_now formals actuals
+              by_kind (inr none) =
+                  inl (
+                    modes,
+                    (λ x has back. back (modes x has)),
+                    λ x has given.
+                        sees_shown (is_observer s x) (is_given s x) (is_exclusive s x) given
+                        (ready.class.functions n of answers x (there_formals x has) (called.formals x has) given (ap (λ b. b && is_first x (sub_at s n).formals) none)),
+                  )
+              by_kind (inl borrows) = elim traverses_or [
+                | inr (f, traversed) ↦ inr (lent_first f traversed borrows)
+                | inl none ↦ absurd (no_borrower of (sym (ap (traverses s.table) is) ∙ none) (sym (ap (gives_variable s) answers) ∙ borrows))
+              ]
           by_result None is = inr (lent_there is)
 
       pub clear_there : AreClear s facts_now formals actuals
-      clear_there = elim by_callee [
-        | inl modes ↦ all_clear s procedure formals actuals facts_now modes.0 copies_allowed
-        | inr lent ↦ lent_clears s facts_now formals actuals (λ y has formal m of. (lent y has formal m of).clear)
+      clear_there = elim traverses_or [
+        | inl none ↦ elim by_callee [
+          | inl modes ↦ all_clear s procedure formals actuals facts_now (unseen_plain none) modes.0 copies_allowed
+          | inr lent ↦ lent_clears s facts_now formals actuals (λ y has formal m of. (lent y has formal m of).clear)
+        ]
+        | inr (f, traversed) ↦ subst (AreClear s facts_now formals) (sym (made f traversed).actuals_are)
+            (subst (λ z. AreClear s facts_now z (More (first f traversed) ((made f traversed).call).others)) (sym (traversing f traversed).formals) (
+              (λ given u called_so plain. clear_first f traversed u called_so),
+              all_clear s false (traversing f traversed).rest ((made f traversed).call).others facts_now (unseen_others f traversed)
+                  (followed.modes table typed effects input ready state top older outer named p frames of_sub at_point path n actuals result e f traversed)
+                  (subst (λ z. AllowsAll facts_now (acts z)) (true_are f traversed) true_allowed),
+            ))
       ]
 
       -- borrowers and observers that are shown see nothing of package objects

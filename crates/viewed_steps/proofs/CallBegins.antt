@@ -1,22 +1,26 @@
 -- The state after a call: the caller waits, and what is called begins.
-use Rattle.flow_paths.specs.Views.{traversed_of}
+use Rattle.flow_paths.specs.Views.{sub_acts}
+use Rattle.viewed_steps.specs.Traversals.{SeesFirst}
+use Rattle.viewed_steps.proofs.Begun.{begins_traversal, no_returns, taker_takes}
+use Rattle.viewed_steps.proofs.CallActs as acting
+use Rattle.viewed_steps.proofs.Followed as followed
 use Rattle.viewed_steps.proofs.Traversed.{none_given, empty_given, named_given}
 use Rattle.typed_tree.specs.declared.object.ObjectKind.{ObjectKind}
 use Rattle.typed_tree.specs.declared.object.ObjectKind.TheVariants as object_kind
-use Rattle.spark_base.proofs.Lists.{Has-append_left}
-use Rattle.std.proofs.Common.{◌≡◌, refl, sym, ap, ◌∙◌, subst, ◌⊎◌, inl, inr, ℕ, suc, ◌<◌, true, false, List, [], ◌∷◌, ◌++◌, take, drop, length, get_or, arith, Option, Some, None, Bool, ◌||◌, flat_map, ◌&&◌}
+use Rattle.spark_base.proofs.Lists.{Has-map_from, Has-append_left}
+use Rattle.std.proofs.Common.{◌≡◌, refl, sym, ap, ◌∙◌, subst, ◌⊎◌, inl, inr, ℕ, suc, ◌<◌, true, false, List, [], ◌∷◌, ◌++◌, map, take, drop, length, get_or, arith, Option, Some, None, Bool, ◌||◌, flat_map, ◌&&◌}
 use Rattle.spark_base.specs.Lists.{Has}
 use Rattle.place_names.specs.declared.fact.Fact.{Fact}
 use Rattle.place_names.specs.declared.fact.Fact.TheVariants.{Moved, Lent}
 use Rattle.place_names.specs.declared.rule.Loan.{Loan}
 use Rattle.place_names.specs.Names.{Name as PlaceName, object}
 use Rattle.place_names.specs.declared.act.Mode.TheVariants as mode
-use Rattle.type_definitions.specs.Types.{Table, is_owning}
+use Rattle.type_definitions.specs.Types.{Table}
 use Rattle.typed_tree.specs.Trees.{TypedTree}
 use Rattle.typed_tree.specs.Programs.{TypedProgram}
 use Rattle.flow_paths.specs.declared.report.Effects.{Effects}
 use Rattle.flow_paths.specs.Instructions.{Call, EndScope, Finish}
-use Rattle.flow_paths.specs.Objects.{Typing, object_at, sub_at, is_anonymous, is_package_object, view_of, traverses, passings, Passing, Signature, is_formal_kind}
+use Rattle.flow_paths.specs.Objects.{Typing, object_at, is_anonymous, is_package_object, view_of, Passing, Signature, is_formal_kind}
 use Rattle.flow_paths.specs.Aliases.{overlap_reports, passed_reports, call_reports}
 use Rattle.flow_paths.specs.Aliases as alias
 use Rattle.flow_paths.specs.Points.{NamedPoint}
@@ -31,7 +35,7 @@ use Rattle.machine.specs.States.{Frame, State, Leak, sub_of, frame_at_start, Out
 use Rattle.machine.specs.Step.{Turn, turn, start, led, successor}
 use Rattle.machine.specs.Step as steps
 use Rattle.machine.specs.Calls.{Passed, all_passed, with_formals, returns_of, out_checks}
-use Rattle.machine.specs.Owners.{is_in_formal, waiting_in}
+use Rattle.machine.specs.Owners.{waiting_in}
 use Rattle.place_names.specs.declared.act.Mode.TheVariants as mode
 use Rattle.owned_ways.specs.Ways.{Step, Way, after, AllowsAll, Past}
 use Rattle.owned_ways.specs.Ways as ways
@@ -51,13 +55,12 @@ use Rattle.soundness.proofs.Eased.{eased}
 use Rattle.owned_loans.specs.Views.{expand, Around, known_gone, Views, IsMovedBy, ExcusedBy, AreClear as FactsAreClear, IsForeign, AreViews, Viewed}
 use Rattle.owned_loans.proofs.Ways.{under_on, Meet, meets_front, flip}
 use Rattle.owned_loans.proofs.Moves.{expand_under}
-use Rattle.viewed_soundness.proofs.Names.{true_false, owner_sees}
-use Rattle.viewed_soundness.proofs.Outcomes.{named_plain}
+use Rattle.viewed_soundness.proofs.Names.{true_false, owner_sees, given_view}
 use Rattle.viewed_soundness.specs.Holds.{Holds, is_view, sees_only, IsOwners, is_given}
 use Rattle.viewed_soundness.proofs.Given.{IsLow, foreign_there, low_there}
 use Rattle.viewed_steps.specs.Awaited.{temporaries_of, lasting_of, awaited, WaitsAt, AreAwaited, AreScalar, TakesScalars}
 use Rattle.viewed_steps.proofs.Waited.{within_lasting, Shares, plain_unheld}
-use Rattle.viewed_steps.specs.Sound.{IsCopiedBack, ArePast, AreUnmet, HoldsAt, ArePlaced, NoneAbove, ViewStage, stages_of, GoneElsewhere, Disturbs, IsWaiting, AreWaiting, calls_one, LeadsAlong, IsResting, IsKindOfFormal, AreReturned, withheld, KeptBy, IsWayOf, IsBareOf, HasTraversals, NoneGiven, passed_roots}
+use Rattle.viewed_steps.specs.Sound.{IsCopiedBack, ArePast, AreUnmet, HoldsAt, ArePlaced, NoneAbove, ViewStage, stages_of, GoneElsewhere, Disturbs, IsWaiting, AreWaiting, calls_one, LeadsAlong, IsResting, IsKindOfFormal, AreReturned, withheld, KeptBy, IsWayOf, IsBareOf, HasTraversals, NoneGiven, IsTraversal, passed_roots}
 use Rattle.viewed_steps.specs.Ready.{IsReady, IsCalled}
 use Rattle.viewed_steps.specs.Taken.{TakenBy, AreTaken, AreCarried, Lodge}
 use Rattle.viewed_steps.proofs.Apart.{moved_same}
@@ -77,10 +80,10 @@ use Rattle.viewed_steps.proofs.Uses.{called_writes}
 use Rattle.viewed_steps.proofs.Standing as standing
 use Rattle.viewed_steps.proofs.Packages as packages
 use Rattle.viewed_steps.proofs.Innermost as innermost
-use Rattle.viewed_steps.proofs.Views.{AreAccess, AreFar, formal_view, anonymous_view, scalar_no_view, view_cases}
+use Rattle.viewed_steps.proofs.Views.{AreAccess, AreFar, kind_given, given_type}
 use Rattle.viewed_steps.proofs.Shown.{same_cells}
-use Rattle.viewed_steps.proofs.Exclusive.{second_true, AreLent, IsFrom, from_past, from_far, from_apart, from_place}
-use Rattle.viewed_steps.proofs.Opening.{Opens, all_opened, low_of, opened_from, opened_views, opened_whole, opened_lies, opened_held, opened_placed}
+use Rattle.viewed_steps.proofs.Exclusive.{AreLent, IsFrom, from_past, from_far, from_apart, from_place}
+use Rattle.viewed_steps.proofs.Opening.{opened_first, opened_rooted, Opens, all_opened, low_of, opened_from, opened_views, opened_whole, opened_lies, opened_held, opened_placed}
 use Rattle.viewed_steps.proofs.Calling as calling
 use Rattle.viewed_steps.proofs.Bared.{taken_bare}
 use Rattle.viewed_steps.proofs.Withheld.{kept_cases}
@@ -197,9 +200,6 @@ module _ (table : Table) (typed : TypedProgram) (effects : Effects) (input : Lis
       abbrev kinds : (x : ℕ) → Has formals x → IsKindOfFormal s x
       kinds = calling.kinds table typed effects input ready state top below more_frames rest named p frames deep stages running awaiting of_sub at_point path views viewed_before kept scope holds placed_before above n actuals result e
 
-      abbrev no_traversal : traverses s.table (sub_of program n).result ≡ false
-      no_traversal = calling.no_traversal table typed effects input ready state top below more_frames rest named p frames deep stages running awaiting of_sub at_point path views viewed_before kept scope holds placed_before above n actuals result e
-
       abbrev plain_there : Plain × TakesScalars s p.instr
       plain_there = calling.plain_there table typed effects input ready state top below more_frames rest named p frames deep stages running awaiting of_sub at_point path views viewed_before kept scope holds placed_before above n actuals result e
 
@@ -208,9 +208,6 @@ module _ (table : Table) (typed : TypedProgram) (effects : Effects) (input : Lis
 
       abbrev ways_there : List Passing
       ways_there = calling.ways_there table typed effects input ready state top below more_frames rest named p frames deep stages running awaiting of_sub at_point path views viewed_before kept scope holds placed_before above n actuals result e
-
-      abbrev ways_are : passings s (sub_at s n) ≡ ways_there
-      ways_are = calling.ways_are table typed effects input ready state top below more_frames rest named p frames deep stages running awaiting of_sub at_point path views viewed_before kept scope holds placed_before above n actuals result e
 
       abbrev facts_called : List Fact
       facts_called = calling.facts_called table typed effects input ready state top below more_frames rest named p frames deep stages running awaiting of_sub at_point path views viewed_before kept scope holds placed_before above n actuals result e
@@ -226,7 +223,7 @@ module _ (table : Table) (typed : TypedProgram) (effects : Effects) (input : Lis
       formals_low = calling.formals_low table typed effects input ready state top below more_frames rest named p frames deep stages running awaiting of_sub at_point path views viewed_before kept scope holds placed_before above n actuals result e
 
       abbrev by_callee : (((x : ℕ) → Has formals x → (object_at s x).mode ≡ mode.In) × ((x : ℕ) → Has formals x → IsCopiedBack s x → ⊥)
-          × ((x : ℕ) → Has formals x → is_view_formal s x ≡ true → sees_only s x ≡ true))
+          × ((x : ℕ) → Has formals x → is_given s x ≡ true → sees_only s x ≡ true))
           ⊎ AreLent s facts_now formals actuals
       by_callee = calling.by_callee table typed effects input ready state top below more_frames rest named p frames deep stages running awaiting of_sub at_point path views viewed_before kept scope holds placed_before above n actuals result e
 
@@ -532,7 +529,7 @@ module _ (table : Table) (typed : TypedProgram) (effects : Effects) (input : Lis
 
         returned_there : AreReturned s (frame_at_start n (returns_of formals passed))
         returned_there = (
-          λ x has. all_returned s ready.accepted.settled depth views view_now state.memory formals actuals passed laid called.actuals_stay kinds x
+          λ x has. all_returned s ready.accepted.settled depth views view_now ready.owns state.memory formals actuals passed laid called.actuals_stay kinds x
               (subst (λ z. Has z x) (ap (λ (z : Signature). z.formals) (signature_is program n)) has),
           λ r has. called.formals r.formal
               (formals_of_returns s ready.accepted.settled ready.owns in_formals (waiting_in easy.state) depth views far_views holds.only facts_called next_there cells cell_begins formals passed r has),
@@ -719,19 +716,19 @@ module _ (table : Table) (typed : TypedProgram) (effects : Effects) (input : Lis
               ]
               | inr mine ↦ inr (
                 mine.0,
-                within_lasting s x called.runs.point.scope (called.begins x mine.1 (owns_there s ready.accepted.settled ready.owns with_all f x q k held))
+                within_lasting s x called.runs.point.scope (called.begins x mine.1 (ap (λ b. b || is_anonymous (view_of s x)) (owns_there s ready.accepted.settled ready.owns with_all f x q k held)))
                     (plain_unheld s x (formal_lasts (object_at s x).kind (called.formals x mine.1))),
               )
             ];
             holds = record {
               held = λ x k lasts view at. callee_held x k view at;
               within = λ x k view at. (let own_way = callee_held x k view at in (callee_placed x own_way.0 own_way.1).within);
-              only = λ x w has. formal_view s x (opened.1.way x w has).0;
+              only = λ x w has. given_view s x (opened.1.way x w has).0;
               lies = opened_lies (steps.here main_turn) ready.accepted.settled (waiting_in easy.state) state.leaks state.memory [] other facts_now views (viewed_easy plain_there.0).1
                   (viewed_easy plain_there.0).0 holds_now alone live_now in_formals index_law ready.owns ready.class.parts_named formals_low procedure formals actuals passed callee_views opened.1 (omega (arith));
               owners = λ x w has. (let found = opened.1.way x w has in subst (IsOwners s) found.3 ((found.2).1).owners);
               passed = λ x w has formal at_home. subst (ways.Named (home s (suc depth))) (opened.1.ups x) at_home;
-              own = λ x w has sees_not given_not. absurd (true_false (is_given s x) (ap (λ b. b || (is_in_formal s x && is_anonymous (view_of s x))) (opened.1.way x w has).0) given_not);
+              own = λ x w has sees_not given_not. absurd (true_false (is_given s x) (opened.1.way x w has).0 given_not);
             };
             placed = callee_placed;
             past = callee_past;
@@ -747,7 +744,7 @@ module _ (table : Table) (typed : TypedProgram) (effects : Effects) (input : Lis
                 (none_below, (above.1).0.2),
               ),
               (
-                λ f traversed. (let never : None ≡ Some f = sym (ap (λ b. traversed_of b (sub_of program n).formals) no_traversal) ∙ traversed in cc),
+                traversal_there,
                 ((above.1).1.0, (above.1).1.1),
               ),
             );
@@ -755,38 +752,42 @@ module _ (table : Table) (typed : TypedProgram) (effects : Effects) (input : Lis
           calls_one waits_stage cells refl (refl, refl, refl) refl none_new (subst (λ d. AreCarried s (λ f. f ≡ suc d → ⊥) cells [] state.memory with_all) (sym deep) declared_there.carried),
         )
           where
+            -- the first formal of a traversal function sees what its actual designates
+            traversal_there : IsTraversal table typed (record { stage = called_stage; views = callee_views; cells = [] }) waits_there
+            traversal_there f traversed =
+                let made = acting.made table typed effects input ready state top below more_frames rest named p frames deep stages running awaiting of_sub at_point path views viewed_before kept scope holds placed_before above n actuals result e f traversed in
+                let traversing = acting.traversing table typed effects input ready state top below more_frames rest named p frames deep stages running awaiting of_sub at_point path views viewed_before kept scope holds placed_before above n actuals result e f traversed in
+                begins_traversal table typed (record { stage = called_stage; views = callee_views; cells = [] }) waits_there f (callee_views.way f) traversed
+                (opened_rooted (steps.here main_turn) ready.accepted.settled (waiting_in easy.state) state.leaks state.memory [] other facts_now views (viewed_easy plain_there.0).1
+                (viewed_easy plain_there.0).0 holds_now alone live_now in_formals index_law ready.owns ready.class.parts_named formals_low procedure formals actuals passed callee_views opened.1 (sub_acts (sub_of program n)) f)
+                (no_returns s state.memory depth views view_now formals actuals passed laid
+                (λ x has. followed.modes_there table typed effects input ready state top older outer named p frames of_sub at_point path n actuals result e f traversed x (subst (λ z. Has z x) traversing.formals has)))
+                named of_sub at_successor.0 at_successor.1
+                (subst (λ d. SeesFirst s d (at_successor.0).instr n views (callee_views.way f)) (sym deep)
+                (opened_first (steps.here main_turn) ready.accepted.settled (waiting_in easy.state) state.leaks state.memory [] other facts_now views (viewed_easy plain_there.0).1
+                (viewed_easy plain_there.0).0 holds_now alone live_now in_formals index_law ready.owns ready.class.parts_named formals_low procedure formals actuals passed callee_views opened.1 f traversing.rest made.call traversing.formals made.actuals_are (followed.differ table typed effects input ready state top older outer named p frames of_sub at_point path n actuals result e f traversed) n (at_successor.0).instr
+                (taker_takes s n made.call named.sub.result (at_successor.0).instr (made.taker call_point.0 call_point.2 at_successor.0 at_successor.1)) made.own))
+                f traversed
+
             formal_lasts : (k : ObjectKind) → is_formal_kind k ≡ true → is_temporary k ≡ false
             formal_lasts object_kind.Formal is = refl
             formal_lasts k is = cc
-
-            -- no formal is of an anonymous type
-            formal_only : (x : ℕ) → Has formals x → is_view s x ≡ true → is_view_formal s x ≡ true
-            formal_only x has view = elim (view_cases s x view) [
-              | inr formal ↦ formal
-              | inl anonymous ↦ absurd (no_anonymous (kinds x has) anonymous)
-            ]
-              where
-                no_anonymous : IsKindOfFormal s x → is_anonymous (view_of s x) ≡ true → ⊥
-                no_anonymous (inl plain) anonymous = scalar_no_view s in_formals x plain (anonymous_view s x anonymous)
-                no_anonymous (inr (inl back)) anonymous = true_false (is_anonymous (view_of s x)) anonymous (named_plain s.table (object_at s x).of back.1)
-                no_anonymous (inr (inr (inl shown))) anonymous = (in_formals x shown.0).1 anonymous
-                no_anonymous (inr (inr (inr plain))) anonymous = true_false (is_anonymous (view_of s x)) anonymous (named_plain s.table (object_at s x).of plain.2)
 
             callee_held : (x k : ℕ) → is_view s x ≡ true → (get_or (variable_slots s (home s (suc depth) x) x with_all.variables) 0 no_slot).word ≡ machine.Cell k
                 → (w : Way) × (callee_views.way x ≡ Some w) × (callee_views.cell x ≡ k)
             callee_held =
                 opened_held (steps.here main_turn) ready.accepted.settled (waiting_in easy.state) state.leaks state.memory [] other facts_now views (viewed_easy plain_there.0).1
                 (viewed_easy plain_there.0).0 holds_now alone live_now in_formals index_law ready.owns ready.class.parts_named formals_low procedure formals actuals passed callee_views opened.1
-                with_all above.0 local declared_there.views formal_only
+                with_all above.0 local declared_there.views (λ x has. kind_given s in_formals x (kinds x has))
 
             callee_placed : ArePlaced program (suc depth) (facts_of program effects called_stage) callee_views called.runs.point.scope
             callee_placed =
                 opened_placed (steps.here main_turn) ready.accepted.settled (waiting_in easy.state) state.leaks state.memory [] other facts_now views (viewed_easy plain_there.0).1
                 (viewed_easy plain_there.0).0 holds_now alone live_now in_formals index_law ready.owns ready.class.parts_named formals_low procedure formals actuals passed callee_views opened.1
                 program (facts_of program effects called_stage) called.runs.point.scope refl
-                (λ y has formal. called.begins y has (second_true (is_in_formal s y) (is_owning s.table (object_at s y).of) formal))
+                (λ y has given. called.begins y has (given_type s y given))
 
       pub calls_it : Along (turn main_turn (Call n actuals result))
       calls_it =
-          call_goes main_turn ready.accepted.settled n actuals Along ends_raised Given entered_sound ways_there ways_are
+          call_goes main_turn ready.accepted.settled n actuals Along ends_raised Given entered_sound ways_there refl
           (start main_turn) then_now refl refl passed_quiet

@@ -35,12 +35,12 @@ use Rattle.soundness.proofs.Stays.{One, Quiet, quiet_then, quiet_from}
 use Rattle.soundness.proofs.Taking.{Takes}
 use Rattle.soundness.proofs.Passing.{IsRead, AreReads, AddNone, IsValue, TakesAll, plain_type, reads_keep, read_adds_none, signature_is}
 use Rattle.owned_loans.specs.Views.{Around, Views, Viewed, IsForeign}
-use Rattle.viewed_soundness.specs.Holds.{IsNamed, PartsAreNamed, Holds, sees_only, IsOwners}
-use Rattle.viewed_soundness.proofs.Names.{true_false, plain_named}
+use Rattle.viewed_soundness.specs.Holds.{IsNamed, IsAccess, PartsAreNamed, Holds, sees_only, IsOwners, is_given}
+use Rattle.viewed_soundness.proofs.Names.{true_false, both_no, plain_named}
 use Rattle.viewed_soundness.proofs.Evaluated.{matches_named}
-use Rattle.viewed_steps.specs.Sound.{IsScalarObject, IsShown, AreOwners, IsReachedBack}
-use Rattle.viewed_steps.specs.Ready.{IsOwnPlace, IsSeen, IsActualTo, AreActualsTo, IsCopyOf}
-use Rattle.viewed_steps.proofs.Views.{AreAccess}
+use Rattle.viewed_steps.specs.Sound.{IsScalarObject, AreOwners, IsReachedBack}
+use Rattle.viewed_steps.specs.Ready.{is_shown_type, IsOwnPlace, IsSeen, IsActualTo, AreActualsTo, IsCopyOf}
+use Rattle.viewed_steps.proofs.Views.{AreAccess, AreUnseen}
 use Rattle.viewed_steps.proofs.Seeing.{IsSeenAs, IsOpenTo, AreOpenTo, seen_given}
 use Rattle.viewed_steps.proofs.LaidOut.{IsOwnPut, IsOpenActual, AreOpenActuals, IsHousedPut}
 use Rattle.viewed_steps.proofs.Entered.{IsFit}
@@ -84,11 +84,12 @@ module _ (s : Typing) (own_law : OwnsByShape s.table) (procedure : Bool) where
       (one_read (placed p (used s (name_of y path) u)) (name_of y path, inl (unowned_read s own_law (name_of y path) u (object_at s x).of fits plain)))
   copy_reads x e plain never = absurd never
 
-  pub head_of_reads : (x : ℕ) (m : Mode) (owning : Bool) (e : TypedTree) → owning_of x ≡ owning → IsActualTo s x m e → AreReads (head_of m owning e)
-  head_of_reads x mode.In false e is stays = elim (stays.0 is) [ inl plain ↦ reads_in s own_law e plain.1 | inr copy ↦ copy_reads x e is copy.1 ]
-  head_of_reads x mode.In true e is stays = seen_reads x e (stays.1 is)
-  head_of_reads x mode.Out owning e is place = index_reads s own_law e place.0 place.1
-  head_of_reads x mode.InOut owning e is place = index_reads s own_law e place.0 place.1
+  pub head_of_reads : (x : ℕ) (m : Mode) (owning : Bool) (e : TypedTree) → owning_of x ≡ owning → is_anonymous (view_of s x) ≡ false → IsActualTo s x m e → AreReads (head_of m owning e)
+  head_of_reads x mode.In false e is unseen stays =
+      elim (stays.0 (both_no (owning_of x) (is_anonymous (view_of s x)) is unseen)) [ inl plain ↦ reads_in s own_law e plain.1 | inr copy ↦ copy_reads x e is copy.1 ]
+  head_of_reads x mode.In true e is unseen stays = seen_reads x e (stays.1 (ap (λ b. b || is_anonymous (view_of s x)) is))
+  head_of_reads x mode.Out owning e is unseen place = index_reads s own_law e place.0 place.1
+  head_of_reads x mode.InOut owning e is unseen place = index_reads s own_law e place.0 place.1
 
   none_of : (m : Mode) (owning access : Bool) (ways : List Passing) (actuals : TypedTree) → is_empty actuals ≡ true
       → AreReads (actual_values s (passing_by m owning access ∷ ways) actuals)
@@ -101,13 +102,13 @@ module _ (s : Typing) (own_law : OwnsByShape s.table) (procedure : Bool) where
   none_of mode.InOut owning access ways (More e rest) none = cc
   none_of mode.InOut owning access ways actuals none = λ p has. absurd has
 
-  pub values_are_read : (formals : List ℕ) (actuals : TypedTree) → AreActualsTo s formals actuals → AreReads (actual_values s (map way_to formals) actuals)
-  values_are_read [] actuals stay = λ p has. absurd has
-  values_are_read (x ∷ formals) (More e rest) stay =
+  pub values_are_read : (formals : List ℕ) (actuals : TypedTree) → AreUnseen s formals → AreActualsTo s formals actuals → AreReads (actual_values s (map way_to formals) actuals)
+  values_are_read [] actuals unseen stay = λ p has. absurd has
+  values_are_read (x ∷ formals) (More e rest) unseen stay =
       subst AreReads (sym (head_values_are x e (map way_to formals) rest))
       (both_reads (head_of (object_at s x).mode (owning_of x) e) (actual_values s (map way_to formals) rest)
-      (head_of_reads x (object_at s x).mode (owning_of x) e refl stay.0) (values_are_read formals rest stay.1))
-  values_are_read (x ∷ formals) actuals stay =
+      (head_of_reads x (object_at s x).mode (owning_of x) e refl (unseen x (inl refl)) stay.0) (values_are_read formals rest (λ y has. unseen y (inr has)) stay.1))
+  values_are_read (x ∷ formals) actuals unseen stay =
       none_of (object_at s x).mode (owning_of x) (procedure && is_named_access (view_of s x)) (map way_to formals) actuals refl
 
   -- those of places that are copied back to add no fact, and end no scope
@@ -126,11 +127,11 @@ module _ (s : Typing) (own_law : OwnsByShape s.table) (procedure : Bool) where
       ]
   copies_add (x ∷ formals) actuals p has f new = has
 
-  pub call_adds_none : (formals : List ℕ) (actuals : TypedTree) → AreActualsTo s formals actuals
+  pub call_adds_none : (formals : List ℕ) (actuals : TypedTree) → AreUnseen s formals → AreActualsTo s formals actuals
       → AddNone (actual_values s (map way_to formals) actuals ++ actual_acts (map way_to formals) actuals)
-  call_adds_none formals actuals stay p has f new =
+  call_adds_none formals actuals unseen stay p has f new =
       elim (Has-append_cases (actual_values s (map way_to formals) actuals) (actual_acts (map way_to formals) actuals) p has) [
-        | inl l ↦ read_adds_none p (values_are_read formals actuals stay p l) f new
+        | inl l ↦ read_adds_none p (values_are_read formals actuals unseen stay p l) f new
         | inr r ↦ copies_add formals actuals p r f new
       ]
 
@@ -251,8 +252,8 @@ module _ (h : Here) (settled : IsSettled h.typing.table) (hands : List Waiting) 
   -- A scalar value; or null, or the number of a cell that a way leads to.
   abbrev pub IsValueGiven : ℕ → TypedTree → List machine.Word → Type 0
   IsValueGiven x e ws =
-      (is_owning h.typing.table (object_at h.typing x).of ≡ false → IsFit h.typing m (object_at h.typing x).of ws)
-      × (is_owning h.typing.table (object_at h.typing x).of ≡ true
+      (is_shown_type h.typing x ≡ false → IsFit h.typing m (object_at h.typing x).of ws)
+      × (is_shown_type h.typing x ≡ true
       → IsSeenAs h settled hands leaks m waits other facts v kept well holds alone live index_law own_law parts_named formals_low x e ws)
 
   abbrev pub IsGiven : ℕ → Mode → TypedTree → Passed → Type 0
@@ -266,32 +267,32 @@ module _ (h : Here) (settled : IsSettled h.typing.table) (hands : List Waiting) 
   AreGiven (x ∷ formals) (More e rest) [] = ⊥
   AreGiven formals actuals passed = passed ≡ []
 
-  value_is : (on : List (List machine.Word)) (x : ℕ) (e : TypedTree) → is_owning h.typing.table (object_at h.typing x).of ≡ false → IsScalarObject h.typing x → (y : Evaluated Passed)
+  value_is : (on : List (List machine.Word)) (x : ℕ) (e : TypedTree) → is_shown_type h.typing x ≡ false → IsScalarObject h.typing x → (y : Evaluated Passed)
       → Quiet (at on) (λ a. IsValue a) y → Quiet (at on) (λ a. IsGiven x mode.In e a) y
   value_is on x e plain scalar_type (Done (Value ws) n) is =
-      (is.0, ((λ own. scalar_fit x ws scalar_type is.1), λ own. absurd (true_false (is_owning h.typing.table (object_at h.typing x).of) own plain)))
+      (is.0, ((λ own. scalar_fit x ws scalar_type is.1), λ own. absurd (true_false (is_shown_type h.typing x) own plain)))
   value_is on x e plain scalar_type (Done (From k) n) is = absurd is.1
   value_is on x e plain scalar_type (Done (To k) n) is = absurd is.1
   value_is on x e plain scalar_type (Raises y n) is = is
   value_is on x e plain scalar_type (Traps y n) is = is
 
-  copy_is : (on : List (List machine.Word)) (x : ℕ) (e : TypedTree) → is_owning h.typing.table (object_at h.typing x).of ≡ false → (y : Evaluated Passed)
+  copy_is : (on : List (List machine.Word)) (x : ℕ) (e : TypedTree) → is_shown_type h.typing x ≡ false → (y : Evaluated Passed)
       → Quiet (at on) (IsCopied x) y → Quiet (at on) (λ a. IsGiven x mode.In e a) y
-  copy_is on x e plain (Done (Value ws) n) is = (is.0, ((λ own. is.1), λ own. absurd (true_false (is_owning h.typing.table (object_at h.typing x).of) own plain)))
+  copy_is on x e plain (Done (Value ws) n) is = (is.0, ((λ own. is.1), λ own. absurd (true_false (is_shown_type h.typing x) own plain)))
   copy_is on x e plain (Done (From k) n) is = absurd is.1
   copy_is on x e plain (Done (To k) n) is = absurd is.1
   copy_is on x e plain (Raises y n) is = is
   copy_is on x e plain (Traps y n) is = is
 
-  shown_given : (before on : List (List machine.Word)) (x : ℕ) (e : TypedTree) → IsShown h.typing x → is_owning h.typing.table (object_at h.typing x).of ≡ true → IsSeen h.typing x e
+  pub shown_given : (before on : List (List machine.Word)) (x : ℕ) (e : TypedTree) → IsAccess h.typing x → is_shown_type h.typing x ≡ true → IsSeen h.typing x e
       → Takes (waits_in e) before on → AllowsAll facts (acts (index_acts h.typing e))
       → IsOpenTo h.typing h.frame v facts e
       → Quiet (at on) (λ a. IsGiven x mode.In e a) (followed_by (viewed h e (at before)) value_passed)
-  shown_given before on x e shown owning seen takes allowed clears =
+  shown_given before on x e access shown seen takes allowed clears =
       quiet_then (at on) (λ ws. IsSeenAs h settled hands leaks m waits other facts v kept well holds alone live index_law own_law parts_named formals_low x e ws)
       (λ a. IsGiven x mode.In e a) (viewed h e (at before)) value_passed
-      (seen_given h settled hands leaks m waits other facts v kept well holds alone live index_law own_law parts_named formals_low before on x e shown.1 seen takes allowed clears)
-      (λ ws is. (refl, ((λ plain. absurd (true_false (is_owning h.typing.table (object_at h.typing x).of) owning plain)), λ own. is)))
+      (seen_given h settled hands leaks m waits other facts v kept well holds alone live index_law own_law parts_named formals_low before on x e access seen takes allowed clears)
+      (λ ws is. (refl, ((λ plain. absurd (true_false (is_shown_type h.typing x) shown plain)), λ own. is)))
 
   abbrev IsCopiedName : ℕ → Mode → TypedTree → Type 0
   IsCopiedName x m' e = is_in m' ≡ false → (goes_through_none e ≡ true) ⊎ (IsReachedBack h.typing x e × IsOpenActual h.typing h.frame facts e)
@@ -325,25 +326,17 @@ module _ (h : Here) (settled : IsSettled h.typing.table) (hands : List Waiting) 
   flipped t u (inl e) = inl (sym e)
   flipped t u (inr (a, b)) = inr (b, a)
 
-  named_there : (x : ℕ) → IsKind x → is_scalar (full h.typing.table (object_at h.typing x).of) ≡ false → IsNamed h.typing.table (object_at h.typing x).of
-  named_there x (inl plain) other_type = absurd (true_false (is_scalar (full h.typing.table (object_at h.typing x).of)) plain other_type)
-  named_there x (inr (inl (back, own))) other_type = own
-  named_there x (inr (inr (inr plain))) other_type = plain.2
-  named_there x (inr (inr (inl shown))) other_type =
-      plain_named h.typing.table (object_at h.typing x).of (not_anonymous (is_anonymous (view_of h.typing x)) refl)
-    where
-      not_anonymous : (b : Bool) → is_anonymous (view_of h.typing x) ≡ b → is_anonymous (view_of h.typing x) ≡ false
-      not_anonymous false e = e
-      not_anonymous true e = absurd ((in_formals x shown.0).1 e)
+  named_there : (x : ℕ) → is_anonymous (view_of h.typing x) ≡ false → IsNamed h.typing.table (object_at h.typing x).of
+  named_there x unseen = plain_named h.typing.table (object_at h.typing x).of unseen
 
-  copied_given : (before on : List (List machine.Word)) (x : ℕ) (e : TypedTree) → IsKind x → IsActualTo h.typing x mode.InOut e → AreDirect x e → Takes (waits_in e) before on
+  copied_given : (before on : List (List machine.Word)) (x : ℕ) (e : TypedTree) → is_anonymous (view_of h.typing x) ≡ false → IsActualTo h.typing x mode.InOut e → AreDirect x e → Takes (waits_in e) before on
       → AllowsAll facts (acts (index_acts h.typing e)) → Quiet (at on) (λ k. IsPlaceGiven x e k) (place_of h e (at before))
-  copied_given before on x e kind (t, place, fits, which) direct takes allowed = elim (bool_cases (is_scalar (full h.typing.table (object_at h.typing x).of))) [
+  copied_given before on x e unseen (t, place, fits, which) direct takes allowed = elim (bool_cases (is_scalar (full h.typing.table (object_at h.typing x).of))) [
     | inl plain ↦ quiet_on on (λ k. IsPut e k) (λ k. IsPlaceGiven x e k) (λ k put. inl (plain, put)) (place_of h e (at before))
         (scalar_given before on x e t place (scalar_type t (object_at h.typing x).of fits plain) takes direct allowed)
     | inr other_type ↦ quiet_on on (λ k. IsOwnPut h.typing h.frame x e k) (λ k. IsPlaceGiven x e k) (λ k put. inr (other_type, put)) (place_of h e (at before))
         (own_place_given before on x e t place
-        (matches_named h.typing.table (object_at h.typing x).of t (flipped t (object_at h.typing x).of fits) (named_there x kind other_type)) fits (own_there which other_type) takes (direct_there direct other_type) allowed)
+        (matches_named h.typing.table (object_at h.typing x).of t (flipped t (object_at h.typing x).of fits) (named_there x unseen)) fits (own_there which other_type) takes (direct_there direct other_type) allowed)
   ]
     where
       direct_there : AreDirect x e → is_scalar (full h.typing.table (object_at h.typing x).of) ≡ false → goes_through_none e ≡ true
@@ -355,49 +348,52 @@ module _ (h : Here) (settled : IsSettled h.typing.table) (hands : List Waiting) 
           (matches_scalar h.typing t (object_at h.typing x).of fits plain) other_type)
       own_there (inr own) other_type = own
 
-  back_given : (before on : List (List machine.Word)) (x : ℕ) (e : TypedTree) → IsKind x → IsActualTo h.typing x mode.InOut e
+  back_given : (before on : List (List machine.Word)) (x : ℕ) (e : TypedTree) → is_anonymous (view_of h.typing x) ≡ false → IsActualTo h.typing x mode.InOut e
       → (goes_through_none e ≡ true) ⊎ (IsReachedBack h.typing x e × IsOpenActual h.typing h.frame facts e) → Takes (waits_in e) before on
       → AllowsAll facts (acts (index_acts h.typing e)) → Quiet (at on) (λ k. IsBackGiven x e k) (place_of h e (at before))
-  back_given before on x e kind actual (inl none) takes allowed = placed_back before on x e (copied_given before on x e kind actual (inl none) takes allowed)
-  back_given before on x e kind actual (inr (inl scalar, opens)) takes allowed = placed_back before on x e (copied_given before on x e kind actual (inr (scalar, opens)) takes allowed)
-  back_given before on x e kind (t, place, fits, which) (inr (inr owners, opens)) takes allowed = elim (bool_cases (is_scalar (full h.typing.table (object_at h.typing x).of))) [
-    | inl plain ↦ placed_back before on x e (copied_given before on x e kind (t, place, fits, which) (inr (plain, opens)) takes allowed)
+  back_given before on x e unseen actual (inl none) takes allowed = placed_back before on x e (copied_given before on x e unseen actual (inl none) takes allowed)
+  back_given before on x e unseen actual (inr (inl scalar, opens)) takes allowed = placed_back before on x e (copied_given before on x e unseen actual (inr (scalar, opens)) takes allowed)
+  back_given before on x e unseen (t, place, fits, which) (inr (inr owners, opens)) takes allowed = elim (bool_cases (is_scalar (full h.typing.table (object_at h.typing x).of))) [
+    | inl plain ↦ placed_back before on x e (copied_given before on x e unseen (t, place, fits, which) (inr (plain, opens)) takes allowed)
     | inr other_type ↦ quiet_on on (λ k. IsKeptPut x e k) (λ k. IsBackGiven x e k)
         (λ k put. elim put [ inl own ↦ inl (inr (other_type, own)) | inr housed ↦ inr (other_type, housed) ]) (place_of h e (at before))
         (housed_given before on x e t place
-        (matches_named h.typing.table (object_at h.typing x).of t (flipped t (object_at h.typing x).of fits) (named_there x kind other_type)) fits owners takes opens allowed)
+        (matches_named h.typing.table (object_at h.typing x).of t (flipped t (object_at h.typing x).of fits) (named_there x unseen)) fits owners takes opens allowed)
   ]
 
   pub one_given : (before on : List (List machine.Word)) (mode_of : Mode) (owning access : Bool) (x : ℕ) (e : TypedTree) → (object_at h.typing x).mode ≡ mode_of
-      → is_owning h.typing.table (object_at h.typing x).of ≡ owning → IsKind x → IsActualTo h.typing x mode_of e
-      → (is_view_formal h.typing x ≡ true → IsOpenTo h.typing h.frame v facts e)
+      → is_owning h.typing.table (object_at h.typing x).of ≡ owning → is_anonymous (view_of h.typing x) ≡ false → IsKind x → IsActualTo h.typing x mode_of e
+      → (is_given h.typing x ≡ true → IsOpenTo h.typing h.frame v facts e)
       → IsCopiedName x mode_of e → Takes (waits_in e) before on
       → AllowsAll facts (acts (head_of h.typing own_law procedure mode_of owning e)) → Quiet (at on) (λ a. IsGiven x mode_of e a) (passed h (passing_by mode_of owning access) x e (at before))
-  one_given before on mode.In false access x e is fits kind actual clears copied takes allowed =
-      elim (actual.0 fits) [
-        | inl (plain, stays) ↦ value_is on x e fits plain (passed h ByValue x e (at before)) (value_given before on x e stays takes allowed)
-        | inr (named, copy) ↦ copy_is on x e fits (passed h ByValue x e (at before)) (copy_given before on x e fits copy takes allowed)
+  one_given before on mode.In false access x e is fits unseen kind actual clears copied takes allowed =
+      let plain_type_there = both_no (is_owning h.typing.table (object_at h.typing x).of) (is_anonymous (view_of h.typing x)) fits unseen in
+      elim (actual.0 plain_type_there) [
+        | inl (plain, stays) ↦ value_is on x e plain_type_there plain (passed h ByValue x e (at before)) (value_given before on x e stays takes allowed)
+        | inr (named, copy) ↦ copy_is on x e plain_type_there (passed h ByValue x e (at before)) (copy_given before on x e fits copy takes allowed)
       ]
-  one_given before on mode.In true access x e is fits kind actual clears copied takes allowed = elim kind [
+  one_given before on mode.In true access x e is fits unseen kind actual clears copied takes allowed = elim kind [
     | inl plain ↦ absurd (true_false (is_owning h.typing.table (object_at h.typing x).of) fits (plain_type h.typing own_law (object_at h.typing x).of plain))
     | inr other_kind ↦ elim other_kind [
       | inl back ↦ absurd (back.0 is)
-      | inr (inl shown) ↦ shown_given before on x e shown fits (actual.1 fits) takes allowed (clears shown.0)
+      | inr (inl shown) ↦ (
+          let shown_type = ap (λ b. b || is_anonymous (view_of h.typing x)) fits in
+          shown_given before on x e shown.1 shown_type (actual.1 shown_type) takes allowed (clears shown.0))
       | inr (inr plain) ↦ absurd (true_false (is_owning h.typing.table (object_at h.typing x).of) fits plain.1)
     ]
   ]
-  one_given before on mode.Out owning access x e is fits kind actual clears copied takes allowed =
+  one_given before on mode.Out owning access x e is fits unseen kind actual clears copied takes allowed =
       quiet_then (at on) (λ k. IsBackGiven x e k) (λ a. IsGiven x mode.Out e a) (place_of h e (at before)) (λ k now. Done (To k) now)
-      (back_given before on x e kind actual (copied refl) takes allowed) (λ k put. (refl, put))
-  one_given before on mode.InOut owning access x e is fits kind actual clears copied takes allowed =
-      from_given before on x e (back_given before on x e kind actual (copied refl) takes allowed)
+      (back_given before on x e unseen actual (copied refl) takes allowed) (λ k put. (refl, put))
+  one_given before on mode.InOut owning access x e is fits unseen kind actual clears copied takes allowed =
+      from_given before on x e (back_given before on x e unseen actual (copied refl) takes allowed)
 
-  pub all_given : (before on : List (List machine.Word)) (formals : List ℕ) (actuals : TypedTree) → ((x : ℕ) → Has formals x → IsKind x) → AreActualsTo h.typing formals actuals
+  pub all_given : (before on : List (List machine.Word)) (formals : List ℕ) (actuals : TypedTree) → ((x : ℕ) → Has formals x → IsKind x) → AreUnseen h.typing formals → AreActualsTo h.typing formals actuals
       → AreOpenTo h.typing h.frame v facts formals actuals → AreOpenActuals h.typing h.frame facts formals actuals → TakesAll formals actuals before on
       → AllowsAll facts (acts (actual_values h.typing (ways_of formals) actuals))
       → Quiet (at on) (λ passed. AreGiven formals actuals passed) (all_passed h (ways_of formals) formals actuals (at before))
-  all_given before on [] actuals kinds stay clears copied takes allowed = ((ap at takes), refl)
-  all_given before on (x ∷ formals) (More e rest) kinds stay clears copied (mid, takes, more) allowed =
+  all_given before on [] actuals kinds unseen stay clears copied takes allowed = ((ap at takes), refl)
+  all_given before on (x ∷ formals) (More e rest) kinds unseen stay clears copied (mid, takes, more) allowed =
       let mode_of : Mode = (object_at h.typing x).mode in
       let owning : Bool = is_owning h.typing.table (object_at h.typing x).of in
       let kind = kinds x (inl refl) in
@@ -406,13 +402,13 @@ module _ (h : Here) (settled : IsSettled h.typing.table) (hands : List Waiting) 
       let each = allows_both facts (acts (head_of h.typing own_law procedure mode_of owning e)) (acts (actual_values h.typing (ways_of formals) rest))
       (subst (AllowsAll facts) (acts_append (head_of h.typing own_law procedure mode_of owning e) (actual_values h.typing (ways_of formals) rest)) both) in
       let same : after (acts (head_of h.typing own_law procedure mode_of owning e)) facts ≡ facts =
-      reads_keep (head_of h.typing own_law procedure mode_of owning e) (head_of_reads h.typing own_law procedure x mode_of owning e refl stay.0) facts in
+      reads_keep (head_of h.typing own_law procedure mode_of owning e) (head_of_reads h.typing own_law procedure x mode_of owning e refl (unseen x (inl refl)) stay.0) facts in
       quiet_from (at mid) (at on) (λ a. IsGiven x mode_of e a) (λ passed. AreGiven (x ∷ formals) (More e rest) passed) refl (passed h (way_to h.typing own_law procedure x) x e (at before))
       (λ a now. followed_by (all_passed h (ways_of formals) formals rest now) (λ more now. Done (a ∷ more) now))
-      (one_given before mid mode_of owning (procedure && is_named_access (view_of h.typing x)) x e refl refl kind stay.0 clears.0 copied.0 takes each.0)
+      (one_given before mid mode_of owning (procedure && is_named_access (view_of h.typing x)) x e refl refl (unseen x (inl refl)) kind stay.0 clears.0 copied.0 takes each.0)
       (λ a is. quiet_then (at on) (λ passed. AreGiven formals rest passed) (λ passed. AreGiven (x ∷ formals) (More e rest) passed)
       (all_passed h (ways_of formals) formals rest (at mid)) (λ more now. Done (a ∷ more) now)
-      (all_given mid on formals rest (λ y has. kinds y (inr has)) stay.1 clears.1 copied.1 more
+      (all_given mid on formals rest (λ y has. kinds y (inr has)) (λ y has. unseen y (inr has)) stay.1 clears.1 copied.1 more
       (subst (λ z. AllowsAll z (acts (actual_values h.typing (ways_of formals) rest))) same each.1))
       (λ more are. (refl, (is, are))))
-  all_given before on (x ∷ formals) actuals kinds stay clears copied takes allowed = ((ap at takes), refl)
+  all_given before on (x ∷ formals) actuals kinds unseen stay clears copied takes allowed = ((ap at takes), refl)

@@ -1,9 +1,6 @@
 -- A call leads on, in the frame of what is called.
-use Rattle.place_names.specs.Facts.{adds}
-use Rattle.spark_base.proofs.Lists.{Has-map_from}
 use Rattle.std.proofs.Common.{◌≡◌, refl, sym, ap, ◌∙◌, subst, ◌⊎◌, inl, inr, ℕ, suc, ◌<◌, true, false, ◌==◌, List, [], ◌∷◌, ◌++◌, take, drop, length, arith, Option, Some, None, Bool, ◌||◌}
 use Rattle.spark_base.specs.Lists.{Has}
-use Rattle.spark_base.proofs.Lists.{Has-map_from, Has-append_right}
 use Rattle.place_names.specs.declared.act.Act.{Act}
 use Rattle.place_names.specs.declared.act.Act.TheVariants as act
 use Rattle.place_names.specs.declared.act.Placed.{Placed}
@@ -14,15 +11,16 @@ use Rattle.place_names.specs.declared.rule.Loan.TheVariants.{Observed}
 use Rattle.place_names.specs.Names.{Name as PlaceName, overlaps}
 use Rattle.place_names.specs.declared.act.Mode.TheVariants as mode
 use Rattle.type_definitions.specs.Types.{Table, full, is_scalar, is_owning}
-use Rattle.typed_tree.specs.Trees.{TypedTree}
+use Rattle.typed_tree.specs.Trees.{TypedTree, More}
 use Rattle.typed_tree.specs.Programs.{TypedProgram}
 use Rattle.flow_paths.specs.declared.report.Effects.{Effects}
 use Rattle.flow_paths.specs.Instructions.{Instruction, Call}
-use Rattle.flow_paths.specs.Objects.{Typing, object_at, sub_at, is_anonymous, is_package_object, view_of, traverses, passings, Passing}
-use Rattle.place_names.specs.Facts.{adds}
+use Rattle.flow_paths.specs.Objects.{Typing, object_at, is_anonymous, is_package_object, view_of, Passing}
 use Rattle.place_names.specs.Reports.{Report}
 use Rattle.flow_paths.specs.Aliases.{overlap_reports, passed_reports, call_reports}
 use Rattle.flow_paths.specs.Aliases as alias
+use Rattle.flow_paths.specs.Acts as flow
+use Rattle.flow_paths.specs.Views.{traversed_formal}
 use Rattle.flow_paths.specs.Points.{NamedPoint}
 use Rattle.flow_paths.specs.Laid.{FlowSub, FlowProgram, NamedSub, flow_sub, typing_of, flow_typing, flow_program, flow_named}
 use Rattle.flow_paths.specs.Paths.{ControlPath, facts_before}
@@ -50,34 +48,34 @@ use Rattle.soundness.specs.Typed.{Kept}
 use Rattle.soundness.specs.Sound.{Stage, facts_of, AreStages, Uses, IsRunnable, InScope, IsNamedSub, IsAtPoint, view_of as view_here}
 use Rattle.soundness.proofs.Stays.{Quiet}
 use Rattle.soundness.proofs.Numbers.{index_law}
-use Rattle.soundness.proofs.Passing.{AreReads, reads_keep, TakesAll, takes_each}
-use Rattle.soundness.proofs.Scalars.{acts, acts_append, after_append, allows_both}
-use Rattle.soundness.proofs.Points.{sub_in_range, one_named, one_point}
+use Rattle.soundness.proofs.Passing.{TakesAll, takes_each}
+use Rattle.soundness.proofs.Scalars.{acts}
+use Rattle.soundness.proofs.Points.{flow_at, sub_in_range, one_named, one_point}
 use Rattle.soundness.proofs.Inherited.{AreGlobal, global_after, global_allowed, global_apart}
-use Rattle.soundness.proofs.Used.{used_global, globals_are, added_after}
+use Rattle.soundness.proofs.Used.{used_global, globals_are}
 use Rattle.soundness.proofs.Around.{IsFar}
 use Rattle.soundness.proofs.Taking.{Takes}
 use Rattle.soundness.proofs.Eased.{eased}
 use Rattle.soundness.proofs.Scoped.{Inside}
-use Rattle.soundness.proofs.Successors.{below_one, successor_there}
 use Rattle.owned_loans.specs.Views.{expand, Around, known_gone, Views, IsForeign, Viewed}
 use Rattle.owned_loans.proofs.Ways.{under_on}
 use Rattle.owned_loans.proofs.Meeting.{stands}
 use Rattle.owned_loans.proofs.Moves.{expand_under}
 use Rattle.owned_loans.proofs.Meeting.{stands}
 use Rattle.viewed_soundness.proofs.Names.{true_false, owner_sees}
-use Rattle.viewed_soundness.specs.Holds.{Holds, is_view, sees_only, IsOwners}
+use Rattle.viewed_soundness.specs.Holds.{Holds, is_view, sees_only, is_given, IsOwners}
 use Rattle.soundness.specs.Ready.{IsSupplied, Fills}
 use Rattle.viewed_steps.specs.Awaited.{AreValuesBut, temporaries_of, lasting_of, awaited, WaitsAt, AreAwaited, AreScalar, FillsTyped, TakesScalars}
 use Rattle.viewed_steps.proofs.Waited.{late_scope, within_lasting, lasting_more, Shares}
 use Rattle.viewed_steps.specs.Sound.{IsCopiedBack, ArePast, HoldsAt, ArePlaced, NoneAbove, ViewStage, stages_of, GoneElsewhere, Disturbs, AreWaiting, IsResting, IsKindOfFormal, IsScalarObject, HasTraversals, passed_roots}
-use Rattle.viewed_steps.specs.Ready.{IsReady, roots_passed, IsCalled}
+use Rattle.viewed_steps.specs.Ready.{IsReady, roots_passed, IsCalled, IsTraversalCall}
+use Rattle.viewed_steps.proofs.Followed.{IsTraversing}
 use Rattle.viewed_steps.specs.Taken.{Lodge, IsPassedOn}
 use Rattle.viewed_steps.proofs.Lent.{Spare, loans_stay}
 use Rattle.viewed_steps.proofs.Placed.{within_on, lasts_more, scope_on, placed_on}
 use Rattle.viewed_steps.proofs.Waiting.{StandsBetween, gone_low, beside_them, handed}
 use Rattle.viewed_steps.proofs.Between.{gone_also, more_gone, base_along, base_under, same_variable, not_named, IsHomed, homed_apart, number_based}
-use Rattle.viewed_steps.proofs.Called.{AreGiven, all_given, call_adds_none}
+use Rattle.viewed_steps.proofs.Called.{AreGiven, all_given, passes_to}
 use Rattle.viewed_steps.proofs.Acted.{all_laid_out, all_acted}
 use Rattle.viewed_steps.proofs.Outside.{IsSpared, gone_clear}
 use Rattle.viewed_steps.proofs.Globals.{copied_act, passed_unused}
@@ -95,7 +93,10 @@ use Rattle.viewed_steps.proofs.Standing as standing
 use Rattle.viewed_steps.proofs.Packages as packages
 use Rattle.viewed_steps.proofs.Innermost as innermost
 use Rattle.viewed_steps.proofs.Views.{AreAccess, AreFar, lies_far, base_named}
-use Rattle.viewed_steps.proofs.Seeing.{AreClear, AreLowRoots, open_to}
+use Rattle.viewed_steps.proofs.Seeing.{AreClear, AreLowRoots, AreOpenTo, open_to}
+use Rattle.viewed_steps.proofs.Lending.{named_has}
+use Rattle.viewed_steps.proofs.Followed as followed
+use Rattle.viewed_steps.proofs.Traversing.{all_traversed}
 use Rattle.viewed_steps.proofs.Exclusive.{AreLent}
 use Rattle.owned_ways.proofs.Unique.{one_way}
 use Rattle.viewed_steps.proofs.Bared.{not_before}
@@ -225,9 +226,6 @@ module _ (table : Table) (typed : TypedProgram) (effects : Effects) (input : Lis
       abbrev pub kinds : (x : ℕ) → Has formals x → IsKindOfFormal s x
       kinds = acting.kinds table typed effects input ready state top below more_frames rest named p frames deep stages running awaiting of_sub at_point path views viewed_before kept scope holds placed_before above n actuals result e
 
-      abbrev pub no_traversal : traverses s.table (sub_of program n).result ≡ false
-      no_traversal = acting.no_traversal table typed effects input ready state top below more_frames rest named p frames deep stages running awaiting of_sub at_point path views viewed_before kept scope holds placed_before above n actuals result e
-
       abbrev pub plain_there : Plain × TakesScalars s p.instr
       plain_there = acting.plain_there table typed effects input ready state top below more_frames rest named p frames deep stages running awaiting of_sub at_point path views viewed_before kept scope holds placed_before above n actuals result e
 
@@ -237,29 +235,23 @@ module _ (table : Table) (typed : TypedProgram) (effects : Effects) (input : Lis
       abbrev pub ways_there : List Passing
       ways_there = acting.ways_there table typed effects input ready state top below more_frames rest named p frames deep stages running awaiting of_sub at_point path views viewed_before kept scope holds placed_before above n actuals result e
 
-      abbrev pub ways_are : passings s (sub_at s n) ≡ ways_there
-      ways_are = acting.ways_are table typed effects input ready state top below more_frames rest named p frames deep stages running awaiting of_sub at_point path views viewed_before kept scope holds placed_before above n actuals result e
-
       abbrev pub values : List Placed
       values = acting.values table typed effects input ready state top below more_frames rest named p frames deep stages running awaiting of_sub at_point path views viewed_before kept scope holds placed_before above n actuals result e
 
       abbrev pub copies : List Placed
       copies = acting.copies table typed effects input ready state top below more_frames rest named p frames deep stages running awaiting of_sub at_point path views viewed_before kept scope holds placed_before above n actuals result e
 
-      abbrev values_are : standing.acts_by table typed effects input ready state top older outer named p frames of_sub at_point s p.instr ≡ values ++ copies
-      values_are = acting.values_are table typed effects input ready state top below more_frames rest named p frames deep stages running awaiting of_sub at_point path views viewed_before kept scope holds placed_before above n actuals result e
-
-      abbrev pub reads_there : AreReads values
-      reads_there = acting.reads_there table typed effects input ready state top below more_frames rest named p frames deep stages running awaiting of_sub at_point path views viewed_before kept scope holds placed_before above n actuals result e
-
-      abbrev call_acts : standing.whole_acts table typed effects input ready state top older outer named p frames of_sub at_point p.instr ≡ acts (values ++ copies) ++ globals_of program effects n
-      call_acts = acting.call_acts table typed effects input ready state top below more_frames rest named p frames deep stages running awaiting of_sub at_point path views viewed_before kept scope holds placed_before above n actuals result e
-
       abbrev pub facts_called : List Fact
       facts_called = acting.facts_called table typed effects input ready state top below more_frames rest named p frames deep stages running awaiting of_sub at_point path views viewed_before kept scope holds placed_before above n actuals result e
 
-      abbrev pub each_allowed : AllowsAll own_facts (acts (values ++ copies)) × AllowsAll facts_called (globals_of program effects n)
-      each_allowed = acting.each_allowed table typed effects input ready state top below more_frames rest named p frames deep stages running awaiting of_sub at_point path views viewed_before kept scope holds placed_before above n actuals result e
+      abbrev copies_leave : facts_called ≡ after (acts copies) own_facts
+      copies_leave = acting.copies_leave table typed effects input ready state top below more_frames rest named p frames deep stages running awaiting of_sub at_point path views viewed_before kept scope holds placed_before above n actuals result e
+
+      abbrev copies_own : AllowsAll own_facts (acts copies)
+      copies_own = acting.copies_own table typed effects input ready state top below more_frames rest named p frames deep stages running awaiting of_sub at_point path views viewed_before kept scope holds placed_before above n actuals result e
+
+      abbrev pub globals_allowed : AllowsAll facts_called (globals_of program effects n)
+      globals_allowed = acting.globals_allowed table typed effects input ready state top below more_frames rest named p frames deep stages running awaiting of_sub at_point path views viewed_before kept scope holds placed_before above n actuals result e
 
       abbrev spare_call : Spare s (values ++ copies)
       spare_call = acting.spare_call table typed effects input ready state top below more_frames rest named p frames deep stages running awaiting of_sub at_point path views viewed_before kept scope holds placed_before above n actuals result e
@@ -284,7 +276,7 @@ module _ (table : Table) (typed : TypedProgram) (effects : Effects) (input : Lis
       formals_low = acting.formals_low table typed effects input ready state top below more_frames rest named p frames deep stages running awaiting of_sub at_point path views viewed_before kept scope holds placed_before above n actuals result e
 
       abbrev pub by_callee : (((x : ℕ) → Has formals x → (object_at s x).mode ≡ mode.In) × ((x : ℕ) → Has formals x → IsCopiedBack s x → ⊥)
-          × ((x : ℕ) → Has formals x → is_view_formal s x ≡ true → sees_only s x ≡ true))
+          × ((x : ℕ) → Has formals x → is_given s x ≡ true → sees_only s x ≡ true))
           ⊎ AreLent s facts_now formals actuals
       by_callee = acting.by_callee table typed effects input ready state top below more_frames rest named p frames deep stages running awaiting of_sub at_point path views viewed_before kept scope holds placed_before above n actuals result e
 
@@ -306,10 +298,55 @@ module _ (table : Table) (typed : TypedProgram) (effects : Effects) (input : Lis
       abbrev pub then_now : Now
       then_now = record { memory = state.memory; waits = taken_there.0 }
 
+      opens_there : AreOpenTo s depth views facts_now formals actuals
+      opens_there = open_to s depth views facts_now formals actuals clear_there lows_there
+
+      -- in the call of a traversal function
+      module _ (f : ℕ) (traversed : traversed_formal s (sub_of program n) ≡ Some f) where
+        abbrev pub made : IsTraversalCall s named (flow_at own named p).next n actuals
+        made = acting.made table typed effects input ready state top below more_frames rest named p frames deep stages running awaiting of_sub at_point path views viewed_before kept scope holds placed_before above n actuals result e f traversed
+
+        abbrev pub traversing : IsTraversing program n f
+        traversing = acting.traversing table typed effects input ready state top below more_frames rest named p frames deep stages running awaiting of_sub at_point path views viewed_before kept scope holds placed_before above n actuals result e f traversed
+
+        abbrev first : TypedTree
+        first = acting.first table typed effects input ready state top below more_frames rest named p frames deep stages running awaiting of_sub at_point path views viewed_before kept scope holds placed_before above n actuals result e f traversed
+
+        abbrev no_procedure : procedure ≡ false
+        no_procedure = acting.no_procedure table typed effects input ready state top below more_frames rest named p frames deep stages running awaiting of_sub at_point path views viewed_before kept scope holds placed_before above n actuals result e f traversed
+
+        opens_these : AreOpenTo s depth views facts_now (f ∷ traversing.rest) (More first (made.call).others)
+        opens_these = subst (λ z. AreOpenTo s depth views facts_now z (More first (made.call).others)) traversing.formals (subst (AreOpenTo s depth views facts_now formals) made.actuals_are opens_there)
+
+        back_these : AreOpenActuals s depth facts_now (f ∷ traversing.rest) (More first (made.call).others)
+        back_these = subst (λ z. AreOpenActuals s depth facts_now z (More first (made.call).others)) traversing.formals (subst (AreOpenActuals s depth facts_now formals) made.actuals_are copied_there)
+
+        takes_these : TakesAll (f ∷ traversing.rest) (More first (made.call).others) given_words taken_there.0
+        takes_these = subst (λ z. TakesAll z (More first (made.call).others) given_words taken_there.0) traversing.formals
+            (subst (λ z. TakesAll formals z given_words taken_there.0) made.actuals_are taken_there.1)
+
+        traversal_quiet : Quiet then_now Given (all_passed (steps.here main_turn) ways_there formals actuals (start main_turn))
+        traversal_quiet =
+            subst (λ z. z)
+            (λ j. Quiet then_now
+            (λ passed. AreGiven (steps.here main_turn) ready.accepted.settled (waiting_in easy.state) state.leaks state.memory [] other facts_now views (viewed_easy plain_there.0).1 (viewed_easy plain_there.0).0 holds_now alone live_now in_formals
+            index_law ready.owns ready.class.parts_named formals_low (sym no_procedure j) (sym traversing.formals j) (sym made.actuals_are j) passed)
+            (all_passed (steps.here main_turn) (sym traversing.ways j) (sym traversing.formals j) (sym made.actuals_are j) (start main_turn)))
+            (all_traversed (steps.here main_turn) ready.accepted.settled (waiting_in easy.state) state.leaks state.memory [] other facts_now views (viewed_easy plain_there.0).1 (viewed_easy plain_there.0).0 holds_now alone live_now in_formals
+            index_law ready.owns ready.class.parts_named formals_low f traversing.rest made.call (acting.first_mode table typed effects input ready state top below more_frames rest named p frames deep stages running awaiting of_sub at_point path views viewed_before kept scope holds placed_before above n actuals result e f traversed) (followed.access table typed effects input ready state top older outer named p frames of_sub at_point path n actuals result e f traversed)
+            (followed.shown table typed effects input ready state top older outer named p frames of_sub at_point path n actuals result e f traversed) given_words taken_there.0 takes_these (acting.seen_first table typed effects input ready state top below more_frames rest named p frames deep stages running awaiting of_sub at_point path views viewed_before kept scope holds placed_before above n actuals result e f traversed)
+            (λ x has. kinds x (subst (λ z. Has z x) (sym traversing.formals) (inr has))) (acting.unseen_others table typed effects input ready state top below more_frames rest named p frames deep stages running awaiting of_sub at_point path views viewed_before kept scope holds placed_before above n actuals result e f traversed) (acting.others_stay table typed effects input ready state top below more_frames rest named p frames deep stages running awaiting of_sub at_point path views viewed_before kept scope holds placed_before above n actuals result e f traversed)
+            (opens_these.0 (followed.given table typed effects input ready state top older outer named p frames of_sub at_point path n actuals result e f traversed)) opens_these.1 back_these.1
+            (subst (λ z. AllowsAll facts_now (acts z)) (λ j. flow.actual_values s (traversing.ways j) (made.actuals_are j)) values_allowed))
+
       pub passed_quiet : Quiet then_now Given (all_passed (steps.here main_turn) ways_there formals actuals (start main_turn))
-      passed_quiet =
-          all_given (steps.here main_turn) ready.accepted.settled (waiting_in easy.state) state.leaks state.memory [] other facts_now views (viewed_easy plain_there.0).1 (viewed_easy plain_there.0).0 holds_now alone live_now in_formals
-          index_law ready.owns ready.class.parts_named formals_low procedure given_words taken_there.0 formals actuals kinds called.actuals_stay (open_to s depth views facts_now formals actuals clear_there lows_there) copied_there taken_there.1 values_allowed
+      passed_quiet = elim (acting.traverses_or table typed effects input ready state top below more_frames rest named p frames deep stages running awaiting of_sub at_point path views viewed_before kept scope holds placed_before above n actuals result e) [
+        | inr (f, traversed) ↦ traversal_quiet f traversed
+        | inl none ↦ subst (λ z. Quiet then_now Given (all_passed (steps.here main_turn) z formals actuals (start main_turn))) (sym (passes_to program n none))
+            (all_given (steps.here main_turn) ready.accepted.settled (waiting_in easy.state) state.leaks state.memory [] other facts_now views (viewed_easy plain_there.0).1 (viewed_easy plain_there.0).0 holds_now alone live_now in_formals
+            index_law ready.owns ready.class.parts_named formals_low procedure given_words taken_there.0 formals actuals kinds (acting.unseen_plain table typed effects input ready state top below more_frames rest named p frames deep stages running awaiting of_sub at_point path views viewed_before kept scope holds placed_before above n actuals result e none) called.actuals_stay opens_there copied_there taken_there.1
+            (subst (λ z. AllowsAll facts_now (acts (flow.actual_values s z actuals))) (passes_to program n none) values_allowed))
+      ]
 
       abbrev pub view_now : ways.View
       view_now = seen s state.memory (waiting_in easy.state) state.leaks
@@ -327,8 +364,8 @@ module _ (table : Table) (typed : TypedProgram) (effects : Effects) (input : Lis
       globals = globals_are program effects ready.accepted.effects_are n
 
       -- the successor, at which the frame waits
-      pub call_point : (k : ℕ) × (successor main_turn 0 ≡ Some k) × Has main_turn.point.next k
-      call_point = successor_there main_turn 0 (subst (λ z. 0 < z) (sym (successors_there ∙ ap successors e)) below_one)
+      abbrev pub call_point : (k : ℕ) × (successor main_turn 0 ≡ Some k) × Has main_turn.point.next k
+      call_point = acting.call_point table typed effects input ready state top below more_frames rest named p frames deep stages running awaiting of_sub at_point path views viewed_before kept scope holds placed_before above n actuals result e
 
       abbrev pub waits_with : List Way → Stage
       waits_with ways_taken = record {
@@ -342,26 +379,21 @@ module _ (table : Table) (typed : TypedProgram) (effects : Effects) (input : Lis
       facts_there =
           ap (λ (z : FlowSub). facts_before (path_points program effects z) (top.frame.next ∷ top.before)) (standing.sub_is table typed effects input ready state top older outer named p frames of_sub at_point)
           ∙ standing.facts_whole table typed effects input ready state top older outer named p frames of_sub at_point path
-          ∙ ap (λ z. after z own_facts) call_acts ∙ after_append (acts (values ++ copies)) (globals_of program effects n) own_facts
+          ∙ acting.call_effect table typed effects input ready state top below more_frames rest named p frames deep stages running awaiting of_sub at_point path views viewed_before kept scope holds placed_before above n actuals result e
           ∙ global_after (globals_of program effects n) facts_called globals
 
       -- nothing is moved by the call
       pub none_new : (f : Fact) → Has (facts_before (path_points program effects (sub_of program top.frame.sub)) (top.frame.next ∷ top.before)) f → Has (facts_of program effects top) f
       none_new f has =
           subst (λ z. Has z f) (sym (standing.facts_are table typed effects input ready state top older outer named p frames of_sub at_point path))
-          (elim (added_after program effects ready.accepted.effects_are (acts (values ++ copies)) own_facts f (subst (λ z. Has z f) facts_there has)) [
-            | inl was ↦ was
-            | inr (a, there, new) ↦ (
-                let from = Has-map_from (λ (z : Placed). z.act) (values ++ copies) a there in
-                absurd (call_adds_none s ready.owns procedure formals actuals called.actuals_stay from.0 from.1 f (subst (λ z. Has (adds z) f) (sym from.2) new)))
-          ])
+          (acting.adds_none table typed effects input ready state top below more_frames rest named p frames deep stages running awaiting of_sub at_point path views viewed_before kept scope holds placed_before above n actuals result e f (subst (λ z. Has z f) facts_there has))
 
       -- what the callee uses isn't moved
       pub spared_then : (name : PlaceName) → Has facts_called (Moved name) → is_package_object s name.root ≡ true → Uses effects n name.root → ⊥
       spared_then name has shared uses =
           let there = used_global program effects ready.accepted.effects_are n name.root called.text_io shared uses in
           global_apart name name.root refl there.0
-          (global_allowed (globals_of program effects n) facts_called globals each_allowed.1 (act.Global name.root there.0) there.1 (Moved name) has)
+          (global_allowed (globals_of program effects n) facts_called globals globals_allowed (act.Global name.root there.0) there.1 (Moved name) has)
 
       pub callee_less : n < length program.subs
       callee_less = sub_in_range table typed n called.runs.named called.runs.stands
@@ -370,7 +402,7 @@ module _ (table : Table) (typed : TypedProgram) (effects : Effects) (input : Lis
       pub lends_there : (l : Loan) (h : ℕ) (name : PlaceName) → Has (facts_before (path_points program effects (sub_of program top.frame.sub)) (top.frame.next ∷ top.before)) (Lent l h name) → is_package_object s name.root ≡ true
           → Disturbs effects l n name.root → ⊥
       lends_there l h name has shared disturbs =
-          lent_spared program effects ready.accepted.effects_are n called.text_io facts_called each_allowed.1 l h name
+          lent_spared program effects ready.accepted.effects_are n called.text_io facts_called globals_allowed l h name
           (subst (λ z. Has z (Lent l h name)) facts_there has) shared disturbs
 
       pub at_successor : (q : NamedPoint) × IsAtPoint named.points call_point.0 q × Leads s (scope_behind p) q.scope
@@ -464,16 +496,6 @@ module _ (table : Table) (typed : TypedProgram) (effects : Effects) (input : Lis
             (ready.valued.passed named (standing.named_in table typed effects input ready state top older outer named p frames of_sub at_point) p
             (standing.point_in_named table typed effects input ready state top older outer named p frames of_sub at_point) n actuals result e y has)
 
-        copies_leave : facts_called ≡ after (acts copies) own_facts
-        copies_leave =
-            ap (λ z. after z own_facts) (acts_append values copies) ∙ after_append (acts values) (acts copies) own_facts
-            ∙ ap (after (acts copies)) (reads_keep values reads_there own_facts)
-
-        copies_own : AllowsAll own_facts (acts copies)
-        copies_own =
-            subst (λ z. AllowsAll z (acts copies)) (reads_keep values reads_there own_facts)
-            (allows_both own_facts (acts values) (acts copies) (subst (AllowsAll own_facts) (acts_append values copies) each_allowed.0)).1
-
         pub all_passed_ways : (ways_taken : List Way) × ArePassedOn s state.memory cells depth facts_called next_there formals passed ways_taken outs
             × ((k : Way) → Has ways_taken k → IsNamedBy s formals actuals k)
         all_passed_ways =
@@ -508,8 +530,7 @@ module _ (table : Table) (typed : TypedProgram) (effects : Effects) (input : Lis
         pub well_all : Viewed (home s depth) (sees_only s) around_outs views (view_here s easy.state) facts_called
         well_all =
             subst (Viewed (home s depth) (sees_only s) around_outs views (view_here s easy.state))
-            (sym (ap (λ z. after z own_facts) (acts_append values copies) ∙ after_append (acts values) (acts copies) own_facts
-            ∙ ap (after (acts copies)) (reads_keep values reads_there own_facts)))
+            (sym copies_leave)
             (all_acted (steps.here main_turn) ready.accepted.settled (waiting_in easy.state) state.leaks state.memory [] other facts_now views (viewed_easy plain_there.0).1 (viewed_easy plain_there.0).0 holds_now alone live_now in_formals
             index_law ready.owns ready.class.parts_named formals_low procedure other_all outs_gone outs_apart formals actuals passed own_facts given (λ w under. inr under)
             (more_gone (home s depth) (sees_only s) views other_all outs_gone outs_apart (view_here s easy.state) own_facts (λ w gone. inl gone) well_before))
@@ -613,8 +634,8 @@ module _ (table : Table) (typed : TypedProgram) (effects : Effects) (input : Lis
             let act = copied_act s procedure formals actuals b has back in
             innermost.act_writes_it table typed effects input ready state top below more_frames rest named p frames deep stages running awaiting of_sub at_point path views viewed_before kept scope holds placed_before above
             b.actual.name.root shared main_turn.point (standing.in_sub table typed effects input ready state top older outer named p frames of_sub at_point) act.0
-            (subst (λ z. Has z act.0) (sym values_are ∙ standing.acts_agree table typed effects input ready state top older outer named p frames of_sub at_point)
-            (Has-append_right values copies act.0 act.1)) act.2
+            (subst (λ z. Has z act.0) (standing.acts_agree table typed effects input ready state top older outer named p frames of_sub at_point)
+            (acting.back_there table typed effects input ready state top below more_frames rest named p frames deep stages running awaiting of_sub at_point path views viewed_before kept scope holds placed_before above n actuals result e b.formal (named_has formals actuals b has) back act.0 act.1)) act.2
 
         abbrev pub waits_there : ViewStage
         waits_there = record { stage = waits_with all_passed_ways.0; views = views; cells = cells }

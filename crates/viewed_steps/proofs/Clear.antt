@@ -12,17 +12,18 @@ use Rattle.place_names.specs.declared.rule.Rule.TheVariants.{O10}
 use Rattle.place_names.specs.Rules.{breaks_O10}
 use Rattle.type_definitions.specs.Types.{is_owning}
 use Rattle.typed_tree.specs.Trees.{TypedTree, Name, More}
-use Rattle.flow_paths.specs.Objects.{Typing, object_at, is_named_access, view_of, passing, passing_by}
+use Rattle.flow_paths.specs.Objects.{Typing, object_at, is_anonymous, is_named_access, view_of, passing, passing_by}
 use Rattle.flow_paths.specs.Names.{Written, written}
 use Rattle.flow_paths.specs.Acts.{naming, actual_act, actual_acts}
 use Rattle.machine.specs.Owners.{is_in_formal}
 use Rattle.owned_ways.specs.Ways.{Way, Allows, AllowsAll, after}
 use Rattle.owned_ways.specs.Ways as ways
 use Rattle.owned_loans.proofs.Clear.{refused}
-use Rattle.soundness.specs.Seen.{is_view_formal}
 use Rattle.soundness.proofs.Scalars.{acts, acts_append, allows_both, read_effect}
 use Rattle.owned_loans.proofs.Allowed.{Cleared}
+use Rattle.viewed_soundness.specs.Holds.{is_given}
 use Rattle.viewed_steps.proofs.Seeing.{IsClear, AreClear}
+use Rattle.viewed_steps.proofs.Views.{AreUnseen, given_cases}
 
 actual_clears : (facts : List Fact) (access : Bool) (u : Way) → Allows facts (act.Actual (ways.name_of u) mode.In true access) → Cleared facts u
 actual_clears facts false u allowed = (
@@ -47,7 +48,7 @@ module _ (s : Typing) (procedure : Bool) where
   naming_sees (Some w) access facts = read_effect w.name facts
 
   -- those of mode `in` change no fact
-  head_keeps : (owning access : Bool) (e : TypedTree) (facts : List Fact) → after (acts (actual_act (passing_by mode.In owning access) e)) facts ≡ facts
+  pub head_keeps : (owning access : Bool) (e : TypedTree) (facts : List Fact) → after (acts (actual_act (passing_by mode.In owning access) e)) facts ≡ facts
   head_keeps false access e facts = refl
   head_keeps true access e facts = naming_sees (written e) access facts
 
@@ -57,10 +58,16 @@ module _ (s : Typing) (procedure : Bool) where
       λ w called plain. actual_clears facts access w (subst (λ z. Allows facts (act.Actual z mode.In true access)) (sym called) allowed.0)
   head_clears true access e facts owns allowed = tt
 
-  pub all_clear : (formals : List ℕ) (actuals : TypedTree) (facts : List Fact) → ((x : ℕ) → Has formals x → (object_at s x).mode ≡ mode.In)
+  owns_there : (x : ℕ) → is_anonymous (view_of s x) ≡ false → is_given s x ≡ true → is_owning s.table (object_at s x).of ≡ true
+  owns_there x unseen given = elim (given_cases s x given) [
+    | inl formal ↦ second_true (is_in_formal s x) (is_owning s.table (object_at s x).of) formal
+    | inr anonymous ↦ (let no : true ≡ false = sym anonymous ∙ unseen in cc)
+  ]
+
+  pub all_clear : (formals : List ℕ) (actuals : TypedTree) (facts : List Fact) → AreUnseen s formals → ((x : ℕ) → Has formals x → (object_at s x).mode ≡ mode.In)
       → AllowsAll facts (acts (copies_of formals actuals)) → AreClear s facts formals actuals
-  all_clear [] actuals facts modes allowed = tt
-  all_clear (x ∷ formals) (More e rest) facts modes allowed =
+  all_clear [] actuals facts unseen modes allowed = tt
+  all_clear (x ∷ formals) (More e rest) facts unseen modes allowed =
       let owning : Bool = is_owning s.table (object_at s x).of in
       let access : Bool = procedure && is_named_access (view_of s x) in
       let each = allows_both facts (acts (actual_act (passing s procedure x) e)) (acts (copies_of formals rest))
@@ -68,15 +75,8 @@ module _ (s : Typing) (procedure : Bool) where
       let by_mode : (how : Mode) → (object_at s x).mode ≡ how → acts (actual_act (passing s procedure x) e) ≡ acts (actual_act (passing_by how owning access) e) =
       (λ how is. ap (λ z. acts (actual_act (passing_by z owning access) e)) is) in
       let is = by_mode mode.In (modes x (inl refl)) in (
-        (λ formal. head_clears owning access e facts (second_true (is_in_formal s x) owning formal) (subst (AllowsAll facts) is each.0)),
-        all_clear formals rest facts (λ y has. modes y (inr has))
+        (λ given. head_clears owning access e facts (owns_there x (unseen x (inl refl)) given) (subst (AllowsAll facts) is each.0)),
+        all_clear formals rest facts (λ y has. unseen y (inr has)) (λ y has. modes y (inr has))
             (subst (λ z. AllowsAll z (acts (copies_of formals rest))) (ap (λ z. after z facts) is ∙ head_keeps owning access e facts) each.1),
       )
-  all_clear (x ∷ formals) actuals facts modes allowed = tt
-
-  -- and nothing is shown where no formal owns nothing
-  pub none_clear : (formals : List ℕ) (actuals : TypedTree) (facts : List Fact) → ((x : ℕ) → Has formals x → is_view_formal s x ≡ false) → AreClear s facts formals actuals
-  none_clear [] actuals facts none = tt
-  none_clear (x ∷ formals) (More e rest) facts none =
-      ((λ formal. (let no : true ≡ false = sym formal ∙ none x (inl refl) in cc)), none_clear formals rest facts (λ y has. none y (inr has)))
-  none_clear (x ∷ formals) actuals facts none = tt
+  all_clear (x ∷ formals) actuals facts unseen modes allowed = tt

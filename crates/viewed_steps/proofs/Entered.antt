@@ -1,7 +1,7 @@
 -- What a call takes for formals: a scalar value, a scalar place, or another place in a variable of its
 -- caller. A formal of mode `in out` has what its actual had; the place of the actual is gone meanwhile, and
 -- has no number.
-use Rattle.viewed_soundness.specs.Holds.{is_view, sees_only, IsNamed}
+use Rattle.viewed_soundness.specs.Holds.{is_view, sees_only, IsNamed, is_given}
 use Rattle.std.proofs.Common.{◌≡◌, refl, sym, ap, ◌∙◌, subst, ◌⊎◌, inl, inr, ℕ, suc, ◌+◌, Bool, true, false, not, ◌&&◌, ◌||◌, List, [], ◌∷◌, ◌++◌, take, drop, length, get_or, arith, if◌then◌else◌, Some}
 use Rattle.std.proofs.lemmas.List.{length-map}
 use Rattle.spark_base.specs.Lists.{Has}
@@ -110,7 +110,7 @@ IsTyped s m x z = (d : ℕ) (c n : Bool) (k : ℕ) → shape_of s.table (object_
 
 -- An access value, for a formal that owns nothing.
 abbrev pub IsShownOne : Typing → Memory → ℕ → Passed → Type 0
-IsShownOne s m x a = (is_view_formal s x ≡ true) × (z : machine.Word) × (a ≡ Value (z ∷ [])) × IsTyped s m x z
+IsShownOne s m x a = (is_given s x ≡ true) × (z : machine.Word) × (a ≡ Value (z ∷ [])) × IsTyped s m x z
 
 -- Words are a value of a type, and what they designate is of the types of its parts.
 abbrev pub IsFit : Typing → Memory → ℕ → List machine.Word → Type 0

@@ -21,17 +21,17 @@ use Rattle.flow_paths.specs.Aliases.{overlap_reports}
 use Rattle.flow_paths.specs.Aliases as alias
 use Rattle.owned_ways.specs.Ways.{Way, All, View, Under, Past, Named, AllowsAll, number_of}
 use Rattle.owned_ways.specs.Ways as ways
-use Rattle.soundness.specs.Seen.{home, is_view_formal}
+use Rattle.soundness.specs.Seen.{home}
 use Rattle.soundness.proofs.Scalars.{acts}
 use Rattle.owned_loans.specs.Views.{Around, Views, expand, Viewed}
 use Rattle.owned_loans.proofs.Safe.{Unlent, Unborrowed}
 use Rattle.owned_loans.proofs.Ways.{Meet}
-use Rattle.viewed_soundness.specs.Holds.{sees_only, is_fixed, AllKeep}
+use Rattle.viewed_soundness.specs.Holds.{sees_only, is_given, is_fixed, AllKeep}
 use Rattle.viewed_soundness.proofs.Given.{lent_past, lent_far, lent_apart, lent_beside}
 use Rattle.viewed_steps.specs.Ready.{AreDifferent}
 use Rattle.viewed_steps.proofs.Seeing.{IsClear, AreClear}
 use Rattle.viewed_steps.specs.Sound.{IsCopiedBack}
-use Rattle.viewed_steps.proofs.Lending.{IsNameOf, IsChanged, IsLentTo, lent_clear, lent_free, apart_listed, copies_of}
+use Rattle.viewed_steps.proofs.Lending.{IsNameOf, IsChanged, IsLentTo, named_has, lent_clear, lent_free, apart_listed, copies_of}
 
 pub first_true : (a b : Bool) → a && b ≡ true → a ≡ true
 first_true true b is = refl
@@ -45,40 +45,45 @@ pub mode_in : (how : Mode) → is_in how ≡ true → how ≡ mode.In
 mode_in mode.In is = refl
 mode_in how is = cc
 
-pub sees_shown : (a b c d : Bool) → b ≡ true → d ≡ false → a || ((b || c) && not d) ≡ true
-sees_shown true b c d e f = refl
-sees_shown false true c false e f = refl
-sees_shown false true c true e f = cc
-sees_shown false false c d e f = cc
+pub sees_shown : (a b d : Bool) → b ≡ true → d ≡ false → a || (b && not d) ≡ true
+sees_shown true b d e f = refl
+sees_shown false true false e f = refl
+sees_shown false true true e f = cc
+sees_shown false false d e f = cc
+
+-- A formal that is copied back, or is shown what its actual designates.
+abbrev pub IsMet : Typing → ℕ → Type 0
+IsMet s x = IsCopiedBack s x ⊎ (is_given s x ≡ true)
 
 -- What is lent to a formal: it isn't seen only, nothing of it is moved or lent, and it doesn't overlap what is
--- passed for others that may change.
+-- passed for others that are copied back or shown.
 pub record IsLentAs (s : Typing) (facts : List Fact) (all : List alias.Passed) (y : ℕ) (m : Written) : Type 0 where
   pub of_in : (object_at s y).mode ≡ mode.In
-  pub changed : IsChanged s y
+  pub given : is_given s y ≡ true
   pub plain : sees_only s m.name.root ≡ false
   pub clear : (f : Fact) → Has facts f → moved_or_lent m.name f ≡ true → ⊥
-  pub apart : (b : alias.Passed) → Has all b → (y ≡ b.formal → ⊥) → IsChanged s b.formal → overlaps m.name b.actual.name ≡ true → ⊥
+  pub apart : (b : alias.Passed) → Has all b → (y ≡ b.formal → ⊥) → IsMet s b.formal → overlaps m.name b.actual.name ≡ true → ⊥
 
 -- So it is for each formal that owns nothing.
 abbrev pub AreLent : Typing → List Fact → List ℕ → TypedTree → Type 0
 AreLent s facts formals actuals =
-    (y : ℕ) → Has formals y → is_view_formal s y ≡ true → (m : Written) → IsNameOf formals actuals y m → IsLentAs s facts (alias.passed formals actuals) y m
+    (y : ℕ) → Has formals y → is_given s y ≡ true → (m : Written) → IsNameOf formals actuals y m → IsLentAs s facts (alias.passed formals actuals) y m
 
 -- the rules on actuals say so where these formals are of named access types
 pub are_lent : (s : Typing) (facts : List Fact) (formals : List ℕ) (actuals : TypedTree) → AreDifferent formals
     → ((r : Report) → Has (overlap_reports s (alias.passed formals actuals)) r → ⊥)
     → AllowsAll facts (acts (copies_of s formals actuals)) → AllKeep (is_fixed s) (acts (copies_of s formals actuals))
-    → ((y : ℕ) → Has formals y → is_view_formal s y ≡ true → IsLentTo s y) → AreLent s facts formals actuals
+    → ((y : ℕ) → Has formals y → is_given s y ≡ true → IsLentTo s y) → AreLent s facts formals actuals
 are_lent s facts formals actuals differ none allowed keep lent y has formal m of =
     let to = lent y has formal in
     let access = variable_named (view_of s y) to.access in
     record {
       of_in = to.of_in;
-      changed = inr access;
+      given = formal;
       plain = lent_free s formals actuals keep y m of to;
       clear = lent_clear s formals actuals facts differ allowed none y m of to access;
-      apart = λ b there other changed over. apart_listed s (alias.passed formals actuals) none (record { formal = y; actual = m }) b of there other (inr access) changed over;
+      apart = λ b there other met over.
+          apart_listed s (alias.passed formals actuals) none (record { formal = y; actual = m }) b of there other (inr access) (changed b.formal (named_has formals actuals b there) met) over;
     }
   where
     second : (a b : Bool) → a && b ≡ true → b ≡ true
@@ -89,9 +94,13 @@ are_lent s facts formals actuals differ none allowed keep lent y has formal m of
     variable_named (view.Access d c n) e = second n (not c) e
     variable_named w e = cc
 
+    changed : (x : ℕ) → Has formals x → IsMet s x → IsChanged s x
+    changed x there (inl back) = inl back
+    changed x there (inr shown) = inr (variable_named (view_of s x) (lent x there shown).access)
+
 -- nothing of it was moved, and nothing borrows it
 pub lent_clears : (s : Typing) (facts : List Fact) (formals : List ℕ) (actuals : TypedTree)
-    → ((y : ℕ) → Has formals y → is_view_formal s y ≡ true → (m : Written) → IsNameOf formals actuals y m → (f : Fact) → Has facts f → moved_or_lent m.name f ≡ true → ⊥)
+    → ((y : ℕ) → Has formals y → is_given s y ≡ true → (m : Written) → IsNameOf formals actuals y m → (f : Fact) → Has facts f → moved_or_lent m.name f ≡ true → ⊥)
     → AreClear s facts formals actuals
 lent_clears s facts [] actuals clear = tt
 lent_clears s facts (x ∷ formals) (More e rest) clear =
@@ -141,7 +150,7 @@ module _ (s : Typing) (frame : ℕ) (v : Views) (facts : List Fact) (all : List 
   from_apart other view viewed z u to differ meets =
       lent_apart s frame other v view facts viewed is.from to.from is.named to.named from_plain plain_there
       (λ h n has over. from_unlent Borrowed h n has over) (λ h n has over. unlent_there h n has over)
-      (λ over. is.lent.apart (record { formal = z; actual = to.actual }) to.of (λ same. differ (sym same)) to.lent.changed
+      (λ over. is.lent.apart (record { formal = z; actual = to.actual }) to.of (λ same. differ (sym same)) (inr to.lent.given)
       (subst (λ (q : PlaceName). overlaps is.actual.name q ≡ true) (sym to.called) (subst (λ (q : PlaceName). overlaps q (ways.name_of to.from) ≡ true) (sym is.called) over)))
       (subst (λ q. Meet q (expand v (All to.from))) is.leads (subst (Meet w) to.leads meets))
     where

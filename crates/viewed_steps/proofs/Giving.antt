@@ -18,7 +18,7 @@ use Rattle.flow_paths.specs.Views.{sub_acts, traversed_formal, IsOnlyRoot}
 use Rattle.viewed_steps.specs.Traversals.{GivesView, IsSourceIn, SeesFirst, IsSourceName, AreGiven, traversed_name}
 use Rattle.viewed_steps.proofs.Sources.{view_shape}
 use Rattle.spark_base.specs.declared.position.Pos.{Pos}
-use Rattle.viewed_soundness.proofs.Names.{given_view}
+use Rattle.viewed_soundness.proofs.Names.{given_view, true_false}
 use Rattle.std.proofs.Common.{◌≡◌, refl, sym, ap, ◌∙◌, subst, ◌⊎◌, inl, inr, ℕ, suc, ◌<◌, Bool, true, false, List, [], ◌∷◌, ◌++◌, drop, length, Some, None, map, Option, ◌||◌, append-nil, not, take, if◌then◌else◌}
 use Rattle.spark_base.specs.Lists.{Has}
 use Rattle.place_names.specs.declared.act.Act.{Act}
@@ -60,7 +60,7 @@ use Rattle.soundness.proofs.Eased.{eased}
 use Rattle.owned_loans.specs.Views.{Around, known_gone, Views, Viewed, Go}
 use Rattle.viewed_soundness.specs.Holds.{is_view, sees_only}
 use Rattle.viewed_soundness.proofs.Outcomes.{Leads_on, IsGood}
-use Rattle.viewed_steps.specs.Awaited.{AreValues, lasting_of, AreAwaited, TakesAlone, AreScalar, TakesScalars, temporaries_of}
+use Rattle.viewed_steps.specs.Awaited.{AreValues, lasting_of, AreAwaited, TakesAlone, TakesTogether, AreScalar, TakesScalars, temporaries_of}
 use Rattle.viewed_steps.proofs.Waited.{Shares}
 use Rattle.viewed_steps.specs.Sound.{ArePast, IsResting, HoldsAt, ArePlaced, NoneAbove, ViewStage, stages_of, GoneElsewhere, AreWaiting, IsStoredAt, LeadsAlong, HasTraversals, IsGivenBelow}
 use Rattle.viewed_steps.specs.Ready.{IsReady, AreOrderly}
@@ -512,6 +512,13 @@ module _ (table : Table) (typed : TypedProgram) (effects : Effects) (input : Lis
             no_call alone_taken.3 alone_taken.4 alone_taken.5 same_call)
       ]
 
+      not_together : TakesTogether s named.sub.result p → ⊥
+      not_together together = elim together.1 [
+        | inl (x, other_instr, owner) ↦ (let never : Hold (More e last) ≡ Declare x (More together.0 NoMore) = sym is ∙ other_instr in cc)
+        | inr (inl (k, x, steps_of, w, other_instr, place, scalar)) ↦ (let never : Hold (More e last) ≡ Assign (Name k x steps_of w) together.0 = sym is ∙ other_instr in cc)
+        | inr (inr (same_instr, plain_result)) ↦ true_false (is_anonymous (full s.table of)) view (plain_result of result)
+      ]
+
       not_plain : (r : Pos) (n : ℕ) (actuals : TypedTree) → e ≡ CallIn r n actuals → GivesView s n of → TakesScalars s p.instr → ⊥
       unfolding GivesPlainly
       not_plain r n actuals call gives plainly =
@@ -523,15 +530,18 @@ module _ (table : Table) (typed : TypedProgram) (effects : Effects) (input : Lis
       view_returned = elim (ready.traversing.returned top.frame.sub (running.0).entered named of_sub p (innermost.point_there_now table typed effects input ready state top below more_frames rest named p frames deep stages running awaiting of_sub at_point path views viewed_before kept scope holds placed_before above) e last is of result view) [
         | inl null ↦ elim (innermost.taken_there table typed effects input ready state top below more_frames rest named p frames deep stages running awaiting of_sub at_point path views viewed_before kept scope holds placed_before above) [
           | inl plain ↦ by_null plain null
-          | inr alone_taken ↦ absurd (not_alone alone_taken (λ a b actuals call. (let never : TypedNull ≡ CallIn a b actuals = sym null ∙ call in cc)))
+          | inr (inr within) ↦ absurd (not_together within)
+          | inr (inl alone_taken) ↦ absurd (not_alone alone_taken (λ a b actuals call. (let never : TypedNull ≡ CallIn a b actuals = sym null ∙ call in cc)))
         ]
         | inr (q, y, steps_there, u, inl name) ↦ elim (innermost.taken_there table typed effects input ready state top below more_frames rest named p frames deep stages running awaiting of_sub at_point path views viewed_before kept scope holds placed_before above) [
           | inl plain ↦ by_name plain q y steps_there u name
-          | inr alone_taken ↦ absurd (not_alone alone_taken (λ a b actuals call. (let never : Name q y steps_there u ≡ CallIn a b actuals = sym name ∙ call in cc)))
+          | inr (inr within) ↦ absurd (not_together within)
+          | inr (inl alone_taken) ↦ absurd (not_alone alone_taken (λ a b actuals call. (let never : Name q y steps_there u ≡ CallIn a b actuals = sym name ∙ call in cc)))
         ]
         | inr (q, y, steps_there, u, inr (r, n, more, call, gives)) ↦ elim (innermost.taken_there table typed effects input ready state top below more_frames rest named p frames deep stages running awaiting of_sub at_point path views viewed_before kept scope holds placed_before above) [
           | inl plain ↦ absurd (not_plain r n (More (Name q y steps_there u) more) call gives plain.1)
-          | inr alone_taken ↦ by_call alone_taken q y steps_there u r n more call gives
+          | inr (inr within) ↦ absurd (not_together within)
+          | inr (inl alone_taken) ↦ by_call alone_taken q y steps_there u r n more call gives
         ]
       ]
 
@@ -548,6 +558,7 @@ module _ (table : Table) (typed : TypedProgram) (effects : Effects) (input : Lis
               | inl view ↦ view_returned e last is of result source_here last_is view
               | inr plain_result ↦ results.value_step table typed effects input ready state top below more_frames rest named p frames deep stages running awaiting of_sub at_point path views viewed_before kept scope holds placed_before above e last is of result source_here last_is plain_result (elim (innermost.taken_there table typed effects input ready state top below more_frames rest named p frames deep stages running awaiting of_sub at_point path views viewed_before kept scope holds placed_before above) [
                 | inl plain ↦ results.plain_given table typed effects input ready state top below more_frames rest named p frames deep stages running awaiting of_sub at_point path views viewed_before kept scope holds placed_before above e last is of result source_here last_is plain_result plain
-                | inr alone_taken ↦ results.alone_given table typed effects input ready state top below more_frames rest named p frames deep stages running awaiting of_sub at_point path views viewed_before kept scope holds placed_before above e last is of result source_here last_is plain_result alone_taken
+                | inr (inl alone_taken) ↦ results.alone_given table typed effects input ready state top below more_frames rest named p frames deep stages running awaiting of_sub at_point path views viewed_before kept scope holds placed_before above e last is of result source_here last_is plain_result alone_taken
+                | inr (inr within) ↦ results.within_given table typed effects input ready state top below more_frames rest named p frames deep stages running awaiting of_sub at_point path views viewed_before kept scope holds placed_before above e last is of result source_here last_is plain_result within
               ])
             ]

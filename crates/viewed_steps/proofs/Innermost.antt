@@ -20,7 +20,7 @@ use Rattle.place_names.specs.declared.rule.Loan.{Loan}
 use Rattle.place_names.specs.declared.rule.Loan.TheVariants.{Borrowed, Observed}
 use Rattle.place_names.specs.Names.{Name as PlaceName, overlaps}
 use Rattle.place_names.specs.Facts.{place}
-use Rattle.type_definitions.specs.Types.{Table, full, is_owning}
+use Rattle.type_definitions.specs.Types.{Table, is_owning, full}
 use Rattle.typed_tree.specs.Trees.{Call as CallIn, TypedTree}
 use Rattle.typed_tree.specs.Programs.{TypedProgram}
 use Rattle.flow_paths.specs.declared.report.Effects.{Effects}
@@ -48,7 +48,7 @@ use Rattle.soundness.specs.Sound.{Stage, facts_of, AreStages, Uses, IsRunnable, 
 use Rattle.soundness.specs.Ready.{stored_at, IsSupplied}
 use Rattle.soundness.proofs.Contents.{bool_cases, word_no}
 use Rattle.machine.specs.Run.{no_point}
-use Rattle.soundness.proofs.Points.{flow_at, point_there, sub_there, sub_at_number, sub_in_range}
+use Rattle.soundness.proofs.Points.{flow_at, point_there, sub_at_number, sub_in_range}
 use Rattle.soundness.proofs.Scoped.{MayHold, Inside}
 use Rattle.soundness.proofs.Inherited.{Splits, after_splits, allowed_beside}
 use Rattle.soundness.proofs.Used.{writes_used, reads_used, fact_added}
@@ -60,7 +60,7 @@ use Rattle.soundness.proofs.Eased.{eased, takes_all}
 use Rattle.soundness.proofs.Raised.{raised_owned}
 use Rattle.owned_loans.specs.Views.{Around, known_gone, Views, Viewed}
 use Rattle.viewed_soundness.proofs.Names.{true_false, given_view}
-use Rattle.viewed_steps.specs.Awaited.{AreFor, AreValues, temporaries_of, is_held, lasting_of, awaited, AreAwaited, AreScalar, TakesScalars, IsTakenBy, IsTaken}
+use Rattle.viewed_steps.specs.Awaited.{AreFor, AreValues, temporaries_of, is_held, lasting_of, awaited, AreAwaited, AreScalar, TakesScalars, StoresNone, IsTaken}
 use Rattle.viewed_steps.proofs.Waited.{plain_unheld, ended_held, lasting_within, within_lasting, lasting_more, brought_temporaries, Shares, shares, scalar_values}
 use Rattle.viewed_steps.specs.Sound.{ArePast, HoldsAt, ArePlaced, NoneAbove, Lasts, ViewStage, stages_of, GoneElsewhere, Disturbs, AreWaiting, LeadsOn, IsResting, HasTraversals}
 use Rattle.viewed_steps.specs.Ready.{AreOrderly, IsReady, AreNamedIn}
@@ -356,25 +356,6 @@ module _ (table : Table) (typed : TypedProgram) (effects : Effects) (input : Lis
     sub_result of result =
         ap (λ (z : FlowSub). z.result) (standing.sub_is table typed effects input ready state top older outer named p frames of_sub at_point) ∙ result
 
-    -- only functions that are called give results
-    pub named_result : (of : ℕ) → named.sub.result ≡ Some of → is_anonymous (full s.table of) ≡ false
-    named_result of result = elim (running.0).entered [
-      | inl main ↦ (
-          let same : Some top.frame.sub ≡ Some ready.main = sym main ∙ ready.is_main in
-          let number : top.frame.sub ≡ ready.main = cc in
-          absurd (no_some (sym (sub_result of result) ∙ ap (λ n. (sub_of program n).result) number ∙ main_result)))
-      | inr (sub, has, q, there, actuals, temporary, calls) ↦
-          ready.class.results sub has q there top.frame.sub actuals temporary calls of (sub_result of result)
-    ]
-      where
-        no_some : Some of ≡ None → ⊥
-        no_some never = cc
-
-        main_result : (sub_of program ready.main).result ≡ None
-        main_result =
-            ap (λ (z : FlowSub). z.result) (sub_there table typed ready.main ready.main_there.named ready.main_there.stands)
-            ∙ ready.main_there.procedure ready.main_there.named ready.main_there.stands
-
     -- what a function gives belongs to no package
     pub gives_own : (m : PlaceName) (b : Bool)
         → Has (standing.acts_here table typed effects input ready state top older outer named p frames of_sub at_point p.instr) (act.Give m b) → is_package_object s m.root ≡ false
@@ -426,14 +407,23 @@ module _ (table : Table) (typed : TypedProgram) (effects : Effects) (input : Lis
     pub viewed_easy : Plain → Viewed (home s depth) (sees_only s) other views (view_here s easy.state) facts_now × Kept s state.memory (waiting_in easy.state)
     viewed_easy plain = eased_viewed main_turn ready.accepted.settled (home s depth) (sees_only s) other views facts_now frames (plain_values plain) viewed kept
 
-    pub taken_there : IsTaken s p
+    pub taken_there : IsTaken s named.sub.result p
     taken_there = ready.valued.takes named named_there p point_there_now
 
     -- and so it is, where a call alone isn't taken
-    pub plain_here : ((call : TypedTree) → IsTakenBy p.instr call → ⊥) → Plain × TakesScalars s p.instr
-    plain_here none = elim taken_there [
+    pub plain_here : StoresNone p.instr → Plain × TakesScalars s p.instr
+    plain_here stores_none = elim taken_there [
       | inl plain ↦ plain
-      | inr (x, rest_scope, is, q, n, actuals, result, large, by) ↦ absurd (none (CallIn q n actuals) by)
+      | inr (inl (x, rest_scope, is, q, n, actuals, result, large, by)) ↦ absurd (elim by [
+        | inl (y, declares) ↦ subst StoresNone declares stores_none
+        | inr (inl (r, y, steps_there, u, assigns, calls)) ↦ subst StoresNone assigns stores_none
+        | inr (inr holds_it) ↦ subst StoresNone holds_it stores_none
+      ])
+      | inr (inr together) ↦ absurd (elim together.1 [
+        | inl (y, declares, owner) ↦ subst StoresNone declares stores_none
+        | inr (inl (r, y, steps_there, u, assigns, place, scalar)) ↦ subst StoresNone assigns stores_none
+        | inr (inr (holds_it, plain_result)) ↦ subst StoresNone holds_it stores_none
+      ])
     ]
 
     -- what has an end of its own is there still

@@ -3,7 +3,7 @@ use Rattle.std.proofs.Common.{◌≡◌, ◌⊎◌, inl, inr, ℕ, true, false, 
 use Rattle.place_names.specs.declared.act.Mode.{Mode}
 use Rattle.place_names.specs.declared.act.Mode.TheVariants as mode
 use Rattle.place_names.specs.declared.fact.Fact.{Fact}
-use Rattle.type_definitions.specs.Types.{full, is_scalar, is_owning}
+use Rattle.type_definitions.specs.Types.{full, is_scalar}
 use Rattle.typed_tree.specs.Trees.{TypedTree, Name, More}
 use Rattle.flow_paths.specs.Objects.{Typing, object_at}
 use Rattle.flow_paths.specs.Names.{name_of}
@@ -19,6 +19,7 @@ use Rattle.soundness.specs.Sound.{goes_through_none}
 use Rattle.owned_loans.specs.Views.{Views, expand}
 use Rattle.owned_loans.proofs.Safe.{Open}
 use Rattle.viewed_soundness.specs.Holds.{sees_only}
+use Rattle.viewed_steps.specs.Ready.{is_shown_type}
 use Rattle.viewed_steps.specs.Taken.{Lodge, IsLodged, IsVariableAt, IsInside}
 use Rattle.viewed_steps.specs.Sound.{IsScalarObject, IsReachedBack}
 use Rattle.viewed_steps.proofs.Outs.{Out}
@@ -87,8 +88,8 @@ IsBackLaid s depth v view x e k =
 -- A value of the type of the formal, or an access value.
 abbrev pub IsValueLaid : Typing → Memory → ℕ → List machine.Word → Type 0
 IsValueLaid s m x ws =
-    (is_owning s.table (object_at s x).of ≡ false → IsFit s m (object_at s x).of ws)
-    × (is_owning s.table (object_at s x).of ≡ true → (z : machine.Word) × (ws ≡ z ∷ []) × IsTyped s m x z)
+    (is_shown_type s x ≡ false → IsFit s m (object_at s x).of ws)
+    × (is_shown_type s x ≡ true → (z : machine.Word) × (ws ≡ z ∷ []) × IsTyped s m x z)
 
 -- By the mode: such a value, or a place.
 abbrev pub IsLaidOne : Typing → Memory → ℕ → Views → ways.View → ℕ → Mode → TypedTree → Passed → Type 0

@@ -43,6 +43,7 @@ pub mod LaidOut
 -- what formals are shown that own nothing
 pub mod Seeing
 pub mod Clear
+pub mod First
 pub mod Reading
 pub mod Puts
 pub mod Called
@@ -66,11 +67,19 @@ pub mod EachInstruction
 pub mod Turned
 pub mod Operands
 pub mod Alone
+pub mod Within
 pub mod Taking
 pub mod Results
 pub mod Giving
 pub mod ScopeEnds
 pub mod CallEnds
+-- calls of traversal functions
+pub mod Unlent
+pub mod Taker
+pub mod Traversing
+pub mod Successor
+pub mod Followed
+pub mod Begun
 pub mod CallActs
 pub mod Calling
 pub mod CallBegins

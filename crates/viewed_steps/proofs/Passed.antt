@@ -25,8 +25,8 @@ use Rattle.type_definitions.specs.Types.{shape_of, full, parts, is_scalar, is_ow
 use Rattle.typed_tree.specs.Trees.{TypedTree, Name, More}
 use Rattle.flow_paths.specs.declared.report.Effects.{Effects}
 use Rattle.flow_paths.specs.Instructions.{Call}
-use Rattle.flow_paths.specs.Objects.{Typing, Signature, object_at, sub_at, is_formal, is_package_object, is_named_access, is_variable_access, view_of, Passing, passing, passing_by, passings}
-use Rattle.machine.specs.Owners.{is_in, is_in_formal}
+use Rattle.flow_paths.specs.Objects.{Typing, Signature, object_at, sub_at, is_formal, is_package_object, is_named_access, is_variable_access, is_anonymous, view_of, Passing, passing, passing_by, passings}
+use Rattle.machine.specs.Owners.{is_in}
 use Rattle.soundness.specs.Seen.{is_view_formal}
 use Rattle.flow_paths.specs.Names.{Written, written, name_of}
 use Rattle.flow_paths.specs.Acts.{actual_act, actual_acts}
@@ -62,7 +62,9 @@ use Rattle.owned_loans.proofs.Allowed.{either_right}
 use Rattle.owned_loans.proofs.Safe.{Unlent, Unmoved}
 use Rattle.viewed_steps.specs.Sound.{IsScalarObject, IsCopiedBack, IsKindOfFormal}
 use Rattle.viewed_steps.specs.Ready.{roots_passed, AreDifferent, AreActualsTo}
-use Rattle.viewed_soundness.proofs.Names.{true_false}
+use Rattle.viewed_soundness.proofs.Names.{true_false, both_no}
+use Rattle.viewed_soundness.proofs.Outcomes.{named_plain}
+use Rattle.viewed_steps.proofs.Views.{given_cases, given_type, unowned_view, scalar_unseen}
 use Rattle.viewed_steps.specs.Taken.{Lodge, IsInside, IsAmong, IsPlainPlace, IsApartFrom}
 use Rattle.viewed_steps.proofs.Outs.{Out, found_in}
 use Rattle.viewed_steps.proofs.LaidOut.{IsHoused, house_of, IsValueLaid, IsOwnPut, IsPlainAt, IsHousedPut, IsPlaceLaid, IsBackLaid, IsLaidOne, AreLaidOut, own_out, place_out, housed_out, back_out, out_of, outs_of, plain_cell, back_cell, cell_of, cells_of}
@@ -468,16 +470,12 @@ module _ (s : Typing) (own_law : OwnsByShape s.table) (settled : IsSettled s.tab
   -- a value of mode `in`
   value_first : (x : ℕ) (ws : List machine.Word) → (object_at s x).mode ≡ mode.In → IsKindOfFormal s x → IsValueLaid s m x ws → IsPlainOne s m cells x (Value ws)
   value_first x ws is (inl plain) laid =
-      inl (plain, (laid.0 (plain_type s own_law (object_at s x).of plain)).0 ∙ plain_word s settled (object_at s x).of plain)
+      inl (plain, (laid.0 (both_no (is_owning s.table (object_at s x).of) (is_anonymous (view_of s x)) (plain_type s own_law (object_at s x).of plain) (scalar_unseen s x plain))).0 ∙ plain_word s settled (object_at s x).of plain)
   value_first x ws is (inr (inl (back, own))) laid = absurd (back is)
-  value_first x ws is (inr (inr (inr (by_mode, plain, named)))) laid = inr (inr (plain, named, ws, refl, laid.0 plain))
+  value_first x ws is (inr (inr (inr (by_mode, plain, named)))) laid = inr (inr (plain, named, ws, refl, laid.0 (both_no (is_owning s.table (object_at s x).of) (is_anonymous (view_of s x)) plain (named_plain s.table (object_at s x).of named))))
   value_first x ws is (inr (inr (inl shown))) laid =
-      let value = laid.1 (second_true (is_in_formal s x) (is_owning s.table (object_at s x).of) shown.0) in
+      let value = laid.1 (given_type s x shown.0) in
       inr (inl (shown.0, value.0, ap Value value.1, value.2))
-    where
-      second_true : (a b : Bool) → a && b ≡ true → b ≡ true
-      second_true true b e = e
-      second_true false b e = cc
 
   -- a scalar place
   plain_place_of : (e : TypedTree) (k : Place) → (there : IsPlainAt s depth v view e k) → ((c : Lodge) → Has (plain_cell s depth v view e k there) c → Has cells c) → IsPlainPlace s cells k
@@ -608,26 +606,26 @@ module _ (s : Typing) (settled : IsSettled s.table) (depth : ℕ) (v : Views) (v
   more_return x y a formals passed (inr (inl (r, has, is))) = inr (inl (r, Has-append_right (return_of x a) (returns_of formals passed) r has, is))
   more_return x y a formals passed (inr (inr shown)) = inr (inr shown)
 
-  first_return : (m : Memory) (x : ℕ) (how : Mode) (e : TypedTree) (a : Passed) (formals : List ℕ) (passed : List Passed) → (object_at s x).mode ≡ how → IsLaidOne s m depth v view x how e a
+  first_return : OwnsByShape s.table → (m : Memory) (x : ℕ) (how : Mode) (e : TypedTree) (a : Passed) (formals : List ℕ) (passed : List Passed) → (object_at s x).mode ≡ how → IsLaidOne s m depth v view x how e a
       → IsKindOfFormal s x → IsReturned x (returns_of (x ∷ formals) (a ∷ passed))
-  first_return m x mode.InOut e (From k) formals passed is laid kind = inr (inl (record { formal = x; to = k }, inl refl, refl))
-  first_return m x mode.In e (Value ws) formals passed is laid (inl plain) = inl plain
-  first_return m x mode.In e (Value ws) formals passed is laid (inr (inl (back, own))) = absurd (back is)
-  first_return m x mode.In e (Value ws) formals passed is laid (inr (inr (inl shown))) = inr (inr (inl shown.0))
-  first_return m x mode.In e (Value ws) formals passed is laid (inr (inr (inr plain))) = inr (inr (inr plain.1))
-  first_return m x mode.Out e (To k) formals passed is laid kind = inr (inl (record { formal = x; to = k }, inl refl, refl))
-  first_return m x how e a formals passed is laid kind = absurd laid
+  first_return own_law m x mode.InOut e (From k) formals passed is laid kind = inr (inl (record { formal = x; to = k }, inl refl, refl))
+  first_return own_law m x mode.In e (Value ws) formals passed is laid (inl plain) = inl plain
+  first_return own_law m x mode.In e (Value ws) formals passed is laid (inr (inl (back, own))) = absurd (back is)
+  first_return own_law m x mode.In e (Value ws) formals passed is laid (inr (inr (inl shown))) = inr (inr (elim (given_cases s x shown.0) [ inl formal ↦ inl formal | inr anonymous ↦ inr (unowned_view s own_law x anonymous) ]))
+  first_return own_law m x mode.In e (Value ws) formals passed is laid (inr (inr (inr plain))) = inr (inr (inr plain.1))
+  first_return own_law m x mode.Out e (To k) formals passed is laid kind = inr (inl (record { formal = x; to = k }, inl refl, refl))
+  first_return own_law m x how e a formals passed is laid kind = absurd laid
 
-  pub all_returned : (m : Memory) (formals : List ℕ) (actuals : TypedTree) (passed : List Passed) → AreLaidOut s m depth v view formals actuals passed → AreActualsTo s formals actuals
+  pub all_returned : OwnsByShape s.table → (m : Memory) (formals : List ℕ) (actuals : TypedTree) (passed : List Passed) → AreLaidOut s m depth v view formals actuals passed → AreActualsTo s formals actuals
       → ((x : ℕ) → Has formals x → IsKindOfFormal s x) → (x : ℕ) → Has formals x → IsReturned x (returns_of formals passed)
-  all_returned m [] actuals passed laid stay kinds x has = absurd has
-  all_returned m (y ∷ formals) (More e rest) (a ∷ passed) laid stay kinds x (inl same) =
+  all_returned own_law m [] actuals passed laid stay kinds x has = absurd has
+  all_returned own_law m (y ∷ formals) (More e rest) (a ∷ passed) laid stay kinds x (inl same) =
       subst (λ z. IsReturned z (returns_of (y ∷ formals) (a ∷ passed))) same
-      (first_return m y (object_at s y).mode e a formals passed refl laid.0 (kinds y (inl refl)))
-  all_returned m (y ∷ formals) (More e rest) (a ∷ passed) laid stay kinds x (inr has) =
-      more_return y x a formals passed (all_returned m formals rest passed laid.1 stay.1 (λ z there. kinds z (inr there)) x has)
-  all_returned m (y ∷ formals) (More e rest) [] laid stay kinds x has = absurd laid
-  all_returned m (y ∷ formals) actuals passed laid stay kinds x has = inl (stay x has)
+      (first_return own_law m y (object_at s y).mode e a formals passed refl laid.0 (kinds y (inl refl)))
+  all_returned own_law m (y ∷ formals) (More e rest) (a ∷ passed) laid stay kinds x (inr has) =
+      more_return y x a formals passed (all_returned own_law m formals rest passed laid.1 stay.1 (λ z there. kinds z (inr there)) x has)
+  all_returned own_law m (y ∷ formals) (More e rest) [] laid stay kinds x has = absurd laid
+  all_returned own_law m (y ∷ formals) actuals passed laid stay kinds x has = inl (stay x has)
 
 -- ---- the call
 

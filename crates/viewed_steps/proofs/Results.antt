@@ -4,7 +4,7 @@ use Rattle.viewed_steps.proofs.Traversed.{none_given, empty_given}
 use Rattle.flow_paths.specs.Views.{sub_acts}
 use Rattle.viewed_steps.specs.Traversals.{IsSourceIn}
 use Rattle.viewed_soundness.proofs.Names.{plain_named, true_false}
-use Rattle.viewed_soundness.specs.Taken.{GivesPlainly}
+use Rattle.viewed_soundness.specs.Taken.{GivesPlainly, types_taken, AreOfTypes}
 use Rattle.std.proofs.Common.{◌≡◌, refl, sym, ap, ◌∙◌, subst, ◌⊎◌, inl, inr, ℕ, suc, ◌+◌, ◌<◌, Bool, true, false, ◌||◌, ◌==◌, List, [], ◌∷◌, ◌++◌, drop, length, get_or, arith, append-nil, Option, Some, None, if◌then◌else◌, take}
 use Rattle.spark_base.specs.Lists.{Has}
 use Rattle.place_names.specs.declared.act.Act.{Act}
@@ -54,7 +54,7 @@ use Rattle.soundness.proofs.Successors.{below_one}
 use Rattle.owned_loans.specs.Views.{Around, known_gone, Views, Viewed}
 use Rattle.viewed_soundness.specs.Holds.{IsNamed, AllKeep, is_view, sees_only, is_fixed}
 use Rattle.viewed_soundness.proofs.Outcomes.{IsGood, Leads_on}
-use Rattle.viewed_steps.specs.Awaited.{AreFor, AreValues, AreValuesBut, temporaries_of, lasting_of, awaited, AreAwaited, AreScalar, FillsTyped, TakesScalars, IsTakenBy, TakesAlone}
+use Rattle.viewed_steps.specs.Awaited.{AreFor, AreValues, AreValuesBut, temporaries_of, lasting_of, awaited, AreAwaited, AreScalar, FillsTyped, TakesScalars, StoresNone, TakesAlone, TakesTogether}
 use Rattle.viewed_steps.proofs.Waited.{temporary_first, lasting_more, Shares}
 use Rattle.viewed_steps.specs.Sound.{IsWayOf, ArePast, HoldsAt, ArePlaced, NoneAbove, ViewStage, stages_of, GoneElsewhere, AreWaiting, IsStoredAt, returns_one, LeadsAlong, IsResting, HasTraversals, NoneGiven, IsGivenBelow}
 use Rattle.viewed_steps.specs.Taken.{TakenBy}
@@ -68,6 +68,7 @@ use Rattle.viewed_steps.proofs.Standing as standing
 use Rattle.viewed_steps.proofs.Packages as packages
 use Rattle.viewed_steps.proofs.Innermost as innermost
 use Rattle.viewed_steps.proofs.Alone as alone_value
+use Rattle.viewed_steps.proofs.Within as holding
 use Rattle.std.specs.Prelude.{is_some, flat_map}
 use Rattle.type_definitions.specs.Entries.{boolean}
 use Rattle.type_definitions.specs.Types.{words}
@@ -198,7 +199,7 @@ module _ (table : Table) (typed : TypedProgram) (effects : Effects) (input : Lis
     abbrev Plain : Type 0
     Plain = AreScalar s (temporaries_of s (take (taken p.instr) p.scope))
 
-    abbrev plain_here : ((call : TypedTree) → IsTakenBy p.instr call → ⊥) → Plain × TakesScalars s p.instr
+    abbrev plain_here : StoresNone p.instr → Plain × TakesScalars s p.instr
     plain_here = innermost.plain_here table typed effects input ready state top below more_frames rest named p frames deep stages running awaiting of_sub at_point path views viewed_before kept scope holds placed_before above
 
     abbrev named_there : Has (flow_named table typed) named
@@ -286,11 +287,7 @@ module _ (table : Table) (typed : TypedProgram) (effects : Effects) (input : Lis
           by_operand None filled = filled.0
 
       plain_operand : Plain
-      plain_operand = (plain_here (λ call by. elim by [
-        | inl (x, other) ↦ (let never : Evaluate temporary e op ≡ Declare x (More call NoMore) = sym is ∙ other in cc)
-        | inr (inl (q, x, steps, u, other, calls)) ↦ (let never : Evaluate temporary e op ≡ Assign (Name q x steps u) call = sym is ∙ other in cc)
-        | inr (inr other) ↦ (let never : Evaluate temporary e op ≡ Hold (More call NoMore) = sym is ∙ other in cc)
-      ])).0
+      plain_operand = (plain_here (subst StoresNone (sym is) tt)).0
 
       evaluates : Stays s e
       evaluates = subst (IsFine s named.sub.result) is (standing.fine table typed effects input ready state top older outer named p frames of_sub at_point)
@@ -736,6 +733,23 @@ module _ (table : Table) (typed : TypedProgram) (effects : Effects) (input : Lis
             source_given easy ready.accepted.settled ready.owns other alone in_formals views ready.class.parts_named may refl refl given_words of e named_result source
             (plainly_value plain.1) (takes_value plain.0) facts_now
             (each.good table typed effects input ready state top below more_frames rest named p frames deep stages running awaiting of_sub at_point path views viewed_before kept scope holds placed_before above going_then no_call_then plain.0) (allowed_value plain_result) (keeps_value plain_result)
+
+        -- or of a value that is made of what is taken
+        pub within_given : TakesTogether s named.sub.result p → IsGivenValue
+        unfolding types_taken
+        within_given within = elim within.1 [
+          | inl (x, other_instr, owner) ↦ (let never : Hold (More e last) ≡ Declare x (More within.0 NoMore) = sym is ∙ other_instr in cc)
+          | inr (inl (q, x, steps, u, other_instr, place, scalar)) ↦ (let never : Hold (More e last) ≡ Assign (Name q x steps u) within.0 = sym is ∙ other_instr in cc)
+          | inr (inr (same_instr, plain_then)) ↦ (
+              let both : Hold (More e last) ≡ Hold (More within.0 NoMore) = sym is ∙ same_instr in
+              let same_tree : e ≡ within.0 = cc in
+              let fit : AreOfTypes s (types_taken s within.0) (take (taken p.instr) top.frame.waits) = holding.values_fit table typed effects input ready state top below more_frames rest named p frames deep stages running awaiting of_sub at_point path views viewed_before kept scope holds placed_before above going_then within (Hold (More within.0 NoMore)) same_instr in
+              subst (λ z. Source s of z → AllowsAll facts_now (acts (acts_in s z)) → AllKeep (is_fixed s) (acts (acts_in s z))
+              → Given (steps.here main_turn) ready.accepted.settled state.leaks [] other alone (keeps s ready.accepted.settled ready.owns)
+              index_law ready.owns views ready.class.parts_named of (waiting_in easy.state) (after (acts (acts_in s z)) facts_now) (steps.taken_by main_turn of z (start main_turn)))
+              (sym same_tree)
+              (λ source_tree allows keeps_it. holding.alone_within table typed effects input ready state top below more_frames rest named p frames deep stages running awaiting of_sub at_point path views viewed_before kept scope holds placed_before above going_then within of named_result source_tree fit allows keeps_it) source (allowed_value plain_result) (keeps_value plain_result))
+        ]
 
         -- what was given alone
         pub alone_given : TakesAlone s p → IsGivenValue

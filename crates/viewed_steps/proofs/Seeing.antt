@@ -12,7 +12,7 @@ use Rattle.flow_paths.specs.Objects.{Typing, object_at, is_anonymous, is_package
 use Rattle.flow_paths.specs.Names.{Written, written, waiting as waits_in, name_of}
 use Rattle.flow_paths.specs.Acts.{index_acts}
 use Rattle.machine.specs.Words as machine
-use Rattle.machine.specs.Memory.{Memory}
+use Rattle.machine.specs.Memory.{Memory, cell}
 use Rattle.machine.specs.Evaluate.{Here, Now, AsView, Evaluated, Done, Raises, Traps, evaluate, viewed}
 use Rattle.machine.specs.States.{Waiting, Leak}
 use Rattle.owned_ways.specs.Ways.{Root, OfVariable, OfHand, Loc, OfCell, Way, Object, All, Reaches, Under, Named, AllowsAll, number_of, base_of}
@@ -20,7 +20,7 @@ use Rattle.owned_ways.specs.Ways as ways
 use Rattle.part_offsets.specs.Parts.{IsSettled}
 use Rattle.soundness.specs.Seen.{IsNear, content, trunk, seen, home, is_view_formal}
 use Rattle.soundness.specs.Typed.{IsCell, OwnsByShape, Kept}
-use Rattle.typed_laws.specs.Needed.{IndexLaw}
+use Rattle.typed_laws.specs.Needed.{IndexLaw, Matches}
 use Rattle.soundness.proofs.Scalars.{acts}
 use Rattle.soundness.proofs.Stays.{Quiet}
 use Rattle.soundness.proofs.Taking.{Takes, takes_zero}
@@ -30,11 +30,12 @@ use Rattle.owned_loans.proofs.Ended.{stands_itself}
 use Rattle.owned_loans.specs.Views.{on}
 use Rattle.owned_ways.proofs.Named.{longer}
 use Rattle.owned_loans.proofs.Ways.{on_under, Lifted, lifted_way, base_on, named_on}
-use Rattle.viewed_soundness.specs.Holds.{PartsAreNamed, is_view, sees_only, IsOwners, Holds, IsAccess}
+use Rattle.viewed_soundness.specs.Holds.{PartsAreNamed, is_view, sees_only, IsOwners, Holds, IsAccess, is_given}
 use Rattle.viewed_soundness.proofs.Given.{IsLow, lent_whole, seen_whole}
 use Rattle.viewed_soundness.proofs.Names.{true_false, neither, plain_sees, stands_owners}
 use Rattle.viewed_soundness.proofs.Sources.{Shows, source_on}
-use Rattle.viewed_steps.specs.Ready.{IsSeen, IsShowable}
+use Rattle.viewed_soundness.proofs.Lends.{matches_on}
+use Rattle.viewed_steps.specs.Ready.{IsSeen, IsShowable, IsAccessAs}
 use Rattle.viewed_steps.proofs.Entered.{IsTyped}
 use Rattle.viewed_steps.proofs.Views.{view_cases}
 
@@ -45,7 +46,7 @@ IsClear s facts e = Unit {0}
 
 -- What is shown is so.
 abbrev pub AreClear : Typing → List Fact → List ℕ → TypedTree → Type 0
-AreClear s facts (x ∷ formals) (More e rest) = (is_view_formal s x ≡ true → IsClear s facts e) × AreClear s facts formals rest
+AreClear s facts (x ∷ formals) (More e rest) = (is_given s x ≡ true → IsClear s facts e) × AreClear s facts formals rest
 AreClear s facts formals actuals = Unit {0}
 
 -- What an actual is rooted in, if it is a borrower or observer, sees nothing of a package object.
@@ -54,7 +55,7 @@ IsLowRoot s frame v (Name p y path u) = (k : Way) → v.way y ≡ Some k → is_
 IsLowRoot s frame v e = Unit {0}
 
 abbrev pub AreLowRoots : Typing → ℕ → Views → List ℕ → TypedTree → Type 0
-AreLowRoots s frame v (x ∷ formals) (More e rest) = (is_view_formal s x ≡ true → IsLowRoot s frame v e) × AreLowRoots s frame v formals rest
+AreLowRoots s frame v (x ∷ formals) (More e rest) = (is_given s x ≡ true → IsLowRoot s frame v e) × AreLowRoots s frame v formals rest
 AreLowRoots s frame v formals actuals = Unit {0}
 
 -- Both of them.
@@ -62,7 +63,7 @@ abbrev pub IsOpenTo : Typing → ℕ → Views → List Fact → TypedTree → T
 IsOpenTo s frame v facts e = IsClear s facts e × IsLowRoot s frame v e
 
 abbrev pub AreOpenTo : Typing → ℕ → Views → List Fact → List ℕ → TypedTree → Type 0
-AreOpenTo s frame v facts (x ∷ formals) (More e rest) = (is_view_formal s x ≡ true → IsOpenTo s frame v facts e) × AreOpenTo s frame v facts formals rest
+AreOpenTo s frame v facts (x ∷ formals) (More e rest) = (is_given s x ≡ true → IsOpenTo s frame v facts e) × AreOpenTo s frame v facts formals rest
 AreOpenTo s frame v facts formals actuals = Unit {0}
 
 pub open_to : (s : Typing) (frame : ℕ) (v : Views) (facts : List Fact) (formals : List ℕ) (actuals : TypedTree) → AreClear s facts formals actuals
@@ -107,6 +108,7 @@ module _ (h : Here) (settled : IsSettled h.typing.table) (hands : List Waiting) 
     pub called : IsCalledBy e from
     pub way : Way
     pub leads : way ≡ expand v (All from)
+    pub lifted : is_view h.typing (number_of from) ≡ true → (l : Lifted v (All from)) × (l.object ≡ number_of from)
     pub owners : IsOwners h.typing way
     pub reaches : Reaches (seen h.typing m hands leaks) way (OfCell n)
     pub low : IsLow h.typing h.frame way
@@ -142,6 +144,7 @@ module _ (h : Here) (settled : IsSettled h.typing.table) (hands : List Waiting) 
           called = called;
           way = expand v (All w);
           leads = refl;
+          lifted = λ view. absurd (true_false (is_view s y) (ap (is_view s) (sym root) ∙ view) owner);
           owners = stands_owners s h.frame v m (All w) holds named (inl (ap (is_view_formal s) root ∙ (neither (is_anonymous (view_of s y)) (is_view_formal s y) owner).1));
           reaches = reaches;
           low = inl (subst (Named Home) (sym itself) named, ap (λ z. is_package_object s (number_of z)) itself ∙ ap (is_package_object s) root ∙ showable);
@@ -155,6 +158,7 @@ module _ (h : Here) (settled : IsSettled h.typing.table) (hands : List Waiting) 
       called = called;
       way = expand v (All w);
       leads = refl;
+      lifted = λ also. ((lifted view).0, (lifted view).1 ∙ sym root);
       owners = stands_owners s h.frame v m (All w) holds named (inr (lifted view).0);
       reaches = reaches;
       low = low_on (elim (view_cases s y view) [
@@ -195,24 +199,35 @@ module _ (h : Here) (settled : IsSettled h.typing.table) (hands : List Waiting) 
   not_scalar : (d : ℕ) (c n : Bool) → is_scalar (view_of_shape (shape.Access d c n)) ≡ true → ⊥
   not_scalar d c n e = cc
 
-  -- what the source has
-  from_source : (on : List (List machine.Word)) (p : Pos) (x y d u : ℕ) (c n : Bool) (path : TypedTree) → IsShowable s y → shape_of s.table (object_at s x).of ≡ shape.Access d c n
+  cell_as : (d k n : ℕ) → Matches s.table d k → IsCell s m d n → IsCell s m k n
+  cell_as d k n same (some, low, fits) = (some, low, matches_on s.table d k (cell m n).of same fits)
+
+  -- What the source has. It is of a type that designates what the type of the formal does.
+  abbrev Designates : ℕ → ℕ → Type 0
+  Designates x d = (k : ℕ) × (e : Bool) × (o : Bool) × (shape_of s.table (object_at s x).of ≡ shape.Access k e o) × Matches s.table d k
+
+  from_source : (on : List (List machine.Word)) (p : Pos) (x y d u : ℕ) (path : TypedTree) → IsShowable s y → Designates x d
       → ((w : Way) → ways.name_of w ≡ name_of y path → sees_only s y ≡ false → Cleared facts w)
       → ((k : Way) → v.way y ≡ Some k → is_anonymous (view_of s y) ≡ true → IsLow s h.frame k) → (e : Evaluated (List machine.Word))
       → Quiet (at on) (λ ws. (w : Way) × Named Home w × (ways.name_of w ≡ name_of y path)
       × Shows h settled hands leaks m waits other facts v kept well holds alone live index_law own_law parts_named y d w ws) e
       → Quiet (at on) (IsSeenAs x (Name p y path u)) e
-  from_source on p x y d u c n path showable is clears lows (Done ws now) (same, (w, named, called, shows)) = (
+  from_source on p x y d u path showable (k, c, n, is, designates) clears lows (Done ws now) (same, (w, named, called, shows)) = (
     same,
     (
       shows.word,
       shows.is,
-      (λ d' c' n' k shape_is e. subst (λ z. IsCell s m z k) (same_designated d d' c n c' n' (sym is ∙ shape_is)) (shows.typed k e)),
-      λ k e. sees_it (Name p y path u) y showable w called named (ap (λ (z : PlaceName). z.root) called) (λ plain. clears w called plain) k (shows.designated k e) (λ view. shows.lifted view k e) lows,
+      (λ d' c' n' j shape_is e. subst (λ z. IsCell s m z j) (same_designated k d' c n c' n' (sym is ∙ shape_is)) (cell_as d k j designates (shows.typed j e))),
+      λ j e. sees_it (Name p y path u) y showable w called named (ap (λ (z : PlaceName). z.root) called) (λ plain. clears w called plain) j (shows.designated j e) (λ view. shows.lifted view j e) lows,
     ),
   )
-  from_source on p x y d u c n path showable is clears lows (Raises e now) same = same
-  from_source on p x y d u c n path showable is clears lows (Traps e now) none = none
+  from_source on p x y d u path showable designates clears lows (Raises e now) same = same
+  from_source on p x y d u path showable designates clears lows (Traps e now) none = none
+
+  source_access : (x u : ℕ) → IsAccess h.typing x → IsAccessAs h.typing u (object_at h.typing x).of → (d : ℕ) × (c : Bool) × (n : Bool) × (shape_of s.table u ≡ shape.Access d c n) × Designates x d
+  source_access x u (k, e, o, is) (inl (inl same)) = (k, e, o, same ∙ is, (k, e, o, is, inl refl))
+  source_access x u (k, e, o, is) (inl (inr scalar)) = absurd (not_scalar k e o (sym (ap (λ z. is_scalar (view_of_shape z)) is) ∙ scalar.1))
+  source_access x u access (inr (d, c, n, k, e, o, of, is, designates)) = (d, c, n, of, (k, e, o, is, designates))
 
   at_same : {before on : List (List machine.Word)} → Takes 0 before on → at before ≡ at on
   at_same {before} {on} takes = ap at (takes_zero before on takes)
@@ -224,11 +239,8 @@ module _ (h : Here) (settled : IsSettled h.typing.table) (hands : List Waiting) 
   seen_given before on x typed.Null access seen_there takes allowed clears =
       (at_same takes, (machine.Null, refl, (λ d c n k is e. cc), λ n e. cc))
   seen_given before on x (Name p y path u) access (leads, fits, showable) takes allowed (clear, low) =
-      let of_access : shape_of s.table u ≡ shape.Access access.0 access.1 access.2 = elim fits [
-        | inl same ↦ same ∙ access.3
-        | inr scalar ↦ absurd (not_scalar access.0 access.1 access.2 (sym (ap (λ z. is_scalar (view_of_shape z)) access.3) ∙ scalar.1))
-      ] in
-      from_source on p x y access.0 u access.1 access.2 path showable access.3 clear low (evaluate h AsView (Name p y path u) (at before))
-      (source_on h settled hands leaks m waits other facts v kept well holds alone live index_law own_law parts_named before on p y u access.0 access.1 access.2 path
-      leads of_access takes allowed clear)
+      let of = source_access x u access fits in
+      from_source on p x y of.0 u path showable of.4 clear low (evaluate h AsView (Name p y path u) (at before))
+      (source_on h settled hands leaks m waits other facts v kept well holds alone live index_law own_law parts_named before on p y u of.0 of.1 of.2 path
+      leads of.3 takes allowed clear)
   seen_given before on x e access never takes allowed clears = absurd never

@@ -20,13 +20,13 @@ use Rattle.soundness.proofs.Keeping.{kept_with}
 use Rattle.soundness.proofs.Lasting.{declared_kept, keeps}
 use Rattle.soundness.proofs.Memories.{put_other, put_same, at_length}
 use Rattle.soundness.proofs.Steps.{plain_end}
-use Rattle.viewed_soundness.specs.Holds.{is_view, IsNamed}
-use Rattle.viewed_soundness.proofs.Names.{true_false}
+use Rattle.viewed_soundness.specs.Holds.{is_view, is_given, IsAccess, IsNamed}
+use Rattle.viewed_soundness.proofs.Names.{true_false, given_view}
 use Rattle.viewed_soundness.proofs.Outcomes.{named_plain}
 use Rattle.viewed_steps.specs.Taken.{Lodge}
 use Rattle.viewed_steps.proofs.Alike.{IsLaidIn, with_one}
 use Rattle.viewed_steps.proofs.Entered.{IsPlainPassed, IsPlainOne, IsTyped, IsFit}
-use Rattle.viewed_steps.proofs.Views.{AreAccess, view_cases}
+use Rattle.viewed_steps.proofs.Views.{AreAccess, view_cases, view_access, given_cases, unowned_view}
 
 -- A memory has the cells of another one, with their types.
 pub record HasCells (m n : Memory) : Type 0 where
@@ -82,7 +82,7 @@ module _ (s : Typing) (settled : IsSettled s.table) (own_law : OwnsByShape s.tab
         ⊎ ((g ≡ f) × (x ≡ y) × (a ≡ Value ((get_or (variable_slots s g y n.variables) 0 no_slot).word ∷ [])))
     pub cells : HasCells m n
 
-  module _ (f x : ℕ) (z : machine.Word) (m : Memory) (shown : is_view_formal s x ≡ true) (typed : IsTyped s m x z) (kept : Kept s m hands) where
+  module _ (f x : ℕ) (z : machine.Word) (m : Memory) (shown : is_given s x ≡ true) (typed : IsTyped s m x z) (kept : Kept s m hands) where
     abbrev next : Memory
     next = declared f x (z ∷ []) m
 
@@ -95,9 +95,19 @@ module _ (s : Typing) (settled : IsSettled s.table) (own_law : OwnsByShape s.tab
       | inr ne ↦ ap (λ q. word_in s.table (record { of = (object_at s y).of; slots = q; owns = not (is_view_formal s y) }) p) (others g y (λ e. ne (ap OfRoot e)))
       | inl e ↦ (
           let same : x ≡ y = cc in
-          let dead : not (is_view_formal s y) ≡ false = ap not (ap (is_view_formal s) (sym same) ∙ shown) in
-          word_dead s.table (content s next rest (OfRoot (OfVariable g y))) p dead ∙ sym (word_dead s.table (content s m rest (OfRoot (OfVariable g y))) p dead))
+          elim (given_cases s x shown) [
+            | inl formal ↦ (
+                let dead : not (is_view_formal s y) ≡ false = ap not (ap (is_view_formal s) (sym same) ∙ formal) in
+                word_dead s.table (content s next rest (OfRoot (OfVariable g y))) p dead ∙ sym (word_dead s.table (content s m rest (OfRoot (OfVariable g y))) p dead))
+            | inr anonymous ↦ (
+                let none : is_leaf s.table (object_at s y).of p ≡ false =
+                subst (λ z. is_leaf s.table (object_at s z).of p ≡ false) same ((keeps s settled own_law).ownerless (object_at s x).of (unowned_view s own_law x anonymous) p) in
+                word_no s.table (content s next rest (OfRoot (OfVariable g y))) p none ∙ sym (word_no s.table (content s m rest (OfRoot (OfVariable g y))) p none))
+          ])
     ]
+
+    access : IsAccess s x
+    access = view_access s in_formals x (given_view s x shown)
 
     by_place : (l : Loc) (p : List Step) → word_in s.table (content s next hands l) p ≡ word_in s.table (content s m hands l) p
     by_place (OfRoot (OfVariable g y)) p = by_variable hands g y p
@@ -107,13 +117,12 @@ module _ (s : Typing) (settled : IsSettled s.table) (own_law : OwnsByShape s.tab
 
     value_points : Points s m (content s m ((record { of = (object_at s x).of; words = z ∷ [] }) ∷ []) (OfRoot (OfHand 0)))
     value_points p d c n k there is e =
-        let access = (in_formals x shown).0 in
         let none = plain_end s.table settled (object_at s x).of (ap components_of access.3) (ap machine.count_of access.3) p there in
         typed d c n k (ap (λ q. shape_of s.table (type_in s.table (object_at s x).of q)) (sym none) ∙ is)
         (ap (λ q. (get_or (fresh (z ∷ [])) (offset_in s.table (object_at s x).of q) no_slot).word) (sym none) ∙ e)
 
     one_word : words s.table (object_at s x).of ≡ 1
-    one_word = settled.word_law (object_at s x).of ∙ ap (shape_words (words s.table)) ((in_formals x shown).0).3
+    one_word = settled.word_law (object_at s x).of ∙ ap (shape_words (words s.table)) access.3
 
     pub shown_stands : Stands f x (Value (z ∷ [])) m next
     shown_stands = record {

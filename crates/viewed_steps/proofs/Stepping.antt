@@ -29,6 +29,7 @@ use Rattle.viewed_steps.proofs.Standing as standing
 use Rattle.viewed_steps.proofs.Packages as packages
 use Rattle.viewed_steps.proofs.Innermost as innermost
 use Rattle.viewed_steps.proofs.Turned as turned
+use Rattle.viewed_steps.proofs.Within as holding
 use Rattle.viewed_steps.proofs.Taking as taking
 use Rattle.viewed_steps.proofs.Results as results
 use Rattle.viewed_steps.proofs.Giving as giving
@@ -77,7 +78,9 @@ module _ (table : Table) (typed : TypedProgram) (effects : Effects) (input : Lis
     by_instruction i is = subst (λ z. Along (turn main_turn z)) is (elim taken_there [
       | inl plain ↦ turned.goes_plainly table typed effects input ready state top below more_frames rest named p frames deep stages running awaiting of_sub at_point path views viewed_before kept scope holds placed_before above
           going_here no_calls plain (subst IsOther (sym is) tt) (subst (FillsNone s) (sym is) tt) no_finish (ap returns_value is)
-      | inr alone_taken ↦ taking.goes_alone table typed effects input ready state top below more_frames rest named p frames deep stages running awaiting of_sub at_point path views viewed_before kept scope holds placed_before above
+      | inr (inr within) ↦ holding.goes_within table typed effects input ready state top below more_frames rest named p frames deep stages running awaiting of_sub at_point path views viewed_before kept scope holds placed_before above
+          going_here no_calls within (subst IsOther (sym is) tt) (subst (FillsNone s) (sym is) tt) no_finish (ap returns_value is)
+      | inr (inl alone_taken) ↦ taking.goes_alone table typed effects input ready state top below more_frames rest named p frames deep stages running awaiting of_sub at_point path views viewed_before kept scope holds placed_before above
           going_here no_calls alone_taken (subst (λ d. AreGiven s (view_here s state) d p.instr views top.frame.waits) deep ((above.1).0.0 named of_sub p at_point)) (subst IsOther (sym is) tt) (subst (FillsNone s) (sym is) tt) no_finish (ap returns_value is)
     ])
       where
@@ -90,7 +93,7 @@ module _ (table : Table) (typed : TypedProgram) (effects : Effects) (input : Lis
         no_finish : p.instr ≡ Finish → ⊥
         no_finish e = (let same = sym is ∙ e in cc)
 
-        taken_there : IsTaken s p
+        taken_there : IsTaken s named.sub.result p
         taken_there = innermost.taken_there table typed effects input ready state top below more_frames rest named p frames deep stages running awaiting of_sub at_point path views viewed_before kept scope holds placed_before above
 
     pub main_step : Along (step program input state)

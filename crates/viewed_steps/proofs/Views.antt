@@ -1,8 +1,9 @@
 -- What is known of the objects of views, and of ways that belong to other frames.
-use Rattle.std.proofs.Common.{◌≡◌, refl, sym, ap, ◌∙◌, subst, ◌⊎◌, inl, inr, ℕ, ◌<◌, Bool, true, false, ◌&&◌, ◌||◌, get_or, Some}
+use Rattle.std.proofs.Common.{◌≡◌, refl, sym, ap, ◌∙◌, subst, ◌⊎◌, inl, inr, ℕ, ◌<◌, Bool, true, false, List, ◌&&◌, ◌||◌, get_or, Some}
+use Rattle.spark_base.specs.Lists.{Has}
 use Rattle.type_definitions.specs.declared.table.Shape.{Shape}
 use Rattle.type_definitions.specs.declared.table.Shape.TheVariants as shape
-use Rattle.type_definitions.specs.Types.{shape_of, full, is_scalar, is_owning, view_of as view_of_shape}
+use Rattle.type_definitions.specs.Types.{shape_of, full, is_scalar, is_owning, owns_of, view_of as view_of_shape}
 use Rattle.flow_paths.specs.Objects.{Typing, object_at, is_anonymous, has_scope_end, view_of}
 use Rattle.machine.specs.Words.{Cell}
 use Rattle.machine.specs.Memory.{Memory, variable_slots, no_slot}
@@ -12,8 +13,12 @@ use Rattle.owned_ways.proofs.Dropped.{named_base}
 use Rattle.owned_ways.proofs.Named.{longer}
 use Rattle.soundness.specs.Seen.{home, is_view_formal}
 use Rattle.owned_loans.specs.Views.{Views, IsForeign}
+use Rattle.viewed_soundness.proofs.Names.{true_false}
+use Rattle.viewed_soundness.proofs.Outcomes.{named_plain}
 use Rattle.viewed_soundness.specs.Holds.{is_view, sees_only, IsOwners, IsAccess, Holds, is_given}
-use Rattle.viewed_steps.specs.Sound.{Lies}
+use Rattle.soundness.specs.Typed.{OwnsByShape}
+use Rattle.viewed_steps.specs.Sound.{Lies, IsKindOfFormal}
+use Rattle.viewed_steps.specs.Ready.{is_shown_type}
 
 access_of : (sh : Shape) → is_anonymous (view_of_shape sh) ≡ true → (d : ℕ) × (c : Bool) × (n : Bool) × (sh ≡ shape.Access d c n)
 access_of (shape.Access d c n) e = (d, c, n, refl)
@@ -104,6 +109,68 @@ view_ends s x view = elim (view_cases s x view) [
   | inr formal ↦ ap (λ b. b || is_anonymous (view_of s x)) (second_true (is_in_formal s x) (is_owning s.table (object_at s x).of) formal)
 ]
 
+-- no scalar type is an anonymous access type
+pub scalar_unseen : (s : Typing) (x : ℕ) → is_scalar (full s.table (object_at s x).of) ≡ true → is_anonymous (view_of s x) ≡ false
+scalar_unseen s x scalar = by_shape (shape_of s.table (object_at s x).of) scalar
+  where
+    by_shape : (sh : Shape) → is_scalar (view_of_shape sh) ≡ true → is_anonymous (view_of_shape sh) ≡ false
+    by_shape (shape.Whole a b) e = refl
+    by_shape (shape.Listed l a b) e = refl
+    by_shape (shape.Access d c n) e = cc
+    by_shape (shape.Fields cs) e = cc
+    by_shape (shape.Elements a b el) e = cc
+    by_shape (shape.Same of) e = cc
+
+-- None is of an anonymous access type.
+abbrev pub AreUnseen : Typing → List ℕ → Type 0
+AreUnseen s xs = (x : ℕ) → Has xs x → is_anonymous (view_of s x) ≡ false
+
+-- what a frame was given is of an access type, which owns or is anonymous
+pub given_cases : (s : Typing) (x : ℕ) → is_given s x ≡ true → (is_view_formal s x ≡ true) ⊎ (is_anonymous (view_of s x) ≡ true)
+given_cases s x given = by_kind (is_view_formal s x) (is_in_formal s x) (is_anonymous (view_of s x)) given
+  where
+    by_kind : (a b c : Bool) → a || (b && c) ≡ true → (a ≡ true) ⊎ (c ≡ true)
+    by_kind true b c e = inl refl
+    by_kind false true true e = inr refl
+    by_kind false true false e = cc
+    by_kind false false c e = cc
+
+pub given_type : (s : Typing) (x : ℕ) → is_given s x ≡ true → is_shown_type s x ≡ true
+given_type s x given = by_kind (is_in_formal s x) (is_owning s.table (object_at s x).of) (is_anonymous (view_of s x)) given
+  where
+    by_kind : (f o a : Bool) → (f && o) || (f && a) ≡ true → o || a ≡ true
+    by_kind true o a e = e
+    by_kind false o a e = cc
+
+pub given_formal : (s : Typing) (x : ℕ) → is_given s x ≡ true → is_in_formal s x ≡ true
+given_formal s x given = by_kind (is_in_formal s x) (is_owning s.table (object_at s x).of) (is_anonymous (view_of s x)) given
+  where
+    by_kind : (f o a : Bool) → (f && o) || (f && a) ≡ true → f ≡ true
+    by_kind true o a e = refl
+    by_kind false o a e = cc
+
+pub type_given : (s : Typing) (x : ℕ) → is_in_formal s x ≡ true → is_shown_type s x ≡ true → is_given s x ≡ true
+type_given s x formal shown = by_kind (is_in_formal s x) (is_owning s.table (object_at s x).of) (is_anonymous (view_of s x)) formal shown
+  where
+    by_kind : (f o a : Bool) → f ≡ true → o || a ≡ true → (f && o) || (f && a) ≡ true
+    by_kind true o a e shown = shown
+    by_kind false o a e shown = cc
+
+-- an anonymous access type owns nothing
+pub unowned_view : (s : Typing) → OwnsByShape s.table → (x : ℕ) → is_anonymous (view_of s x) ≡ true → is_owning s.table (object_at s x).of ≡ false
+unowned_view s own_law x anonymous =
+    own_law (object_at s x).of ∙ no_owner (is_owning s.table) (shape_of s.table (object_at s x).of) anonymous
+  where
+    no_owner : (owns : ℕ → Bool) (sh : Shape) → is_anonymous (view_of_shape sh) ≡ true → owns_of owns sh ≡ false
+    no_owner owns (shape.Access d true true) e = cc
+    no_owner owns (shape.Access d false true) e = cc
+    no_owner owns (shape.Access d c false) e = refl
+    no_owner owns (shape.Whole a b) e = cc
+    no_owner owns (shape.Listed l a b) e = cc
+    no_owner owns (shape.Fields cs) e = cc
+    no_owner owns (shape.Elements a b el) e = cc
+    no_owner owns (shape.Same of) e = cc
+
 -- Formals that own nothing are of named access types.
 abbrev pub AreAccess : Typing → Type 0
 AreAccess s = (x : ℕ) → is_view_formal s x ≡ true → IsAccess s x × (is_anonymous (view_of s x) ≡ true → ⊥)
@@ -132,3 +199,16 @@ module _ (s : Typing) (in_formals : AreAccess s) where
       → ((x : ℕ) (w : Way) → v.way x ≡ Some w → IsOwners s w)
       → ((x : ℕ) (w : Way) → v.way x ≡ Some w → sees_only s x ≡ false → is_given s x ≡ false → Named (home s frame) (v.up x)) → Holds s frame v m
   all_held frame v m held only owners own = record { held = held; only = only; owners = owners; access = view_access; own = own }
+
+  -- a formal that is a view is given
+  pub kind_given : (x : ℕ) → IsKindOfFormal s x → is_view s x ≡ true → is_given s x ≡ true
+  kind_given x kind view = elim (view_cases s x view) [
+    | inr formal ↦ ap (λ b. b || (is_in_formal s x && is_anonymous (view_of s x))) formal
+    | inl anonymous ↦ by_kind kind anonymous
+  ]
+    where
+      by_kind : IsKindOfFormal s x → is_anonymous (view_of s x) ≡ true → is_given s x ≡ true
+      by_kind (inl plain) anonymous = absurd (true_false (is_anonymous (view_of s x)) anonymous (scalar_unseen s x plain))
+      by_kind (inr (inl back)) anonymous = absurd (true_false (is_anonymous (view_of s x)) anonymous (named_plain s.table (object_at s x).of back.1))
+      by_kind (inr (inr (inl shown))) anonymous = shown.0
+      by_kind (inr (inr (inr plain))) anonymous = absurd (true_false (is_anonymous (view_of s x)) anonymous (named_plain s.table (object_at s x).of plain.2))

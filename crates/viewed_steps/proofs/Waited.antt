@@ -17,7 +17,7 @@ use Rattle.soundness.proofs.Fixed.{plain_word}
 use Rattle.soundness.proofs.Waited.{FillsNone}
 use Rattle.viewed_steps.specs.Awaited.{AreFor, AreValuesBut, FillsTyped, temporaries_of, is_held, lasting_of, AreScalar}
 
-split_list : {A : Type 0} (k : ℕ) (xs : List A) → take k xs ++ drop k xs ≡ xs
+pub split_list : {A : Type 0} (k : ℕ) (xs : List A) → take k xs ++ drop k xs ≡ xs
 split_list zero [] = refl
 split_list zero (x ∷ xs) = refl
 split_list (suc k) [] = refl

@@ -1,21 +1,20 @@
 -- What waits in frames: the values of the temporaries in scope, one for each.
-use Rattle.std.specs.Prelude.{◌≡◌, ◌⊎◌, ℕ, Bool, true, false, not, ◌&&◌, List, [], ◌∷◌, take, filter, length, Option, Some, None, if◌then◌else◌}
+use Rattle.std.specs.Prelude.{◌≡◌, ◌⊎◌, ℕ, Bool, true, false, not, ◌&&◌, List, [], ◌∷◌, ◌++◌, take, filter, length, Option, Some, None, if◌then◌else◌}
 use Rattle.std.specs.List.{AllByRecursion}
-use Rattle.spark_base.specs.Lists.{Has}
 use Rattle.type_definitions.specs.Entries.{boolean}
 use Rattle.type_definitions.specs.Types.{Table, words, full, is_scalar}
 use Rattle.typed_tree.specs.Trees.{TypedTree, Name, Call as CallIn, NoMore, More}
 use Rattle.typed_tree.specs.Programs.{TypedProgram}
 use Rattle.spark_base.specs.declared.position.Pos.{Pos}
 use Rattle.flow_paths.specs.Instructions.{Instruction, Declare, Assign, Call, Evaluate, Hold}
-use Rattle.flow_paths.specs.Objects.{Typing, object_at, sub_at, is_anonymous, has_scope_end}
+use Rattle.flow_paths.specs.Objects.{Typing, object_at, sub_at, has_scope_end, view_of, is_anonymous}
 use Rattle.flow_paths.specs.Names.{has_call}
-use Rattle.flow_paths.specs.Points.{NamedPoint, FlowPoint}
+use Rattle.flow_paths.specs.Points.{NamedPoint}
 use Rattle.flow_paths.specs.Laid.{FlowSub, FlowProgram, NamedSub, flow_typing, flow_program, flow_named}
 use Rattle.flow_paths.specs.Scopes.{taken}
 use Rattle.machine.specs.States.{Waiting, sub_of}
 use Rattle.soundness.specs.Sound.{is_temporary_object, has_returned, IsNamedSub, IsAtPoint, Stage}
-use Rattle.viewed_soundness.specs.Taken.{GivesPlainly}
+use Rattle.viewed_soundness.specs.Taken.{GivesPlainly, types_taken, AreScalarTypes, TakesFit}
 
 -- ---- values
 
@@ -107,11 +106,40 @@ TakesAlone s p =
     × (is_scalar (full s.table (object_at s x).of) ≡ false)
     × IsTakenBy p.instr (CallIn q n actuals)
 
-abbrev pub IsTaken : Typing → NamedPoint → Type 0
-IsTaken s p = (AreScalar s (filter (is_temporary_object s) (take (taken p.instr) p.scope)) × TakesScalars s p.instr) ⊎ TakesAlone s p
+-- Or a value is made of what is taken, for a place or a result of no anonymous type. The name of the place takes scalar
+-- values alone.
+abbrev pub IsMadeFor : Typing → Option ℕ → Instruction → TypedTree → Type 0
+IsMadeFor s result i e =
+    ((x : ℕ) × (i ≡ Declare x (More e NoMore)) × (is_anonymous (view_of s x) ≡ false))
+    ⊎ (((p : Pos) × (x : ℕ) × (path : TypedTree) × (u : ℕ) × (i ≡ Assign (Name p x path u) e) × (is_anonymous (full s.table u) ≡ false)
+    × AreScalarTypes s (types_taken s path))
+    ⊎ ((i ≡ Hold (More e NoMore)) × ((t : ℕ) → result ≡ Some t → is_anonymous (full s.table t) ≡ false)))
 
--- Functions that are called have no results of anonymous types.
-abbrev pub AreNamedResults : FlowProgram → Type 0
-AreNamedResults program =
-    (sub : FlowSub) → Has program.subs sub → (p : FlowPoint) → Has sub.points p → (n : ℕ) (actuals : TypedTree) (result : Option ℕ)
-    → p.instr ≡ Call n actuals result → (t : ℕ) → (sub_of program n).result ≡ Some t → is_anonymous (full program.table t) ≡ false
+-- The types of what an instruction takes for a value and for a place, the last one first.
+abbrev pub types_for : Typing → Instruction → List ℕ
+types_for s (Declare x v) = types_taken s v
+types_for s (Assign target e) = types_taken s target ++ types_taken s e
+types_for s (Hold v) = types_taken s v
+types_for s i = []
+
+-- A temporary is filled with values of a type.
+abbrev pub AreFilled : Typing → List ℕ → List ℕ → Type 0
+AreFilled s [] [] = Unit {0}
+AreFilled s (t ∷ types) (x ∷ xs) = Fits s t x × AreFilled s types xs
+AreFilled s _ _ = ⊥
+
+abbrev pub TakesTogether : Typing → Option ℕ → NamedPoint → Type 0
+TakesTogether s result p =
+    (e : TypedTree) × IsMadeFor s result p.instr e × TakesFit s e × AreFilled s (types_for s p.instr) (temporaries_of s (take (taken p.instr) p.scope))
+
+-- An instruction that stores no value.
+abbrev pub StoresNone : Instruction → Type 0
+StoresNone (Declare x v) = ⊥
+StoresNone (Assign target e) = ⊥
+StoresNone (Hold v) = ⊥
+StoresNone i = Unit {0}
+
+-- What a point takes, of a subprogram with this result.
+abbrev pub IsTaken : Typing → Option ℕ → NamedPoint → Type 0
+IsTaken s result p =
+    (AreScalar s (filter (is_temporary_object s) (take (taken p.instr) p.scope)) × TakesScalars s p.instr) ⊎ (TakesAlone s p ⊎ TakesTogether s result p)

@@ -5,7 +5,7 @@ use Rattle.flow_paths.specs.Effects.{path_points}
 use Rattle.flow_paths.specs.Paths.{ControlPath}
 use Rattle.place_names.specs.declared.act.Act.TheVariants.{Give}
 use Rattle.place_names.specs.Names.{Name as PlaceName}
-use Rattle.std.specs.Prelude.{◌≡◌, ◌⊎◌, ◌<◌, ℕ, true, false, List, [], ◌∷◌, ◌++◌, map, drop, Option, Some, is_some, Bool, get_or}
+use Rattle.std.specs.Prelude.{◌≡◌, ◌⊎◌, ◌<◌, ◌||◌, ℕ, true, false, List, [], ◌∷◌, ◌++◌, map, drop, Option, Some, is_some, Bool, get_or}
 use Rattle.spark_base.specs.Lists.{Has}
 use Rattle.spark_base.specs.declared.position.Pos.{Pos}
 use Rattle.place_names.specs.declared.act.Mode.{Mode}
@@ -16,6 +16,7 @@ use Rattle.typed_tree.specs.Trees.{TypedTree, Name, NoMore, More, Null}
 use Rattle.typed_tree.specs.Trees as typed
 use Rattle.typed_tree.specs.Programs.{TypedProgram}
 use Rattle.flow_paths.specs.declared.report.Effects.{Effects}
+use Rattle.flow_paths.specs.Acts.{gives_variable}
 use Rattle.flow_paths.specs.Instructions.{Declare, Assign, Call, Input, EndScope, Finish, Hold}
 use Rattle.flow_paths.specs.Objects.{Typing, object_at, sub_at, is_formal, is_variable, is_anonymous, is_observer, is_package_object, view_of, traverses}
 use Rattle.flow_paths.specs.Points.{NamedPoint, FlowPoint}
@@ -31,7 +32,9 @@ use Rattle.typed_laws.specs.Needed.{Matches, Leads, Stays, IsPlace}
 use Rattle.soundness.specs.Seen.{is_view_formal}
 use Rattle.viewed_soundness.specs.Holds.{sees_only, is_fixed, AllKeep, IsNamed, is_given}
 use Rattle.viewed_steps.specs.Awaited.{is_held, IsTaken, FillsTyped, TakesAlone}
-use Rattle.viewed_steps.specs.Traversals.{IsSourceName}
+use Rattle.viewed_steps.specs.Traversals.{IsSourceName, TraversalCall, IsViewTaker, IsBorrowTaker}
+use Rattle.type_definitions.specs.declared.table.Shape.TheVariants as shape
+use Rattle.type_definitions.specs.Types.{shape_of}
 use Rattle.viewed_steps.specs.Sound.{IsScalarObject, IsViewClass, Lasts, IsStoredAt}
 
 -- ---- calls
@@ -59,13 +62,13 @@ abbrev pub AreNamedIn : Typing → List ℕ → Type 0
 AreNamedIn s xs = (x : ℕ) → Has xs x → is_temporary_object s x ≡ true → is_anonymous (view_of s x) ≡ false
 
 -- What waits: what is stored at or passed is no temporary that owns; what is taken is of scalar types, or
--- what a function gave, alone; and what is filled fits.
+-- what a function gave, alone, or what a value is made of; and what is filled fits.
 pub record AreValued (table : Table) (typed : TypedProgram) : Type 0 where
   pub lasting : (sub : NamedSub) → Has (flow_named table typed) sub → (p : NamedPoint) → Has sub.points p → (x : ℕ) → Has (stored_at p.instr) x
       → is_held (flow_typing (flow_program table typed)) x ≡ false
   pub passed : (sub : NamedSub) → Has (flow_named table typed) sub → (p : NamedPoint) → Has sub.points p → (n : ℕ) (actuals : TypedTree) (result : Option ℕ)
       → p.instr ≡ Call n actuals result → (x : ℕ) → Has (roots_passed actuals) x → is_held (flow_typing (flow_program table typed)) x ≡ false
-  pub takes : (sub : NamedSub) → Has (flow_named table typed) sub → (p : NamedPoint) → Has sub.points p → IsTaken (flow_typing (flow_program table typed)) p
+  pub takes : (sub : NamedSub) → Has (flow_named table typed) sub → (p : NamedPoint) → Has sub.points p → IsTaken (flow_typing (flow_program table typed)) sub.sub.result p
   -- what is of an anonymous access type is taken at once
   pub seen : (sub : NamedSub) → Has (flow_named table typed) sub → (p : NamedPoint) → Has sub.points p
       → AreNamedIn (flow_typing (flow_program table typed)) p.scope
@@ -83,9 +86,16 @@ IsOwnPlace s e = (y : ℕ) → Has (root_of e) y → is_view_formal s y ≡ fals
 abbrev pub IsShowable : Typing → ℕ → Type 0
 IsShowable s y = is_package_object s y ≡ false
 
+-- It has that type; or both are access types, and designate one type.
+abbrev pub IsAccessAs : Typing → ℕ → ℕ → Type 0
+IsAccessAs s u t =
+    Matches s.table u t
+    ⊎ ((d : ℕ) × (c : Bool) × (n : Bool) × (k : ℕ) × (e : Bool) × (o : Bool)
+    × (shape_of s.table u ≡ shape.Access d c n) × (shape_of s.table t ≡ shape.Access k e o) × Matches s.table d k)
+
 abbrev pub IsSeen : Typing → ℕ → TypedTree → Type 0
 IsSeen s x typed.Null = Unit {0}
-IsSeen s x (Name p y path u) = Leads s (object_at s y).of path u × Matches s.table u (object_at s x).of × IsShowable s y
+IsSeen s x (Name p y path u) = Leads s (object_at s y).of path u × IsAccessAs s u (object_at s x).of × IsShowable s y
 IsSeen s x e = ⊥
 
 -- One of a type that owns nothing gets a scalar value, or a copy of what a name of its type stands for.
@@ -96,10 +106,13 @@ IsCopyOf s x e = ⊥
 abbrev pub IsValueTo : Typing → ℕ → TypedTree → Type 0
 IsValueTo s x e = (IsScalarObject s x × Stays s e) ⊎ (IsNamed s.table (object_at s x).of × IsCopyOf s x e)
 
--- By the mode, and whether the type of the formal is owning.
+-- What is passed for a formal of mode `in` is shown, where its type owns or is an anonymous access type.
+abbrev pub is_shown_type : Typing → ℕ → Bool
+is_shown_type s x = is_owning s.table (object_at s x).of || is_anonymous (view_of s x)
+
+-- By the mode, and the type of the formal.
 abbrev pub IsActualTo : Typing → ℕ → Mode → TypedTree → Type 0
-IsActualTo s x mode.In e =
-    (is_owning s.table (object_at s x).of ≡ false → IsValueTo s x e) × (is_owning s.table (object_at s x).of ≡ true → IsSeen s x e)
+IsActualTo s x mode.In e = (is_shown_type s x ≡ false → IsValueTo s x e) × (is_shown_type s x ≡ true → IsSeen s x e)
 IsActualTo s x m e =
     (t : ℕ) × IsPlace s e t × Matches s.table t (object_at s x).of × ((is_scalar (full s.table t) ≡ true) ⊎ IsOwnPlace s e)
 
@@ -109,7 +122,7 @@ AreActualsTo s (x ∷ formals) (More e rest) = IsActualTo s x (object_at s x).mo
 AreActualsTo s formals actuals = (x : ℕ) → Has formals x → IsScalarObject s x
 
 -- A subprogram that is called can run; it is a function where the call has a result. Its formals differ,
--- belong to no package, and are in scope at first if they may own. (Where none is called, nothing is asked
+-- belong to no package, and are in scope at first if they may own or see. (Where none is called, nothing is asked
 -- of object 0, which is Ada.Text_IO.)
 pub record IsCalled (table : Table) (typed : TypedProgram) (n : ℕ) (actuals : TypedTree) (result : Option ℕ) : Type 0 where
   pub runs : IsRunnable table typed n
@@ -118,7 +131,7 @@ pub record IsCalled (table : Table) (typed : TypedProgram) (n : ℕ) (actuals : 
   pub differ : AreDifferent (sub_of (flow_program table typed) n).formals
   pub local : (x : ℕ) → Has (sub_of (flow_program table typed) n).formals x → is_package_object (flow_typing (flow_program table typed)) x ≡ false
   pub begins : (x : ℕ) → Has (sub_of (flow_program table typed) n).formals x
-      → is_owning (flow_program table typed).table (object_at (flow_typing (flow_program table typed)) x).of ≡ true → is_within x runs.point.scope ≡ true
+      → is_shown_type (flow_typing (flow_program table typed)) x ≡ true → is_within x runs.point.scope ≡ true
   pub actuals_stay : AreActualsTo (flow_typing (flow_program table typed)) (sub_of (flow_program table typed) n).formals actuals
   pub text_io : is_package_object (flow_typing (flow_program table typed)) 0 ≡ false
 
@@ -195,10 +208,23 @@ pub record ViewsAreOrderly (table : Table) (typed : TypedProgram) : Type 0 where
 
 -- ---- traversal functions
 
--- What is asked of them. A call of one leads to the point that takes its result, and gives it what that
--- designates; its first formal sees; what one returns by a name has no other root than that, or none that isn't
+-- The call of one: its first actual is a name that is rooted in no package object; and the point that it leads to takes
+-- the result, which borrows if a borrower is given.
+pub record IsTraversalCall (s : Typing) (sub : NamedSub) (next : List ℕ) (n : ℕ) (actuals : TypedTree) : Type 0 where
+  pub call : TraversalCall
+  pub actuals_are : actuals ≡ More (Name call.name_pos call.root call.path call.of) call.others
+  pub own : is_package_object s call.root ≡ false
+  pub taker : (k : ℕ) → Has next k → (q : NamedPoint) → IsAtPoint sub.points k q → IsViewTaker s n call sub.sub.result q.instr
+  pub borrows : gives_variable s (sub_at s n).result ≡ true → (sees_only s call.root ≡ false)
+      × ((k : ℕ) → Has next k → (q : NamedPoint) → IsAtPoint sub.points k q → IsBorrowTaker s n call sub.sub.result q.instr)
+
+-- What is asked of them. A call of one leads to the point that takes its result; its first formal sees, and no other one is
+-- of an anonymous access type; what one returns by a name has no other root than that, or none that isn't
 -- refuted; and after a return only ends of scopes and the end of the call follow.
 pub record AreTraversing (table : Table) (typed : TypedProgram) (effects : Effects) : Type 0 where
+  pub firsts : (n : ℕ) → IsEntered (flow_program table typed) n → (x : ℕ) → Has (sub_of (flow_program table typed) n).formals x
+      → is_anonymous (view_of (flow_typing (flow_program table typed)) x) ≡ true
+      → traversed_formal (flow_typing (flow_program table typed)) (sub_of (flow_program table typed) n) ≡ Some x
   pub first : (n f : ℕ) → IsEntered (flow_program table typed) n
       → traversed_formal (flow_typing (flow_program table typed)) (sub_of (flow_program table typed) n) ≡ Some f
       → (is_formal (flow_typing (flow_program table typed)) f ≡ true) × (is_given (flow_typing (flow_program table typed)) f ≡ true)
@@ -212,6 +238,10 @@ pub record AreTraversing (table : Table) (typed : TypedProgram) (effects : Effec
       → (e last : TypedTree) → p.instr ≡ Hold (More e last)
       → (of : ℕ) → sub.sub.result ≡ Some of → is_anonymous (full (flow_program table typed).table of) ≡ true
       → (e ≡ Null) ⊎ ((q : Pos) × (y : ℕ) × (path : TypedTree) × (u : ℕ) × IsSourceName (flow_typing (flow_program table typed)) of e q y path u)
+  -- what is called is taken
+  pub followed : (sub : NamedSub) → Has (flow_named table typed) sub → (p : NamedPoint) → Has sub.points p → (n : ℕ) (actuals : TypedTree) (result : Option ℕ)
+      → p.instr ≡ Call n actuals result → (f : ℕ) → traversed_formal (flow_typing (flow_program table typed)) (sub_of (flow_program table typed) n) ≡ Some f
+      → IsTraversalCall (flow_typing (flow_program table typed)) sub (map (number_in sub.points) p.next) n actuals
   pub ending : (k : ℕ) → IsEntered (flow_program table typed) k → is_some (sub_of (flow_program table typed) k).result ≡ true → (before : List ℕ) (last : ℕ)
       → ControlPath (path_points (flow_program table typed) effects (sub_of (flow_program table typed) k)) before last
       → has_returned (sub_of (flow_program table typed) k) before ≡ true

@@ -38,15 +38,15 @@ use Rattle.soundness.specs.Typed.{Kept}
 use Rattle.soundness.specs.Sound.{goes_through_none, is_temporary_object, IsNamedSub, IsAtPoint, IsRunnable, Stage, facts_of, AreStages, Uses, IsPlain, InScope, IsTrap, has_returned}
 use Rattle.soundness.specs.Sound as owners
 use Rattle.owned_loans.specs.Views.{known_gone, Views, IsMovedBy, AreClear, IsForeign, AreViews, Viewed, expand}
-use Rattle.viewed_soundness.specs.Holds.{IsNamed, IsAccess, PartsAreNamed, is_view, sees_only, IsOwners, is_given, is_exclusive}
+use Rattle.viewed_soundness.specs.Holds.{IsNamed, IsAccess, PartsAreNamed, is_view, sees_only, IsOwners, is_given, is_exclusive, lends_first}
 use Rattle.soundness.specs.Ready.{root_of}
-use Rattle.viewed_steps.specs.Awaited.{is_held, lasting_of, AreNamedResults, AreAwaited}
+use Rattle.viewed_steps.specs.Awaited.{is_held, lasting_of, AreAwaited}
 use Rattle.viewed_steps.specs.Taken.{TakenBy, Lodge, AreTaken, AreCarried}
 
 -- ---- the class
 
 -- A formal of a scalar type; or of mode `out` or `in out` and of no anonymous access type; or of mode `in`
--- and of an access type, which owns nothing, or of a type that owns nothing and is no anonymous access type.
+-- and of an access type, which owns nothing, or of a type that owns nothing and is no access type.
 abbrev pub IsScalarObject : Typing → ℕ → Type 0
 IsScalarObject s x = is_scalar (full s.table (object_at s x).of) ≡ true
 
@@ -54,7 +54,7 @@ abbrev pub IsCopiedBack : Typing → ℕ → Type 0
 IsCopiedBack s x = (object_at s x).mode ≡ mode.In → ⊥
 
 abbrev pub IsShown : Typing → ℕ → Type 0
-IsShown s x = (is_view_formal s x ≡ true) × IsAccess s x
+IsShown s x = (is_given s x ≡ true) × IsAccess s x
 
 abbrev pub IsOwnless : Typing → ℕ → Type 0
 IsOwnless s x = ((object_at s x).mode ≡ mode.In) × (is_owning s.table (object_at s x).of ≡ false) × IsNamed s.table (object_at s x).of
@@ -85,19 +85,21 @@ LendsShared s sub =
 -- package object.
 abbrev pub AreShownOwn : Typing → Type 0 → List ℕ → TypedTree → Type 0
 AreShownOwn s shared (x ∷ formals) (More e rest) =
-    (is_view_formal s x ≡ true → (y : ℕ) → Has (root_of e) y → is_anonymous (view_of s y) ≡ true → shared → ⊥) × AreShownOwn s shared formals rest
+    (is_given s x ≡ true → (y : ℕ) → Has (root_of e) y → is_anonymous (view_of s y) ≡ true → shared → ⊥) × AreShownOwn s shared formals rest
 AreShownOwn s shared formals actuals = Unit {0}
 
--- Anonymous access types are those of objects alone, and functions that are called have no results of
--- such types; formals are such, those of functions of mode `in`, and what they are shown isn't changed through
--- them; those of procedures of mode `in` that own nothing are of access-to-variable types; actuals are copied
--- back to as above.
+-- Anonymous access types are those of objects and results alone; formals are such, those of functions of mode
+-- `in`, and what they are shown isn't changed through them, but through the first one of a function that gives a
+-- borrower, which is shown alone; those of procedures of mode `in` that own nothing are of access-to-variable
+-- types; actuals are copied back to as above.
 pub record IsViewClass (program : FlowProgram) : Type 0 where
   pub parts_named : PartsAreNamed program.table
-  pub results : AreNamedResults program
   pub formals : (x : ℕ) → is_formal (flow_typing program) x ≡ true → IsKindOfFormal (flow_typing program) x
   pub functions : (n t : ℕ) → (sub_at (flow_typing program) n).result ≡ Some t → (x : ℕ) → Has (sub_at (flow_typing program) n).formals x
-      → is_formal (flow_typing program) x ≡ true → is_view_formal (flow_typing program) x ≡ true → is_exclusive (flow_typing program) x ≡ false
+      → is_formal (flow_typing program) x ≡ true → is_given (flow_typing program) x ≡ true → lends_first (flow_typing program) x (sub_at (flow_typing program) n) ≡ false
+      → is_exclusive (flow_typing program) x ≡ false
+  pub lends : (n x y : ℕ) → lends_first (flow_typing program) x (sub_at (flow_typing program) n) ≡ true → Has (sub_at (flow_typing program) n).formals y
+      → is_given (flow_typing program) y ≡ true → y ≡ x
   pub modes : (n t : ℕ) → (sub_at (flow_typing program) n).result ≡ Some t → (x : ℕ) → Has (sub_at (flow_typing program) n).formals x
       → (object_at (flow_typing program) x).mode ≡ mode.In
   pub procedures : (n : ℕ) → (sub_at (flow_typing program) n).result ≡ None → (x : ℕ) → Has (sub_at (flow_typing program) n).formals x

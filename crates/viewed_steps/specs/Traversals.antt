@@ -10,11 +10,12 @@ use Rattle.place_names.specs.declared.act.Act.{Act}
 use Rattle.place_names.specs.declared.act.Act.TheVariants.{Borrow, Observe}
 use Rattle.type_definitions.specs.declared.table.Shape.TheVariants as shape
 use Rattle.type_definitions.specs.Types.{shape_of, full}
-use Rattle.typed_tree.specs.Trees.{TypedTree, Name, Call as CallIn, More}
-use Rattle.flow_paths.specs.Instructions.{Instruction}
-use Rattle.flow_paths.specs.Objects.{Typing, sub_at, is_anonymous, is_package_object}
+use Rattle.typed_tree.specs.Trees.{TypedTree, Name, NoMore, Call as CallIn, More}
+use Rattle.flow_paths.specs.Instructions.{Instruction, Declare, Assign, Hold}
+use Rattle.flow_paths.specs.Objects.{Typing, sub_at, object_at, is_variable, is_borrower, is_observer, view_of, traverses, is_anonymous, is_package_object}
 use Rattle.flow_paths.specs.Names.{name_of}
 use Rattle.flow_paths.specs.Views.{Roots}
+use Rattle.flow_paths.specs.Acts.{gives_variable}
 use Rattle.machine.specs.Words as machine
 use Rattle.machine.specs.States.{Waiting}
 use Rattle.owned_ways.specs.Ways.{OfCell, Way, All, View, Reaches, Under, Named}
@@ -78,6 +79,25 @@ call_in n c = CallIn c.pos n (More (Name c.name_pos c.root c.path c.of) c.others
 
 abbrev pub traversed_name : TraversalCall → PlaceName
 traversed_name c = name_of c.root c.path
+
+-- An object that sees.
+abbrev pub IsSeer : Typing → ℕ → Type 0
+IsSeer s x = (is_variable (object_at s x).kind ≡ true) × (is_anonymous (view_of s x) ≡ true)
+
+-- What takes the result: such an object is declared with it or assigned, a borrower from a name that is rooted
+-- in it; or a traversal function returns it.
+abbrev pub IsViewTaker : Typing → ℕ → TraversalCall → Option ℕ → Instruction → Type 0
+IsViewTaker s n c result i =
+    ((x : ℕ) × (i ≡ Declare x (More (call_in n c) NoMore)) × IsSeer s x)
+    ⊎ (((p : Pos) × (x : ℕ) × (u : ℕ) × (i ≡ Assign (Name p x NoMore u) (call_in n c)) × IsSeer s x × (is_observer s x ≡ false → c.root ≡ x))
+    ⊎ ((i ≡ Hold (More (call_in n c) NoMore)) × (traverses s.table result ≡ true)))
+
+-- It borrows.
+abbrev pub IsBorrowTaker : Typing → ℕ → TraversalCall → Option ℕ → Instruction → Type 0
+IsBorrowTaker s n c result i =
+    ((x : ℕ) × (i ≡ Declare x (More (call_in n c) NoMore)) × (is_borrower s x ≡ true))
+    ⊎ (((p : Pos) × (x : ℕ) × (u : ℕ) × (i ≡ Assign (Name p x NoMore u) (call_in n c)) × (is_borrower s x ≡ true) × (c.root ≡ x))
+    ⊎ ((i ≡ Hold (More (call_in n c) NoMore)) × (traverses s.table result ≡ true) × (gives_variable s result ≡ true)))
 
 -- The first actual as a way of its frame. It is rooted in an object of the frame itself.
 pub record Traverses (s : Typing) (depth : ℕ) (i : Instruction) (n : ℕ) : Type 0 where

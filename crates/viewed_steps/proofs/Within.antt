@@ -1,0 +1,484 @@
+-- A value is made of what is taken, of any types: an object is declared with it, or it is assigned or returned.
+use Rattle.flow_paths.specs.Views.{sub_acts}
+use Rattle.place_names.specs.Facts.{effect}
+use Rattle.soundness.proofs.Fading.{FadesTo}
+use Rattle.viewed_soundness.proofs.Stored.{Assigns, then_placed}
+use Rattle.viewed_steps.specs.Traversals.{IsSourceIn}
+use Rattle.machine.specs.Calls.{checks_at}
+use Rattle.spark_base.specs.declared.position.Pos.{Pos}
+use Rattle.viewed_soundness.proofs.Names.{plain_named, true_false}
+use Rattle.std.proofs.Common.{◌≡◌, refl, sym, ap, ◌∙◌, subst, ◌⊎◌, inl, inr, ℕ, suc, ◌<◌, true, false, List, [], ◌∷◌, ◌++◌, drop, length, None, if◌then◌else◌, take, map}
+use Rattle.spark_base.specs.Lists.{Has}
+use Rattle.place_names.specs.declared.act.Act.{Act}
+use Rattle.place_names.specs.declared.act.Act.TheVariants as act
+use Rattle.place_names.specs.declared.fact.Fact.{Fact}
+use Rattle.place_names.specs.declared.fact.Fact.TheVariants.{Moved}
+use Rattle.place_names.specs.Names.{Name as PlaceName}
+use Rattle.type_definitions.specs.Types.{Table, full, is_scalar}
+use Rattle.typed_tree.specs.Trees.{TypedTree, NoMore, More, Name}
+use Rattle.typed_tree.specs.Programs.{TypedProgram}
+use Rattle.flow_paths.specs.declared.report.Effects.{Effects}
+use Rattle.flow_paths.specs.Instructions.{Instruction, EndScope, Finish, Declare, Assign}
+use Rattle.flow_paths.specs.Objects.{Typing, is_anonymous, is_package_object, is_observer, view_of, object_at}
+use Rattle.flow_paths.specs.Names.{waiting as waits_in, name_of}
+use Rattle.flow_paths.specs.Acts as flow
+use Rattle.flow_paths.specs.Acts.{acts_in}
+use Rattle.flow_paths.specs.Points.{NamedPoint}
+use Rattle.flow_paths.specs.Laid.{FlowProgram, NamedSub, typing_of, flow_typing, flow_program, flow_named, number_in}
+use Rattle.flow_paths.specs.Paths.{ControlPath}
+use Rattle.flow_paths.specs.Effects.{path_points}
+use Rattle.flow_paths.specs.Scopes.{taken, scope_behind}
+use Rattle.machine.specs.Words.{fits_type}
+use Rattle.machine.specs.Words as machine
+use Rattle.machine.specs.Memory.{declared, stored}
+use Rattle.machine.specs.Evaluate.{Exception, ConstraintError, ProgramError, Evaluated, Done, followed_by, value, place_of, text_of, Now, checked, initial}
+use Rattle.machine.specs.Evaluate as run
+use Rattle.machine.specs.States.{Waiting, Frame, State, Outcome, sub_of}
+use Rattle.machine.specs.Step.{Turn, turn, start, successor}
+use Rattle.machine.specs.Step as steps
+use Rattle.machine.specs.Owners.{waiting_in}
+use Rattle.owned_ways.specs.Ways.{Step, OfVariable, OfRoot, Way, Held, after, AllowsAll}
+use Rattle.soundness.specs.Seen.{IsNear, content, word_in, home, seen}
+use Rattle.soundness.specs.Typed.{Kept}
+use Rattle.typed_laws.specs.Needed.{IsFine, Source, Leads}
+use Rattle.soundness.specs.Sound.{IsNoCall, Stage, facts_of, AreStages, IsRunnable, InScope, IsNamedSub, IsAtPoint, view_of as view_here}
+use Rattle.soundness.proofs.Scalars.{acts, acts_append, after_append}
+use Rattle.soundness.proofs.Scoped.{Inside}
+use Rattle.soundness.proofs.Around.{IsFar}
+use Rattle.soundness.proofs.Waits.{waits_of}
+use Rattle.soundness.proofs.Waited.{FillsNone}
+use Rattle.soundness.proofs.Eased.{eased, goes_same}
+use Rattle.owned_loans.specs.Views.{Around, known_gone, Views, Viewed}
+use Rattle.viewed_soundness.specs.Holds.{IsNamed, AllKeep, is_view, sees_only, is_fixed}
+use Rattle.viewed_soundness.proofs.Outcomes.{named_plain, Leads_on, stored_goes, not_views, assigned_acts}
+use Rattle.viewed_steps.specs.Awaited.{Fits, AreFor, AreValues, temporaries_of, lasting_of, AreAwaited, types_for, AreFilled, TakesTogether}
+use Rattle.viewed_steps.proofs.Waited.{Shares, split_list}
+use Rattle.viewed_steps.specs.Sound.{ArePast, IsResting, HoldsAt, ArePlaced, NoneAbove, ViewStage, stages_of, GoneElsewhere, AreWaiting, IsStoredAt, LeadsAlong, HasTraversals}
+use Rattle.viewed_steps.specs.Ready.{IsReady, AreOrderly}
+use Rattle.viewed_steps.proofs.Lent.{Spare}
+use Rattle.viewed_steps.proofs.Placed.{MayBe}
+use Rattle.viewed_steps.proofs.Waiting.{StandsBetween, beside_them, handed, apart_elsewhere}
+use Rattle.viewed_steps.proofs.Standing.{or_right}
+use Rattle.viewed_steps.proofs.Standing as standing
+use Rattle.viewed_steps.specs.Traversals.{IsSourceIn}
+use Rattle.soundness.proofs.Following.{Each}
+use Rattle.viewed_soundness.proofs.Names.{true_false}
+use Rattle.std.proofs.Common.{◌≡◌, refl, sym, ap, ◌∙◌, subst, ◌⊎◌, inl, inr, ℕ, suc, ◌<◌, true, false, List, [], ◌∷◌, ◌++◌, drop, length, None, map}
+use Rattle.flow_paths.specs.Scopes.{taken, brought, scope_behind}
+use Rattle.machine.specs.Memory.{declared}
+use Rattle.machine.specs.Evaluate.{Done, followed_by, place_of}
+use Rattle.soundness.specs.Typed.{Kept}
+use Rattle.typed_laws.specs.Needed.{IsFine}
+use Rattle.soundness.specs.Sound.{IsNoCall, Stage, facts_of, AreStages, IsRunnable, returns_value, InScope, IsNamedSub, IsAtPoint, view_of as view_here}
+use Rattle.soundness.proofs.Eased.{eased}
+use Rattle.soundness.proofs.Successors.{below_one}
+use Rattle.viewed_soundness.specs.Holds.{is_view, sees_only}
+use Rattle.viewed_soundness.proofs.Outcomes.{named_plain, Leads_on}
+use Rattle.viewed_steps.proofs.Waited.{Shares}
+use Rattle.viewed_steps.proofs.Beside.{IsOther, others_keep}
+use Rattle.viewed_steps.proofs.Waiting.{StandsBetween, beside_them, handed}
+use Rattle.soundness.specs.Ready.{IsSupplied, Fills}
+use Rattle.soundness.proofs.Onward.{GoesOn, declare_follows, assign_follows}
+use Rattle.viewed_steps.proofs.Turned as turned
+use Rattle.std.proofs.Common.{append-nil, append_assoc}
+use Rattle.soundness.proofs.Scalars.{allows_both}
+use Rattle.viewed_soundness.specs.Taken.{types_taken, AreScalarTypes, AreOfTypes, AreScalarValues}
+use Rattle.viewed_soundness.proofs.Fed.{split_values, scalar_values, takes_values, types_count, fed_alone}
+use Rattle.viewed_soundness.proofs.Hands.{first_words, words_first}
+use Rattle.soundness.proofs.Taking.{Takes}
+use Rattle.viewed_steps.proofs.Packages as packages
+use Rattle.viewed_steps.proofs.Innermost as innermost
+use Rattle.std.specs.Prelude.{flat_map}
+use Rattle.machine.specs.Step.{led}
+use Rattle.machine.specs.Evaluate.{Raises, Traps}
+use Rattle.soundness.specs.Seen.{seen}
+use Rattle.soundness.specs.Ready.{IsSupplied}
+use Rattle.soundness.proofs.Waits.{waits_of}
+use Rattle.soundness.proofs.Numbers.{index_law}
+use Rattle.soundness.proofs.Lasting.{keeps}
+use Rattle.viewed_soundness.proofs.Evaluated.{Given, GivenOn, Ready, checked_on, keep_both}
+use Rattle.viewed_steps.proofs.Declared.{declared_goes, first_fades}
+use Rattle.viewed_steps.proofs.EachInstruction as each
+use Rattle.viewed_steps.proofs.Views.{AreAccess, all_held}
+
+-- What temporaries are filled with has their types.
+pub of_types : (s : Typing) (types xs : List ℕ) (values : List Waiting) → AreFilled s types xs → AreFor s values xs → AreOfTypes s types values
+of_types s [] [] [] filled there = tt
+of_types s [] [] (v ∷ values) filled there = absurd there
+of_types s [] (x ∷ xs) values filled there = absurd filled
+of_types s (t ∷ types) [] values filled there = absurd filled
+of_types s (t ∷ types) (x ∷ xs) [] filled there = absurd there
+of_types s (t ∷ types) (x ∷ xs) (v ∷ values) filled there = ((one filled.0 there.0.0, there.0.1), of_types s types xs values filled.1 there.1)
+  where
+    one : Fits s t x → Fits s v.of x → ((is_scalar (full s.table t) ≡ true) × (is_scalar (full s.table v.of) ≡ true)) ⊎ (t ≡ v.of)
+    one (inl both) (inl mine) = inl (both.0, mine.0)
+    one (inl both) (inr same) = inl (both.0, ap (λ z. is_scalar (full s.table z)) same ∙ both.1)
+    one (inr is) (inl mine) = inl (ap (λ z. is_scalar (full s.table z)) is ∙ mine.1, mine.0)
+    one (inr is) (inr same) = inr (is ∙ sym same)
+
+module _ (table : Table) (typed : TypedProgram) (effects : Effects) (input : List ℕ) (ready : IsReady table typed effects) where
+  abbrev program : FlowProgram
+  program = flow_program table typed
+
+  abbrev s : Typing
+  s = flow_typing program
+
+  abbrev own : Typing
+  own = typing_of table typed
+
+  abbrev in_formals : AreAccess s
+  in_formals = standing.in_formals table typed effects input ready
+
+  abbrev local : (x : ℕ) → is_view s x ≡ true → is_package_object s x ≡ false
+  local = standing.local table typed effects input ready
+
+  abbrev unmoved_stage : (e : Stage) → e.frame.sub ≡ 0 → (name : PlaceName) → Has (facts_of program effects e) (Moved name) → ⊥
+  unmoved_stage = packages.unmoved_stage table typed effects input ready
+
+  module _ (state : State) (top : Stage) (below : ViewStage) (more_frames : List ViewStage) (rest : List Frame) (named : NamedSub) (p : NamedPoint)
+      (frames : state.frames ≡ top.frame ∷ (below.stage.frame ∷ rest)) (deep : top.depth ≡ suc (length rest))
+      (stages : AreStages (stages_of (below ∷ more_frames)) (below.stage.frame ∷ rest))
+      (running : IsRunnable table typed top.frame.sub × IsResting s top × AreWaiting table typed effects state top.frame.sub top.frame.returns (below ∷ more_frames))
+      (awaiting : AreAwaited table typed None (top ∷ stages_of (below ∷ more_frames)))
+      (of_sub : IsNamedSub (flow_named table typed) top.frame.sub named) (at_point : IsAtPoint named.points top.frame.next p)
+      (path : ControlPath (path_points program effects (sub_of program top.frame.sub)) top.before top.frame.next) (views : Views)
+      (viewed_before : Viewed (home s (suc (length rest))) (sees_only s) (known_gone (home s (suc (length rest))) (GoneElsewhere program effects (below ∷ more_frames))) views
+      (view_here s state) (facts_of program effects top))
+      (kept : Kept s state.memory (waiting_in state)) (scope : InScope s state.memory (suc (length rest)) (lasting_of s p.scope)) (holds : HoldsAt s (suc (length rest)) views state.memory p)
+      (placed_before : ArePlaced program (suc (length rest)) (facts_of program effects top) views p.scope × ArePast s (suc (length rest)) views (below ∷ more_frames)) (above : NoneAbove s (suc (length rest)) state.memory
+      × HasTraversals table typed (view_here s state) (record { stage = top; views = views; cells = [] } ∷ (below ∷ more_frames))) where
+    abbrev outer : List Frame
+    outer = below.stage.frame ∷ rest
+
+    abbrev older : List ViewStage
+    older = below ∷ more_frames
+
+    abbrev depth : ℕ
+    depth = suc (length rest)
+
+    abbrev between : (g : ViewStage) → Has (below ∷ more_frames) g → StandsBetween table typed effects unmoved_stage local state (suc (length rest)) g
+    between = innermost.between table typed effects input ready state top below more_frames rest named p frames deep stages running awaiting of_sub at_point path views viewed_before kept scope holds placed_before above
+
+    abbrev other : Around (home s (suc (length rest)))
+    other = beside_them table typed effects unmoved_stage local state (suc (length rest)) (below ∷ more_frames) between
+
+    abbrev alone : (w : Way) → IsNear (suc (length rest)) w → IsFar (suc (length rest)) (GoneElsewhere program effects (below ∷ more_frames)) w → ⊥
+    alone = innermost.alone table typed effects input ready state top below more_frames rest named p frames deep stages running awaiting of_sub at_point path views viewed_before kept scope holds placed_before above
+
+    abbrev main_turn : Turn
+    main_turn = standing.t table typed effects input ready state top older outer named p frames of_sub at_point
+
+    abbrev own_facts : List Fact
+    own_facts = standing.facts table typed effects input ready state top older outer named p frames of_sub at_point path
+
+    abbrev handed_on : List Fact
+    handed_on = handed table typed effects unmoved_stage local state (suc (length rest)) (below ∷ more_frames) between
+
+    abbrev facts_now : List Fact
+    facts_now = own_facts ++ handed_on
+
+    abbrev acts_of_main : Instruction → List Act
+    acts_of_main i = standing.acts_here table typed effects input ready state top older outer named p frames of_sub at_point i
+
+    abbrev allowed_now : Spare s (standing.acts_by table typed effects input ready state top older outer named p frames of_sub at_point s p.instr) → AllowsAll own_facts (acts_of_main p.instr)
+        → AllowsAll facts_now (acts_of_main p.instr)
+    allowed_now = innermost.allowed_now table typed effects input ready state top below more_frames rest named p frames deep stages running awaiting of_sub at_point path views viewed_before kept scope holds placed_before above
+
+    abbrev viewed : Viewed (home s depth) (sees_only s) other views (view_here s state) facts_now
+    viewed = innermost.viewed table typed effects input ready state top below more_frames rest named p frames deep stages running awaiting of_sub at_point path views viewed_before kept scope holds placed_before above
+
+    abbrev left_scope : List ℕ
+    left_scope = drop (taken p.instr) p.scope
+
+    abbrev given_words : List (List machine.Word)
+    given_words = (start main_turn).waits
+
+    abbrev easy : Turn
+    easy = eased main_turn
+
+    abbrev Left : List Waiting → Type 0
+    Left waits = AreValues s waits (scope_behind p)
+
+    abbrev left_after : FillsNone s p.instr → Left (steps.waiting main_turn)
+    left_after = innermost.left_after table typed effects input ready state top below more_frames rest named p frames deep stages running awaiting of_sub at_point path views viewed_before kept scope holds placed_before above
+
+    abbrev IsOld : ℕ → ℕ → Type 0
+    IsOld f x =
+        (f < suc (length rest)) × ((f ≡ 0)
+        ⊎ ((q : List Step) × (k : ℕ) × (word_in s.table (content s state.memory [] (OfRoot (OfVariable f x))) q ≡ Held k)))
+
+    abbrev inside_left : Inside s IsOld state.memory depth (lasting_of s left_scope)
+    inside_left = innermost.inside_left table typed effects input ready state top below more_frames rest named p frames deep stages running awaiting of_sub at_point path views viewed_before kept scope holds placed_before above
+
+    abbrev supplied_here : IsSupplied s p
+    supplied_here = innermost.supplied_here table typed effects input ready state top below more_frames rest named p frames deep stages running awaiting of_sub at_point path views viewed_before kept scope holds placed_before above
+
+    abbrev shared : Shares s (taken p.instr) top.frame.waits p.scope
+    shared = innermost.shared table typed effects input ready state top below more_frames rest named p frames deep stages running awaiting of_sub at_point path views viewed_before kept scope holds placed_before above
+
+    -- where it leads, and how the frames come from those before
+    abbrev Along : Outcome → Type 0
+    Along outcome = LeadsAlong table typed effects p.instr state.memory (record { stage = top; views = views; cells = [] }) (below ∷ more_frames) outcome
+
+    abbrev may : ℕ → ℕ → Type 0
+    may x y = MayBe program (scope_behind p) x y × IsStoredAt p.instr x × IsSourceIn (sub_acts (sub_of program top.frame.sub)) x y
+
+    abbrev LeadsFrom : Instruction → Outcome → Type 0
+    LeadsFrom i outcome = Leads_on easy ready.accepted.settled ready.owns other alone views ready.class.parts_named may refl refl (after (acts_of_main i) facts_now) outcome
+
+    abbrev orderly : AreOrderly program p (λ q. (n : ℕ) × Has (map (number_in named.points) p.next) n × IsAtPoint named.points n q)
+    orderly = innermost.orderly table typed effects input ready state top below more_frames rest named p frames deep stages running awaiting of_sub at_point path views viewed_before kept scope holds placed_before above
+
+    -- ---- the value
+
+    module _ (going : (y : ℕ) → p.instr ≡ EndScope y → ⊥) (taken_within : TakesTogether s named.sub.result p) where
+      abbrev pub tree : TypedTree
+      tree = taken_within.0
+
+      -- what is taken waits above what waits on
+      abbrev pub front : List Waiting
+      front = take (taken p.instr) top.frame.waits
+
+      pub values_fit : (i : Instruction) → p.instr ≡ i → AreOfTypes s (types_for s i) front
+      values_fit i is =
+          subst (λ z. AreOfTypes s (types_for s z) front) is
+          (of_types s (types_for s p.instr) (temporaries_of s (take (taken p.instr) p.scope)) front taken_within.3 shared.taken)
+
+      waits_split : waiting_in state ≡ front ++ waiting_in easy.state
+      waits_split =
+          ap (flat_map waits_of) frames ∙ ap (λ z. z ++ flat_map waits_of outer) (sym (split_list (taken p.instr) top.frame.waits))
+          ∙ append_assoc front (steps.waiting main_turn) (flat_map waits_of outer)
+
+      words_given : given_words ≡ first_words front []
+      words_given = words_first front
+
+      pub ready_value : Ready (steps.here main_turn) ready.accepted.settled state.leaks [] other alone (keeps s ready.accepted.settled ready.owns) index_law ready.owns views
+          ready.class.parts_named state.memory (front ++ waiting_in easy.state) facts_now
+      ready_value = record {
+        viewed = subst (λ z. Viewed (home s depth) (sees_only s) other views (seen s state.memory z state.leaks) facts_now) waits_split viewed;
+        kept = subst (Kept s state.memory) waits_split kept;
+        holds = all_held s in_formals depth views state.memory (λ y n view e. holds.held y n (λ fading. going fading.0 fading.1) view e) holds.only holds.owners holds.own;
+      }
+
+      -- scalar values may wait above it
+      pub source_within : (u : ℕ) → IsNamed s.table u → Source s u tree → (later first : List Waiting) → front ≡ later ++ first → AreScalarValues s later
+          → AreOfTypes s (types_taken s tree) first → AllowsAll facts_now (acts (acts_in s tree)) → AllKeep (is_fixed s) (acts (acts_in s tree))
+          → GivenOn (steps.here main_turn) ready.accepted.settled state.leaks [] other alone (keeps s ready.accepted.settled ready.owns) index_law ready.owns views
+          ready.class.parts_named (first_words later []) u (waiting_in easy.state) (after (acts (acts_in s tree)) facts_now) (steps.taken_by main_turn u tree (start main_turn))
+      source_within u named_type (inl (view, is)) later first split scalar fit allowed keep = absurd (true_false (is_anonymous (full s.table u)) view (named_plain s.table u named_type))
+      source_within u named_type (inr gives) later first split scalar fit allowed keep =
+          let now : List (List machine.Word) → Now = (λ ws. record { memory = state.memory; waits = ws }) in
+          subst (λ b. GivenOn (steps.here main_turn) ready.accepted.settled state.leaks [] other alone (keeps s ready.accepted.settled ready.owns) index_law ready.owns views
+          ready.class.parts_named (first_words later []) u (waiting_in easy.state) (after (acts (acts_in s tree)) facts_now)
+          (if b then run.viewed (steps.here main_turn) tree (start main_turn) else followed_by (value (steps.here main_turn) tree (start main_turn)) (checked (steps.here main_turn) u)))
+          (sym (named_plain s.table u named_type))
+          (checked_on (steps.here main_turn) ready.accepted.settled state.leaks [] other alone (keeps s ready.accepted.settled ready.owns) index_law ready.owns views
+          ready.class.parts_named (first_words later []) u u (waiting_in easy.state) (after (acts (acts_in s tree)) facts_now) (value (steps.here main_turn) tree (start main_turn))
+          (subst (λ ws. GivenOn (steps.here main_turn) ready.accepted.settled state.leaks [] other alone (keeps s ready.accepted.settled ready.owns) index_law ready.owns views
+          ready.class.parts_named (first_words later []) u (waiting_in easy.state) (after (acts (acts_in s tree)) facts_now) (value (steps.here main_turn) tree (now ws)))
+          (sym (words_given ∙ ap (λ z. first_words z []) split))
+          (fed_alone (steps.here main_turn) ready.accepted.settled state.leaks [] other alone (keeps s ready.accepted.settled ready.owns) index_law ready.owns views
+          ready.class.parts_named tree u gives taken_within.2 later first scalar fit (waiting_in easy.state) [] state.memory facts_now
+          (subst (λ z. Ready (steps.here main_turn) ready.accepted.settled state.leaks [] other alone (keeps s ready.accepted.settled ready.owns) index_law ready.owns views
+          ready.class.parts_named state.memory (z ++ waiting_in easy.state) facts_now) split ready_value) allowed named_type keep)))
+
+      pub alone_within : (u : ℕ) → IsNamed s.table u → Source s u tree → AreOfTypes s (types_taken s tree) front → AllowsAll facts_now (acts (acts_in s tree))
+          → AllKeep (is_fixed s) (acts (acts_in s tree))
+          → Given (steps.here main_turn) ready.accepted.settled state.leaks [] other alone (keeps s ready.accepted.settled ready.owns) index_law ready.owns views
+          ready.class.parts_named u (waiting_in easy.state) (after (acts (acts_in s tree)) facts_now) (steps.taken_by main_turn u tree (start main_turn))
+      alone_within u named_type source fit allowed keep = source_within u named_type source [] front refl tt fit allowed keep
+
+    -- ---- a declaration or an assignment
+
+    module _ (going : (y : ℕ) → p.instr ≡ EndScope y → ⊥) (no_calls : IsNoCall p.instr) (taken_within : TakesTogether s named.sub.result p) where
+      abbrev held : TypedTree
+      held = taken_within.0
+
+      allowed_there : (p.instr ≡ Finish → ⊥) → AllowsAll facts_now (acts_of_main p.instr)
+      allowed_there end =
+          allowed_now (each.spares table typed effects input ready state top below more_frames rest named p frames deep stages running awaiting of_sub at_point path views viewed_before kept scope holds placed_before above going no_calls end)
+          (standing.allowed table typed effects input ready state top older outer named p frames of_sub at_point path no_calls)
+
+      keeps_there : AllKeep (is_fixed s) (acts_of_main p.instr)
+      keeps_there = standing.keeps_there table typed effects input ready state top older outer named p frames of_sub at_point
+
+      -- an object that is no view
+      module _ (y : ℕ) (is : p.instr ≡ Declare y (More held NoMore)) (owner : is_anonymous (view_of s y) ≡ false) where
+        abbrev v : TypedTree
+        v = More held NoMore
+
+        pub named_object : IsNamed s.table (object_at s y).of
+        named_object = plain_named s.table (object_at s y).of owner
+
+        pub acts_same : acts_of_main (Declare y v) ≡ acts (acts_in s held)
+        unfolding acts_in
+        acts_same =
+            let kinds = not_views s y named_object in
+            ap acts (ap (λ b. if b then flow.source_acts s held (act.Borrow y) else
+            (if is_observer s y then flow.source_acts s held (flow.observe s y) else acts_in s v)) kinds.0
+            ∙ ap (λ b. if b then flow.source_acts s held (flow.observe s y) else acts_in s v) kinds.1)
+            ∙ ap acts (append-nil (acts_in s held))
+
+        pub allowed_here : AllowsAll facts_now (acts (acts_in s held))
+        allowed_here =
+            subst (AllowsAll facts_now) acts_same (subst (λ i. AllowsAll facts_now (acts_of_main i)) is
+            (allowed_there (λ finish. (let never : Finish ≡ Declare y v = sym finish ∙ is in cc))))
+
+        pub keeps_here : AllKeep (is_fixed s) (acts (acts_in s held))
+        keeps_here = subst (AllKeep (is_fixed s)) acts_same (subst (λ i. AllKeep (is_fixed s) (acts_of_main i)) is keeps_there)
+
+        pub source_here : Source s (object_at s y).of held
+        source_here = (subst (IsFine s named.sub.result) is (standing.fine table typed effects input ready state top older outer named p frames of_sub at_point)).1
+
+        pub facts_same : after (acts (acts_in s held)) facts_now ≡ after (acts_of_main (Declare y v)) facts_now
+        facts_same = ap (λ z. after z facts_now) (sym acts_same)
+
+        pub values_here : AreOfTypes s (types_taken s held) (front going taken_within)
+        unfolding types_taken
+        values_here = values_fit going taken_within (Declare y v) is
+
+        declared_value : (z : Evaluated (List machine.Word))
+            → Given (steps.here main_turn) ready.accepted.settled state.leaks [] other alone (keeps s ready.accepted.settled ready.owns) index_law ready.owns views
+            ready.class.parts_named (object_at s y).of (waiting_in easy.state) (after (acts_of_main (Declare y v)) facts_now) z
+            → FadesTo (steps.here main_turn) state.memory z
+            → LeadsFrom (Declare y v) (steps.evaluated main_turn z (λ vs m. steps.goes main_turn (declared depth y vs m) 0))
+        declared_value (Done ws n) given faint =
+            each.goes_too table typed effects input ready state top below more_frames rest named p frames deep stages running awaiting of_sub at_point path views viewed_before kept scope holds placed_before above going no_calls
+            (Declare y v) (declared depth y ws n.memory) 0
+            (declared_goes easy ready.accepted.settled ready.owns other alone in_formals views ready.class.parts_named may refl refl y (after (acts_of_main (Declare y v)) facts_now)
+            named_object (orderly.begun y v is) ws n given faint
+            (λ q. each.blank table typed effects input ready state top below more_frames rest named p frames deep stages running awaiting of_sub at_point path views viewed_before kept scope holds placed_before above going no_calls y v is q
+            (word_in s.table (content s state.memory [] (OfRoot (OfVariable depth y))) q) refl)
+            (each.after_it table typed effects input ready state top below more_frames rest named p frames deep stages running awaiting of_sub at_point path views viewed_before kept scope holds placed_before above going no_calls y v is)
+            (each.free table typed effects input ready state top below more_frames rest named p frames deep stages running awaiting of_sub at_point path views viewed_before kept scope holds placed_before above going no_calls y v is)
+            (apart_elsewhere table typed effects unmoved_stage local state depth older between y))
+        declared_value (Raises how n) given faint =
+            each.ends_so table typed effects input ready state top below more_frames rest named p frames deep stages running awaiting of_sub at_point path views viewed_before kept scope holds placed_before above going no_calls (Declare y v) how n.memory
+        declared_value (Traps how n) never faint = absurd never
+
+        pub declares_within : LeadsFrom (Declare y v) (turn main_turn (Declare y v))
+        unfolding initial
+        declares_within =
+            declared_value (steps.first_value main_turn (object_at s y).of v (start main_turn))
+            (subst (λ z. Given (steps.here main_turn) ready.accepted.settled state.leaks [] other alone (keeps s ready.accepted.settled ready.owns) index_law ready.owns views
+            ready.class.parts_named (object_at s y).of (waiting_in easy.state) z (steps.taken_by main_turn (object_at s y).of held (start main_turn))) facts_same
+            (alone_within going taken_within (object_at s y).of named_object source_here values_here allowed_here keeps_here))
+            (first_fades easy ready.accepted.settled ready.owns other alone in_formals views ready.class.parts_named may refl refl given_words (object_at s y).of v (refl, source_here))
+
+      -- a place that is no view
+      module _ (r : Pos) (y : ℕ) (path_there : TypedTree) (u : ℕ) (is : p.instr ≡ Assign (Name r y path_there u) held) (path_scalar : AreScalarTypes s (types_taken s path_there)) (end : p.instr ≡ Finish → ⊥)
+          (plain_target : is_anonymous (full s.table u) ≡ false) where
+        abbrev target : TypedTree
+        target = Name r y path_there u
+
+        text_there : IsFine s named.sub.result (Assign target held)
+        text_there = subst (IsFine s named.sub.result) is (standing.fine table typed effects input ready state top older outer named p frames of_sub at_point)
+
+        pub leads_there : Leads s (object_at s y).of path_there u
+        leads_there = text_there.1.0
+
+        pub source_there : Source s u held
+        source_there = subst (λ z. Source s z held) (sym text_there.1.1) text_there.2
+
+        pub named_target : IsNamed s.table u
+        named_target = plain_named s.table u plain_target
+
+        abbrev first_acts : List Act
+        first_acts = acts (acts_in s held)
+
+        abbrev last_acts : List Act
+        last_acts = acts (acts_in s path_there) ++ act.Write (name_of y path_there) ∷ []
+
+        pub acts_there : acts_of_main (Assign target held) ≡ first_acts ++ last_acts
+        acts_there =
+            ap acts (assigned_acts s p.pos y u target path_there held named_target leads_there)
+            ∙ acts_append (acts_in s held ++ acts_in s path_there) (record { pos = r; act = act.Write (name_of y path_there) } ∷ [])
+            ∙ ap (λ z. z ++ (act.Write (name_of y path_there) ∷ [])) (acts_append (acts_in s held) (acts_in s path_there))
+            ∙ append_assoc first_acts (acts (acts_in s path_there)) (act.Write (name_of y path_there) ∷ [])
+
+        pub each_allowed : AllowsAll facts_now first_acts × AllowsAll (after first_acts facts_now) last_acts
+        each_allowed =
+            allows_both facts_now first_acts last_acts (subst (AllowsAll facts_now) acts_there (subst (λ i. AllowsAll facts_now (acts_of_main i)) is (allowed_there end)))
+
+        pub each_kept : AllKeep (is_fixed s) first_acts × AllKeep (is_fixed s) last_acts
+        each_kept =
+            keep_both (is_fixed s) first_acts last_acts (subst (AllKeep (is_fixed s)) acts_there (subst (λ i. AllKeep (is_fixed s) (acts_of_main i)) is keeps_there))
+
+        pub plain_root : is_fixed s (name_of y path_there) ≡ false
+        plain_root = (keep_both (is_fixed s) (acts (acts_in s path_there)) (act.Write (name_of y path_there) ∷ []) each_kept.1).1.0
+
+        abbrev facts_then : List Fact
+        facts_then = effect (act.Write (name_of y path_there)) (after (acts (acts_in s path_there)) (after first_acts facts_now))
+
+        pub facts_there : facts_then ≡ after (acts_of_main (Assign target held)) facts_now
+        facts_there =
+            sym (ap (λ z. after z facts_now) acts_there ∙ after_append first_acts last_acts facts_now
+            ∙ after_append (acts (acts_in s path_there)) (act.Write (name_of y path_there) ∷ []) (after first_acts facts_now))
+
+        -- what the name takes waits above what the value takes
+        pub fronts : (later : List Waiting) × (first : List Waiting) × (front going taken_within ≡ later ++ first) × AreOfTypes s (types_taken s path_there) later
+            × AreOfTypes s (types_taken s held) first
+        unfolding types_taken
+        fronts = split_values s (types_taken s path_there) (types_taken s held) (front going taken_within) (values_fit going taken_within (Assign target held) is)
+
+        pub path_takes : Takes (waits_in path_there) (first_words fronts.0 []) []
+        path_takes =
+            subst (λ k. Takes k (first_words fronts.0 []) []) (types_count s path_there)
+            (takes_values s ready.accepted.settled (types_taken s path_there) fronts.0 fronts.3 path_scalar [])
+
+        stored_value : (z : Evaluated steps.Stored)
+            → Assigns (steps.here main_turn) ready.accepted.settled state.leaks [] other alone (keeps s ready.accepted.settled ready.owns) index_law ready.owns views
+            ready.class.parts_named (waiting_in easy.state) (after (acts_of_main (Assign target held)) facts_now) z
+            → LeadsFrom (Assign target held) (steps.evaluated main_turn z (λ (st : steps.Stored) m. steps.leaking_goes (checks_at s (steps.target_pos main_turn target) m st.place)
+            (steps.goes main_turn (stored s st.place st.words m) 0)))
+        stored_value (Done st n) given =
+            subst (λ z. LeadsFrom (Assign target held) (steps.leaking_goes (checks_at s (steps.target_pos main_turn target) n.memory st.place) z))
+            (goes_same main_turn (stored s st.place st.words n.memory) 0)
+            (stored_goes easy ready.accepted.settled ready.owns other alone views ready.class.parts_named may refl refl
+            (after (acts_of_main (Assign target held)) facts_now) (steps.target_pos main_turn target) st n given)
+        stored_value (Raises how n) given =
+            each.ends_so table typed effects input ready state top below more_frames rest named p frames deep stages running awaiting of_sub at_point path views viewed_before kept scope holds placed_before above going no_calls (Assign target held) how n.memory
+        stored_value (Traps how n) never = absurd never
+
+        pub assigns_within : LeadsFrom (Assign target held) (turn main_turn (Assign target held))
+        unfolding acts_in
+        assigns_within =
+            stored_value (followed_by (steps.taken_by main_turn u held (start main_turn))
+            (λ ws now. followed_by (place_of (steps.here main_turn) target now) (λ k now. Done (record { words = ws; place = k }) now)))
+            (subst (λ z. Assigns (steps.here main_turn) ready.accepted.settled state.leaks [] other alone (keeps s ready.accepted.settled ready.owns) index_law ready.owns views
+            ready.class.parts_named (waiting_in easy.state) z (followed_by (steps.taken_by main_turn u held (start main_turn))
+            (λ ws now. followed_by (place_of (steps.here main_turn) target now) (λ k now. Done (record { words = ws; place = k }) now)))) facts_there
+            (then_placed (steps.here main_turn) ready.accepted.settled state.leaks [] other alone (keeps s ready.accepted.settled ready.owns) index_law ready.owns views
+            ready.class.parts_named (first_words fronts.0 []) [] r y u path_there (waiting_in easy.state) (after first_acts facts_now) named_target plain_root leads_there path_takes
+            each_allowed.1 (steps.taken_by main_turn u held (start main_turn))
+            (source_within going taken_within u named_target source_there fronts.0 fronts.1 fronts.2 (scalar_values s (types_taken s path_there) fronts.0 fronts.3 path_scalar) fronts.4
+            each_allowed.0 each_kept.0)))
+
+      -- ---- what follows
+
+      pub goes_within : IsOther p.instr → FillsNone s p.instr → (p.instr ≡ Finish → ⊥) → returns_value p.instr ≡ false → Along (turn main_turn p.instr)
+      goes_within other_one fills end none = elim taken_within.1 [
+        | inl (y, is, owner) ↦ finish (Declare y (More held NoMore)) is (declares_within y is owner)
+            (declare_follows main_turn Left left IsOld (lasting_of s left_scope) (lasting_of s (y ∷ left_scope)) inside_left
+            (innermost.one_more table typed effects input ready state top below more_frames rest named p frames deep stages running awaiting of_sub at_point path views viewed_before kept scope holds placed_before above y) y (More held NoMore)
+            (innermost.new_one table typed effects input ready state top below more_frames rest named p frames deep stages running awaiting of_sub at_point path views viewed_before kept scope holds placed_before above y
+            (subst (λ i. Fills s i left_scope) is supplied_here.1))
+            (innermost.with_successors table typed effects input ready state top below more_frames rest named p frames deep stages running awaiting of_sub at_point path views viewed_before kept scope holds placed_before above (Declare y (More held NoMore)) 0 is below_one))
+        | inr (inl (r, y, steps, u, is, place, scalar)) ↦ finish (Assign (Name r y steps u) held) is (assigns_within r y steps u is scalar end place)
+            (assign_follows main_turn Left left IsOld (lasting_of s left_scope) (lasting_of s left_scope) inside_left (λ x within. within) r y u steps held
+            (innermost.stored_there table typed effects input ready state top below more_frames rest named p frames deep stages running awaiting of_sub at_point path views viewed_before kept scope holds placed_before above (Assign (Name r y steps u) held) is y (inl refl))
+            (innermost.with_successors table typed effects input ready state top below more_frames rest named p frames deep stages running awaiting of_sub at_point path views viewed_before kept scope holds placed_before above (Assign (Name r y steps u) held) 0 is below_one))
+        | inr (inr (is, plain_result)) ↦ absurd (subst IsOther is other_one)
+      ]
+        where
+          left : Left (steps.waiting main_turn)
+          left = left_after fills
+
+          finish : (i : Instruction) → p.instr ≡ i → LeadsFrom i (turn main_turn i)
+              → Each (GoesOn main_turn Left left IsOld (lasting_of s left_scope) (lasting_of s (brought i left_scope)) inside_left) (turn main_turn i) → Along (turn main_turn p.instr)
+          finish i is leads on =
+              turned.then_on table typed effects input ready state top below more_frames rest named p frames deep stages running awaiting of_sub at_point path views viewed_before kept scope holds placed_before above going no_calls left
+              (each.spares table typed effects input ready state top below more_frames rest named p frames deep stages running awaiting of_sub at_point path views viewed_before kept scope holds placed_before above going no_calls end) end none
+              (turn main_turn p.instr) (subst (λ z. LeadsFrom z (turn main_turn z)) (sym is) leads)
+              (subst (λ z. Each (GoesOn main_turn Left left IsOld (lasting_of s left_scope) (lasting_of s (brought z left_scope)) inside_left) (turn main_turn z)) (sym is) on)
+              (others_keep main_turn named.sub.result p.instr (standing.fine table typed effects input ready state top older outer named p frames of_sub at_point) other_one)
