@@ -40,7 +40,7 @@ use Rattle.soundness.proofs.Passing.{reads_keep, plain_type}
 use Rattle.soundness.proofs.Lasting.{keeps}
 use Rattle.owned_loans.specs.Views.{Around, Views, IsForeign}
 use Rattle.owned_loans.proofs.Allowed.{cleared_open, cleared_whole}
-use Rattle.viewed_soundness.specs.Holds.{IsNamed, PartsAreNamed, sees_only, IsOwners, IsAccess}
+use Rattle.viewed_soundness.specs.Holds.{IsNamed, PartsAreNamed, sees_only, IsOwners, IsAccess, is_given}
 use Rattle.viewed_soundness.proofs.Names.{Starts, true_false, view_access, not_view, plain_sees, both_no, plain_named}
 use Rattle.viewed_soundness.proofs.Stays.{Goes}
 use Rattle.viewed_soundness.proofs.Evaluated.{matches_named, live_trunk}
@@ -91,7 +91,7 @@ module _ (h : Here) (settled : IsSettled h.typing.table) (leaks : List Leak) (ot
     (own_law : OwnsByShape h.typing.table) (v : Views) (parts_named : PartsAreNamed h.typing.table) (m : Memory) (hands : List Waiting) (facts : List Fact)
     (ready : IsReadyIn h settled leaks other alone in_formals index_law own_law v parts_named m hands facts)
     (only : OnlyOwners h.typing m)
-    (formals_low : (x : ℕ) (w : Way) → v.way x ≡ Some w → is_view_formal h.typing x ≡ true → (foreign : IsForeign (home h.typing h.frame) w) × (foreign.0 < h.frame) × (0 < foreign.0))
+    (formals_low : (x : ℕ) (w : Way) → v.way x ≡ Some w → is_given h.typing x ≡ true → (foreign : IsForeign (home h.typing h.frame) w) × (foreign.0 < h.frame) × (0 < foreign.0))
     (procedure : Bool) where
   abbrev at : List (List machine.Word) → Now
   at ws = record { memory = m; waits = ws }

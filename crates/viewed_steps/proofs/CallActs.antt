@@ -14,10 +14,10 @@ use Rattle.place_names.specs.declared.rule.Loan.{Loan}
 use Rattle.place_names.specs.declared.rule.Loan.TheVariants.{Borrowed}
 use Rattle.place_names.specs.declared.act.Mode.TheVariants as mode
 use Rattle.type_definitions.specs.Types.{Table, full, is_owning}
-use Rattle.typed_tree.specs.Trees.{TypedTree, Name, NoMore, More}
+use Rattle.typed_tree.specs.Trees.{TypedTree, Name, More}
 use Rattle.typed_tree.specs.Programs.{TypedProgram}
 use Rattle.flow_paths.specs.declared.report.Effects.{Effects}
-use Rattle.flow_paths.specs.Instructions.{Instruction, Call, EndScope, Declare, Assign, Hold}
+use Rattle.flow_paths.specs.Instructions.{Instruction, Call, EndScope}
 use Rattle.flow_paths.specs.Objects.{Typing, object_at, sub_at, is_anonymous, is_package_object, view_of, traverses, passings, Passing, Signature, passing, is_observer, is_observing, is_formal}
 use Rattle.place_names.specs.Reports.{Report}
 use Rattle.flow_paths.specs.Aliases.{overlap_reports, passed_reports, call_reports}
@@ -70,7 +70,7 @@ use Rattle.viewed_steps.proofs.Waiting.{StandsBetween, beside_them, handed, lent
 use Rattle.viewed_steps.proofs.Called.{values_are_read, call_adds_none, passes_to, spare_reads, spare_copies}
 use Rattle.viewed_steps.proofs.LaidOut.{AreOpenActuals}
 use Rattle.viewed_steps.proofs.Passed.{apart_or, apart_there}
-use Rattle.viewed_steps.proofs.Cells.{are_kept, all_in, all_open}
+use Rattle.viewed_steps.proofs.Cells.{all_in, all_open}
 use Rattle.viewed_steps.proofs.Standing.{or_right}
 use Rattle.viewed_steps.proofs.Standing as standing
 use Rattle.viewed_steps.proofs.Packages as packages
@@ -469,10 +469,7 @@ module _ (table : Table) (typed : TypedProgram) (effects : Effects) (input : Lis
       copied_there = elim modes_there [
         | inr modes ↦ all_in s ready.owns depth facts_now procedure formals actuals modes
         | inl none ↦ all_open s ready.owns depth facts_now procedure formals actuals facts_now []
-            (are_kept s formals actuals
-            (ready.class.copied (flow_sub own named) (standing.in_program table typed effects input ready state top older outer named p frames of_sub at_point) main_turn.point
-            (standing.in_sub table typed effects input ready state top older outer named p frames of_sub at_point) n actuals result e called.formals)
-            ((ready.orderly.points named named_there p point_there_now).copied n actuals result e))
+            ((ready.orderly.points named named_there p point_there_now).copied n actuals result e)
             none copies_allowed (λ f has. inl has) (λ k never. absurd never)
       ]
         where
@@ -496,9 +493,9 @@ module _ (table : Table) (typed : TypedProgram) (effects : Effects) (input : Lis
           ready.owns views ready.class.parts_named state.memory (waiting_in easy.state) ((viewed_easy plain_there.0).0).owned
 
       -- formals of the frame see what belongs to frames below
-      pub formals_low : (x : ℕ) (w : Way) → views.way x ≡ Some w → is_view_formal s x ≡ true → (foreign : IsForeign (home s depth) w) × (foreign.0 < depth) × (0 < foreign.0)
+      pub formals_low : (x : ℕ) (w : Way) → views.way x ≡ Some w → is_given s x ≡ true → (foreign : IsForeign (home s depth) w) × (foreign.0 < depth) × (0 < foreign.0)
       formals_low x w has formal = elim (viewed.views x w has) [
-        | inl view ↦ absurd (holds.passed x w has (ap (λ b. b || (is_in_formal s x && is_anonymous (view_of s x))) formal) view.named)
+        | inl view ↦ absurd (holds.passed x w has formal view.named)
         | inr passed ↦ elim (holds.lies x w has) [
           | inl named ↦ absurd (not_elsewhere (home s depth) w named passed.foreign)
           | inr far ↦ far

@@ -40,9 +40,9 @@ use Rattle.soundness.proofs.Contents.{bool_cases, word_no, word_dead}
 use Rattle.soundness.proofs.Steps.{no_leaf}
 use Rattle.soundness.proofs.Typings.{package_same, formal_same}
 use Rattle.soundness.proofs.Around.{same_or_not}
-use Rattle.owned_ways.proofs.Locations.{under_itself, past_under}
+use Rattle.owned_ways.proofs.Locations.{under_itself, under_along}
 use Rattle.soundness.proofs.Returning.{returned_kept, left_same, left_held, returns_lead, ends_lead, left_waits, ended_owned, Backs}
-use Rattle.owned_loans.specs.Views.{known_gone, Views, IsMovedBy, IsForeign, Viewed, ExcusedBy, Around, IsAway}
+use Rattle.owned_loans.specs.Views.{known_gone, Views, IsMovedBy, Viewed, ExcusedBy, AreViews, expand}
 use Rattle.owned_loans.proofs.Moves.{view_on, reached}
 use Rattle.owned_loans.proofs.Ended.{stands_itself}
 use Rattle.viewed_soundness.proofs.Names.{neither, true_false}
@@ -62,16 +62,17 @@ use Rattle.owned_ways.proofs.Dropped.{named_base}
 use Rattle.viewed_soundness.specs.Holds.{sees_only, is_view}
 use Rattle.owned_ways.proofs.Unique.{one_way}
 use Rattle.viewed_steps.specs.Taken.{TakenBy, Lodge, IsTakenIn, AreCarried}
-use Rattle.viewed_steps.proofs.Between.{home_low, homed_apart, base_under, same_variable, taken_from as words_taken, taken_base, IsHomed, number_based, base_along}
-use Rattle.viewed_steps.proofs.Outside.{IsSpared, kept_clear, bare_clear}
+use Rattle.viewed_steps.proofs.Between.{home_low, base_under, same_variable, taken_name}
+use Rattle.viewed_steps.proofs.Outside.{IsSpared, kept_clear, bare_clear, IsFree, free_name}
 use Rattle.viewed_steps.proofs.Apart.{kept_there, written_disturbs}
-use Rattle.viewed_steps.proofs.Views.{base_named}
 use Rattle.flow_paths.specs.Effects.{written_by}
-use Rattle.viewed_steps.proofs.Backed.{AwayBy, ViewedAway, IsBack, all_given_back}
+use Rattle.viewed_steps.proofs.Backed.{AwayBy, IsBack, all_given_back, StandsAway}
 use Rattle.viewed_steps.proofs.Whole.{leaves_whole}
-use Rattle.viewed_steps.proofs.Views.{AreAccess, AreFar, lies_far, apart_by_base}
+use Rattle.viewed_steps.proofs.Views.{AreAccess, AreFar, lies_far}
 use Rattle.soundness.proofs.Lasting.{keeps}
 use Rattle.viewed_steps.proofs.Withheld.{taken_passed}
+use Rattle.owned_loans.proofs.Safe.{off_view, Unlent}
+use Rattle.owned_loans.proofs.Meeting.{stands}
 
 smaller : (f b low : ℕ) → f < suc b → (f ≡ low → ⊥) → low ≡ b → f < low
 smaller f b low less ne is =
@@ -274,26 +275,54 @@ module _ (table : Table) (typed : TypedProgram) (effects : Effects) (input : Lis
           all_between table typed effects unmoved_stage local state below.stage.frame.sub below.stage.depth below.stage.frame.returns (h ∷ others) rest stages_there.2
           (let same_depth = low_is in omega (arith, same_depth)) waiting.1 g has
 
-      -- what concerns the frame below
-      abbrev pub around_low : Around (home s below.stage.depth)
-      around_low = known_gone (home s below.stage.depth) (GoneElsewhere program effects (h ∷ others))
+      -- what its facts say is moved begins in no frame above
+      moved_low : (w : Way) → IsMovedBy (home s below.stage.depth) below.views their_facts w
+          → (f : ℕ) × (y : ℕ) × (ways.base_of w ≡ OfRoot (OfVariable f y)) × (f < suc below.stage.depth)
+      moved_low w (u, moved, leads) =
+          elim (stands (home s below.stage.depth) (sees_only s) below.views (view_here s state) their_facts waits.views u (moved.0, waits.clear.owned (ways.name_of u) moved.1)) [
+            | inl own ↦ (
+                let named_there : ways.Named (home s below.stage.depth) w = subst (ways.Named (home s below.stage.depth)) leads own.0 in (
+                  home s below.stage.depth (number_of w),
+                  number_of w,
+                  named_base (home s below.stage.depth) w named_there,
+                  home_low s below.stage.depth (number_of w),
+                ))
+            | inr held ↦ (
+                let foreign = held.passed.foreign in
+                let low = lies_far s below.stage.depth below.views waits.holds.lies held.object held.way held.has foreign in (
+                  foreign.0,
+                  foreign.1,
+                  ap ways.base_of (sym leads) ∙ base_under held.way (expand below.views u) held.under ∙ foreign.2,
+                  omega (arith, low),
+                ))
+          ]
 
-      pub free_low : (k : ℕ) (w : Way) → ways.Under (ways.Object (ways.OfHand k)) w → GoneElsewhere program effects (h ∷ others) w → ⊥
-      free_low k w under away_there =
-          let root = gone_low table typed effects unmoved_stage local state below.stage.depth (h ∷ others) between_low w away_there in
-          hand_base (sym (base_under (ways.Object (ways.OfHand k)) w under) ∙ root.2)
+      -- what concerns the frame below
+      abbrev pub gone_around : Way → Type 0
+      gone_around = GoneElsewhere program effects (h ∷ others)
+
+      pub free_low : (k : ℕ) (w : Way) → ways.Under (ways.Object (ways.OfHand k)) w → IsMovedBy (home s below.stage.depth) below.views their_facts w ⊎ gone_around w → ⊥
+      free_low k w under known = elim known [
+        | inl moved ↦ hand_base (sym (base_under (ways.Object (ways.OfHand k)) w under) ∙ (moved_low w moved).2)
+        | inr away_there ↦ hand_base (sym (base_under (ways.Object (ways.OfHand k)) w under)
+            ∙ (gone_low table typed effects unmoved_stage local state below.stage.depth (h ∷ others) between_low w away_there).2)
+      ]
         where
           hand_base : {k f x : ℕ} → OfRoot (ways.OfHand k) ≡ OfRoot (OfVariable f x) → ⊥
           hand_base e = cc
 
-      pub whole_low : (x : ℕ) (w : Way) → ways.base_of w ≡ OfRoot (OfVariable (suc below.stage.depth) x) → GoneElsewhere program effects (h ∷ others) w → ⊥
-      whole_low x w base away_there =
-          let root = gone_low table typed effects unmoved_stage local state below.stage.depth (h ∷ others) between_low w away_there in
-          let frames_same = (same_variable root.0 root.1 (suc below.stage.depth) x (sym root.2 ∙ base)).0 in
-          let less = root.3 in omega (arith, frames_same, less)
-
-      pub none_kept : (w : Way) (n : ℕ) → around_low.kept w n → ⊥
-      none_kept w n keeps_it = keeps_it
+      pub whole_low : (x : ℕ) (w : Way) → ways.base_of w ≡ OfRoot (OfVariable (suc below.stage.depth) x)
+          → IsMovedBy (home s below.stage.depth) below.views their_facts w ⊎ gone_around w → ⊥
+      whole_low x w base known = elim known [
+        | inl moved ↦ (
+            let root = moved_low w moved in
+            let frames_same = (same_variable root.0 root.1 (suc below.stage.depth) x (sym root.2 ∙ base)).0 in
+            let less = root.3 in omega (arith, frames_same, less))
+        | inr away_there ↦ (
+            let root = gone_low table typed effects unmoved_stage local state below.stage.depth (h ∷ others) between_low w away_there in
+            let frames_same = (same_variable root.0 root.1 (suc below.stage.depth) x (sym root.2 ∙ base)).0 in
+            let less = root.3 in omega (arith, frames_same, less))
+      ]
 
       pub deep_low : length (below.stage.frame ∷ rest) ≡ suc below.stage.depth
       deep_low = ap suc (sym low_is)
@@ -310,21 +339,21 @@ module _ (table : Table) (typed : TypedProgram) (effects : Effects) (input : Lis
           (root.0, root.1, root.2, λ same. (let less = root.3 in let same_depth = low_is in omega (arith, less, same, same_depth)))
 
       -- the state as the frame below sees it
-      abbrev ViewedLow : List Return → List Way → Memory → Type 0
-      ViewedLow returns ways_left m =
-          ViewedAway main_turn ready.accepted.settled ready.owns in_formals (waiting_in state) state.leaks below.stage.depth deep_low below.views far_low waits.holds.only their_facts
-          (lasting_of s waits.point.scope) around_low free_low whole_low none_kept below.cells begins_low returns ways_left m
+      abbrev StandsLow : List Return → List Way → Memory → Type 0
+      StandsLow returns ways_left m =
+          StandsAway main_turn ready.accepted.settled ready.owns in_formals (waiting_in state) state.leaks below.stage.depth deep_low below.views far_low waits.holds.only their_facts
+          (lasting_of s waits.point.scope) gone_around free_low whole_low below.cells begins_low returns ways_left m
 
       abbrev Away : Way → Type 0
       Away w =
           AwayBy main_turn ready.accepted.settled ready.owns in_formals (waiting_in state) state.leaks below.stage.depth deep_low below.views far_low waits.holds.only their_facts
-          (lasting_of s waits.point.scope) around_low free_low whole_low none_kept below.cells begins_low top.frame.returns below.stage.returns w
+          (lasting_of s waits.point.scope) gone_around free_low whole_low below.cells begins_low top.frame.returns below.stage.returns w
 
       known_low : (w : Way) (l : ways.Loc) → ways.IsRooted w → ways.Reaches (view_here s state) w l → (view_here s state).word l ≡ ways.Gone
-          → IsAway (home s below.stage.depth) below.views around_low their_facts w ⊎ Away w
+          → IsMovedBy (home s below.stage.depth) below.views their_facts w ⊎ Away w
       known_low w l rooted r gone = elim (well.known w l rooted r gone) [
         | inl (inr none) ↦ absurd none
-        | inr (g, inl same_stage, inl moved) ↦ inl (inl (subst (λ (z : ViewStage). IsMovedBy (home s z.stage.depth) z.views (facts_of program effects z.stage) w) (sym same_stage) moved))
+        | inr (g, inl same_stage, inl moved) ↦ inl (subst (λ (z : ViewStage). IsMovedBy (home s z.stage.depth) z.views (facts_of program effects z.stage) w) (sym same_stage) moved)
         | inr (g, inl same_stage, inr taken) ↦ inr (inr (inl (subst (λ (z : ViewStage). TakenBy z.stage.returns w) (sym same_stage) taken)))
         | inr (g, inr has, what) ↦ inr (inl (g, has, what))
         | inl (inl (u, moved, leads)) ↦ elim (bool_cases (is_formal s (number_of u) || is_package_object s (number_of u))) [
@@ -357,43 +386,39 @@ module _ (table : Table) (typed : TypedProgram) (effects : Effects) (input : Lis
               named_base (home s depth) w at_home
               ∙ ap (λ f. OfRoot (OfVariable f (number_of w))) (ap (λ z. if z then 0 else depth) own_object ∙ deep_low)
 
-      -- nothing of that meets what views of the frame see that belongs to others
-      whole_away : (x : ℕ) (w z : Way) → below.views.way x ≡ Some w → IsForeign (home s below.stage.depth) w
-          → GoneElsewhere program effects (h ∷ others) z ⊎ (TakenBy below.stage.returns z
-          ⊎ ((y : ℕ) × (ways.base_of z ≡ OfRoot (OfVariable (suc below.stage.depth) y)) × ((r : Return) → Has top.frame.returns r → r.formal ≡ y → ⊥)))
-          → ways.Under z w ⊎ ways.Under w z → ⊥
-      whole_away x w z has foreign (inl gone) meets = waiting.2 x w z has foreign gone meets
-      whole_away x w z has foreign (inr (inl taken)) meets =
-          let base = taken_base s below.stage.returns below.stage.depth
-          (words_taken s below.cells state.memory below.stage.depth their_facts (lasting_of s waits.point.scope) top.frame.returns below.stage.returns waits.taken) z taken in
-          homed_apart s below.stage.depth z base w z foreign (under_itself z) meets
-      whole_away x w z has foreign (inr (inr (y, base, none))) meets =
-          apart_by_base w z foreign.0 foreign.1 (suc below.stage.depth) y foreign.2 base (λ same. (let under = far_low x w has foreign in omega (arith, under, same))) meets
+      pub stands_low : StandsLow top.frame.returns below.stage.returns state.memory
+      stands_low = record { owned = well.owned; covered = well.covered; known = known_low }
 
-      pub viewed_low : ViewedLow top.frame.returns below.stage.returns state.memory
-      viewed_low = record {
-        owned = well.owned;
-        covered = well.covered;
-        known = known_low;
-        clear = waits.clear;
-        views = waits.views;
-        whole = whole_away;
-        past = λ x w has given plain k n none. absurd none;
-        lends = λ l n none. absurd none;
-        far = λ w n none. absurd none;
-        bare = λ w n p none. absurd none;
-      }
+      -- what was taken is what names of the frame stand for
+      taken_named : (to : Way) → Has below.stage.returns to → (name : Way) × ways.Named (home s below.stage.depth) name × (sees_only s (number_of name) ≡ false)
+          × (expand below.views name ≡ to) × Unlent their_facts name
+      taken_named to has = taken_name s below.cells state.memory below.stage.depth below.views their_facts (lasting_of s waits.point.scope) top.frame.returns below.stage.returns waits.taken to has
+
+      -- it doesn't go before what its views see
+      off_taken : (x : ℕ) (w : Way) → below.views.way x ≡ Some w → (to : Way) → Has below.stage.returns to → ways.Past to w → ⊥
+      off_taken x w has to taken past =
+          let by = taken_named to taken in
+          off_view (home s below.stage.depth) (sees_only s) below.views (view_here s state) their_facts waits.views waits.clear by.0 x w (by.1, by.2) by.4 has
+          (subst (λ z. ways.Past z w) (sym by.3) past)
+
+      -- the ways of its views begin in no frame above
+      low_view : (x : ℕ) (w : Way) → below.views.way x ≡ Some w → (g : ℕ) × (y : ℕ) × (ways.base_of w ≡ OfRoot (OfVariable g y)) × (g ≡ suc below.stage.depth → ⊥)
+      low_view x w has =
+          let root = kept_low table typed effects unmoved_stage local state depth (below ∷ (h ∷ others))
+          (all_between table typed effects unmoved_stage local state top.frame.sub depth top.frame.returns (below ∷ (h ∷ others)) (below.stage.frame ∷ rest) stages_there (omega arith) waiting)
+          w (below.views.cell x) (below, inl refl, inl (x, has, refl)) in
+          (root.0, root.1, root.2, λ same. (let less = root.3 in let same_depth = low_is in omega (arith, less, same, same_depth)))
 
       abbrev Backed : Memory → Type 0
       Backed m =
           IsBack main_turn ready.accepted.settled ready.owns in_formals (waiting_in state) state.leaks below.stage.depth deep_low below.views far_low waits.holds.only their_facts
-          (lasting_of s waits.point.scope) around_low free_low whole_low none_kept below.cells begins_low top.frame.returns below.stage.returns state.memory m
+          (lasting_of s waits.point.scope) gone_around free_low whole_low below.cells begins_low top.frame.returns below.stage.returns state.memory m
 
       given_back : Backs Backed (steps.copied_back main_turn top.frame.returns (steps.start main_turn))
       given_back =
           all_given_back main_turn ready.accepted.settled ready.owns in_formals (waiting_in state) state.leaks below.stage.depth deep_low below.views far_low waits.holds.only their_facts
-          (lasting_of s waits.point.scope) around_low free_low whole_low none_kept below.cells begins_low top.frame.returns below.stage.returns (steps.start main_turn) waits.taken
-          (λ c has. ((waits.kept c has).reaches, (waits.kept c has).aside)) kept viewed_low
+          (lasting_of s waits.point.scope) gone_around free_low whole_low below.cells begins_low top.frame.returns below.stage.returns (steps.start main_turn) waits.taken
+          (λ c has. ((waits.kept c has).reaches, (waits.kept c has).aside)) kept stands_low
 
       module _ (mid : Memory) (on : Backed mid) (same_mid : top.frame.returns ≡ [] → mid ≡ state.memory) where
         abbrev left_state : State
@@ -471,27 +496,36 @@ module _ (table : Table) (typed : TypedProgram) (effects : Effects) (input : Lis
         known_left : (w : Way) (l : ways.Loc) → ways.IsRooted w → ways.Reaches left_view w l → left_view.word l ≡ ways.Gone
             → ExcusedBy (home s low) below.views (known_gone (home s low) (GoneElsewhere program effects (h ∷ others))) (facts_of program effects below.stage) w
         known_left w l rooted r gone =
-            elim (on.viewed.known w l rooted (reach_before s mid depth (waiting_in state) state.leaks nothing_mid w l r)
+            elim (on.stand.known w l rooted (reach_before s mid depth (waiting_in state) state.leaks nothing_mid w l r)
             (gone_before s mid depth (waiting_in state) state.leaks nothing_mid l gone)) [
-              | inl moved ↦ inl moved
+              | inl moved ↦ inl (inl moved)
               | inr (inl away_there) ↦ inr away_there
               | inr (inr (inl taken)) ↦ absurd taken.1
               | inr (inr (inr (x, base, none))) ↦ absurd (
                   whole_there s mid depth (waiting_in state) state.leaks nothing_mid w l x (base ∙ ap (λ f. OfRoot (OfVariable f x)) depths) r gone)
             ]
 
+        -- its views see what they saw
+        views_mid : AreViews (home s low) (sees_only s) below.views mid_view (facts_of program effects below.stage)
+        views_mid x w has =
+            let base = low_view x w has in
+            view_on (home s low) (sees_only s) (known_gone (home s low) (λ z. ⊥)) below.views (view_here s state) mid_view
+            (facts_of program effects below.stage) (facts_of program effects below.stage) x w (waits.views x w has) (λ b n loan. loan)
+            (on.stays w base.0 base.1 base.2 base.3 (off_taken x w has) (below.views.cell x)
+            (reached (home s low) (sees_only s) (known_gone (home s low) (λ z. ⊥)) below.views (view_here s state) (facts_of program effects below.stage) x w (waits.views x w has)))
+
         viewed_left : Viewed (home s low) (sees_only s) (known_gone (home s low) (GoneElsewhere program effects (h ∷ others))) below.views left_view
             (facts_of program effects below.stage)
         viewed_left = record {
-          owned = owned_left s mid depth (waiting_in state) state.leaks nothing_mid on.viewed.owned;
-          covered = covered_left s mid depth (waiting_in state) state.leaks nothing_mid on.viewed.covered;
+          owned = owned_left s mid depth (waiting_in state) state.leaks nothing_mid on.stand.owned;
+          covered = covered_left s mid depth (waiting_in state) state.leaks nothing_mid on.stand.covered;
           known = known_left;
           clear = waits.clear;
           views = λ x w has.
               view_on (home s low) (sees_only s) (known_gone (home s low) (λ z. ⊥)) below.views mid_view left_view
-              (facts_of program effects below.stage) (facts_of program effects below.stage) x w (on.viewed.views x w has) (λ b n loan. loan)
+              (facts_of program effects below.stage) (facts_of program effects below.stage) x w (views_mid x w has) (λ b n loan. loan)
               (reach_left s mid depth (waiting_in state) state.leaks nothing_mid w (ways.OfCell (below.views.cell x))
-              (reached (home s low) (sees_only s) (known_gone (home s low) (λ z. ⊥)) below.views mid_view (facts_of program effects below.stage) x w (on.viewed.views x w has)));
+              (reached (home s low) (sees_only s) (known_gone (home s low) (λ z. ⊥)) below.views mid_view (facts_of program effects below.stage) x w (views_mid x w has)));
           whole = λ x w z has foreign gone meets. waiting.2 x w z has foreign gone meets;
           past = λ x w has given plain k n none. absurd none;
           lends = λ l n none. absurd none;
@@ -538,23 +572,24 @@ module _ (table : Table) (typed : TypedProgram) (effects : Effects) (input : Lis
               gone_cells = λ n q out gone. left_there.1 n q ∙ on.carried.gone_cells n q out gone;
             }
 
-        -- what was taken begins at variables of the frame, or at package objects of which the others keep nothing
-        homed : (to : Way) → Has below.stage.returns to → IsHomed s below.stage.depth to
-        homed to has = words_taken s below.cells state.memory below.stage.depth their_facts (lasting_of s waits.point.scope) top.frame.returns below.stage.returns waits.taken to has
-
-        spared_to : (to : Way) (has : Has below.stage.returns to)
-            → IsSpared table typed effects unmoved_stage local state below.stage.depth (h ∷ others) between_low (homed to has).1
-        spared_to to has l name lent root =
-            let begin = homed to has in
-            let at : ways.base_of to ≡ OfRoot (OfVariable (home s below.stage.depth begin.1) begin.1) =
-            begin.2 ∙ ap (λ f. OfRoot (OfVariable f begin.1)) begin.3 in
-            let number : number_of to ≡ begin.1 = number_based (home s below.stage.depth) to begin.1 (base_named (home s below.stage.depth) to begin.1 at) at in
+        -- the others keep nothing of a package object where what was taken begins
+        spared_to : (to : Way) → Has below.stage.returns to → (y : ℕ) → ways.base_of to ≡ OfRoot (OfVariable (home s below.stage.depth y) y)
+            → IsSpared table typed effects unmoved_stage local state below.stage.depth (h ∷ others) between_low y
+        spared_to to has y base l name lent root =
             let (g, there, some, f, keeps, shared, kind, name_is) = lent in
-            let written = waits.written (number_of to) (taken_passed below to has) (ap (is_package_object s) (number ∙ sym root) ∙ shared) in
+            let shared_root : is_package_object s y ≡ true = ap (is_package_object s) (sym root) ∙ shared in
+            let written = waits.written y (taken_passed below to y has (base ∙ ap (λ b. OfRoot (OfVariable (if b then 0 else below.stage.depth) y)) shared_root)) shared_root in
             kept_there table typed effects ready.accepted.effects_are (unused_there table typed effects unmoved_stage local) state below.stage.frame.sub below.stage.frame.returns
             (h ∷ others) waiting.1 g there some f keeps (ap (λ (z : PlaceName). is_package_object s z.root) name_is ∙ shared)
             (written_disturbs table typed effects ready.accepted.effects_are (loan_by f) below.stage.frame.sub (place f).root
-            (subst (Has (written_by effects below.stage.frame.sub)) (number ∙ sym root ∙ ap (λ (z : PlaceName). z.root) (sym name_is)) written))
+            (subst (Has (written_by effects below.stage.frame.sub)) (sym root ∙ ap (λ (z : PlaceName). z.root) (sym name_is)) written))
+
+        free_to : (to : Way) → Has below.stage.returns to → IsFree table typed effects unmoved_stage local state below.stage.depth (h ∷ others) between_low to
+        free_to to has =
+            let by = taken_named to has in
+            subst (IsFree table typed effects unmoved_stage local state below.stage.depth (h ∷ others) between_low) by.3
+            (free_name table typed effects unmoved_stage local state below.stage.depth (h ∷ others) between_low below.views (view_here s state) their_facts waits.views waiting.3 waiting.2 by.0 by.1 by.2
+            (λ y base. spared_to to has y (ap ways.base_of (sym by.3) ∙ base)))
 
         -- what is bare elsewhere in a cell isn't given back to
         bare_aside : (w : ways.Way) (n : ℕ) (q r : List Step) → BareElsewhere table typed effects unmoved_stage local (h ∷ others) w (ways.OfCell n) q
@@ -563,8 +598,8 @@ module _ (table : Table) (typed : TypedProgram) (effects : Effects) (input : Lis
             let view = view_here s state in
             let reach : ways.Reaches view w (ways.OfCell n) = bare_reached table typed effects unmoved_stage local state below.stage.depth (h ∷ others) between_low w n q there in
             let same : c.way ≡ w = one_way view well.owned c.way w (ways.OfCell n) (subst (λ z. ways.Reaches view c.way (ways.OfCell z)) is (waits.kept c has).reaches) reach in
-            bare_clear table typed effects unmoved_stage local state below.stage.depth (h ∷ others) between_low to (homed to has_to) (spared_to to has_to) w (ways.OfCell n) q there
-            (sym (base_along w (r ++ q)) ∙ ap (λ z. ways.base_of (ways.along z (r ++ q))) (sym same) ∙ ap ways.base_of goes ∙ base_along to steps_on)
+            bare_clear table typed effects unmoved_stage local state below.stage.depth (h ∷ others) between_low to (free_to to has_to) w (ways.OfCell n) q r there
+            (subst (ways.Under to) (sym goes ∙ ap (λ z. ways.along z (r ++ q)) same) (under_along to to steps_on (under_itself to)))
 
         -- nothing given waits in others
         none_in : more_frames ≡ h ∷ others → NoneGiven s h × AllByRecursion (NoneGiven s) others
@@ -585,15 +620,14 @@ module _ (table : Table) (typed : TypedProgram) (effects : Effects) (input : Lis
             (record {
               far = λ w n keeps. (let root = kept_low table typed effects unmoved_stage local state below.stage.depth (h ∷ others) between_low w n keeps in
                   reach_on w n (on.stays w root.0 root.1 root.2 (λ same_depth. (let less = root.3 in omega (arith, less, same_depth)))
-                  (λ to has past. kept_clear table typed effects unmoved_stage local state below.stage.depth (h ∷ others) between_low to (homed to has) (spared_to to has) w n keeps
-                  (base_under to w (past_under to w past))) n
+                  (λ to has past. kept_clear table typed effects unmoved_stage local state below.stage.depth (h ∷ others) between_low to (free_to to has) w n keeps past) n
                   (far table typed effects unmoved_stage local state below.stage.depth (h ∷ others) between_low w n keeps)));
               bare = bare_still table typed effects unmoved_stage local (h ∷ others) state left_state
                   (λ w n q r k there held. left_carried.in_cells n (r ++ q) k (bare_aside w n q r there) held)
                   (λ y q r k there shared held. left_carried.held 0 y (r ++ q) k (λ same_depth. (let at = deep in omega (arith, same_depth, at)))
-                  (λ (to, has, steps_on, goes). bare_clear table typed effects unmoved_stage local state below.stage.depth (h ∷ others) between_low to (homed to has) (spared_to to has)
-                  (ways.Object (OfVariable 0 y)) (OfRoot (OfVariable 0 y)) q there
-                  (sym (base_along (ways.Object (OfVariable 0 y)) (r ++ q)) ∙ ap ways.base_of goes ∙ base_along to steps_on)) held)
+                  (λ (to, has, steps_on, goes). bare_clear table typed effects unmoved_stage local state below.stage.depth (h ∷ others) between_low to (free_to to has)
+                  (ways.Object (OfVariable 0 y)) (OfRoot (OfVariable 0 y)) q r there
+                  (subst (ways.Under to) (sym goes) (under_along to to steps_on (under_itself to)))) held)
                   (theirs table typed effects unmoved_stage local state below.stage.depth (h ∷ others) between_low).bare;
             }) waiting.1
 

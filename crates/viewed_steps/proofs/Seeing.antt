@@ -1,6 +1,6 @@
 -- What is passed for a formal that owns nothing: null, or the number of a cell that a way of the caller leads
 -- to. Nothing that is gone meets that way, and it is foreign in what is called.
-use Rattle.std.proofs.Common.{◌≡◌, refl, sym, ap, ◌∙◌, subst, ◌⊎◌, inl, inr, ℕ, ◌<◌, Bool, true, false, List, [], ◌∷◌, Option, Some, None, arith}
+use Rattle.std.proofs.Common.{◌≡◌, refl, sym, ap, ◌∙◌, subst, ◌⊎◌, inl, inr, ℕ, ◌<◌, Bool, true, false, List, [], ◌∷◌, Option, Some, None, arith, ◌||◌, ◌&&◌}
 use Rattle.spark_base.specs.declared.position.Pos.{Pos}
 use Rattle.place_names.specs.declared.fact.Fact.{Fact}
 use Rattle.place_names.specs.Names.{Name as PlaceName}
@@ -38,6 +38,7 @@ use Rattle.viewed_soundness.proofs.Lends.{matches_on}
 use Rattle.viewed_steps.specs.Ready.{IsSeen, IsShowable, IsAccessAs}
 use Rattle.viewed_steps.proofs.Entered.{IsTyped}
 use Rattle.viewed_steps.proofs.Views.{view_cases}
+use Rattle.machine.specs.Owners.{is_in_formal}
 
 -- Nothing of a name was moved or is borrowed, unless it is looked at through an observer or a formal.
 abbrev pub IsClear : Typing → List Fact → TypedTree → Type 0
@@ -83,7 +84,7 @@ module _ (h : Here) (settled : IsSettled h.typing.table) (hands : List Waiting) 
     (index_law : IndexLaw)
     (own_law : OwnsByShape h.typing.table)
     (parts_named : PartsAreNamed h.typing.table)
-    (formals_low : (x : ℕ) (w : Way) → v.way x ≡ Some w → is_view_formal h.typing x ≡ true → (foreign : IsForeign (home h.typing h.frame) w) × (foreign.0 < h.frame) × (0 < foreign.0)) where
+    (formals_low : (x : ℕ) (w : Way) → v.way x ≡ Some w → is_given h.typing x ≡ true → (foreign : IsForeign (home h.typing h.frame) w) × (foreign.0 < h.frame) × (0 < foreign.0)) where
   abbrev s : Typing
   s = h.typing
 
@@ -163,7 +164,7 @@ module _ (h : Here) (settled : IsSettled h.typing.table) (hands : List Waiting) 
       reaches = reaches;
       low = low_on (elim (view_cases s y view) [
         | inl anonymous ↦ lows (lifted view).0.way has anonymous
-        | inr formal ↦ (let far = formals_low y (lifted view).0.way has formal in inr (far.0, (let less = far.1 in omega (arith, less)), far.2))
+        | inr formal ↦ (let far = formals_low y (lifted view).0.way has (ap (λ b. b || (is_in_formal h.typing y && is_anonymous (view_of h.typing y))) formal) in inr (far.0, (let less = far.1 in omega (arith, less)), far.2))
       ]);
       whole = by_sees (sees_only s y) refl;
     }

@@ -16,14 +16,14 @@ use Rattle.machine.specs.Evaluate.{Here, Done, followed_by}
 use Rattle.machine.specs.States.{Waiting, Leak}
 use Rattle.owned_ways.specs.Ways.{Loc, Way, Reaches, AllowsAll, after}
 use Rattle.part_offsets.specs.Parts.{IsSettled}
-use Rattle.soundness.specs.Seen.{IsNear, content, trunk, seen, home, is_view_formal}
+use Rattle.soundness.specs.Seen.{IsNear, content, trunk, seen, home}
 use Rattle.soundness.specs.Typed.{Kept, OwnsByShape}
 use Rattle.typed_laws.specs.Needed.{Leads, IndexLaw}
 use Rattle.soundness.proofs.Passing.{AreReads, reads_keep, TakesAll}
 use Rattle.soundness.proofs.Scalars.{acts, acts_append, after_append, allows_both}
 use Rattle.soundness.proofs.Stays.{Quiet, quiet_then, quiet_from}
 use Rattle.owned_loans.specs.Views.{Around, Views, IsForeign, Viewed}
-use Rattle.viewed_soundness.specs.Holds.{PartsAreNamed, sees_only, IsAccess, IsOwners, Holds}
+use Rattle.viewed_soundness.specs.Holds.{PartsAreNamed, sees_only, IsAccess, IsOwners, Holds, is_given}
 use Rattle.viewed_steps.specs.Ready.{is_shown_type, IsSeen, AreActualsTo}
 use Rattle.viewed_steps.specs.Sound.{IsKindOfFormal}
 use Rattle.viewed_steps.specs.Traversals.{TraversalCall}
@@ -85,7 +85,7 @@ module _ (h : Here) (settled : IsSettled h.typing.table) (hands : List Waiting) 
     (index_law : IndexLaw)
     (own_law : OwnsByShape h.typing.table)
     (parts_named : PartsAreNamed h.typing.table)
-    (formals_low : (x : ℕ) (w : Way) → v.way x ≡ Some w → is_view_formal h.typing x ≡ true → (foreign : IsForeign (home h.typing h.frame) w) × (foreign.0 < h.frame) × (0 < foreign.0))
+    (formals_low : (x : ℕ) (w : Way) → v.way x ≡ Some w → is_given h.typing x ≡ true → (foreign : IsForeign (home h.typing h.frame) w) × (foreign.0 < h.frame) × (0 < foreign.0))
     (f : ℕ) (formals : List ℕ) (c : TraversalCall) (in_mode : (object_at h.typing f).mode ≡ mode.In) (access : IsAccess h.typing f) (shown : is_shown_type h.typing f ≡ true) where
   abbrev AreAllGiven : List Passed → Type 0
   AreAllGiven passed =

@@ -32,21 +32,14 @@ use Rattle.owned_loans.proofs.Meeting.{stands}
 use Rattle.owned_loans.proofs.Moves.{view_on, own_loan, reached}
 use Rattle.viewed_steps.specs.Taken.{TakenBy, Lodge}
 use Rattle.owned_loans.proofs.Meeting.{stands}
-use Rattle.viewed_steps.proofs.Between.{base_along as along_base, number_based, home_low, taken_from as words_taken, taken_base, near_base}
+use Rattle.viewed_steps.proofs.Between.{base_along as along_base, number_based, taken_from as words_taken, taken_base, near_base, begun_low}
 use Rattle.viewed_steps.proofs.Roots.{borrower_goes, view_goes}
 use Rattle.viewed_steps.specs.Awaited.{lasting_of}
 use Rattle.viewed_steps.proofs.Whole.{flat_has}
-use Rattle.viewed_steps.proofs.Withheld.{kept_cases, kept_root, kept_fact, taken_passed, cell_passed, passed_from}
+use Rattle.viewed_steps.proofs.Withheld.{kept_cases, kept_root, kept_fact, taken_passed, cell_passed, passed_from, flat_from}
 use Rattle.viewed_steps.specs.Sound.{loan_by, passed_roots, withheld, KeptBy, ArePast, ViewStage, stages_of, Lies, GoneElsewhere, IsWaiting, IsFirst, AreWaiting, IsWayOf, IsBareOf}
 use Rattle.viewed_steps.proofs.Views.{base_named, same_lies}
 use Rattle.machine.specs.Owners.{waiting_in}
-
-flat_from : {A B : Type 0} (f : A → List B) (xs : List A) (y : B) → Has (flat_map f xs) y → (x : A) × Has xs x × Has (f x) y
-flat_from f [] y h = absurd h
-flat_from f (x ∷ xs) y h = elim (Has-append_cases (f x) (flat_map f xs) y h) [
-  | inl mine ↦ (x, inl refl, mine)
-  | inr later ↦ (let found = flat_from f xs y later in (found.0, inr found.1, found.2))
-]
 
 -- ---- near ways
 
@@ -453,8 +446,8 @@ module _ (table : Table) (typed : TypedProgram) (effects : Effects)
       | inl first ↦ absurd (subst (λ z. TakenBy z w) (first.1).2 taken).1
       | inr (some, less, callee, backs, waits) ↦ (
           let base = taken_base s g.stage.returns g.stage.depth
-          (words_taken s g.cells state.memory g.stage.depth (facts_of program effects g.stage) (lasting_of s waits.point.scope) backs g.stage.returns waits.taken) w taken in
-          (base.0, base.1, base.2, (let at_home = base.3 in let low = home_low s g.stage.depth base.1 in omega (arith, at_home, low, less))))
+          (words_taken s g.cells state.memory g.stage.depth g.views (facts_of program effects g.stage) (lasting_of s waits.point.scope) backs g.stage.returns waits.taken) w taken in
+          (base.0, base.1, base.2, (let low = begun_low s g.stage.depth base.0 base.1 base.3 in omega (arith, low, less))))
     ]
     gone_low w (g, has, inl (u, moved, leads)) = elim (between g has) [
       | inl first ↦ absurd (unmoved g.stage first.0 (name_of u) moved.1)
@@ -476,13 +469,18 @@ module _ (table : Table) (typed : TypedProgram) (effects : Effects)
     near_lent w near (g, has, inr (to, taken, p, is)) = elim (between g has) [
       | inl first ↦ absurd (subst (λ z. Has z to) (first.1).2 taken)
       | inr (some, less, callee, backs, waits) ↦ (
-          let begin = words_taken s g.cells state.memory g.stage.depth (facts_of program effects g.stage) (lasting_of s waits.point.scope) backs g.stage.returns waits.taken to taken in
-          let at : base_of to ≡ OfRoot (OfVariable (home s g.stage.depth begin.1) begin.1) = begin.2 ∙ ap (λ f. OfRoot (OfVariable f begin.1)) begin.3 in
-          let based : base_of w ≡ OfRoot (OfVariable (home s g.stage.depth begin.1) begin.1) = ap base_of is ∙ along_base to p ∙ at in
-          let there : Named (home s g.stage.depth) w = base_named (home s g.stage.depth) w begin.1 based in
-          root_for g has some begin.1 w
-          (subst (Has (passed_roots g)) (number_based (home s g.stage.depth) to begin.1 (base_named (home s g.stage.depth) to begin.1 at) at) (taken_passed g to taken)) based
-          (ap (is_package_object s) (sym (number_based (home s g.stage.depth) w begin.1 there based)) ∙ near_package s g.stage.depth depth some less w there near))
+          let begin = words_taken s g.cells state.memory g.stage.depth g.views (facts_of program effects g.stage) (lasting_of s waits.point.scope) backs g.stage.returns waits.taken to taken in
+          let based : base_of w ≡ OfRoot (OfVariable begin.0 begin.1) = ap base_of is ∙ along_base to p ∙ begin.2 in
+          elim begin.3 [
+            | inr (above, low) ↦ absurd (elim (near_base depth w begin.0 begin.1 near based) [ inl none ↦ omega (arith, above, none) | inr same ↦ omega (arith, low, less, same) ])
+            | inl at_home ↦ (
+                let own : base_of w ≡ OfRoot (OfVariable (home s g.stage.depth begin.1) begin.1) = based ∙ ap (λ f. OfRoot (OfVariable f begin.1)) at_home in
+                let there : Named (home s g.stage.depth) w = base_named (home s g.stage.depth) w begin.1 own in
+                let shared : is_package_object s begin.1 ≡ true =
+                ap (is_package_object s) (sym (number_based (home s g.stage.depth) w begin.1 there own)) ∙ near_package s g.stage.depth depth some less w there near in
+                root_for g has some begin.1 w
+                (taken_passed g to begin.1 taken (begin.2 ∙ (λ j. OfRoot (OfVariable ((at_home ∙ ap (λ b. if b then 0 else g.stage.depth) shared) j) begin.1)))) own shared)
+          ])
     ]
     near_lent w near (g, has, inl (u, moved, leads)) = elim (between g has) [
       | inl first ↦ absurd (unmoved g.stage first.0 (name_of u) moved.1)
@@ -598,9 +596,7 @@ module _ (table : Table) (typed : TypedProgram) (effects : Effects)
           (
               let base : base_of (along w p) ≡ OfRoot (OfVariable (home s g.stage.depth y) y) =
               along_base w p ∙ ap base_of (sym is) ∙ (λ j. OfRoot (OfVariable (if sym shared j then 0 else g.stage.depth) y)) in
-              let named : Named (home s g.stage.depth) (along w p) = base_named (home s g.stage.depth) (along w p) y base in
-              root_for g has some y (along w p)
-              (subst (Has (passed_roots g)) (number_based (home s g.stage.depth) (along w p) y named base) (taken_passed g (along w p) taken)) base shared),
+              root_for g has some y (along w p) (taken_passed g (along w p) y taken (along_base w p ∙ ap base_of (sym is))) base shared),
         )
       ],
     )

@@ -1,6 +1,6 @@
 -- What a frame keeps from what it calls.
-use Rattle.std.proofs.Common.{◌≡◌, refl, sym, ap, ◌∙◌, ◌⊎◌, inl, inr, ℕ, Bool, true, false, not, ◌||◌, ◌==◌, eqb-true, eq-eqb, List, [], ◌∷◌, filter}
-use Rattle.std.specs.Prelude.{map}
+use Rattle.std.proofs.Common.{◌≡◌, refl, sym, ap, ◌∙◌, ◌⊎◌, inl, inr, ℕ, Bool, true, false, not, ◌||◌, ◌==◌, eqb-true, eq-eqb, List, [], ◌∷◌, filter, if◌then◌else◌, subst}
+use Rattle.std.specs.Prelude.{map, flat_map}
 use Rattle.std.specs.List.{list_any}
 use Rattle.spark_base.specs.Lists.{Has}
 use Rattle.spark_base.proofs.Lists.{Has-append_left, Has-append_right, Has-append_cases, Has-map, Has-map_from, Has-filter, Has-filter_passes}
@@ -11,18 +11,26 @@ use Rattle.place_names.specs.Names.{Name, object}
 use Rattle.place_names.specs.Facts.{place}
 use Rattle.flow_paths.specs.declared.report.Effects.{Effects}
 use Rattle.flow_paths.specs.Laid.{FlowProgram}
-use Rattle.owned_ways.specs.Ways.{Way, number_of}
+use Rattle.owned_ways.specs.Ways.{Way, number_of, Loc, OfRoot, OfVariable, OfHand, OfCell, Inside, base_of}
 use Rattle.soundness.specs.Sound.{facts_of}
 use Rattle.soundness.proofs.Contents.{bool_cases}
 use Rattle.soundness.proofs.Used.{any_has}
 use Rattle.viewed_steps.specs.Taken.{Lodge}
-use Rattle.viewed_steps.specs.Sound.{ViewStage, passed_roots, is_passed, withheld}
+use Rattle.viewed_steps.specs.Sound.{ViewStage, passed_roots, is_passed, withheld, shared_root}
+use Rattle.viewed_steps.proofs.Whole.{flat_has}
 
 any_root : (ys : List ℕ) (x : ℕ) → list_any (λ y. y == x) ys ≡ true → Has ys x
 any_root [] x e = cc
 any_root (y ∷ ys) x e = elim (bool_cases (y == x)) [
   | inl same ↦ inl (eqb-true y x same)
   | inr other ↦ inr (any_root ys x (sym (ap (λ b. b || list_any (λ z. z == x) ys) other) ∙ e))
+]
+
+pub flat_from : {A B : Type 0} (f : A → List B) (xs : List A) (y : B) → Has (flat_map f xs) y → (x : A) × Has xs x × Has (f x) y
+flat_from f [] y h = absurd h
+flat_from f (x ∷ xs) y h = elim (Has-append_cases (f x) (flat_map f xs) y h) [
+  | inl mine ↦ (x, inl refl, mine)
+  | inr later ↦ (let found = flat_from f xs y later in (found.0, inr found.1, found.2))
 ]
 
 true_or_not : (b : Bool) → b ≡ true → not b ≡ true → ⊥
@@ -63,18 +71,35 @@ module _ (program : FlowProgram) (effects : Effects) (g : ViewStage) where
   ]
 
 -- what is taken, and cells, are of such objects
-pub taken_passed : (g : ViewStage) (to : Way) → Has g.stage.returns to → Has (passed_roots g) (number_of to)
-taken_passed g to has =
-    Has-append_left (map number_of g.stage.returns) (map (λ (c : Lodge). number_of c.name) g.cells) (number_of to) (Has-map number_of g.stage.returns to has)
+at_first_root : (l : Loc) (y : ℕ) → l ≡ OfRoot (OfVariable 0 y) → Has (shared_root l) y
+at_first_root l y is = subst (λ z. Has (shared_root z) y) (sym is) (inl refl)
+
+from_first_root : (l : Loc) (y : ℕ) → Has (shared_root l) y → l ≡ OfRoot (OfVariable 0 y)
+from_first_root (OfRoot (OfVariable f z)) y has = by_frame (f == 0) refl has
+  where
+    by_frame : (b : Bool) → f == 0 ≡ b → Has (if b then z ∷ [] else []) y → OfRoot (OfVariable f z) ≡ OfRoot (OfVariable 0 y)
+    by_frame true e (inl same) = (λ j. OfRoot (OfVariable (eqb-true f 0 e j) (same j)))
+    by_frame true e (inr never) = absurd never
+    by_frame false e never = absurd never
+from_first_root (OfRoot (OfHand h)) y has = absurd has
+from_first_root (OfCell n) y has = absurd has
+from_first_root (Inside l i) y has = absurd has
+
+pub taken_passed : (g : ViewStage) (to : Way) (y : ℕ) → Has g.stage.returns to → base_of to ≡ OfRoot (OfVariable 0 y) → Has (passed_roots g) y
+taken_passed g to y has base =
+    Has-append_left (flat_map (λ (to : Way). shared_root (base_of to)) g.stage.returns) (map (λ (c : Lodge). number_of c.name) g.cells) y
+    (flat_has (λ (to : Way). shared_root (base_of to)) g.stage.returns to y has (at_first_root (base_of to) y base))
 
 pub cell_passed : (g : ViewStage) (c : Lodge) → Has g.cells c → Has (passed_roots g) (number_of c.name)
 cell_passed g c has =
-    Has-append_right (map number_of g.stage.returns) (map (λ (c : Lodge). number_of c.name) g.cells) (number_of c.name)
+    Has-append_right (flat_map (λ (to : Way). shared_root (base_of to)) g.stage.returns) (map (λ (c : Lodge). number_of c.name) g.cells) (number_of c.name)
     (Has-map (λ (c : Lodge). number_of c.name) g.cells c has)
 
 pub passed_from : (g : ViewStage) (y : ℕ) → Has (passed_roots g) y
-    → ((to : Way) × Has g.stage.returns to × (number_of to ≡ y)) ⊎ ((c : Lodge) × Has g.cells c × (number_of c.name ≡ y))
-passed_from g y has = elim (Has-append_cases (map number_of g.stage.returns) (map (λ (c : Lodge). number_of c.name) g.cells) y has) [
-  | inl taken ↦ inl (Has-map_from number_of g.stage.returns y taken)
+    → ((to : Way) × Has g.stage.returns to × (base_of to ≡ OfRoot (OfVariable 0 y))) ⊎ ((c : Lodge) × Has g.cells c × (number_of c.name ≡ y))
+passed_from g y has = elim (Has-append_cases (flat_map (λ (to : Way). shared_root (base_of to)) g.stage.returns) (map (λ (c : Lodge). number_of c.name) g.cells) y has) [
+  | inl taken ↦ (
+      let found = flat_from (λ (to : Way). shared_root (base_of to)) g.stage.returns y taken in
+      inl (found.0, found.1, from_first_root (base_of found.0) y found.2))
   | inr cell ↦ inr (Has-map_from (λ (c : Lodge). number_of c.name) g.cells y cell)
 ]

@@ -4,7 +4,7 @@
 -- frame, and leaves package objects alone of which a part is lent.
 use Rattle.std.specs.List.{AllByRecursion, list_any}
 use Rattle.viewed_steps.specs.Traversals.{AreRooted, SeesFirst, AreGiven}
-use Rattle.std.specs.Prelude.{◌≡◌, ◌⊎◌, ◌<◌, ℕ, ◌==◌, Bool, not, true, false, List, [], ◌∷◌, ◌++◌, filter, map, get_or, Option, Some, None, suc, is_some}
+use Rattle.std.specs.Prelude.{◌≡◌, ◌⊎◌, ◌<◌, ℕ, ◌==◌, Bool, not, true, false, List, [], ◌∷◌, ◌++◌, filter, map, get_or, Option, Some, None, suc, is_some, flat_map, if◌then◌else◌}
 use Rattle.spark_base.specs.Lists.{Has}
 use Rattle.spark_base.specs.declared.position.Pos.{Pos}
 use Rattle.place_names.specs.declared.act.Mode.TheVariants as mode
@@ -30,9 +30,9 @@ use Rattle.flow_paths.specs.Views.{encloses, scope_of, traversed_formal, sub_act
 use Rattle.machine.specs.Words.{Cell}
 use Rattle.machine.specs.Memory.{Memory, variable_slots, no_slot}
 use Rattle.machine.specs.States.{Return, Waiting, Frame, State, Outcome, Goes, Ends, sub_of}
-use Rattle.machine.specs.Owners.{is_in, WellOwned, waiting_in}
+use Rattle.machine.specs.Owners.{WellOwned, waiting_in}
 use Rattle.machine.specs.Run.{step}
-use Rattle.owned_ways.specs.Ways.{Object, Step, OfVariable, OfRoot, Held, Way, Named, Under, Past, name_of, number_of, OfCell, Reaches, Loc, along, View}
+use Rattle.owned_ways.specs.Ways.{Object, Step, OfVariable, OfRoot, Held, Way, Named, Under, Past, name_of, number_of, OfCell, Reaches, Loc, along, View, base_of}
 use Rattle.soundness.specs.Seen.{content, word_in, home, is_view_formal}
 use Rattle.soundness.specs.Typed.{Kept}
 use Rattle.soundness.specs.Sound.{goes_through_none, is_temporary_object, IsNamedSub, IsAtPoint, IsRunnable, Stage, facts_of, AreStages, Uses, IsPlain, InScope, IsTrap, has_returned}
@@ -61,19 +61,6 @@ IsOwnless s x = ((object_at s x).mode ≡ mode.In) × (is_owning s.table (object
 
 abbrev pub IsKindOfFormal : Typing → ℕ → Type 0
 IsKindOfFormal s x = IsScalarObject s x ⊎ ((IsCopiedBack s x × IsNamed s.table (object_at s x).of) ⊎ (IsShown s x ⊎ IsOwnless s x))
-
--- Actuals that are copied back to go through no access value, or are for formals of scalar types, or are rooted in
--- owners.
-abbrev pub AreOwners : Typing → TypedTree → Type 0
-AreOwners s e = (y : ℕ) → Has (root_of e) y → (is_anonymous (view_of s y) ≡ false) × (is_view_formal s y ≡ false)
-
-abbrev pub IsReachedBack : Typing → ℕ → TypedTree → Type 0
-IsReachedBack s x e = IsScalarObject s x ⊎ AreOwners s e
-
-abbrev pub AreKeptPlaces : Typing → List ℕ → TypedTree → Type 0
-AreKeptPlaces s (x ∷ formals) (More e rest) =
-    (is_in (object_at s x).mode ≡ false → (goes_through_none e ≡ true) ⊎ IsReachedBack s x e) × AreKeptPlaces s formals rest
-AreKeptPlaces s formals actuals = Unit {0}
 
 -- A subprogram lends a part of a package object.
 abbrev pub LendsShared : Typing → FlowSub → Type 0
@@ -104,9 +91,6 @@ pub record IsViewClass (program : FlowProgram) : Type 0 where
       → (object_at (flow_typing program) x).mode ≡ mode.In
   pub procedures : (n : ℕ) → (sub_at (flow_typing program) n).result ≡ None → (x : ℕ) → Has (sub_at (flow_typing program) n).formals x
       → is_formal (flow_typing program) x ≡ true → is_view_formal (flow_typing program) x ≡ true → is_named_access (view_of (flow_typing program) x) ≡ true
-  pub copied : (sub : FlowSub) → Has program.subs sub → (p : FlowPoint) → Has sub.points p → (n : ℕ) (actuals : TypedTree) (result : Option ℕ)
-      → p.instr ≡ Call n actuals result → ((x : ℕ) → Has (sub_of program n).formals x → is_formal (flow_typing program) x ≡ true)
-      → AreKeptPlaces (flow_typing program) (sub_of program n).formals actuals
   pub shown : (sub : FlowSub) → Has program.subs sub → (p : FlowPoint) → Has sub.points p → (n : ℕ) (actuals : TypedTree) (result : Option ℕ)
       → p.instr ≡ Call n actuals result → AreShownOwn (flow_typing program) (LendsShared (flow_typing program) sub) (sub_of program n).formals actuals
 
@@ -206,9 +190,15 @@ abbrev pub loan_by : Fact → Loan
 loan_by (Moved n) = Borrowed
 loan_by (Lent l h n) = l
 
--- The objects of which a frame passes parts to be copied back to, as it names them.
+-- The package object where a way begins, if it does at one.
+abbrev pub shared_root : Loc → List ℕ
+shared_root (OfRoot (OfVariable f y)) = if f == 0 then y ∷ [] else []
+shared_root l = []
+
+-- The package objects of which a frame passes parts to be copied back to, and the objects by which it names cells of such
+-- parts.
 abbrev pub passed_roots : ViewStage → List ℕ
-passed_roots g = map number_of g.stage.returns ++ map (λ (c : Lodge). number_of c.name) g.cells
+passed_roots g = flat_map (λ (to : Way). shared_root (base_of to)) g.stage.returns ++ map (λ (c : Lodge). number_of c.name) g.cells
 
 abbrev pub is_passed : ViewStage → Fact → Bool
 is_passed g f = list_any (λ y. y == (place f).root) (passed_roots g)
@@ -267,7 +257,7 @@ pub record IsWaiting (table : Table) (typed : TypedProgram) (effects : Effects) 
   -- no number stands in what was taken
   pub bare : (w : Way) (l : Loc) (p : List Step) → IsBareOf (flow_typing (flow_program table typed)) g w l p → (q : List Step) (n : ℕ)
       → word_in (flow_typing (flow_program table typed)).table (content (flow_typing (flow_program table typed)) state.memory [] l) (q ++ p) ≡ Held n → ⊥
-  pub taken : AreTaken (flow_typing (flow_program table typed)) g.cells state.memory g.stage.depth (facts_of (flow_program table typed) effects g.stage)
+  pub taken : AreTaken (flow_typing (flow_program table typed)) g.cells state.memory g.stage.depth g.views (facts_of (flow_program table typed) effects g.stage)
       (lasting_of (flow_typing (flow_program table typed)) point.scope) backs g.stage.returns
 
 -- The frame of the package objects has no views, and nothing waits in it.
