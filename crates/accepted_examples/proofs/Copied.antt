@@ -1,4 +1,4 @@
--- A text with a procedure that gets a copy of a record in a formal of mode `in`, of the class of the law on runs with
+-- A text with a procedure that gets a copy of a record in a formal of mode `in`, or an aggregate, of the class of the law on runs with
 -- borrowers and observers, and that law of it.
 use Rattle.std.specs.Prelude.{codes}
 use Rattle.std.proofs.Common.{◌≡◌, ℕ, ◌+◌, ◌⊎◌, inl, inr, Bool, true, false, not, ◌&&◌, ◌||◌, List, [], ◌∷◌, refl, sym, subst, Option, Some, None, is_some, Ok, Err, true≢false}
@@ -10,9 +10,12 @@ use Rattle.ada_tree.specs.declared.declaration.Item.TheVariants as item
 use Rattle.ada_tree.specs.declared.declaration.Component.TheVariants as component
 use Rattle.ada_tree.specs.declared.declaration.Indication.TheVariants as indication
 use Rattle.ada_tree.specs.declared.expression.Arg.TheVariants as arg
+use Rattle.ada_tree.specs.declared.expression.Aggregate.TheVariants as aggregate
 use Rattle.ada_tree.specs.declared.expression.Name.TheVariants as name
+use Rattle.ada_tree.specs.declared.expression.Primary.TheVariants as primary
 use Rattle.ada_tree.specs.declared.expression.Suffix.TheVariants as suffix
 use Rattle.ada_tree.specs.declared.statement.Stmt.TheVariants as stmt
+use Rattle.ada_tree.specs.declared.statement.Stmts.TheVariants as stmts
 use Rattle.ada_tree.specs.declared.subprogram.Decl.TheVariants as decl
 use Rattle.ada_tree.specs.declared.subprogram.Formal.TheVariants as formal
 use Rattle.ada_tree.specs.declared.subprogram.Subspec.{Subspec}
@@ -21,7 +24,7 @@ use Rattle.ada_tree.specs.declared.unit.BodyPart.TheVariants as part
 use Rattle.ada_tree.specs.declared.unit.Context.TheVariants as context
 use Rattle.ada_tree.specs.declared.unit.SourceUnit.{SourceUnit}
 use Rattle.ada_tree.specs.declared.unit.SourceUnit.TheVariants as unit
-use Rattle.ada_grammar.proofs.SmallSources.{IsTextOf, computes, source_of, at, id, mark, selected, expr_of, object, null_at, sole, formals_of, package_of, package_body_of, subprogram_of}
+use Rattle.ada_grammar.proofs.SmallSources.{IsTextOf, computes, source_of, at, id, mark, selected, expr_of, object, null_at, formals_of, package_of, package_body_of, subprogram_of}
 use Rattle.name_events.specs.Faults.{name_fault}
 use Rattle.type_definitions.specs.Types.{full, is_owning}
 use Rattle.type_definitions.specs.Whole.{type_fault}
@@ -40,7 +43,7 @@ use Rattle.file_positions.specs.Texts.{AreParsed}
 use Rattle.file_positions.proofs.Cuts.{cut_in_order}
 use Rattle.called_subs.specs.Called.{Calls, CodeCalls}
 use Rattle.order_laws.specs.Orderly.{typed_of, typing_in}
-use Rattle.sound_files.specs.Class.{CallsProcedures, IsScalarAt, IsShownAt, FormalsAreKinds, laid_in, FunctionsSee, AreFitActuals, PassFitActuals, AreOwnersShown, ShowOwners}
+use Rattle.sound_files.specs.Class.{CallsProcedures, IsScalarAt, IsShownAt, FormalsAreKinds, laid_in, AreFitActuals, PassFitActuals, AreOwnersShown, ShowOwners}
 use Rattle.sound_files.proofs.Results.{results_fit}
 use Rattle.viewed_files.proofs.Files.{parsed_called_sound}
 use Rattle.accepted_runs.proofs.Runs.{RunsAreSound}
@@ -68,14 +71,18 @@ units =
     ∷ unit.OfSubprogram (at 151) (context.With (at 151) (mark 156 "A") [] (at 157) ∷ [])
     (subprogram_of 159 (subspec.Procedure (at 159) (id 169 "P") None) None 171
     (item.Objects (at 174) (id 174 "Y") [] (at 176) None (indication.Mark (at 178) (selected 178 "A" 179 180 "T")) (at 181) ∷ []) 183
-    (sole 189 (stmt.Call (at 189) (name.Prefixed (at 189) (id 189 "A") (suffix.Selected (at 190) (id 191 "Q")
-    ∷ suffix.Applied (at 193) (arg.Positional (at 194) (expr_of 194 (object 194 "Y"))) [] (at 195) ∷ [])) (at 196))) 198 None 201)
+    (stmts.Sequence (at 189)
+    (stmt.Call (at 189) (name.Prefixed (at 189) (id 189 "A") (suffix.Selected (at 190) (id 191 "Q")
+    ∷ suffix.Applied (at 193) (arg.Positional (at 194) (expr_of 194 (object 194 "Y"))) [] (at 195) ∷ [])) (at 196))
+    (stmt.Call (at 198) (name.Prefixed (at 198) (id 198 "A") (suffix.Selected (at 199) (id 200 "Q")
+    ∷ suffix.Applied (at 202) (arg.Positional (at 203) (expr_of 203 (primary.Aggregated (at 203)
+    (aggregate.Single (at 203) (id 204 "I") (at 206) (expr_of 209 (primary.Number (at 209) 1)) (at 210))))) [] (at 211) ∷ [])) (at 212) ∷ [])) 214 None 217)
     ∷ []
 
 abbrev pub files : List (List SourceUnit)
 files = units ∷ []
 
-pub spelled : IsTextOf "package A is type T is record I : Integer; end record; procedure Q (X : in T); end; package body A is procedure Q (X : in T) is begin null; end; end; with A; procedure P is Y : A.T; begin A.Q (Y); end;" units
+pub spelled : IsTextOf "package A is type T is record I : Integer; end record; procedure Q (X : in T); end; package body A is procedure Q (X : in T) is begin null; end; end; with A; procedure P is Y : A.T; begin A.Q (Y); A.Q ((I => 1)); end;" units
 unfolding computes
 spelled = source_of (search) (search) refl
 
@@ -137,18 +144,6 @@ of_three P a b c x y z sub (inr (inr (inr none))) = absurd none
 abbrev laid : Typing
 laid = laid_in (program_of files)
 
-no_function : all_pass (λ (z : Signature). not (is_some z.result)) laid.subs ≡ true
-unfolding computes naming typing lowering
-no_function = refl
-
-pub seen : FunctionsSee (program_of files)
-seen n t x result has formal =
-    absurd (none (sub_at laid n).result (at_any (λ (z : Signature). not (is_some z.result) ≡ true) laid.subs _ refl (each (λ (z : Signature). not (is_some z.result)) laid.subs no_function) n) result)
-  where
-    none : (r : Option ℕ) → not (is_some r) ≡ true → r ≡ Some t → ⊥
-    none None e is = cc
-    none (Some k) e is = cc
-
 pub passed : PassFitActuals (program_of files)
 unfolding computes naming typing lowering Calls CodeCalls goes_through_none
 passed =
@@ -162,7 +157,7 @@ shown =
     (tt, ((((λ view y has. absurd (true≢false (sym view))), tt), (tt, tt)), tt))
 
 pub class : AreInSecondViewClass files
-class = record { main = 2; is_main = is_main; calls = record { results = results_fit (program_of files) (inl calls); formals = formals; seen = seen; passed = passed; shown = inl shown } }
+class = record { main = 2; is_main = is_main; calls = record { results = results_fit (program_of files) (inl calls); formals = formals; passed = passed; shown = inl shown } }
 
 -- ---- nothing is reported of it
 
@@ -185,7 +180,7 @@ found (Ok cuts) = cuts
 found (Err fault) = []
 
 abbrev text : List ℕ
-text = codes "package A is type T is record I : Integer; end record; procedure Q (X : in T); end; package body A is procedure Q (X : in T) is begin null; end; end; with A; procedure P is Y : A.T; begin A.Q (Y); end;"
+text = codes "package A is type T is record I : Integer; end record; procedure Q (X : in T); end; package body A is procedure Q (X : in T) is begin null; end; end; with A; procedure P is Y : A.T; begin A.Q (Y); A.Q ((I => 1)); end;"
 
 abbrev cuts : List Cut
 cuts = found (tokens 0 text 1000)

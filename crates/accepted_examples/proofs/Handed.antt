@@ -33,14 +33,13 @@ use Rattle.flow_paths.specs.Laid.{FlowSub}
 use Rattle.flow_paths.specs.Effects.{asks_for_end, path_points}
 use Rattle.flow_paths.specs.Aliases.{alias_reports}
 use Rattle.flow_paths.specs.Views.{encloses_within}
-use Rattle.soundness.specs.Seen.{is_view_formal}
 use Rattle.soundness.specs.Sound.{calls_procedures, goes_through_none}
 use Rattle.program_check.specs.Sources.{flow_of}
 use Rattle.file_positions.specs.Texts.{AreParsed}
 use Rattle.file_positions.proofs.Cuts.{cut_in_order}
 use Rattle.called_subs.specs.Called.{Calls, CodeCalls}
 use Rattle.order_laws.specs.Orderly.{typed_of, typing_in}
-use Rattle.sound_files.specs.Class.{CallsProcedures, IsScalarAt, IsShownAt, IsOwnlessAt, FormalsAreKinds, laid_in, FunctionsSee, AreFitActuals, PassFitActuals, AreOwnersShown, ShowOwners}
+use Rattle.sound_files.specs.Class.{CallsProcedures, IsScalarAt, IsShownAt, IsOwnlessAt, FormalsAreKinds, laid_in, AreFitActuals, PassFitActuals, AreOwnersShown, ShowOwners}
 use Rattle.sound_files.proofs.Results.{results_fit}
 use Rattle.viewed_files.proofs.Files.{parsed_called_sound}
 use Rattle.accepted_runs.proofs.Runs.{RunsAreSound}
@@ -139,23 +138,11 @@ of_three P a b c x y z sub (inr (inr (inr none))) = absurd none
 abbrev laid : Typing
 laid = laid_in (program_of files)
 
-no_function : all_pass (λ (z : Signature). not (is_some z.result)) laid.subs ≡ true
-unfolding computes naming typing lowering
-no_function = refl
-
-pub seen : FunctionsSee (program_of files)
-seen n t x result has formal =
-    absurd (none (sub_at laid n).result (at_any (λ (z : Signature). not (is_some z.result) ≡ true) laid.subs _ refl (each (λ (z : Signature). not (is_some z.result)) laid.subs no_function) n) result)
-  where
-    none : (r : Option ℕ) → not (is_some r) ≡ true → r ≡ Some t → ⊥
-    none None e is = cc
-    none (Some k) e is = cc
-
 pub passed : PassFitActuals (program_of files)
 unfolding computes naming typing lowering Calls CodeCalls goes_through_none
 passed =
     of_three (λ sub. CodeCalls (λ n actuals. AreFitActuals laid (sub_at laid n).formals actuals) sub.body) _ _ _ tt (tt, tt)
-    (tt, ((((λ is. inr (inl (refl, λ y has. elim has [ inl same ↦ subst (λ z. is_view_formal laid z ≡ false) same refl | inr none ↦ absurd none ]))), tt), (tt, tt)), tt))
+    (tt, ((((λ is. inl refl), tt), (tt, tt)), tt))
 
 pub shown : ShowOwners (program_of files)
 unfolding computes naming typing lowering Calls CodeCalls
@@ -164,7 +151,7 @@ shown =
     (tt, ((((λ view y has. absurd (true≢false (sym view))), tt), (tt, tt)), tt))
 
 pub class : AreInSecondViewClass files
-class = record { main = 2; is_main = is_main; calls = record { results = results_fit (program_of files) (inl calls); formals = formals; seen = seen; passed = passed; shown = inl shown } }
+class = record { main = 2; is_main = is_main; calls = record { results = results_fit (program_of files) (inl calls); formals = formals; passed = passed; shown = inl shown } }
 
 -- ---- nothing is reported of it
 

@@ -27,7 +27,7 @@ use Rattle.type_definitions.specs.Whole.{type_fault}
 use Rattle.typing_steps.specs.Programs.{program_of}
 use Rattle.typed_tree.specs.declared.object.Object.{Object}
 use Rattle.typed_tree.specs.Programs.{TypedSub, text_io}
-use Rattle.flow_paths.specs.Objects.{is_named_access, is_anonymous, view_of, Typing, Signature, object_at, sub_at, is_formal_kind, is_formal}
+use Rattle.flow_paths.specs.Objects.{is_named_access, is_anonymous, view_of, Typing, Signature, object_at, sub_at, is_formal_kind, is_formal, is_package_object}
 use Rattle.flow_paths.specs.Points.{FlowPoint}
 use Rattle.flow_paths.specs.Laid.{FlowSub}
 use Rattle.flow_paths.specs.Effects.{asks_for_end, path_points}
@@ -39,7 +39,7 @@ use Rattle.file_positions.specs.Texts.{AreParsed}
 use Rattle.file_positions.proofs.Cuts.{cut_in_order}
 use Rattle.called_subs.specs.Called.{Calls, CodeCalls}
 use Rattle.order_laws.specs.Orderly.{typed_of, typing_in}
-use Rattle.sound_files.specs.Class.{CallsProcedures, FormalsAreKinds, laid_in, FunctionsSee, AreFitActuals, PassFitActuals, AreOwnersShown, ShowOwners}
+use Rattle.sound_files.specs.Class.{CallsProcedures, FormalsAreKinds, laid_in, AreFitActuals, PassFitActuals, AreOwnersShown, ShowOwners}
 use Rattle.sound_files.proofs.Results.{results_fit}
 use Rattle.viewed_files.proofs.Files.{parsed_called_sound}
 use Rattle.accepted_runs.proofs.Runs.{RunsAreSound}
@@ -132,23 +132,11 @@ of_three P a b c x y z sub (inr (inl is)) = subst P is y
 of_three P a b c x y z sub (inr (inr (inl is))) = subst P is z
 of_three P a b c x y z sub (inr (inr (inr none))) = absurd none
 
-no_function : all_pass (λ (z : Signature). not (is_some z.result)) laid.subs ≡ true
-unfolding computes naming typing lowering
-no_function = refl
-
-pub seen : FunctionsSee (program_of files)
-seen n t x result has formal =
-    absurd (none (sub_at laid n).result (at_any (λ (z : Signature). not (is_some z.result) ≡ true) laid.subs _ refl (each (λ (z : Signature). not (is_some z.result)) laid.subs no_function) n) result)
-  where
-    none : (r : Option ℕ) → not (is_some r) ≡ true → r ≡ Some t → ⊥
-    none None e is = cc
-    none (Some k) e is = cc
-
 pub passed : PassFitActuals (program_of files)
 unfolding computes naming typing lowering Calls CodeCalls
 passed =
     of_three (λ sub. CodeCalls (λ n actuals. AreFitActuals laid (sub_at laid n).formals actuals) sub.body) _ _ _ tt ((tt, tt), tt)
-    (tt, ((((λ is. inr (inl (refl, (refl, refl)))), tt), (tt, tt)), tt))
+    (tt, ((((λ is. inr (inl (refl, λ y has. elim has [ inl same ↦ subst (λ z. is_package_object laid z ≡ false) same refl | inr none ↦ absurd none ]))), tt), (tt, tt)), tt))
 
 pub shown : ShowOwners (program_of files)
 unfolding computes naming typing lowering Calls CodeCalls
@@ -157,7 +145,7 @@ shown =
     (tt, ((((λ view y has. elim has [ inl same ↦ subst (λ z. is_anonymous (view_of laid z) ≡ false) same refl | inr none ↦ absurd none ]), tt), (tt, tt)), tt))
 
 pub class : AreInSecondViewClass files
-class = record { main = 2; is_main = is_main; calls = record { results = results_fit (program_of files) (inl calls); formals = formals; seen = seen; passed = passed; shown = inl shown } }
+class = record { main = 2; is_main = is_main; calls = record { results = results_fit (program_of files) (inl calls); formals = formals; passed = passed; shown = inl shown } }
 
 -- ---- nothing is reported of it
 

@@ -9,7 +9,7 @@ use Rattle.spark_base.specs.declared.position.Pos.{Pos}
 use Rattle.place_names.specs.declared.act.Mode.{Mode}
 use Rattle.place_names.specs.declared.act.Mode.TheVariants as mode
 use Rattle.resolved_tree.specs.declared.node.Mark.{Mark}
-use Rattle.resolved_tree.specs.Trees.{More, Code, Plain, Anonymous, Formals, Front, Program}
+use Rattle.resolved_tree.specs.Trees.{More, NoMore, Code, Plain, Anonymous, Formals, Front, Program}
 use Rattle.type_definitions.specs.declared.judgement.Fault.{Fault}
 use Rattle.type_definitions.specs.declared.table.Entry.{Entry}
 use Rattle.type_definitions.specs.declared.table.Entry.TheVariants as entry
@@ -44,7 +44,8 @@ use Rattle.gathered_laws.proofs.Declared.{units_declare}
 use Rattle.gathered_laws.proofs.Agreed.{IsOwn, based, agrees as all_agree}
 use Rattle.gathered_laws.proofs.Faultless.{program_faultless}
 use Rattle.gathered_laws.proofs.Main.{are_types}
-use Rattle.anonymous_types.specs.Fronts.{IsFrontFaultless, IsBodyFaultless}
+use Rattle.named_files.specs.Formals.{HasFirst, IsFrontApart}
+use Rattle.anonymous_types.specs.Fronts.{AllFronts, IsFrontFaultless, IsBodyFaultless}
 use Rattle.anonymous_types.specs.Shown.{IsProfile, IsProfileEntry, IsUnnamed, AreShown}
 use Rattle.anonymous_types.proofs.Fronts.{program_fronts, units_bodied}
 use Rattle.anonymous_types.proofs.Shown.{marked_named, all_shown}
@@ -143,6 +144,9 @@ module _ (p : Program) (formed : IsTrue (all_formed p.units)) (are : IsOrderly p
   -- No mark denotes an anonymous access type.
   pub mark_plain : (m : Mark) → is_anonymous (full table (marked known m)) ≡ false
   mark_plain m = named_plain (marked known m) (marks m)
+
+  pub integer_plain : is_anonymous (full table integer) ≡ false
+  integer_plain = named_plain integer (inl (omega arith))
 
   told : (d : ℕ) (q : Profile) → entry_of known d ≡ entry.Subprogram q → IsProfile Named (IsFrontFaultless known) d q
   told d q is = subst (IsProfileEntry Named (IsFrontFaultless known) d) is (shown.profiles d)
@@ -305,3 +309,32 @@ module _ (p : Program) (formed : IsTrue (all_formed p.units)) (are : IsOrderly p
   formals_through d q is =
       let front = told d q is in
       subst (λ (x : Profile). AllThrough x.formals) (sym front.same) (front_through front.known front.marks front.code front.told)
+
+  -- ---- first formals
+
+  module _ (fronts : (u : Code) → Has p.units u → AllFronts IsFrontApart IsFrontApart u) where
+    profiles : AreShown Named IsFrontApart known
+    profiles = all_shown Named IsFrontApart IsFrontApart (λ front apart. apart) (λ t less. inl less) p (λ d has. inr has) fronts
+
+    first_info : (k : Known) (formals : Code) → HasFirst formals → (f : FormalInfo) (rest : List FormalInfo) → formal_infos k true formals ≡ f ∷ rest → f.traversed ≡ true
+    first_info k (More (Formals (More d ids) m of) more) first f rest e = sym (ap (λ (z : FormalInfo). z.traversed) (heads _ f _ rest e))
+      where
+        heads : (x y : FormalInfo) (xs ys : List FormalInfo) → x ∷ xs ≡ y ∷ ys → x ≡ y
+        heads x y xs ys e = cc
+    first_info k NoMore first f rest e = cc
+    first_info k formals first f rest e = absurd first
+
+    profile_first : (k : Known) → AreNamed k → (t : ℕ) (code : Code) → IsFrontApart code → (profile k code).result ≡ Some t → is_anonymous (full table t) ≡ true
+        → (f : FormalInfo) (rest : List FormalInfo) → (profile k code).formals ≡ f ∷ rest → f.traversed ≡ true
+    profile_first k named t (Front x formals result) apart is anonymous f rest list =
+        first_info k formals apart.1 f rest
+        (subst (λ b. formal_infos k b formals ≡ f ∷ rest) (own_result k named (declared_number x) t result is anonymous).1 list)
+    profile_first k named t code apart is anonymous f rest list = absurd apart
+
+    -- The law: a traversal goes through the first formal.
+    pub first_traversed : (d t : ℕ) (q : Profile) → entry_of known d ≡ entry.Subprogram q → q.result ≡ Some t → is_anonymous (full table t) ≡ true
+        → (f : FormalInfo) (rest : List FormalInfo) → q.formals ≡ f ∷ rest → f.traversed ≡ true
+    first_traversed d t q is result anonymous f rest list =
+        let front = subst (IsProfileEntry Named IsFrontApart d) is (profiles.profiles d) in
+        profile_first front.known front.marks t front.code front.told (ap (λ (x : Profile). x.result) (sym front.same) ∙ result) anonymous f rest
+        (ap (λ (x : Profile). x.formals) (sym front.same) ∙ list)

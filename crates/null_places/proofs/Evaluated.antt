@@ -48,7 +48,7 @@ module _ (h : Here) (settled : IsSettled h.typing.table) (own_law : OwnsByShape 
       by_test ws n n' now true = (refl, now)
       by_test ws n n' now false = (refl, now)
 
-  allocated_same : (t : ℕ) (x y : Evaluated (List machine.Word)) → Same x y → Same (followed_by x (allocated t)) (followed_by y (allocated t))
+  pub allocated_same : (t : ℕ) (x y : Evaluated (List machine.Word)) → Same x y → Same (followed_by x (allocated t)) (followed_by y (allocated t))
   allocated_same t x y same =
       simply h.typing x y (allocated t) (allocated t) same (λ ws n n' now.
       subst (λ k. SameTo h.typing (allocated t ws n)

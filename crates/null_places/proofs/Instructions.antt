@@ -311,17 +311,17 @@ module _ (t : Turn) (settled : IsSettled (typing t).table) (own_law : OwnsByShap
       (stored_only (typing t) i.memory now.2 st.place st.words))
 
   -- the place is found with the value in hand
-  then_placed : (mid on : List (List machine.Word)) (p : Pos) (x u : ℕ) (path : TypedTree) → Leads (typing t) (object_at (typing t) x).of path u → Takes (waits_in path) mid on
+  pub then_placed : (rest : List Waiting) (mid on : List (List machine.Word)) (p : Pos) (x u : ℕ) (path : TypedTree) → Leads (typing t) (object_at (typing t) x).of path u → Takes (waits_in path) mid on
       → asks.calls (has_call path) → Compares (typing t) path
       → (behind_facts : List Fact) → AllowsAll behind_facts (acts (acts_in (typing t) path) ++ act.Write (name_of x path) ∷ []) → (ws : List machine.Word) (i j : Now)
-      → GivenBy h ready mid u hands behind_facts (Done ws i)
+      → GivenBy h ready mid u rest behind_facts (Done ws i)
       → SameNow (typing t) i j
       → SameTo {A = Stored} (typing t) (followed_by (place_of h (Name p x path u) i) (λ k now. Done (record { words = ws; place = k }) now))
       (followed_by (place_of h (Name p x path u) j) (λ k now. Done (record { words = ws; place = k }) now))
-  then_placed mid on p x u path lead takes calls compares behind_facts allowed ws i j (inner, long, same) now =
+  then_placed rest mid on p x u path lead takes calls compares behind_facts allowed ws i j (inner, long, same) now =
       let v : Waiting = record { of = u; words = ws } in
       let each = allows_both behind_facts (acts (acts_in (typing t) path)) (act.Write (name_of x path) ∷ []) allowed in
-      let there = values.behaves i.memory (v ∷ hands) behind_facts inner now.2 in
+      let there = values.behaves i.memory (v ∷ rest) behind_facts inner now.2 in
       let stay = (there.steps (object_at (typing t) x).of u path lead mid on takes calls each.0).1 in
       let writes : Allows behind_facts (act.Write (name_of x path)) = subst (λ z. Allows z (act.Write (name_of x path))) stay each.1.0 in
       subst (λ z. SameNow (typing t) (record { memory = i.memory; waits = z }) j
@@ -329,8 +329,8 @@ module _ (t : Turn) (settled : IsSettled (typing t).table) (own_law : OwnsByShap
       (followed_by (place_of h (Name p x path u) j) (λ k now. Done (record { words = ws; place = k }) now))) (sym same)
       (λ still. simply (typing t) (place_of h (Name p x path u) (record { memory = i.memory; waits = mid })) (place_of h (Name p x path u) j)
       (λ k now. Done (record { words = ws; place = k }) now) (λ k now. Done (record { words = ws; place = k }) now)
-      (place_on h settled own_law asks i.memory (v ∷ hands) behind_facts there mid on p x u path lead takes calls compares each.0
-      (IsAt h asks i.memory (v ∷ hands) behind_facts u) (λ way goes. there.write on x u path way goes writes) j still).0 (λ k a b last. (refl, last))) now
+      (place_on h settled own_law asks i.memory (v ∷ rest) behind_facts there mid on p x u path lead takes calls compares each.0
+      (IsAt h asks i.memory (v ∷ rest) behind_facts u) (λ way goes. there.write on x u path way goes writes) j still).0 (λ k a b last. (refl, last))) now
 
   pub assign_on : (mid on : List (List machine.Word)) (p : Pos) (x u : ℕ) (path e : TypedTree) → is_anonymous (full (typing t).table u) ≡ false → asks.takes u
       → Gives (typing t) u e → Leads (typing t) (object_at (typing t) x).of path u → asks.calls (has_call e) → asks.gives e → asks.calls (has_call path)
@@ -351,7 +351,7 @@ module _ (t : Turn) (settled : IsSettled (typing t).table) (own_law : OwnsByShap
       (then_same (typing t) (GivenBy h ready mid u hands (after a facts))
       (taken_by t u e at) (taken_by t u e (start (twin t n))) placed placed (source_given mid u e owner own gives calls own_calls takes each.0 keep)
       (source_same mid u e owner own gives calls own_calls takes compares' each.0 keep)
-      (λ ws i j given now. then_placed mid on p x u path lead takes' calls' compares (after a facts) each.1 ws i j given now))
+      (λ ws i j given now. then_placed hands mid on p x u path lead takes' calls' compares (after a facts) each.1 ws i j given now))
 
   -- ---- a release
 

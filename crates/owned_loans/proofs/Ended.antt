@@ -70,6 +70,8 @@ module _ (home : ℕ → ℕ) (observer : ℕ → Bool) (other : Around home) (v
             (drop_reaches s t (OfHand h) viewed.owned d w (OfCell (v.cell x)) (reached home observer other v s facts x w view)
             (λ e. variable_hand root.0 root.1 h (sym root.2 ∙ e))));
         whole = viewed.whole;
+        whole_away = viewed.whole_away;
+        shown = viewed.shown;
         past = viewed.past;
         lends = viewed.lends;
         far = λ w n keeps. (let root = other.begins w n keeps in
@@ -197,7 +199,7 @@ module _ (home : ℕ → ℕ) (observer : ℕ → Bool) (other : Around home) (v
                   foreign.3 (here.0 ∙ ap home (sym here.1)))
             ])) in
             elim view [
-              | inr passed ↦ inr (record { foreign = passed.foreign; given = passed.given; alone = passed.alone; reaches = reaches })
+              | inr passed ↦ inr (record { begins = passed.begins; given = passed.given; alone = passed.alone; reaches = reaches })
               | inl own ↦ inl (record {
                 named = own.named;
                 leads = own.leads;
@@ -210,6 +212,8 @@ module _ (home : ℕ → ℕ) (observer : ℕ → Bool) (other : Around home) (v
               })
             ]);
         whole = viewed.whole;
+        whole_away = viewed.whole_away;
+        shown = viewed.shown;
         past = viewed.past;
         lends = λ l n lent. (let old = viewed.lends l n lent in record {
           has = kept_fact act facts (Lent l n.root n) old.has

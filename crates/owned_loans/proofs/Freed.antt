@@ -125,8 +125,10 @@ module _ (home : ℕ → ℕ) (observer : ℕ → Bool) (other : Around home) (v
         views = λ x w has. (let view = viewed.views x w has in
             view_on home observer other v s t facts (effect act facts) x w view (λ seen m. own_loan observer facts (effect act facts) (loan_kept act facts (λ l h z. refl)) seen x m)
             (reaches_on s t at n step (expand v k) w (OfCell (v.cell x)) viewed.owned held target (reached home observer other v s facts x w view)
-            (λ past. off_view home observer v s facts viewed.views viewed.clear k x w name (free_unlent facts k allowed) has past)));
+            (λ past. off_view home observer other v s facts viewed k x w name (free_unlent facts k allowed) has past)));
         whole = viewed.whole;
+        whole_away = viewed.whole_away;
+        shown = viewed.shown;
         past = viewed.past;
         lends = λ l m lent. lends_on observer v facts (effect act facts) (loan_kept act facts (λ l h z. refl)) l m (viewed.lends l m lent);
         far = λ w n' keeps. reaches_on s t at n step (expand v k) w (OfCell n') viewed.owned held target (viewed.far w n' keeps)

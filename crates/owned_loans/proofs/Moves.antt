@@ -23,6 +23,7 @@ use Rattle.owned_ways.proofs.Moving.{Given, owner_before, keeps, owned_after, co
 use Rattle.owned_ways.proofs.Released.{freshly, fresh_on}
 use Rattle.owned_ways.proofs.Dropped.{named_base}
 use Rattle.owned_loans.specs.Views.{on, Views, Around, way_at, expand, expand_root, IsMovedBy, IsAway, ExcusedBy, AreClear, HasLoan, IsView, IsForeign, IsPassed, AreViews, IsLentToOthers, Viewed}
+use Rattle.owned_loans.proofs.Ways.{home_or_foreign}
 use Rattle.owned_loans.proofs.Meeting.{IsPlain, stands, stands_base}
 use Rattle.owned_loans.proofs.Clear.{nothing_new, clear_move, clear_same}
 use Rattle.owned_loans.proofs.Safe.{off_view}
@@ -179,7 +180,7 @@ module _ (home : ℕ → ℕ) (observer : ℕ → Bool) (other : Around home) (v
       → ((seen : Bool) (n : Name) → HasLoan observer seen x facts n → HasLoan observer seen x facts' n) → Reaches t w (OfCell (v.cell x)) → Either t facts' x w
   view_on s t facts facts' x w (inl view) loans reaches = inl (own_on s t facts facts' x w view loans reaches)
   view_on s t facts facts' x w (inr passed) loans reaches =
-      inr (record { foreign = passed.foreign; given = passed.given; alone = passed.alone; reaches = reaches })
+      inr (record { begins = passed.begins; given = passed.given; alone = passed.alone; reaches = reaches })
 
   -- No way of a view goes past a place.
   abbrev pub Off : Way → Type 0
@@ -230,6 +231,8 @@ module _ (home : ℕ → ℕ) (observer : ℕ → Bool) (other : Around home) (v
         view_on s t facts facts' x w view (λ seen n. own_loan observer facts facts' loans seen x n)
         (keeps s t f k from to given w (OfCell (v.cell x)) (reached s facts x w view) (λ p. off x w has p) (λ p. away x w has p)));
     whole = viewed.whole;
+    whole_away = viewed.whole_away;
+    shown = viewed.shown;
     past = viewed.past;
     lends = λ l n lent. lends_on observer v facts facts' loans l n (viewed.lends l n lent);
     far = λ w n held. keeps s t f k from to given w (OfCell n) (viewed.far w n held) (λ p. far_off w n held p) (λ p. far_away w n held p);
@@ -245,13 +248,13 @@ module _ (home : ℕ → ℕ) (observer : ℕ → Bool) (other : Around home) (v
       → (f : ℕ) × (y : ℕ) × (base_of w ≡ OfRoot (OfVariable f y)) × (Named home w ⊎ IsForeign home w)
   view_rooted s facts views x w has = elim (views x w has) [
     | inl view ↦ elim (stands home observer v s facts views (v.up x) (view.named, view.plain)) [
-      | inl own ↦ (let named = subst (Named home) view.leads own.0 in (home (number_of w), number_of w, named_base home w named, inl named))
+      | inl own ↦ (let named = subst (Named home) view.leads own.named in (home (number_of w), number_of w, named_base home w named, inl named))
       | inr held ↦ (
-          let foreign = held.passed.foreign in
-          let base : base_of w ≡ OfRoot (OfVariable foreign.0 foreign.1) = ap base_of (sym view.leads) ∙ (longer held.way (expand v (v.up x)) held.under).base ∙ foreign.2 in
-          (foreign.0, foreign.1, base, inr (foreign.0, foreign.1, base, foreign.3)))
+          let (f, y, begins) = held.passed.begins in
+          let base : base_of w ≡ OfRoot (OfVariable f y) = ap base_of (sym view.leads) ∙ (longer held.way (expand v (v.up x)) held.under).base ∙ begins in
+          (f, y, base, home_or_foreign home w (f, y, base)))
     ]
-    | inr passed ↦ (passed.foreign.0, passed.foreign.1, passed.foreign.2, inr passed.foreign)
+    | inr passed ↦ (passed.begins.0, passed.begins.1, passed.begins.2, home_or_foreign home w passed.begins)
   ]
 
   pub hand_off : (s : View) (facts : List Fact) (views : AreViews home observer v s facts) (f : Way) → InHand f → Off f
@@ -308,7 +311,7 @@ module _ (home : ℕ → ℕ) (observer : ℕ → Bool) (other : Around home) (v
       ))))
       (clear_move observer facts viewed.clear (name_of u) parts plain allowed)
       (loan_kept act facts (λ l h m. refl))
-      (λ x w has past. off_view home observer v s facts viewed.views viewed.clear u x w name unlent has past)
+      (λ x w has past. off_view home observer other v s facts viewed u x w name unlent has past)
       (hand_off s facts viewed.views k inhand) (λ w n keeps past. off_kept home observer other v s facts viewed u w n name unlent keeps past) (hand_far k inhand) (hand_bare k inhand)
 
   -- ---- from a hand to where no view's way goes: to another hand, or to a new variable or cell
@@ -350,7 +353,7 @@ module _ (home : ℕ → ℕ) (observer : ℕ → Bool) (other : Around home) (v
       (clear_same observer facts viewed.clear act refl)
       (loan_kept act facts (λ l h m. refl))
       (hand_off s facts viewed.views f inhand)
-      (λ x w has past. off_view home observer v s facts viewed.views viewed.clear k x w name (write_unlent facts k allowed) has past)
+      (λ x w has past. off_view home observer other v s facts viewed k x w name (write_unlent facts k allowed) has past)
       (hand_far f inhand) (λ w n keeps past. off_kept home observer other v s facts viewed k w n name (write_unlent facts k allowed) keeps past)
       (λ w l p bare q under. off_bare home observer other v s facts viewed k w l p q name (write_unlent facts k allowed) bare under)
 
@@ -372,6 +375,8 @@ module _ (home : ℕ → ℕ) (observer : ℕ → Bool) (other : Around home) (v
         known = all_known t facts sound.known;
         clear = viewed.clear;
         whole = viewed.whole;
+        whole_away = viewed.whole_away;
+        shown = viewed.shown;
         past = viewed.past;
         lends = viewed.lends;
         views = λ x w has. (let view = viewed.views x w has in
@@ -394,6 +399,8 @@ module _ (home : ℕ → ℕ) (observer : ℕ → Bool) (other : Around home) (v
         known = all_known t facts sound.known;
         clear = viewed.clear;
         whole = viewed.whole;
+        whole_away = viewed.whole_away;
+        shown = viewed.shown;
         past = viewed.past;
         lends = viewed.lends;
         views = λ x w has. (let view = viewed.views x w has in
@@ -417,6 +424,8 @@ module _ (home : ℕ → ℕ) (observer : ℕ → Bool) (other : Around home) (v
     views = λ x w has. (let view = viewed.views x w has in
         view_on s s facts facts' x w view (λ seen n. own_loan observer facts facts' (λ l h m. on (Lent l h m)) seen x n) (reached s facts x w view));
     whole = viewed.whole;
+    whole_away = viewed.whole_away;
+    shown = viewed.shown;
     past = viewed.past;
     lends = λ l n lent. lends_on observer v facts facts' (λ k h m. on (Lent k h m)) l n (viewed.lends l n lent);
     far = viewed.far;

@@ -14,11 +14,11 @@ use Rattle.place_names.specs.declared.fact.Fact.{Fact}
 use Rattle.place_names.specs.declared.fact.Fact.TheVariants.{Moved, Lent}
 use Rattle.place_names.specs.Facts.{removes, effect}
 use Rattle.place_names.specs.Rules.{moved_or_lent}
-use Rattle.owned_ways.specs.Ways.{OfVariable, OfHand, OfCell, base_of, Way, Object, Lost, Into, All, View, Reaches, Under, Past, Named, number_of, name_of, Allows}
+use Rattle.owned_ways.specs.Ways.{OfVariable, OfHand, OfRoot, OfCell, base_of, Way, Object, Lost, Into, All, View, Reaches, Under, Past, Named, number_of, name_of, Allows}
 use Rattle.owned_ways.proofs.Named.{longer}
 use Rattle.owned_ways.proofs.Assigned.{kept_fact}
 use Rattle.owned_ways.proofs.Locations.{under_itself}
-use Rattle.owned_loans.specs.Views.{Go, Views, Around, expand_root, expand, IsObject, AreClear, HasLoan, IsView, Viewed, Becomes, with_view, Unused, on, IsForeign, IsPassed}
+use Rattle.owned_loans.specs.Views.{Go, Views, Around, expand_root, expand, IsObject, AreClear, HasLoan, IsView, Viewed, Becomes, with_view, Unused, on, IsForeign, IsOuter, IsShared, IsPassed}
 use Rattle.owned_loans.proofs.Ways.{under_on, on_under, on_named, base_on, root_on, named_on, meets_front, on_deep, Lifted, lifted_way, next_of}
 use Rattle.owned_loans.proofs.Meeting.{stands, own_off, own_view, next}
 use Rattle.owned_loans.proofs.Clear.{refused, clear_borrow, clear_observe, clear_same}
@@ -84,11 +84,13 @@ module _ (home : ℕ → ℕ) (observer : ℕ → Bool) (other : Around home) (v
   -- What is asked of the way that an observer gets from what the frame was given.
   pub record FitsPassed (s : View) (w : Way) : Type 0 where
     pub sees : observer b ≡ true
-    pub foreign : IsForeign home w
+    pub begins : (f : ℕ) × (y : ℕ) × (base_of w ≡ OfRoot (OfVariable f y))
     pub given : Named home up → ⊥
     pub alone : (x : ℕ) (z : Way) → v.way x ≡ Some z → observer x ≡ false → (Named home (v.up x) → ⊥) → Under z w ⊎ Under w z → ⊥
     pub reaches : Reaches s w (OfCell n)
     pub whole : (z : Way) → other.gone z → Under z w ⊎ Under w z → ⊥
+    pub whole_away : (z : Way) → other.away z → Under z w ⊎ Under w z → ⊥
+    pub shown : Named home w → IsShared home other.lent true w
 
   abbrev FitsEither : View → List Fact → Way → Type 0
   FitsEither s facts w = Fits home observer v s facts b loan up n w ⊎ FitsPassed s w
@@ -116,7 +118,7 @@ module _ (home : ℕ → ℕ) (observer : ℕ → Bool) (other : Around home) (v
       → IsView home observer t s facts' x w ⊎ IsPassed home observer t s x w
   old_either s facts facts' fits x w off has unused (inl view) loans = inl (old_view s facts facts' x w off (unused view.named) view loans)
   old_either s facts facts' fits x w off has unused (inr passed) loans = inr (record {
-    foreign = passed.foreign;
+    begins = passed.begins;
     given = old_given x off passed.given;
     alone = λ plain y u there differs given meets. old_alone s facts' fits x w off has passed plain y u there differs given meets (y == b) refl;
     reaches = subst (λ z. Reaches s w (OfCell z)) (sym (becomes.cells x off)) passed.reaches;
@@ -139,7 +141,9 @@ module _ (home : ℕ → ℕ) (observer : ℕ → Bool) (other : Around home) (v
     ];
     clear = clear;
     views = λ x w has. by_object x w has (x == b) refl;
-    whole = λ x w z has foreign gone meets. by_root x w z has foreign gone meets (x == b) refl;
+    whole = λ x w z has outer gone meets. by_root x w z has outer gone meets (x == b) refl;
+    whole_away = λ x w z has given away meets. by_away x w z has given away meets (x == b) refl;
+    shown = λ x w has given named. by_shown x w has given named (x == b) refl;
     past = λ x w has given plain k m keeps goes. not_past x w has given plain k m keeps goes (x == b) refl;
     lends = λ l m lent. (let old = viewed.lends l m lent in record {
       has = loans l m.root m old.has;
@@ -156,18 +160,19 @@ module _ (home : ℕ → ℕ) (observer : ℕ → Bool) (other : Around home) (v
       fit : (w : Way) → FitsEither s facts' w → IsView home observer t s facts' b w ⊎ IsPassed home observer t s b w
       fit w (inl own) = inl (new_view s facts' w own)
       fit w (inr passed) = inr (record {
-        foreign = passed.foreign;
+        begins = passed.begins;
         given = λ named. passed.given (subst (Named home) becomes.up_is named);
         alone = λ plain. absurd (true_false (observer b) passed.sees plain);
         reaches = subst (λ z. Reaches s w (OfCell z)) (sym becomes.cell_is) passed.reaches;
       })
 
       -- what is taken from a view that was given is as whole
-      fit_whole : (w z : Way) → FitsEither s facts' w → IsForeign home w → other.gone z → Under z w ⊎ Under w z → ⊥
-      fit_whole w z (inr passed) foreign gone meets = passed.whole z gone meets
-      fit_whole w z (inl own) foreign gone meets = elim (stands home observer v s facts viewed.views up (own.named, own.plain)) [
+      fit_whole : (w z : Way) → FitsEither s facts' w → IsForeign home w ⊎ (Named home up → ⊥) → other.gone z → Under z w ⊎ Under w z → ⊥
+      fit_whole w z (inr passed) outer gone meets = passed.whole z gone meets
+      fit_whole w z (inl own) (inr given) gone meets = given own.named
+      fit_whole w z (inl own) (inl foreign) gone meets = elim (stands home observer v s facts viewed.views up (own.named, own.plain)) [
         | inl mine ↦ own_off home observer v s facts viewed.views up w mine foreign (ap base_of own.leads)
-        | inr held ↦ viewed.whole held.object held.way z held.has held.passed.foreign gone
+        | inr held ↦ viewed.whole held.object held.way z held.has (inr held.passed.given) gone
             (meets_front held.way w z (subst (Under held.way) own.leads held.under) meets)
       ]
 
@@ -182,11 +187,38 @@ module _ (home : ℕ → ℕ) (observer : ℕ → Bool) (other : Around home) (v
           by_fit (inl own) = given (subst (Named home) (sym (ap t.up (eqb-true x b e) ∙ becomes.up_is)) own.named)
           by_fit (inr passed) = true_false (observer b) passed.sees (ap observer (sym (eqb-true x b e)) ∙ plain)
 
-      by_root : (x : ℕ) (w z : Way) → t.way x ≡ Some w → IsForeign home w → other.gone z → Under z w ⊎ Under w z → (c : Bool) → (x == b) ≡ c → ⊥
-      by_root x w z has foreign gone meets true e =
-          fit_whole w z (fits w (sym becomes.way_is ∙ ap t.way (sym (eqb-true x b e)) ∙ has)) foreign gone meets
-      by_root x w z has foreign gone meets false e =
-          viewed.whole x w z (sym (becomes.ways x (λ same. (let is = eq-eqb x b same in cc))) ∙ has) foreign gone meets
+      -- the view that gets a way was given it if it was taken from none of the frame
+      new_fits : (x : ℕ) (w : Way) → t.way x ≡ Some w → (x == b) ≡ true → FitsEither s facts' w
+      new_fits x w has e = fits w (sym becomes.way_is ∙ ap t.way (sym (eqb-true x b e)) ∙ has)
+
+      new_given : (x : ℕ) → (Named home (t.up x) → ⊥) → (x == b) ≡ true → Named home up → ⊥
+      new_given x given e named = given (subst (Named home) (sym (ap t.up (eqb-true x b e) ∙ becomes.up_is)) named)
+
+      old_way : (x : ℕ) (w : Way) → t.way x ≡ Some w → (x == b) ≡ false → v.way x ≡ Some w
+      old_way x w has e = sym (becomes.ways x (λ same. (let is = eq-eqb x b same in cc))) ∙ has
+
+      was_given : (x : ℕ) → (Named home (t.up x) → ⊥) → (x == b) ≡ false → Named home (v.up x) → ⊥
+      was_given x given e named = given (subst (Named home) (sym (becomes.ups x (λ same. (let is = eq-eqb x b same in cc)))) named)
+
+      by_root : (x : ℕ) (w z : Way) → t.way x ≡ Some w → IsOuter home t x w → other.gone z → Under z w ⊎ Under w z → (c : Bool) → (x == b) ≡ c → ⊥
+      by_root x w z has outer gone meets true e =
+          fit_whole w z (new_fits x w has e) (elim outer [ inl foreign ↦ inl foreign | inr given ↦ inr (new_given x given e) ]) gone meets
+      by_root x w z has outer gone meets false e =
+          viewed.whole x w z (old_way x w has e) (elim outer [ inl foreign ↦ inl foreign | inr given ↦ inr (was_given x given e) ]) gone meets
+
+      by_away : (x : ℕ) (w z : Way) → t.way x ≡ Some w → (Named home (t.up x) → ⊥) → other.away z → Under z w ⊎ Under w z → (c : Bool) → (x == b) ≡ c → ⊥
+      by_away x w z has given away meets false e = viewed.whole_away x w z (old_way x w has e) (was_given x given e) away meets
+      by_away x w z has given away meets true e = elim (new_fits x w has e) [
+        | inl own ↦ new_given x given e own.named
+        | inr passed ↦ passed.whole_away z away meets
+      ]
+
+      by_shown : (x : ℕ) (w : Way) → t.way x ≡ Some w → (Named home (t.up x) → ⊥) → Named home w → (c : Bool) → (x == b) ≡ c → IsShared home other.lent (observer x) w
+      by_shown x w has given named false e = viewed.shown x w (old_way x w has e) (was_given x given e) named
+      by_shown x w has given named true e = elim (new_fits x w has e) [
+        | inl own ↦ absurd (new_given x given e own.named)
+        | inr passed ↦ subst (λ c. IsShared home other.lent c w) (sym (ap observer (eqb-true x b e) ∙ passed.sees)) (passed.shown named)
+      ]
 
       by_object : (x : ℕ) (w : Way) → t.way x ≡ Some w → (c : Bool) → (x == b) ≡ c → IsView home observer t s facts' x w ⊎ IsPassed home observer t s x w
       by_object x w has true e =
@@ -284,7 +316,7 @@ module _ (home : ℕ → ℕ) (observer : ℕ → Bool) (other : Around home) (v
       let under : Under l.way w = subst (Under l.way) (sym stands) (on_under l.way l.rest) in
       record {
         sees = observes;
-        foreign = (passed.foreign.0, passed.foreign.1, ap base_of stands ∙ base_on l.way l.rest ∙ passed.foreign.2, passed.foreign.3);
+        begins = (passed.begins.0, passed.begins.1, ap base_of stands ∙ base_on l.way l.rest ∙ passed.begins.2);
         given = λ named. passed.given (on_named home (v.up l.object) l.rest named);
         alone = λ x z has plain given meets. elim (viewed.views x z has) [
           | inl view ↦ given view.named
@@ -292,7 +324,11 @@ module _ (home : ℕ → ℕ) (observer : ℕ → Bool) (other : Around home) (v
               (meets_front l.way w z under meets)
         ];
         reaches = (designates w e).1;
-        whole = λ z gone meets. viewed.whole l.object l.way z l.has passed.foreign gone (meets_front l.way w z under meets);
+        whole = λ z gone meets. viewed.whole l.object l.way z l.has (inr passed.given) gone (meets_front l.way w z under meets);
+        whole_away = λ z away meets. viewed.whole_away l.object l.way z l.has passed.given away (meets_front l.way w z under meets);
+        shown = λ named. (let (loan, (k, at_home, above, lent), changed) = viewed.shown l.object l.way l.has passed.given
+            (on_named home l.way l.rest (subst (Named home) stands named)) in
+            (loan, (k, at_home, under_on k l.way w above under, lent), λ plain. absurd (true_false true refl plain)));
       }
 
   -- an observer of what the frame was given takes a loan, which serves for nothing

@@ -1,10 +1,10 @@
 -- How ways go on, and the names of owners that names through views stand for.
-use Rattle.std.proofs.Common.{◌≡◌, refl, sym, ap, ◌∙◌, subst, ◌⊎◌, inl, inr, ℕ, true, List, [], ◌∷◌, length, suc, ◌+◌, arith, Option, Some, None}
+use Rattle.std.proofs.Common.{◌≡◌, refl, sym, ap, ◌∙◌, subst, ◌⊎◌, inl, inr, ℕ, ◌==◌, eqb-true, eq-eqb, Bool, true, false, List, [], ◌∷◌, length, suc, ◌+◌, arith, Option, Some, None}
 use Rattle.place_names.specs.Names.{overlaps}
-use Rattle.owned_ways.specs.Ways.{Root, OfVariable, OfHand, Way, Object, Lost, Into, All, Under, Named, base_of, number_of, name_of}
+use Rattle.owned_ways.specs.Ways.{Root, OfVariable, OfHand, OfRoot, Way, Object, Lost, Into, All, Under, Named, base_of, number_of, name_of}
 use Rattle.owned_ways.proofs.Locations.{depth, under_depth, under_itself}
 use Rattle.owned_ways.proofs.Named.{longer, under_overlaps, under_front}
-use Rattle.owned_loans.specs.Views.{Go, Part, Down, go, on, Views, expand_root, way_at, expand, IsObject}
+use Rattle.owned_loans.specs.Views.{Go, Part, Down, go, on, Views, expand_root, way_at, expand, IsObject, IsForeign}
 
 -- ---- beginnings of ways
 
@@ -192,3 +192,26 @@ lifted_way v x l =
 -- its name in terms of what the view was taken from
 abbrev pub next_of : (v : Views) (x : Way) → Lifted v x → Way
 next_of v x l = on (v.up l.object) l.rest
+
+-- a name that is rooted in no view with a value stands for itself
+pub stands_alone : (v : Views) (u : Way) → v.way (number_of u) ≡ None → expand v u ≡ u
+stands_alone v u none = elim (lifts v u) [
+  | inl e ↦ e
+  | inr l ↦ (let is : Some l.way ≡ None = sym l.has ∙ ap v.way (sym (lifted_root v u l)) ∙ none in cc)
+]
+
+-- a way that begins at a variable of the frame is named
+pub named_base_of : (home : ℕ → ℕ) (w : Way) (y : ℕ) → base_of w ≡ OfRoot (OfVariable (home y) y) → Named home w
+named_base_of home (Object (OfVariable f x)) y e = (let a : f ≡ home y = cc in let b : x ≡ y = cc in a ∙ ap home (sym b))
+named_base_of home (Object (OfHand h)) y e = cc
+named_base_of home (Lost n) y e = cc
+named_base_of home (Into w i) y e = named_base_of home w y e
+named_base_of home (All w) y e = named_base_of home w y e
+
+-- a way that begins at a variable is named, or begins at one of another frame
+pub home_or_foreign : (home : ℕ → ℕ) (w : Way) → (f : ℕ) × (y : ℕ) × (base_of w ≡ OfRoot (OfVariable f y)) → Named home w ⊎ IsForeign home w
+home_or_foreign home w (f, y, base) = by_frame (f == home y) refl
+  where
+    by_frame : (b : Bool) → (f == home y) ≡ b → Named home w ⊎ IsForeign home w
+    by_frame true e = inl (named_base_of home w y (base ∙ ap (λ z. OfRoot (OfVariable z y)) (eqb-true f (home y) e)))
+    by_frame false e = inr (f, y, base, λ same. (let is = eq-eqb f (home y) same in cc))

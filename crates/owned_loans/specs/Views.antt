@@ -139,15 +139,28 @@ pub record IsView (home : ℕ → ℕ) (observer : ℕ → Bool) (v : Views) (s 
 abbrev pub IsForeign : (ℕ → ℕ) → Way → Type 0
 IsForeign home w = (f : ℕ) × (y : ℕ) × (base_of w ≡ OfRoot (OfVariable f y)) × (f ≡ home y → ⊥)
 
--- A view that the frame was given, of what belongs to another frame: a formal that owns nothing, or
--- what was observed through one. It needs no loan of its own frame. What it designates is changed
--- through it alone, and no other view that was given meets its way; or nothing is changed through it.
+-- A view that the frame was given, of what belongs to another frame, or to a package: a formal that owns
+-- nothing, or what was observed through one. It needs no loan of its own frame. What it designates is
+-- changed through it alone, and no other view that was given meets its way; or nothing is changed through it.
 pub record IsPassed (home : ℕ → ℕ) (observer : ℕ → Bool) (v : Views) (s : View) (x : ℕ) (w : Way) : Type 0 where
-  pub foreign : IsForeign home w
+  pub begins : (f : ℕ) × (y : ℕ) × (base_of w ≡ OfRoot (OfVariable f y))
   pub given : Named home (v.up x) → ⊥
   pub alone : observer x ≡ false
       → (y : ℕ) (u : Way) → v.way y ≡ Some u → (y ≡ x → ⊥) → (Named home (v.up y) → ⊥) → Under w u ⊎ Under u w → ⊥
   pub reaches : Reaches s w (OfCell (v.cell x))
+
+-- A view leads to what belongs to another frame, or was given.
+abbrev pub IsOuter : (ℕ → ℕ) → Views → ℕ → Way → Type 0
+IsOuter home v x w = IsForeign home w ⊎ (Named home (v.up x) → ⊥)
+
+-- A way goes on from a place that others have lent; they have borrowed it, if it may be changed through.
+abbrev pub IsShared : (ℕ → ℕ) → (Loan → Name → Type 0) → Bool → Way → Type 0
+IsShared home lent sees w = (l : Loan) × IsThrough home lent l w × (sees ≡ false → l ≡ Borrowed)
+
+-- So it is of the views that were given and lead to what the frame has names for.
+abbrev pub AreShared : (ℕ → ℕ) → (ℕ → Bool) → (Loan → Name → Type 0) → Views → Type 0
+AreShared home observer lent v =
+    (x : ℕ) (w : Way) → v.way x ≡ Some w → (Named home (v.up x) → ⊥) → Named home w → IsShared home lent (observer x) w
 
 abbrev pub AreViews : (ℕ → ℕ) → (ℕ → Bool) → Views → View → List Fact → Type 0
 AreViews home observer v s facts = (x : ℕ) (w : Way) → v.way x ≡ Some w → IsView home observer v s facts x w ⊎ IsPassed home observer v s x w
@@ -168,7 +181,10 @@ pub record Viewed (home : ℕ → ℕ) (observer : ℕ → Bool) (other : Around
   pub clear : AreClear observer facts
   pub views : AreViews home observer v s facts
   -- nothing that is gone for others meets what a view of theirs sees
-  pub whole : (x : ℕ) (w z : Way) → v.way x ≡ Some w → IsForeign home w → other.gone z → Under z w ⊎ Under w z → ⊥
+  pub whole : (x : ℕ) (w z : Way) → v.way x ≡ Some w → IsOuter home v x w → other.gone z → Under z w ⊎ Under w z → ⊥
+  pub whole_away : (x : ℕ) (w z : Way) → v.way x ≡ Some w → (Named home (v.up x) → ⊥) → other.away z → Under z w ⊎ Under w z → ⊥
+  -- what a view that was given sees, and the frame has names for, is lent
+  pub shown : AreShared home observer other.lent v
   -- no view of others goes by what is changed through a view that was given
   pub past : (x : ℕ) (w : Way) → v.way x ≡ Some w → (Named home (v.up x) → ⊥) → observer x ≡ false
       → (k : Way) (n : ℕ) → other.kept k n → Past w k → ⊥
@@ -176,6 +192,15 @@ pub record Viewed (home : ℕ → ℕ) (observer : ℕ → Bool) (other : Around
   pub far : (w : Way) (n : ℕ) → other.kept w n → Reaches s w (OfCell n)
   -- no number stands in what is bare
   pub bare : (w : Way) (l : Loc) (p : List Step) → other.bare w l p → (q : List Step) (c : ℕ) → s.word (part l (q ++ p)) ≡ Held c → ⊥
+
+-- So it is of a frame alone: what is lent to others isn't among its facts.
+pub record ViewedAlone (home : ℕ → ℕ) (observer : ℕ → Bool) (other : Around home) (v : Views) (s : View) (facts : List Fact) : Type 0 where
+  pub owned : Owned s
+  pub covered : Covered s
+  pub known : Known s (ExcusedBy home v other facts)
+  pub clear : AreClear observer facts
+  pub views : AreViews home observer v s facts
+  pub whole : (x : ℕ) (w z : Way) → v.way x ≡ Some w → IsOuter home v x w → other.gone z → Under z w ⊎ Under w z → ⊥
 
 -- ---- a view gets a value
 

@@ -1,552 +1,9 @@
--- Where what a function gives that isn't asked of all temporaries is taken alone, all that is in scope is good, but for the
--- temporary that is taken so.
-use Rattle.std.proofs.Common.{◌≡◌, refl, sym, ap, ◌∙◌, subst, ◌⊎◌, inl, inr, ℕ, suc, Bool, true, false, ◌||◌, ◌==◌, List, [], ◌∷◌, ◌++◌, drop, Some, None, if◌then◌else◌}
-use Rattle.std.specs.Prelude.{flat_map, is_some, reverse}
-use Rattle.spark_base.specs.declared.position.Pos.{Pos}
-use Rattle.spark_base.specs.Lists.{Has}
-use Rattle.spark_base.proofs.Lists.{Has-append_left, Has-append_right, Has-append_cases}
-use Rattle.typed_tree.specs.Trees.{TypedTree, Name, Component, Designated, Element, Image, Parens, Unary, Binary, Short, IsNull, Aggregate, Alike, New, NoMore, TypedCode, Declare, Assign, Skip, Output, Input, Release, If, Branch, Case, When, Loop, While, For, Exit, Return, Block}
+-- Code in which all functions are as asked, and expressions without calls.
+use Rattle.std.proofs.Common.{◌≡◌, refl, inl, ℕ, Bool, true, false, ◌||◌}
+use Rattle.typed_tree.specs.Trees.{TypedTree, Name, Component, Designated, Element, Image, Parens, Unary, Binary, Short, IsNull, Aggregate, Alike, New, TypedCode, Declare, Assign, Output, Input, Release, If, Branch, Case, When, Loop, While, For, Exit, Return, Block}
 use Rattle.typed_tree.specs.Trees as typed
-use Rattle.typed_tree.specs.declared.node.ShortCircuit.{ShortCircuit}
-use Rattle.typed_tree.specs.Programs.{TypedSub}
-use Rattle.flow_paths.specs.Instructions.{Instruction}
-use Rattle.flow_paths.specs.Instructions as instruction
 use Rattle.flow_paths.specs.Names.{has_call}
-use Rattle.flow_paths.specs.Points.{Place, PointName, row_at, NamedPoint, point, entry}
-use Rattle.flow_paths.specs.Prep.{Setting, held, with_held, prep}
-use Rattle.flow_paths.specs.Layout.{Around, within_loop, within_block, with_scope, declared, from, ending, ends, uses, uses_both, uses_second_first, laid, laid_branches, laid_branch, laid_whens, laid_when}
-use Rattle.flow_paths.specs.Laid.{declared_within, around_body, scope_at_end, function_end, procedure_end, sub_points}
-use Rattle.scope_laws.specs.Code.{objects_of}
-use Rattle.scope_laws.specs.Alone.{CallsWithin, IsMade, CallsOnly, ValueFits, SourceFits, CodeFits, BranchesFit, BranchFits, AlternativesFit, AlternativeFits}
-use Rattle.scope_laws.proofs.Lists.{has_reverse}
-use Rattle.scope_laws.proofs.Given.{Takes, none_held, none_before}
-
-abbrev pub AllGood : (ℕ → Type 0) → List ℕ → Type 0
-AllGood good xs = (x : ℕ) → Has xs x → good x
-
--- What a point declares, assigns or returns calls functions as asked alone; and the function that it calls may stand
--- alone.
-abbrev pub TakesAsked : (ask alone : ℕ → Type 0) → Instruction → Type 0
-TakesAsked ask alone (instruction.Declare x v) = CallsOnly ask v
-TakesAsked ask alone (instruction.Assign target e) = CallsOnly ask e
-TakesAsked ask alone (instruction.Hold v) = CallsOnly ask v
-TakesAsked ask alone (instruction.Call n a (Some t)) = alone n
-TakesAsked ask alone i = Unit {0}
-
--- All that is in scope at a point is good, and it takes what is as asked.
-abbrev pub IsGoodPoint : (ask alone good : ℕ → Type 0) → NamedPoint → Type 0
-IsGoodPoint ask alone good p = AllGood good p.scope × TakesAsked ask alone p.instr
-
-drop_none : (xs : List ℕ) → drop 0 xs ≡ xs
-drop_none [] = refl
-drop_none (x ∷ xs) = refl
-
--- A point is so, or what is in scope is good but for the last one, which the point takes alone.
-abbrev pub IsFine : List NamedPoint → (ask alone good : ℕ → Type 0) → NamedPoint → Type 0
-IsFine whole ask alone good p =
-    IsGoodPoint ask alone good p
-    ⊎ (((t : ℕ) × (rest : List ℕ) × (p.scope ≡ t ∷ rest) × AllGood good rest × (q : Pos) × (n : ℕ) × (a : TypedTree) × Takes p.instr (typed.Call q n a)
-    × alone n)
-    ⊎ ((t : ℕ) × (rest : List ℕ) × (p.scope ≡ t ∷ rest) × AllGood good rest × (e : TypedTree) × (n : ℕ) × Takes p.instr e × CallsWithin ask n e × IsMade e
-    × alone n × (r : NamedPoint) × Has whole r × (a : TypedTree) × (r.instr ≡ instruction.Call n a (Some t))))
-
-module _ (s : Setting) (whole : List NamedPoint) (ask alone good : ℕ → Type 0) (weaker : (n : ℕ) → ask n → alone n)
-    (fills : (r : NamedPoint) → Has whole r → (n : ℕ) (a : TypedTree) (t : ℕ) → r.instr ≡ instruction.Call n a (Some t) → ask n → good t)
-    (truths : (r : NamedPoint) → Has whole r → (t : ℕ) (e : TypedTree) (op : ShortCircuit) → r.instr ≡ instruction.Evaluate t e (Some op) → good t) where
-  abbrev Within : List NamedPoint → Type 0
-  Within ps = (r : NamedPoint) → Has ps r → Has whole r
-
-  first_of : (ps qs : List NamedPoint) → Within (ps ++ qs) → Within ps
-  first_of ps qs within r has = within r (Has-append_left ps qs r has)
-
-  second_of : (ps qs : List NamedPoint) → Within (ps ++ qs) → Within qs
-  second_of ps qs within r has = within r (Has-append_right ps qs r has)
-
-  good_both : (xs ys : List ℕ) → AllGood good xs → AllGood good ys → AllGood good (xs ++ ys)
-  good_both xs ys h g x has = elim (Has-append_cases xs ys x has) [ inl l ↦ h x l | inr r ↦ g x r ]
-
-  abbrev AreGood : List NamedPoint → Type 0
-  AreGood ps = (p : NamedPoint) → Has ps p → IsGoodPoint ask alone good p
-
-  points_both : (ps qs : List NamedPoint) → AreGood ps → AreGood qs → AreGood (ps ++ qs)
-  points_both ps qs h g p has = elim (Has-append_cases ps qs p has) [ inl l ↦ h p l | inr r ↦ g p r ]
-
-  points_one : (p : NamedPoint) → AllGood good p.scope → TakesAsked ask alone p.instr → AreGood (p ∷ [])
-  points_one p h asked q (inl same) = subst (IsGoodPoint ask alone good) same (h, asked)
-  points_one p h asked q (inr never) = absurd never
-
-  -- what an expression holds is good, if its calls are as asked
-  held_good : (e : TypedTree) (at : Place) (scope : List ℕ) (k : List PointName) → CallsOnly ask e → Within (prep s e at scope k) → AllGood good (held s e at)
-  unfolding held prep CallsOnly
-  held_good (typed.Call p sub actuals) at scope k (asked, inner) within =
-      λ x has. elim has [
-        | inl same ↦ subst good same (fills _ (within _ (Has-append_right (prep s actuals (0 ∷ at) scope (row_at at 0 ∷ [])) (_ ∷ []) _ (inl refl))) sub actuals (s.temporary at) refl asked)
-        | inr never ↦ absurd never
-      ]
-  held_good (Short op p a q b) at scope k (first, second) within =
-      by (has_call b) within (λ within_false. (
-      let behind : List NamedPoint = prep s b (1 ∷ at) (with_held s a (0 ∷ at) scope) k in
-      let before : List NamedPoint = prep s a (0 ∷ at) scope (entry behind k) in
-      good_both (held s b (1 ∷ at)) (held s a (0 ∷ at)) (held_good b (1 ∷ at) (with_held s a (0 ∷ at) scope) k second (second_of before behind within_false))
-      (held_good a (0 ∷ at) scope (entry behind k) first (first_of before behind within_false))))
-    where
-      by : (c : Bool)
-          → Within (if c then prep s a (0 ∷ at) scope (row_at at 0 ∷ [])
-          ++ (point (row_at at 0) p (instruction.Evaluate (s.temporary at) a (Some op)) (with_held s a (0 ∷ at) scope) (entry (prep s b (1 ∷ at) (s.temporary at ∷ scope) (row_at at 1 ∷ [])) (row_at at 1 ∷ []) ++ k)
-          ∷ (prep s b (1 ∷ at) (s.temporary at ∷ scope) (row_at at 1 ∷ [])
-          ++ point (row_at at 1) q (instruction.Evaluate (s.temporary at) b None) (with_held s b (1 ∷ at) (s.temporary at ∷ scope)) k ∷ []))
-          else prep s a (0 ∷ at) scope (entry (prep s b (1 ∷ at) (with_held s a (0 ∷ at) scope) k) k) ++ prep s b (1 ∷ at) (with_held s a (0 ∷ at) scope) k)
-          → (Within (prep s a (0 ∷ at) scope (entry (prep s b (1 ∷ at) (with_held s a (0 ∷ at) scope) k) k) ++ prep s b (1 ∷ at) (with_held s a (0 ∷ at) scope) k)
-          → AllGood good (held s b (1 ∷ at) ++ held s a (0 ∷ at)))
-          → AllGood good (if c then s.temporary at ∷ [] else held s b (1 ∷ at) ++ held s a (0 ∷ at))
-      by true within_true more = λ x has. elim has [
-        | inl same ↦ subst good same (truths _ (within_true _ (Has-append_right (prep s a (0 ∷ at) scope (row_at at 0 ∷ [])) _ _ (inl refl))) (s.temporary at) a op refl)
-        | inr never ↦ absurd never
-      ]
-      by false within_false more = more within_false
-  held_good (Binary op a b) at scope k (first, second) within =
-      let behind : List NamedPoint = prep s b (1 ∷ at) (with_held s a (0 ∷ at) scope) k in
-      let before : List NamedPoint = prep s a (0 ∷ at) scope (entry behind k) in
-      good_both (held s b (1 ∷ at)) (held s a (0 ∷ at)) (held_good b (1 ∷ at) (with_held s a (0 ∷ at) scope) k second (second_of before behind within))
-      (held_good a (0 ∷ at) scope (entry behind k) first (first_of before behind within))
-  held_good (typed.More a b) at scope k (first, second) within =
-      let behind : List NamedPoint = prep s b (1 ∷ at) (with_held s a (0 ∷ at) scope) k in
-      let before : List NamedPoint = prep s a (0 ∷ at) scope (entry behind k) in
-      good_both (held s b (1 ∷ at)) (held s a (0 ∷ at)) (held_good b (1 ∷ at) (with_held s a (0 ∷ at) scope) k second (second_of before behind within))
-      (held_good a (0 ∷ at) scope (entry behind k) first (first_of before behind within))
-  held_good (Element a low high b) at scope k (first, second) within =
-      let behind : List NamedPoint = prep s b (1 ∷ at) (with_held s a (0 ∷ at) scope) k in
-      let before : List NamedPoint = prep s a (0 ∷ at) scope (entry behind k) in
-      good_both (held s b (1 ∷ at)) (held s a (0 ∷ at)) (held_good b (1 ∷ at) (with_held s a (0 ∷ at) scope) k second (second_of before behind within))
-      (held_good a (0 ∷ at) scope (entry behind k) first (first_of before behind within))
-  held_good (Name p x e t) at scope k only within = held_good e (0 ∷ at) scope k only within
-  held_good (Component i e) at scope k only within = held_good e (0 ∷ at) scope k only within
-  held_good (Designated e) at scope k only within = held_good e (0 ∷ at) scope k only within
-  held_good (Image t e) at scope k only within = held_good e (0 ∷ at) scope k only within
-  held_good (Parens e) at scope k only within = held_good e (0 ∷ at) scope k only within
-  held_good (Unary op e) at scope k only within = held_good e (0 ∷ at) scope k only within
-  held_good (IsNull equal e) at scope k only within = held_good e (0 ∷ at) scope k only within
-  held_good (Aggregate t e) at scope k only within = held_good e (0 ∷ at) scope k only within
-  held_good (Alike t e) at scope k only within = held_good e (0 ∷ at) scope k only within
-  held_good (New t e) at scope k only within = held_good e (0 ∷ at) scope k only within
-  held_good _ at scope k only within = λ x has. absurd has
-
-  evaluated_good : (e : TypedTree) (at : Place) (scope : List ℕ) (k : List PointName) → CallsOnly ask e → Within (prep s e at scope k) → AllGood good scope
-      → AllGood good (with_held s e at scope)
-  evaluated_good e at scope k only within fine = good_both (held s e at) scope (held_good e at scope k only within) fine
-
-  -- and so are the scopes of the points before
-  prep_good : (e : TypedTree) (at : Place) (scope : List ℕ) (k : List PointName) → CallsOnly ask e → Within (prep s e at scope k) → AllGood good scope
-      → AreGood (prep s e at scope k)
-  unfolding prep CallsOnly
-  prep_good (typed.Call p sub actuals) at scope k (asked, inner) within fine =
-      let before : List NamedPoint = prep s actuals (0 ∷ at) scope (row_at at 0 ∷ []) in
-      points_both before _ (prep_good actuals (0 ∷ at) scope (row_at at 0 ∷ []) inner (first_of before _ within) fine)
-      (points_one _ (evaluated_good actuals (0 ∷ at) scope (row_at at 0 ∷ []) inner (first_of before _ within) fine) (weaker sub asked))
-  prep_good (Short op p a q b) at scope k (first, second) within fine =
-      by _ _ (has_call b) within
-      (λ within_true. (
-      let before : List NamedPoint = prep s a (0 ∷ at) scope (row_at at 0 ∷ []) in
-      let inner : List ℕ = s.temporary at ∷ scope in
-      let right : List NamedPoint = prep s b (1 ∷ at) inner (row_at at 1 ∷ []) in
-      let middle : NamedPoint = point (row_at at 0) p (instruction.Evaluate (s.temporary at) a (Some op)) (with_held s a (0 ∷ at) scope) (entry right (row_at at 1 ∷ []) ++ k) in
-      let last : NamedPoint = point (row_at at 1) q (instruction.Evaluate (s.temporary at) b None) (with_held s b (1 ∷ at) inner) k in
-      let behind = second_of before (middle ∷ (right ++ last ∷ [])) within_true in
-      let right_within : Within right = (λ r has. behind r (inr (Has-append_left right (last ∷ []) r has))) in
-      let fine_inner : AllGood good inner = (λ x has. elim has [
-        | inl same ↦ subst good same (truths middle (behind middle (inl refl)) (s.temporary at) a op refl)
-        | inr more ↦ fine x more
-      ]) in
-      points_both before (middle ∷ (right ++ last ∷ [])) (prep_good a (0 ∷ at) scope (row_at at 0 ∷ []) first (first_of before (middle ∷ (right ++ last ∷ [])) within_true) fine)
-      (points_both (middle ∷ []) (right ++ last ∷ [])
-      (points_one middle (evaluated_good a (0 ∷ at) scope (row_at at 0 ∷ []) first (first_of before (middle ∷ (right ++ last ∷ [])) within_true) fine) tt)
-      (points_both right (last ∷ []) (prep_good b (1 ∷ at) inner (row_at at 1 ∷ []) second right_within fine_inner)
-      (points_one last (evaluated_good b (1 ∷ at) inner (row_at at 1 ∷ []) second right_within fine_inner) tt)))))
-      (λ within_false. (
-      let inner : List ℕ = with_held s a (0 ∷ at) scope in
-      let behind : List NamedPoint = prep s b (1 ∷ at) inner k in
-      let before : List NamedPoint = prep s a (0 ∷ at) scope (entry behind k) in
-      points_both before behind (prep_good a (0 ∷ at) scope (entry behind k) first (first_of before behind within_false) fine)
-      (prep_good b (1 ∷ at) inner k second (second_of before behind within_false)
-      (evaluated_good a (0 ∷ at) scope (entry behind k) first (first_of before behind within_false) fine))))
-    where
-      by : (ps qs : List NamedPoint) (c : Bool) → Within (if c then ps else qs) → (Within ps → AreGood ps) → (Within qs → AreGood qs) → AreGood (if c then ps else qs)
-      by ps qs true within h g = h within
-      by ps qs false within h g = g within
-  prep_good (Binary op a b) at scope k (first, second) within fine =
-      let inner : List ℕ = with_held s a (0 ∷ at) scope in
-      let behind : List NamedPoint = prep s b (1 ∷ at) inner k in
-      let before : List NamedPoint = prep s a (0 ∷ at) scope (entry behind k) in
-      points_both before behind (prep_good a (0 ∷ at) scope (entry behind k) first (first_of before behind within) fine)
-      (prep_good b (1 ∷ at) inner k second (second_of before behind within)
-      (evaluated_good a (0 ∷ at) scope (entry behind k) first (first_of before behind within) fine))
-  prep_good (typed.More a b) at scope k (first, second) within fine =
-      let inner : List ℕ = with_held s a (0 ∷ at) scope in
-      let behind : List NamedPoint = prep s b (1 ∷ at) inner k in
-      let before : List NamedPoint = prep s a (0 ∷ at) scope (entry behind k) in
-      points_both before behind (prep_good a (0 ∷ at) scope (entry behind k) first (first_of before behind within) fine)
-      (prep_good b (1 ∷ at) inner k second (second_of before behind within)
-      (evaluated_good a (0 ∷ at) scope (entry behind k) first (first_of before behind within) fine))
-  prep_good (Element a low high b) at scope k (first, second) within fine =
-      let inner : List ℕ = with_held s a (0 ∷ at) scope in
-      let behind : List NamedPoint = prep s b (1 ∷ at) inner k in
-      let before : List NamedPoint = prep s a (0 ∷ at) scope (entry behind k) in
-      points_both before behind (prep_good a (0 ∷ at) scope (entry behind k) first (first_of before behind within) fine)
-      (prep_good b (1 ∷ at) inner k second (second_of before behind within)
-      (evaluated_good a (0 ∷ at) scope (entry behind k) first (first_of before behind within) fine))
-  prep_good (Name p x e t) at scope k only within fine = prep_good e (0 ∷ at) scope k only within fine
-  prep_good (Component i e) at scope k only within fine = prep_good e (0 ∷ at) scope k only within fine
-  prep_good (Designated e) at scope k only within fine = prep_good e (0 ∷ at) scope k only within fine
-  prep_good (Image t e) at scope k only within fine = prep_good e (0 ∷ at) scope k only within fine
-  prep_good (Parens e) at scope k only within fine = prep_good e (0 ∷ at) scope k only within fine
-  prep_good (Unary op e) at scope k only within fine = prep_good e (0 ∷ at) scope k only within fine
-  prep_good (IsNull equal e) at scope k only within fine = prep_good e (0 ∷ at) scope k only within fine
-  prep_good (Aggregate t e) at scope k only within fine = prep_good e (0 ∷ at) scope k only within fine
-  prep_good (Alike t e) at scope k only within fine = prep_good e (0 ∷ at) scope k only within fine
-  prep_good (New t e) at scope k only within fine = prep_good e (0 ∷ at) scope k only within fine
-  prep_good _ at scope k only within fine = λ p has. absurd has
-
-  -- what holds the value of one call within an expression
-  abbrev IsHeldBy : ℕ → TypedTree → Place → List ℕ → List PointName → Type 0
-  IsHeldBy n e at scope k =
-      (t : ℕ) × (held s e at ≡ t ∷ []) × AreGood (prep s e at scope k) × (r : NamedPoint) × Has whole r × (a : TypedTree) × (r.instr ≡ instruction.Call n a (Some t))
-
-  held_within : (n : ℕ) → alone n → (e : TypedTree) (at : Place) (scope : List ℕ) (k : List PointName) → CallsWithin ask n e → Within (prep s e at scope k) → AllGood good scope
-      → IsHeldBy n e at scope k
-  unfolding held prep CallsWithin
-  held_within n may (typed.Call p sub actuals) at scope k (same, only) within fine =
-      let before : List NamedPoint = prep s actuals (0 ∷ at) scope (row_at at 0 ∷ []) in (
-        s.temporary at,
-        refl,
-        points_both before _ (prep_good actuals (0 ∷ at) scope (row_at at 0 ∷ []) only (first_of before _ within) fine)
-            (points_one _ (evaluated_good actuals (0 ∷ at) scope (row_at at 0 ∷ []) only (first_of before _ within) fine) (subst alone (sym same) may)),
-        _,
-        within _ (Has-append_right before (_ ∷ []) _ (inl refl)),
-        actuals,
-        ap (λ m. instruction.Call m actuals (Some (s.temporary at))) same,
-      )
-  held_within n may (Parens e) at scope k calls within fine = held_within n may e (0 ∷ at) scope k calls within fine
-  held_within n may (Aggregate t es) at scope k calls within fine = held_within n may es (0 ∷ at) scope k calls within fine
-  held_within n may (New t (typed.More a b)) at scope k calls within fine = held_within n may (typed.More a b) (0 ∷ at) scope k (inl calls) within fine
-  held_within n may (typed.More a b) at scope k (inl (mine, none)) within fine =
-      let inner : List ℕ = with_held s a (0 ∷ at) scope in
-      let behind : List NamedPoint = prep s b (1 ∷ at) inner k in
-      let before : List NamedPoint = prep s a (0 ∷ at) scope (entry behind k) in
-      let h = held_within n may a (0 ∷ at) scope (entry behind k) mine (first_of before behind within) fine in (
-        h.0,
-        (λ j. none_held s b (1 ∷ at) none j ++ h.1 j),
-        points_both before behind h.2 (subst AreGood (sym (none_before s b (1 ∷ at) inner k none)) (λ p has. absurd has)),
-        h.3,
-        h.4,
-        h.5,
-        h.6,
-      )
-  held_within n may (typed.More a b) at scope k (inr (none, mine)) within fine =
-      let inner : List ℕ = with_held s a (0 ∷ at) scope in
-      let behind : List NamedPoint = prep s b (1 ∷ at) inner k in
-      let before : List NamedPoint = prep s a (0 ∷ at) scope (entry behind k) in
-      let fine_inner : AllGood good inner = subst (AllGood good) (sym (ap (λ z. z ++ scope) (none_held s a (0 ∷ at) none))) fine in
-      let h = held_within n may b (1 ∷ at) inner k mine (second_of before behind within) fine_inner in (
-        h.0,
-        (λ j. h.1 j ++ none_held s a (0 ∷ at) none j),
-        points_both before behind (subst AreGood (sym (none_before s a (0 ∷ at) scope (entry behind k) none)) (λ p has. absurd has)) h.2,
-        h.3,
-        h.4,
-        h.5,
-        h.6,
-      )
-  held_within n may e at scope k calls within fine = absurd calls
-
-  -- ---- the points of statements
-
-  abbrev AreFine : List NamedPoint → Type 0
-  AreFine ps = (p : NamedPoint) → Has ps p → IsFine whole ask alone good p
-
-  fine_both : (ps qs : List NamedPoint) → AreFine ps → AreFine qs → AreFine (ps ++ qs)
-  fine_both ps qs h g p has = elim (Has-append_cases ps qs p has) [ inl l ↦ h p l | inr r ↦ g p r ]
-
-  fine_one : (p : NamedPoint) → IsFine whole ask alone good p → AreFine (p ∷ [])
-  fine_one p h q (inl same) = subst (IsFine whole ask alone good) same h
-  fine_one p h q (inr never) = absurd never
-
-  as_fine : (ps : List NamedPoint) → AreGood ps → AreFine ps
-  as_fine ps h p has = inl (h p has)
-
-  from_good : (x : ℕ) (scope : List ℕ) → AllGood good scope → AllGood good (from x scope)
-  from_good x [] fine = λ y has. absurd has
-  from_good x (z ∷ scope) fine = by (z == x) (from_good x scope (λ y has. fine y (inr has)))
-    where
-      by : (b : Bool) → AllGood good (from x scope) → AllGood good (if b then z ∷ scope else from x scope)
-      by true more = fine
-      by false more = more
-
-  drop_good : (scope : List ℕ) → AllGood good scope → AllGood good (drop 1 scope)
-  drop_good [] fine = fine
-  drop_good (x ∷ scope) fine = subst (AllGood good) (sym (drop_none scope)) (λ y has. fine y (inr has))
-
-  ends_good : (at : Place) (row : ℕ) (p : Pos) (xs scope : List ℕ) (k : List PointName) → AllGood good scope → AreGood (ends at row p xs scope k)
-  ends_good at row p [] scope k fine q has = absurd has
-  ends_good at row p (x ∷ xs) scope k fine q has = elim has [
-    | inl same ↦ subst (IsGoodPoint ask alone good) same (from_good x scope fine, tt)
-    | inr more ↦ ends_good at (suc row) p xs (drop 1 (from x scope)) k (drop_good (from x scope) (from_good x scope fine)) q more
-  ]
-
-  uses_good : (at : Place) (p : Pos) (e : TypedTree) (i : Instruction) (w : Around) (next : List PointName) → CallsOnly ask e → Within (uses s at p e i w next)
-      → AllGood good w.scope → TakesAsked ask alone i → AreFine (uses s at p e i w next)
-  uses_good at p e i w next only within fine asked =
-      let before : List NamedPoint = prep s e (0 ∷ at) w.scope (row_at at 0 ∷ []) in
-      as_fine (uses s at p e i w next) (points_both before _ (prep_good e (0 ∷ at) w.scope (row_at at 0 ∷ []) only (first_of before _ within) fine)
-      (points_one _ (evaluated_good e (0 ∷ at) w.scope (row_at at 0 ∷ []) only (first_of before _ within) fine) asked))
-
-  -- the value of a declaration or of a return
-  value_fine : (at : Place) (p : Pos) (v : TypedTree) (i : Instruction) (w : Around) (next : List PointName) → ((e : TypedTree) → v ≡ typed.More e NoMore → Takes i e)
-      → (CallsOnly ask v → TakesAsked ask alone i) → ValueFits ask alone v → Within (uses s at p v i w next) → AllGood good w.scope → AreFine (uses s at p v i w next)
-  unfolding held prep CallsWithin has_call
-  value_fine at p v i w next takes asked (inl only) within fine = uses_good at p v i w next only within fine (asked only)
-  value_fine at p v i w next takes asked (inr (inr (n, e, is, may, calls, made))) within fine =
-      let before : List NamedPoint = prep s v (0 ∷ at) w.scope (row_at at 0 ∷ []) in
-      let calls_there : CallsWithin ask n v = subst (CallsWithin ask n) (sym is) (inl (calls, refl)) in
-      let h = held_within n may v (0 ∷ at) w.scope (row_at at 0 ∷ []) calls_there (first_of before _ within) fine in
-      fine_both before _ (as_fine before h.2)
-      (fine_one _ (inr (inr (h.0, w.scope, ap (λ z. z ++ w.scope) h.1, fine, e, n, takes e is, calls, made, may, h.3, h.4, h.5, h.6))))
-  value_fine at p v i w next takes asked (inr (inl (q, n, a, is, may, only))) within fine =
-      let before : List NamedPoint = prep s v (0 ∷ at) w.scope (row_at at 0 ∷ []) in
-      fine_both before _ (as_fine before (alone_before (first_of before _ within)))
-      (fine_one _ (inr (inl (
-        s.temporary (0 ∷ 0 ∷ at),
-        w.scope,
-        ap (λ z. with_held s z (0 ∷ at) w.scope) is,
-        fine,
-        q,
-        n,
-        a,
-        takes (typed.Call q n a) is,
-        may,
-      ))))
-    where
-      alone_before : Within (prep s v (0 ∷ at) w.scope (row_at at 0 ∷ [])) → AreGood (prep s v (0 ∷ at) w.scope (row_at at 0 ∷ []))
-      alone_before inside =
-          subst (λ z. Within (prep s z (0 ∷ at) w.scope (row_at at 0 ∷ [])) → AreGood (prep s z (0 ∷ at) w.scope (row_at at 0 ∷ []))) (sym is)
-          (λ inside_call. (
-          let actuals : List NamedPoint = prep s a (0 ∷ 0 ∷ 0 ∷ at) w.scope (row_at (0 ∷ 0 ∷ at) 0 ∷ []) in
-          let inside_actuals : Within actuals = (λ r has. inside_call r (Has-append_left _ _ r (Has-append_left actuals _ r has))) in
-          points_both _ _ (points_both actuals _ (prep_good a (0 ∷ 0 ∷ 0 ∷ at) w.scope (row_at (0 ∷ 0 ∷ at) 0 ∷ []) only inside_actuals fine)
-          (points_one _ (evaluated_good a (0 ∷ 0 ∷ 0 ∷ at) w.scope (row_at (0 ∷ 0 ∷ at) 0 ∷ []) only inside_actuals fine) may)) (λ r has. absurd has))) inside
-
-  -- an assignment
-  assign_fine : (at : Place) (p : Pos) (target e : TypedTree) (w : Around) (next : List PointName) → CallsOnly ask target → SourceFits ask alone target e
-      → Within (uses_second_first s at p target e (instruction.Assign target e) w next) → AllGood good w.scope
-      → AreFine (uses_second_first s at p target e (instruction.Assign target e) w next)
-  unfolding held prep
-  assign_fine at p target e w next only (inl plain) within fine =
-      let inner : List ℕ = with_held s e (1 ∷ at) w.scope in
-      let behind : List NamedPoint = prep s target (0 ∷ at) inner (row_at at 0 ∷ []) in
-      let before : List NamedPoint = prep s e (1 ∷ at) w.scope (entry behind (row_at at 0 ∷ [])) in
-      let first = first_of before behind (first_of (before ++ behind) _ within) in
-      let second = second_of before behind (first_of (before ++ behind) _ within) in
-      let fine_inner = evaluated_good e (1 ∷ at) w.scope (entry behind (row_at at 0 ∷ [])) plain first fine in
-      as_fine _ (points_both (before ++ behind) _
-      (points_both before behind (prep_good e (1 ∷ at) w.scope (entry behind (row_at at 0 ∷ [])) plain first fine)
-      (prep_good target (0 ∷ at) inner (row_at at 0 ∷ []) only second fine_inner))
-      (points_one _ (evaluated_good target (0 ∷ at) inner (row_at at 0 ∷ []) only second fine_inner) plain))
-  assign_fine at p target e w next only (inr (inr (n, may, calls, made, r, x, path, u, target_is, none))) within fine =
-      let inner : List ℕ = with_held s e (1 ∷ at) w.scope in
-      let behind : List NamedPoint = prep s target (0 ∷ at) inner (row_at at 0 ∷ []) in
-      let before : List NamedPoint = prep s e (1 ∷ at) w.scope (entry behind (row_at at 0 ∷ [])) in
-      let h = held_within n may e (1 ∷ at) w.scope (entry behind (row_at at 0 ∷ [])) calls (first_of before behind (first_of (before ++ behind) _ within)) fine in
-      fine_both (before ++ behind) _
-      (fine_both before behind (as_fine before h.2)
-      (subst (λ z. AreFine (prep s z (0 ∷ at) inner (row_at at 0 ∷ []))) (sym target_is) (subst AreFine (sym (none_before s path (0 ∷ 0 ∷ at) inner (row_at at 0 ∷ []) none)) (λ y has. absurd has))))
-      (fine_one _ (inr (inr (
-        h.0,
-        w.scope,
-        ap (λ z. held s z (0 ∷ at) ++ inner) target_is ∙ ap (λ z. z ++ inner) (none_held s path (0 ∷ 0 ∷ at) none) ∙ ap (λ z. z ++ w.scope) h.1,
-        fine,
-        e,
-        n,
-        inr (inl (r, x, path, u, ap (λ z. instruction.Assign z e) target_is, none)),
-        calls,
-        made,
-        may,
-        h.3,
-        h.4,
-        h.5,
-        h.6,
-      ))))
-  assign_fine at p target e w next only (inr (inl (q, n, a, is, may, plain, r, x, path, u, target_is, none))) within fine =
-      let inner : List ℕ = with_held s e (1 ∷ at) w.scope in
-      let behind : List NamedPoint = prep s target (0 ∷ at) inner (row_at at 0 ∷ []) in
-      let before : List NamedPoint = prep s e (1 ∷ at) w.scope (entry behind (row_at at 0 ∷ [])) in
-      fine_both (before ++ behind) _
-      (fine_both before behind
-      (as_fine before (call_before (entry behind (row_at at 0 ∷ [])) (first_of before behind (first_of (before ++ behind) _ within))))
-      (subst (λ z. AreFine (prep s z (0 ∷ at) inner (row_at at 0 ∷ []))) (sym target_is) (subst AreFine (sym (none_before s path (0 ∷ 0 ∷ at) inner (row_at at 0 ∷ []) none)) (λ y has. absurd has))))
-      (fine_one _ (inr (inl (
-        s.temporary (1 ∷ at),
-        w.scope,
-        scope_is inner (ap (λ z. with_held s z (1 ∷ at) w.scope) is),
-        fine,
-        q,
-        n,
-        a,
-        inr (inl (r, x, path, u, (λ j. instruction.Assign (target_is j) (is j)), none)),
-        may,
-      ))))
-    where
-      scope_is : (inner : List ℕ) → inner ≡ s.temporary (1 ∷ at) ∷ w.scope → with_held s target (0 ∷ at) inner ≡ s.temporary (1 ∷ at) ∷ w.scope
-      scope_is inner same =
-          ap (λ z. held s z (0 ∷ at) ++ inner) target_is ∙ ap (λ z. z ++ inner) (none_held s path (0 ∷ 0 ∷ at) none) ∙ same
-
-      call_before : (k : List PointName) → Within (prep s e (1 ∷ at) w.scope k) → AreGood (prep s e (1 ∷ at) w.scope k)
-      call_before k inside =
-          subst (λ z. Within (prep s z (1 ∷ at) w.scope k) → AreGood (prep s z (1 ∷ at) w.scope k)) (sym is)
-          (λ inside_call. (
-          let actuals : List NamedPoint = prep s a (0 ∷ 1 ∷ at) w.scope (row_at (1 ∷ at) 0 ∷ []) in
-          let inside_actuals : Within actuals = first_of actuals _ inside_call in
-          points_both actuals _ (prep_good a (0 ∷ 1 ∷ at) w.scope (row_at (1 ∷ at) 0 ∷ []) plain inside_actuals fine)
-          (points_one _ (evaluated_good a (0 ∷ 1 ∷ at) w.scope (row_at (1 ∷ at) 0 ∷ []) plain inside_actuals fine) may))) inside
-
-  -- ---- all points
-
-  declared_good : (c : TypedCode) → AllGood good (declared_within c) → AllGood good (declared c)
-  unfolding declared declared_within
-  declared_good (Declare p x v) fine = fine
-  declared_good (typed.More a rest) fine =
-      good_both (declared a) (declared rest) (declared_good a (λ x has. fine x (Has-append_left (declared_within a) (declared_within rest) x has)))
-      (declared_good rest (λ x has. fine x (Has-append_right (declared_within a) (declared_within rest) x has)))
-  declared_good c fine = λ x has. absurd has
-
-  reversed_good : (xs : List ℕ) → AllGood good xs → AllGood good (reverse xs)
-  reversed_good xs fine x has = fine x (has_reverse xs x has)
-
-  abbrev IsGoodAround : Around → Type 0
-  IsGoodAround w = AllGood good w.scope × AllGood good w.formals
-
-  hold_takes : (v e : TypedTree) → v ≡ typed.More e NoMore → Takes (instruction.Hold v) e
-  hold_takes v e is = inr (inr (ap instruction.Hold is))
-
-  declare_takes : (x : ℕ) (v e : TypedTree) → v ≡ typed.More e NoMore → Takes (instruction.Declare x v) e
-  declare_takes x v e is = inl (x, ap (instruction.Declare x) is)
-
-  mutual
-    unfolding laid laid_branches laid_branch laid_whens laid_when CodeFits BranchesFit BranchFits AlternativesFit AlternativeFits declared_within
-
-    laid_fine : (c : TypedCode) (at : Place) (w : Around) (k : List PointName) → CodeFits ask alone c → AllGood good (declared_within c) → Within (laid s c at w k)
-        → IsGoodAround w → AreFine (laid s c at w k)
-    laid_fine (typed.More a rest) at w k (first, second) objects within fine =
-        let inner : Around = with_scope (declared a) w in
-        let behind : List NamedPoint = laid s rest (1 ∷ at) inner k in
-        let before : List NamedPoint = laid s a (0 ∷ at) w (entry behind k) in
-        let own : AllGood good (declared_within a) = (λ x has. objects x (Has-append_left (declared_within a) (declared_within rest) x has)) in
-        fine_both before behind (laid_fine a (0 ∷ at) w (entry behind k) first own (first_of before behind within) fine)
-        (laid_fine rest (1 ∷ at) inner k second (λ x has. objects x (Has-append_right (declared_within a) (declared_within rest) x has)) (second_of before behind within)
-        (good_both (reverse (declared a)) w.scope (reversed_good (declared a) (declared_good a own)) fine.0, fine.1))
-    laid_fine (Declare p x v) at w k fits objects within fine = value_fine at p v (instruction.Declare x v) w k (declare_takes x v) (λ h. h) fits within fine.0
-    laid_fine (Assign p target e) at w k (only, source) objects within fine = assign_fine at p target e w k only source within fine.0
-    laid_fine (Skip p) at w k fits objects within fine = fine_one _ (inl (fine.0, tt))
-    laid_fine (typed.Call p sub actuals) at w k fits objects within fine = uses_good at p actuals (instruction.Call sub actuals None) w k fits within fine.0 tt
-    laid_fine (Output p text line) at w k fits objects within fine = uses_good at p text (instruction.Output text line) w k fits within fine.0 tt
-    laid_fine (Input p target) at w k fits objects within fine = uses_good at p target (instruction.Input target) w k fits within fine.0 tt
-    laid_fine (Release p m) at w k fits objects within fine = uses_good at p m (instruction.Release m) w k fits within fine.0 tt
-    laid_fine (If branches otherwise) at w k (first, second) objects within fine =
-        let behind : List NamedPoint = laid s otherwise (1 ∷ at) w k in
-        let before : List NamedPoint = laid_branches s branches (0 ∷ at) w k (entry behind k) in
-        fine_both before behind
-        (branches_fine branches (0 ∷ at) w k (entry behind k) first (λ x has. objects x (Has-append_left (declared_within branches) (declared_within otherwise) x has)) (first_of before behind within) fine)
-        (laid_fine otherwise (1 ∷ at) w k second (λ x has. objects x (Has-append_right (declared_within branches) (declared_within otherwise) x has)) (second_of before behind within) fine)
-    laid_fine (Case p e whens) at w k (first, second) objects within fine =
-        fine_both (uses s at p e _ w _) _ (uses_good at p e _ w _ first (first_of (uses s at p e _ w _) _ within) fine.0 tt)
-        (whens_fine whens (1 ∷ at) w k second objects (second_of (uses s at p e _ w _) _ within) fine)
-    laid_fine (Loop stmts) at w k fits objects within fine = laid_fine stmts (0 ∷ at) (within_loop k w) _ fits objects within fine
-    laid_fine (While p e stmts) at w k (first, second) objects within fine =
-        fine_both (uses s at p e (instruction.Test e) w _) _ (uses_good at p e (instruction.Test e) w _ first (first_of (uses s at p e (instruction.Test e) w _) _ within) fine.0 tt)
-        (laid_fine stmts (1 ∷ at) (within_loop k w) _ second objects (second_of (uses s at p e (instruction.Test e) w _) _ within) fine)
-    laid_fine (For p x reversed low high stmts) at w k (first, second, inside) objects within fine =
-        let inner : Around = with_scope (x ∷ []) (within_loop k w) in
-        let body : List NamedPoint = laid s stmts (2 ∷ at) inner (row_at at 1 ∷ []) in
-        let middle : List ℕ = with_held s low (0 ∷ at) w.scope in
-        let behind : List NamedPoint = prep s high (1 ∷ at) middle (row_at at 0 ∷ []) in
-        let before : List NamedPoint = prep s low (0 ∷ at) w.scope (entry behind (row_at at 0 ∷ [])) in
-        let start : List NamedPoint = uses_both s at p low high (instruction.Start x reversed low high) w (row_at at 1 ∷ []) in
-        let next : NamedPoint = point (row_at at 1) p (instruction.Next x reversed low high) (x ∷ w.scope) (entry body (row_at at 1 ∷ []) ++ k) in
-        let starts = first_of start (next ∷ body) within in
-        let low_there = first_of before behind (first_of (before ++ behind) _ starts) in
-        let high_there = second_of before behind (first_of (before ++ behind) _ starts) in
-        let fine_middle = evaluated_good low (0 ∷ at) w.scope (entry behind (row_at at 0 ∷ [])) first low_there fine.0 in
-        let fine_next : AllGood good (x ∷ w.scope) = (λ y has. elim has [ inl same ↦ objects y (inl same) | inr more ↦ fine.0 y more ]) in
-        fine_both start (next ∷ body)
-        (as_fine start (points_both (before ++ behind) _
-        (points_both before behind (prep_good low (0 ∷ at) w.scope (entry behind (row_at at 0 ∷ [])) first low_there fine.0) (prep_good high (1 ∷ at) middle (row_at at 0 ∷ []) second high_there fine_middle))
-        (points_one _ (evaluated_good high (1 ∷ at) middle (row_at at 0 ∷ []) second high_there fine_middle) tt)))
-        (fine_both (next ∷ []) body (fine_one next (inl (fine_next, tt)))
-        (laid_fine stmts (2 ∷ at) inner (row_at at 1 ∷ []) inside (λ y has. objects y (inr has)) (λ r has. second_of start (next ∷ body) within r (inr has)) (fine_next, fine.1)))
-    laid_fine (Exit p e) at w k fits objects within fine =
-        fine_both (uses s at p e (instruction.LeaveLoop e) w _) _ (uses_good at p e (instruction.LeaveLoop e) w _ fits (first_of (uses s at p e (instruction.LeaveLoop e) w _) _ within) fine.0 tt)
-        (as_fine _ (ends_good at 1 p w.in_loop w.scope w.leave fine.0))
-    laid_fine (Return p v) at w k fits objects within fine =
-        fine_both (uses s at p v (instruction.Hold v) w _) _ (value_fine at p v (instruction.Hold v) w _ (hold_takes v) (λ h. h) fits (first_of (uses s at p v (instruction.Hold v) w _) _ within) fine.0)
-        (fine_both (ends at 1 p w.in_all w.scope _) _ (as_fine _ (ends_good at 1 p w.in_all w.scope _ fine.0)) (fine_one _ (inl (fine.1, tt))))
-    laid_fine (Block n stmts end) at w k fits objects within fine =
-        fine_both (laid s stmts (0 ∷ at) (within_block (ending s stmts) w) _) _
-        (laid_fine stmts (0 ∷ at) (within_block (ending s stmts) w) _ fits objects (first_of (laid s stmts (0 ∷ at) (within_block (ending s stmts) w) _) _ within) fine)
-        (as_fine _ (ends_good at 0 end (ending s stmts) (reverse (declared stmts) ++ w.scope) k
-        (good_both (reverse (declared stmts)) w.scope (reversed_good (declared stmts) (declared_good stmts objects)) fine.0)))
-    laid_fine _ at w k fits objects within fine = λ p has. absurd has
-
-    branches_fine : (c : TypedCode) (at : Place) (w : Around) (k m : List PointName) → BranchesFit ask alone c → AllGood good (declared_within c) → Within (laid_branches s c at w k m)
-        → IsGoodAround w → AreFine (laid_branches s c at w k m)
-    branches_fine (typed.More a rest) at w k m (first, second) objects within fine =
-        fine_both (laid_branch s a (0 ∷ at) w k _) _
-        (branch_fine a (0 ∷ at) w k _ first (λ x has. objects x (Has-append_left (declared_within a) (declared_within rest) x has)) (first_of (laid_branch s a (0 ∷ at) w k _) _ within) fine)
-        (branches_fine rest (1 ∷ at) w k m second (λ x has. objects x (Has-append_right (declared_within a) (declared_within rest) x has)) (second_of (laid_branch s a (0 ∷ at) w k _) _ within) fine)
-    branches_fine _ at w k m fits objects within fine = λ p has. absurd has
-
-    branch_fine : (c : TypedCode) (at : Place) (w : Around) (k m : List PointName) → BranchFits ask alone c → AllGood good (declared_within c) → Within (laid_branch s c at w k m)
-        → IsGoodAround w → AreFine (laid_branch s c at w k m)
-    branch_fine (Branch p e stmts) at w k m (first, second) objects within fine =
-        fine_both (uses s at p e (instruction.Test e) w _) _ (uses_good at p e (instruction.Test e) w _ first (first_of (uses s at p e (instruction.Test e) w _) _ within) fine.0 tt)
-        (laid_fine stmts (1 ∷ at) w k second objects (second_of (uses s at p e (instruction.Test e) w _) _ within) fine)
-    branch_fine _ at w k m fits objects within fine = λ p has. absurd has
-
-    whens_fine : (c : TypedCode) (at : Place) (w : Around) (k : List PointName) → AlternativesFit ask alone c → AllGood good (declared_within c)
-        → Within (flat_map (λ ps. ps) (laid_whens s c at w k)) → IsGoodAround w → AreFine (flat_map (λ ps. ps) (laid_whens s c at w k))
-    whens_fine (typed.More a rest) at w k (first, second) objects within fine =
-        fine_both (laid_when s a (0 ∷ at) w k) _
-        (when_fine a (0 ∷ at) w k first (λ x has. objects x (Has-append_left (declared_within a) (declared_within rest) x has)) (first_of (laid_when s a (0 ∷ at) w k) _ within) fine)
-        (whens_fine rest (1 ∷ at) w k second (λ x has. objects x (Has-append_right (declared_within a) (declared_within rest) x has)) (second_of (laid_when s a (0 ∷ at) w k) _ within) fine)
-    whens_fine _ at w k fits objects within fine = λ p has. absurd has
-
-    when_fine : (c : TypedCode) (at : Place) (w : Around) (k : List PointName) → AlternativeFits ask alone c → AllGood good (declared_within c) → Within (laid_when s c at w k)
-        → IsGoodAround w → AreFine (laid_when s c at w k)
-    when_fine (When choices stmts) at w k fits objects within fine = laid_fine stmts (1 ∷ at) w k fits objects within fine
-    when_fine _ at w k fits objects within fine = λ p has. absurd has
-
-  end_scope_good : (sub : TypedSub) → AllGood good (objects_of sub) → AllGood good (scope_at_end sub)
-  end_scope_good sub objects =
-      good_both (reverse (declared sub.body)) (reverse sub.formals)
-      (reversed_good (declared sub.body) (declared_good sub.body (λ x has. objects x (Has-append_right sub.formals (declared_within sub.body) x has))))
-      (reversed_good sub.formals (λ x has. objects x (Has-append_left sub.formals (declared_within sub.body) x has)))
-
-  end_fine : (sub : TypedSub) (b : Bool) → AllGood good (objects_of sub) → AreFine (if b then function_end sub else procedure_end s sub)
-  end_fine sub true objects = fine_one _ (inl (end_scope_good sub objects, tt))
-  end_fine sub false objects =
-      fine_both (ends [] 0 sub.end (ending s sub.body) (scope_at_end sub) _) _ (as_fine _ (ends_good [] 0 sub.end (ending s sub.body) (scope_at_end sub) _ (end_scope_good sub objects)))
-      (fine_one _ (inl (reversed_good sub.formals (λ x has. objects x (Has-append_left sub.formals (declared_within sub.body) x has)), tt)))
-
--- So it is at each point of a subprogram.
-pub sub_fine : (s : Setting) (sub : TypedSub) (ask alone good : ℕ → Type 0) → ((n : ℕ) → ask n → alone n)
-    → ((r : NamedPoint) → Has (sub_points s sub) r → (n : ℕ) (a : TypedTree) (t : ℕ) → r.instr ≡ instruction.Call n a (Some t) → ask n → good t)
-    → ((r : NamedPoint) → Has (sub_points s sub) r → (t : ℕ) (e : TypedTree) (op : ShortCircuit) → r.instr ≡ instruction.Evaluate t e (Some op) → good t)
-    → CodeFits ask alone sub.body → AllGood good (objects_of sub) → (p : NamedPoint) → Has (sub_points s sub) p → IsFine (sub_points s sub) ask alone good p
-sub_fine s sub ask alone good weaker fills truths fits objects =
-    fine_both s (sub_points s sub) ask alone good weaker fills truths (laid s sub.body (0 ∷ []) (around_body s sub) _) _
-    (laid_fine s (sub_points s sub) ask alone good weaker fills truths sub.body (0 ∷ []) (around_body s sub) _ fits
-    (λ x has. objects x (Has-append_right sub.formals (declared_within sub.body) x has))
-    (λ r has. Has-append_left (laid s sub.body (0 ∷ []) (around_body s sub) _) _ r has) (formals_good, formals_good))
-    (end_fine s (sub_points s sub) ask alone good weaker fills truths sub (is_some sub.result) objects)
-  where
-    formals_good : AllGood good (reverse sub.formals)
-    formals_good = reversed_good s (sub_points s sub) ask alone good weaker fills truths sub.formals (λ x has. objects x (Has-append_left sub.formals (declared_within sub.body) x has))
+use Rattle.scope_laws.specs.Alone.{CallsOnly, SourceFits, CodeFits, BranchesFit, BranchFits, AlternativesFit, AlternativeFits}
 
 neither : (a b : Bool) → a || b ≡ false → (a ≡ false) × (b ≡ false)
 neither true b e = cc
@@ -554,7 +11,7 @@ neither false b e = (refl, e)
 
 -- ---- where all functions are as asked
 
-module _ (ask alone : ℕ → Type 0) (all : (n : ℕ) → ask n) where
+module _ (ask alone single : ℕ → Type 0) (weaker : (n : ℕ) → ask n → alone n) (all : (n : ℕ) → ask n) where
   calls_all : (e : TypedTree) → CallsOnly ask e
   unfolding CallsOnly
   calls_all (typed.Call p sub actuals) = (all sub, calls_all actuals)
@@ -574,13 +31,23 @@ module _ (ask alone : ℕ → Type 0) (all : (n : ℕ) → ask n) where
   calls_all (typed.More e rest) = (calls_all e, calls_all rest)
   calls_all _ = tt
 
+  source_all : (e : TypedTree) → SourceFits ask alone e
+  unfolding SourceFits
+  source_all (typed.Call p sub actuals) = (weaker sub (all sub), calls_all actuals)
+  source_all (Parens e) = source_all e
+  source_all (Aggregate t parts) = source_all parts
+  source_all (Alike t e) = source_all e
+  source_all (New t v) = source_all v
+  source_all (typed.More e rest) = (source_all e, source_all rest)
+  source_all e = calls_all e
+
   mutual
     unfolding CodeFits BranchesFit BranchFits AlternativesFit AlternativeFits
 
-    pub code_all : (c : TypedCode) → CodeFits ask alone c
+    pub code_all : (c : TypedCode) → CodeFits ask alone single c
     code_all (typed.More a rest) = (code_all a, code_all rest)
-    code_all (Declare p x v) = inl (calls_all v)
-    code_all (Assign p target e) = (calls_all target, inl (calls_all e))
+    code_all (Declare p x v) = inl (source_all v)
+    code_all (Assign p target e) = (calls_all target, inl (source_all e))
     code_all (typed.Call p sub actuals) = calls_all actuals
     code_all (Output p text line) = calls_all text
     code_all (Input p target) = calls_all target
@@ -591,23 +58,23 @@ module _ (ask alone : ℕ → Type 0) (all : (n : ℕ) → ask n) where
     code_all (While p e stmts) = (calls_all e, code_all stmts)
     code_all (For p x reversed low high stmts) = (calls_all low, calls_all high, code_all stmts)
     code_all (Exit p e) = calls_all e
-    code_all (Return p v) = inl (calls_all v)
+    code_all (Return p v) = inl (source_all v)
     code_all (Block n stmts end) = code_all stmts
     code_all _ = tt
 
-    branches_all : (c : TypedCode) → BranchesFit ask alone c
+    branches_all : (c : TypedCode) → BranchesFit ask alone single c
     branches_all (typed.More a rest) = (branch_all a, branches_all rest)
     branches_all _ = tt
 
-    branch_all : (c : TypedCode) → BranchFits ask alone c
+    branch_all : (c : TypedCode) → BranchFits ask alone single c
     branch_all (Branch p e stmts) = (calls_all e, code_all stmts)
     branch_all _ = tt
 
-    alternatives_all : (c : TypedCode) → AlternativesFit ask alone c
+    alternatives_all : (c : TypedCode) → AlternativesFit ask alone single c
     alternatives_all (typed.More a rest) = (alternative_all a, alternatives_all rest)
     alternatives_all _ = tt
 
-    alternative_all : (c : TypedCode) → AlternativeFits ask alone c
+    alternative_all : (c : TypedCode) → AlternativeFits ask alone single c
     alternative_all (When choices stmts) = code_all stmts
     alternative_all _ = tt
 
@@ -631,3 +98,13 @@ calls_none ask (Alike t e) none = calls_none ask e none
 calls_none ask (New t v) none = calls_none ask v none
 calls_none ask (typed.More e rest) none = (let two = neither (has_call e) (has_call rest) none in (calls_none ask e two.0, calls_none ask rest two.1))
 calls_none ask _ none = tt
+
+pub source_none : (ask alone : ℕ → Type 0) (e : TypedTree) → has_call e ≡ false → SourceFits ask alone e
+unfolding SourceFits has_call
+source_none ask alone (typed.Call p sub actuals) none = cc
+source_none ask alone (Parens e) none = source_none ask alone e none
+source_none ask alone (Aggregate t parts) none = source_none ask alone parts none
+source_none ask alone (Alike t e) none = source_none ask alone e none
+source_none ask alone (New t v) none = source_none ask alone v none
+source_none ask alone (typed.More e rest) none = (let two = neither (has_call e) (has_call rest) none in (source_none ask alone e two.0, source_none ask alone rest two.1))
+source_none ask alone e none = calls_none ask e none

@@ -14,27 +14,22 @@ use Rattle.flow_paths.specs.Points.{Place, PointName, row_at, NamedPoint, point,
 use Rattle.flow_paths.specs.Prep.{Setting, with_held, prep}
 use Rattle.flow_paths.specs.Layout.{Around, within_loop, within_block, from, ending, ends, uses, uses_both, uses_second_first, laid, laid_branches, laid_branch, laid_whens, laid_when}
 use Rattle.flow_paths.specs.Laid.{around_body, scope_at_end, function_end, procedure_end, sub_points}
-use Rattle.scope_laws.specs.Alone.{CallsWithin, IsMade, CallsOnly, ValueFits, SourceFits, CodeFits, BranchesFit, BranchFits, AlternativesFit, AlternativeFits}
+use Rattle.scope_laws.specs.Alone.{CallsOnly, SourceFits, ValueFits, StoredFits, CodeFits, BranchesFit, BranchFits, AlternativesFit, AlternativeFits}
 use Rattle.scope_laws.proofs.Given.{Takes, none_before}
 
 -- The one successor of a point takes what a function gives.
 abbrev pub IsFollowed : List NamedPoint → NamedPoint → ℕ → TypedTree → Type 0
 IsFollowed whole p n a = (q : NamedPoint) × Has whole q × (p.next ≡ q.name ∷ []) × (r : Pos) × Takes q.instr (typed.Call r n a)
 
--- Or what it gives is within what a point takes that is made.
-abbrev pub IsWithinOne : (ℕ → Type 0) → List NamedPoint → ℕ → Type 0
-IsWithinOne ask whole n = (q : NamedPoint) × Has whole q × (e : TypedTree) × Takes q.instr e × CallsWithin ask n e × IsMade e
-
--- Each function that points call is as asked; or what it gives is taken next, or within what is made.
+-- Each function that points call is as asked; or what it gives is taken next.
 abbrev pub AreFollowed : (ℕ → Type 0) → List NamedPoint → Type 0
-AreFollowed ask ps =
-    (p : NamedPoint) → Has ps p → (n : ℕ) (a : TypedTree) (t : ℕ) → p.instr ≡ instruction.Call n a (Some t)
-    → ask n ⊎ (IsFollowed ps p n a ⊎ IsWithinOne ask ps n)
+AreFollowed alone ps =
+    (p : NamedPoint) → Has ps p → (n : ℕ) (a : TypedTree) (t : ℕ) → p.instr ≡ instruction.Call n a (Some t) → alone n ⊎ IsFollowed ps p n a
 
-module _ (s : Setting) (ask alone : ℕ → Type 0) where
+module _ (s : Setting) (ask alone single : ℕ → Type 0) (weaker : (n : ℕ) → ask n → alone n) where
   -- all of them are as asked
   abbrev AreAsked : List NamedPoint → Type 0
-  AreAsked ps = (p : NamedPoint) → Has ps p → (n : ℕ) (a : TypedTree) (t : ℕ) → p.instr ≡ instruction.Call n a (Some t) → ask n
+  AreAsked ps = (p : NamedPoint) → Has ps p → (n : ℕ) (a : TypedTree) (t : ℕ) → p.instr ≡ instruction.Call n a (Some t) → alone n
 
   abbrev CallsNone : Instruction → Type 0
   CallsNone i = (n : ℕ) (a : TypedTree) (t : ℕ) → i ≡ instruction.Call n a (Some t) → ⊥
@@ -46,9 +41,9 @@ module _ (s : Setting) (ask alone : ℕ → Type 0) where
   asked_one p none q (inl same) n a t is = absurd (none n a t (ap (λ (z : NamedPoint). z.instr) same ∙ is))
   asked_one p none q (inr never) n a t is = absurd never
 
-  asked_call : (p : NamedPoint) (n : ℕ) (a : TypedTree) (t : ℕ) → p.instr ≡ instruction.Call n a (Some t) → ask n → AreAsked (p ∷ [])
+  asked_call : (p : NamedPoint) (n : ℕ) (a : TypedTree) (t : ℕ) → p.instr ≡ instruction.Call n a (Some t) → alone n → AreAsked (p ∷ [])
   asked_call p n a t is asked q (inl same) k b u other =
-      subst ask (same_sub n k a b t u (sym is ∙ ap (λ (z : NamedPoint). z.instr) same ∙ other)) asked
+      subst alone (same_sub n k a b t u (sym is ∙ ap (λ (z : NamedPoint). z.instr) same ∙ other)) asked
     where
       same_sub : (n k : ℕ) (a b : TypedTree) (t u : ℕ) → instruction.Call n a (Some t) ≡ instruction.Call k b (Some u) → n ≡ k
       same_sub n k a b t u e = cc
@@ -62,7 +57,7 @@ module _ (s : Setting) (ask alone : ℕ → Type 0) where
   unfolding prep CallsOnly
   prep_asked (typed.Call p sub actuals) at scope k (asked, inner) =
       asked_both (prep s actuals (0 ∷ at) scope (row_at at 0 ∷ [])) _ (prep_asked actuals (0 ∷ at) scope (row_at at 0 ∷ []) inner)
-      (asked_call _ sub actuals (s.temporary at) refl asked)
+      (asked_call _ sub actuals (s.temporary at) refl (weaker sub asked))
   prep_asked (Short op p a q b) at scope k (first, second) =
       asked_if (has_call b) _ _
       (asked_both (prep s a (0 ∷ at) scope (row_at at 0 ∷ [])) _ (prep_asked a (0 ∷ at) scope (row_at at 0 ∷ []) first)
@@ -88,54 +83,24 @@ module _ (s : Setting) (ask alone : ℕ → Type 0) where
   prep_asked (New t e) at scope k fits = prep_asked e (0 ∷ at) scope k fits
   prep_asked _ at scope k fits = λ p has n a t is. absurd has
 
-  -- those of an expression with one call that gives a part of its value are as asked, but for that one
-  abbrev AreOrThis : ℕ → List NamedPoint → Type 0
-  AreOrThis n ps = (p : NamedPoint) → Has ps p → (m : ℕ) (a : TypedTree) (t : ℕ) → p.instr ≡ instruction.Call m a (Some t) → ask m ⊎ (m ≡ n)
-
-  these : (n : ℕ) (ps qs : List NamedPoint) → AreOrThis n ps → AreOrThis n qs → AreOrThis n (ps ++ qs)
-  these n ps qs h g p has = elim (Has-append_cases ps qs p has) [ inl l ↦ h p l | inr r ↦ g p r ]
-
-  asked_these : (n : ℕ) (ps : List NamedPoint) → AreAsked ps → AreOrThis n ps
-  asked_these n ps asked p has m a t is = inl (asked p has m a t is)
-
-  this_call : (n : ℕ) (p : NamedPoint) (m : ℕ) (a : TypedTree) (t : ℕ) → p.instr ≡ instruction.Call m a (Some t) → m ≡ n → AreOrThis n (p ∷ [])
-  this_call n p m a t is same q (inl one) k b u other = inr (sym (same_sub m k a b t u (sym is ∙ ap (λ (z : NamedPoint). z.instr) one ∙ other)) ∙ same)
-    where
-      same_sub : (m k : ℕ) (a b : TypedTree) (t u : ℕ) → instruction.Call m a (Some t) ≡ instruction.Call k b (Some u) → m ≡ k
-      same_sub m k a b t u e = cc
-  this_call n p m a t is same q (inr never) k b u other = absurd never
-
-  prep_within : (n : ℕ) (e : TypedTree) (at : Place) (scope : List ℕ) (k : List PointName) → CallsWithin ask n e → AreOrThis n (prep s e at scope k)
-  unfolding prep CallsWithin
-  prep_within n (typed.Call p sub actuals) at scope k (same, inner) =
-      these n (prep s actuals (0 ∷ at) scope (row_at at 0 ∷ [])) _ (asked_these n _ (prep_asked actuals (0 ∷ at) scope (row_at at 0 ∷ []) inner))
-      (this_call n _ sub actuals (s.temporary at) refl same)
-  prep_within n (Parens e) at scope k calls = prep_within n e (0 ∷ at) scope k calls
-  prep_within n (Aggregate t es) at scope k calls = prep_within n es (0 ∷ at) scope k calls
-  prep_within n (New t (typed.More a b)) at scope k calls = prep_within n (typed.More a b) (0 ∷ at) scope k (inl calls)
-  prep_within n (typed.More a b) at scope k (inl (mine, none)) =
-      these n (prep s a (0 ∷ at) scope _) _ (prep_within n a (0 ∷ at) scope _ mine)
-      (subst (AreOrThis n) (sym (none_before s b (1 ∷ at) (with_held s a (0 ∷ at) scope) k none)) (λ p never. absurd never))
-  prep_within n (typed.More a b) at scope k (inr (none, mine)) =
-      these n (prep s a (0 ∷ at) scope _) _ (subst (AreOrThis n) (sym (none_before s a (0 ∷ at) scope _ none)) (λ p never. absurd never))
-      (prep_within n b (1 ∷ at) _ k mine)
-  prep_within n e at scope k calls = absurd calls
-
-  -- the user comes last
-  follow_within : (n : ℕ) (ps : List NamedPoint) (u : NamedPoint) (e : TypedTree) → AreOrThis n ps → Takes u.instr e → CallsWithin ask n e → IsMade e → CallsNone u.instr
-      → AreFollowed ask (ps ++ u ∷ [])
-  follow_within n ps u e before takes calls made none p has m a t is = elim (Has-append_cases ps (u ∷ []) p has) [
-    | inl l ↦ elim (before p l m a t is) [
-      | inl asked ↦ inl asked
-      | inr same ↦ inr (inr (u, Has-append_right ps (u ∷ []) u (inl refl), e, takes, subst (λ z. CallsWithin ask z e) (sym same) calls, made))
-    ]
-    | inr later ↦ inl (asked_one u none p later m a t is)
-  ]
+  -- an expression that stands for a value
+  source_asked : (e : TypedTree) (at : Place) (scope : List ℕ) (k : List PointName) → SourceFits ask alone e → AreAsked (prep s e at scope k)
+  unfolding prep SourceFits
+  source_asked (typed.Call p sub actuals) at scope k (may, inner) =
+      asked_both (prep s actuals (0 ∷ at) scope (row_at at 0 ∷ [])) _ (prep_asked actuals (0 ∷ at) scope (row_at at 0 ∷ []) inner)
+      (asked_call _ sub actuals (s.temporary at) refl may)
+  source_asked (Parens e) at scope k fits = source_asked e (0 ∷ at) scope k fits
+  source_asked (Aggregate t e) at scope k fits = source_asked e (0 ∷ at) scope k fits
+  source_asked (Alike t e) at scope k fits = source_asked e (0 ∷ at) scope k fits
+  source_asked (New t e) at scope k fits = source_asked e (0 ∷ at) scope k fits
+  source_asked (typed.More a b) at scope k (first, second) =
+      asked_both (prep s a (0 ∷ at) scope _) _ (source_asked a (0 ∷ at) scope _ first) (source_asked b (1 ∷ at) _ k second)
+  source_asked e at scope k fits = prep_asked e at scope k fits
 
   -- ---- points that follow each other
 
   abbrev Follow : List NamedPoint → Type 0
-  Follow ps = AreFollowed ask ps
+  Follow ps = AreFollowed alone ps
 
   all_asked : (ps : List NamedPoint) → AreAsked ps → Follow ps
   all_asked ps asked p has n a t is = inl (asked p has n a t is)
@@ -144,13 +109,11 @@ module _ (s : Setting) (ask alone : ℕ → Type 0) where
   follow_both ps qs h g p has n a t is = elim (Has-append_cases ps qs p has) [
     | inl l ↦ elim (h p l n a t is) [
       | inl asked ↦ inl asked
-      | inr (inl (q, there, next, r, takes)) ↦ inr (inl (q, Has-append_left ps qs q there, next, r, takes))
-      | inr (inr (q, there, e, takes, calls, made)) ↦ inr (inr (q, Has-append_left ps qs q there, e, takes, calls, made))
+      | inr (q, there, next, r, takes) ↦ inr (q, Has-append_left ps qs q there, next, r, takes)
     ]
     | inr r ↦ elim (g p r n a t is) [
       | inl asked ↦ inl asked
-      | inr (inl (q, there, next, r, takes)) ↦ inr (inl (q, Has-append_right ps qs q there, next, r, takes))
-      | inr (inr (q, there, e, takes, calls, made)) ↦ inr (inr (q, Has-append_right ps qs q there, e, takes, calls, made))
+      | inr (q, there, next, r, takes) ↦ inr (q, Has-append_right ps qs q there, next, r, takes)
     ]
   ]
 
@@ -166,13 +129,13 @@ module _ (s : Setting) (ask alone : ℕ → Type 0) where
           let both : instruction.Call n a (Some t) ≡ instruction.Call k b (Some o) = sym is ∙ ap (λ (z : NamedPoint). z.instr) same ∙ other in
           let sub : n ≡ k = cc in
           let actuals : a ≡ b = cc in
-          inr (inl (
+          inr (
             u,
             Has-append_right (ps ++ c ∷ []) (qs ++ u ∷ []) u (Has-append_right qs (u ∷ []) u (inl refl)),
             ap (λ (z : NamedPoint). z.next) (sym same) ∙ next,
             q,
             subst (λ z. Takes u.instr (typed.Call q z b)) sub (subst (λ z. Takes u.instr (typed.Call q n z)) actuals takes),
-          )))
+          ))
     ]
   ]
 
@@ -180,19 +143,20 @@ module _ (s : Setting) (ask alone : ℕ → Type 0) where
   uses_asked at p e i w next only none =
       asked_both (prep s e (0 ∷ at) w.scope (row_at at 0 ∷ [])) _ (prep_asked e (0 ∷ at) w.scope (row_at at 0 ∷ []) only) (asked_one _ none)
 
+  uses_source : (at : Place) (p : Pos) (e : TypedTree) (i : Instruction) (w : Around) (next : List PointName) → SourceFits ask alone e → CallsNone i → AreAsked (uses s at p e i w next)
+  uses_source at p e i w next source none =
+      asked_both (prep s e (0 ∷ at) w.scope (row_at at 0 ∷ [])) _ (source_asked e (0 ∷ at) w.scope (row_at at 0 ∷ []) source) (asked_one _ none)
+
   no_more : (ps : List NamedPoint) → ps ++ [] ≡ ps
   no_more [] = refl
   no_more (p ∷ ps) = ap (λ z. p ∷ z) (no_more ps)
 
   -- a value that is declared with or returned
   value_follows : (at : Place) (p : Pos) (v : TypedTree) (i : Instruction) (w : Around) (next : List PointName) → ((e : TypedTree) → v ≡ typed.More e NoMore → Takes i e)
-      → CallsNone i → ValueFits ask alone v → Follow (uses s at p v i w next)
-  unfolding prep CallsWithin has_call
-  value_follows at p v i w next takes none (inl only) = all_asked (uses s at p v i w next) (uses_asked at p v i w next only none)
-  value_follows at p v i w next takes none (inr (inr (n, e, is, may, calls, made))) =
-      follow_within n (prep s v (0 ∷ at) w.scope (row_at at 0 ∷ [])) _ e
-      (prep_within n v (0 ∷ at) w.scope (row_at at 0 ∷ []) (subst (CallsWithin ask n) (sym is) (inl (calls, refl)))) (takes e is) calls made none
-  value_follows at p v i w next takes none (inr (inl (q, n, a, is, may, only))) =
+      → CallsNone i → ValueFits ask alone single v → Follow (uses s at p v i w next)
+  unfolding prep
+  value_follows at p v i w next takes none (inl only) = all_asked (uses s at p v i w next) (uses_source at p v i w next only none)
+  value_follows at p v i w next takes none (inr (q, n, a, is, may, only)) =
       let actuals : List NamedPoint = prep s a (0 ∷ 0 ∷ 0 ∷ at) w.scope (row_at (0 ∷ 0 ∷ at) 0 ∷ []) in
       let call : NamedPoint = point (row_at (0 ∷ 0 ∷ at) 0) q (instruction.Call n a (Some (s.temporary (0 ∷ 0 ∷ at)))) (with_held s a (0 ∷ 0 ∷ 0 ∷ at) w.scope) (row_at at 0 ∷ []) in
       let user : NamedPoint = point (row_at at 0) p i (with_held s v (0 ∷ at) w.scope) next in
@@ -203,21 +167,16 @@ module _ (s : Setting) (ask alone : ℕ → Type 0) where
       refl refl (takes (typed.Call q n a) is) none)
 
   -- an assignment
-  assign_follows : (at : Place) (p : Pos) (target e : TypedTree) (w : Around) (next : List PointName) → CallsOnly ask target → SourceFits ask alone target e
+  assign_follows : (at : Place) (p : Pos) (target e : TypedTree) (w : Around) (next : List PointName) → CallsOnly ask target → StoredFits ask alone single target e
       → Follow (uses_second_first s at p target e (instruction.Assign target e) w next)
   unfolding prep
   assign_follows at p target e w next only (inl plain) =
       all_asked (uses_second_first s at p target e (instruction.Assign target e) w next)
       (asked_both (prep s e (1 ∷ at) w.scope _ ++ prep s target (0 ∷ at) _ (row_at at 0 ∷ [])) _
-      (asked_both (prep s e (1 ∷ at) w.scope _) (prep s target (0 ∷ at) _ (row_at at 0 ∷ [])) (prep_asked e (1 ∷ at) w.scope _ plain)
+      (asked_both (prep s e (1 ∷ at) w.scope _) (prep s target (0 ∷ at) _ (row_at at 0 ∷ [])) (source_asked e (1 ∷ at) w.scope _ plain)
       (prep_asked target (0 ∷ at) _ (row_at at 0 ∷ []) only))
       (asked_one _ (λ n a t e. cc)))
-  assign_follows at p target e w next only (inr (inr (n, may, calls, made, r, x, path, u, target_is, none))) =
-      follow_within n (prep s e (1 ∷ at) w.scope _ ++ prep s target (0 ∷ at) _ (row_at at 0 ∷ [])) _ e
-      (these n (prep s e (1 ∷ at) w.scope _) (prep s target (0 ∷ at) _ (row_at at 0 ∷ [])) (prep_within n e (1 ∷ at) w.scope _ calls)
-      (asked_these n _ (prep_asked target (0 ∷ at) _ (row_at at 0 ∷ []) only)))
-      (inr (inl (r, x, path, u, ap (λ z. instruction.Assign z e) target_is, none))) calls made (λ n a t e. cc)
-  assign_follows at p target e w next only (inr (inl (q, n, a, is, may, plain, r, x, path, u, target_is, none))) =
+  assign_follows at p target e w next only (inr (q, n, a, is, may, plain, r, x, path, u, target_is, none)) =
       let actuals : List NamedPoint = prep s a (0 ∷ 1 ∷ at) w.scope (row_at (1 ∷ at) 0 ∷ []) in
       let inner : List ℕ = with_held s e (1 ∷ at) w.scope in
       let behind : List NamedPoint = prep s target (0 ∷ at) inner (row_at at 0 ∷ []) in
@@ -254,7 +213,7 @@ module _ (s : Setting) (ask alone : ℕ → Type 0) where
   mutual
     unfolding laid laid_branches laid_branch laid_whens laid_when CodeFits BranchesFit BranchFits AlternativesFit AlternativeFits
 
-    laid_follows : (c : TypedCode) (at : Place) (w : Around) (k : List PointName) → CodeFits ask alone c → Follow (laid s c at w k)
+    laid_follows : (c : TypedCode) (at : Place) (w : Around) (k : List PointName) → CodeFits ask alone single c → Follow (laid s c at w k)
     laid_follows (typed.More a rest) at w k (first, second) =
         follow_both (laid s a (0 ∷ at) w _) (laid s rest (1 ∷ at) _ k) (laid_follows a (0 ∷ at) w _ first) (laid_follows rest (1 ∷ at) _ k second)
     laid_follows (Declare p x v) at w k fits = value_follows at p v (instruction.Declare x v) w k (declare_takes x v) (λ n a t e. cc) fits
@@ -290,22 +249,22 @@ module _ (s : Setting) (ask alone : ℕ → Type 0) where
         (all_asked _ (ends_asked at 0 end (ending s stmts) _ k))
     laid_follows _ at w k fits = λ p has. absurd has
 
-    branches_follow : (c : TypedCode) (at : Place) (w : Around) (k m : List PointName) → BranchesFit ask alone c → Follow (laid_branches s c at w k m)
+    branches_follow : (c : TypedCode) (at : Place) (w : Around) (k m : List PointName) → BranchesFit ask alone single c → Follow (laid_branches s c at w k m)
     branches_follow (typed.More a rest) at w k m (first, second) =
         follow_both (laid_branch s a (0 ∷ at) w k _) (laid_branches s rest (1 ∷ at) w k m) (branch_follows a (0 ∷ at) w k _ first) (branches_follow rest (1 ∷ at) w k m second)
     branches_follow _ at w k m fits = λ p has. absurd has
 
-    branch_follows : (c : TypedCode) (at : Place) (w : Around) (k m : List PointName) → BranchFits ask alone c → Follow (laid_branch s c at w k m)
+    branch_follows : (c : TypedCode) (at : Place) (w : Around) (k m : List PointName) → BranchFits ask alone single c → Follow (laid_branch s c at w k m)
     branch_follows (Branch p e stmts) at w k m (first, second) =
         follow_both (uses s at p e (instruction.Test e) w _) _ (only_uses at p e (instruction.Test e) w _ first (λ n a t e. cc)) (laid_follows stmts (1 ∷ at) w k second)
     branch_follows _ at w k m fits = λ p has. absurd has
 
-    whens_follow : (c : TypedCode) (at : Place) (w : Around) (k : List PointName) → AlternativesFit ask alone c → Follow (flat_map (λ ps. ps) (laid_whens s c at w k))
+    whens_follow : (c : TypedCode) (at : Place) (w : Around) (k : List PointName) → AlternativesFit ask alone single c → Follow (flat_map (λ ps. ps) (laid_whens s c at w k))
     whens_follow (typed.More a rest) at w k (first, second) =
         follow_both (laid_when s a (0 ∷ at) w k) _ (when_follows a (0 ∷ at) w k first) (whens_follow rest (1 ∷ at) w k second)
     whens_follow _ at w k fits = λ p has. absurd has
 
-    when_follows : (c : TypedCode) (at : Place) (w : Around) (k : List PointName) → AlternativeFits ask alone c → Follow (laid_when s c at w k)
+    when_follows : (c : TypedCode) (at : Place) (w : Around) (k : List PointName) → AlternativeFits ask alone single c → Follow (laid_when s c at w k)
     when_follows (When choices stmts) at w k fits = laid_follows stmts (1 ∷ at) w k fits
     when_follows _ at w k fits = λ p has. absurd has
 
@@ -316,7 +275,8 @@ module _ (s : Setting) (ask alone : ℕ → Type 0) where
       (only_one _ (λ n a t e. cc))
 
 -- So it is at each point of a subprogram.
-pub sub_followed : (s : Setting) (sub : TypedSub) (ask alone : ℕ → Type 0) → CodeFits ask alone sub.body → AreFollowed ask (sub_points s sub)
-sub_followed s sub ask alone fits =
-    follow_both s ask alone (laid s sub.body (0 ∷ []) (around_body s sub) _) _ (laid_follows s ask alone sub.body (0 ∷ []) (around_body s sub) _ fits)
-    (end_follows s ask alone sub (is_some sub.result))
+pub sub_followed : (s : Setting) (sub : TypedSub) (ask alone single : ℕ → Type 0) → ((n : ℕ) → ask n → alone n) → CodeFits ask alone single sub.body
+    → AreFollowed alone (sub_points s sub)
+sub_followed s sub ask alone single weaker fits =
+    follow_both s ask alone single weaker (laid s sub.body (0 ∷ []) (around_body s sub) _) _
+    (laid_follows s ask alone single weaker sub.body (0 ∷ []) (around_body s sub) _ fits) (end_follows s ask alone single weaker sub (is_some sub.result))

@@ -10,6 +10,7 @@ pub mod Seen
 -- temporaries in scope, and what is so beside them
 pub mod Supplied
 pub mod Left
+pub mod Kept
 pub mod Filled
 pub mod Relaid
 pub mod Temporaries
@@ -18,5 +19,7 @@ pub mod Returning
 pub mod Given
 pub mod Results
 pub mod Alone
+pub mod Lone
+pub mod Fitted
 pub mod Followed
 pub mod Begun

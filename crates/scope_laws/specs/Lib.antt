@@ -3,3 +3,4 @@ pub mod Order
 pub mod Supplied
 pub mod Returning
 pub mod Alone
+pub mod Fitted

@@ -47,3 +47,7 @@ StartsWithNone held (p ∷ rest) = temporaries_in held p.scope ≡ 0
 -- What an instruction names is in scope beside the temporaries that it takes, or as asked: of a package.
 abbrev pub IsLeft : (ℕ → Bool) → NamedPoint → Type 0
 IsLeft outer p = are_seen outer (drop (taken p.instr) p.scope) (named_in p.instr) ≡ true
+
+-- It is in scope and kept, as what isn't temporary, or as asked.
+abbrev pub IsKept : (outer keep : ℕ → Bool) → NamedPoint → Type 0
+IsKept outer keep p = are_seen outer (filter keep p.scope) (named_in p.instr) ≡ true

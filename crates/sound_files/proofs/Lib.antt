@@ -16,5 +16,7 @@ pub mod Classes
 pub mod Results
 pub mod Mains
 pub mod Functions
+pub mod Shared
+pub mod Fronts
 pub mod Weaker
 pub mod Owners

@@ -175,7 +175,6 @@ module _ (p : Program) where
   calls_functions calls = record {
     results = results_fit p calls.results;
     formals = λ x is. inl (calls.formals x is);
-    seen = λ n t x result has is. inl (scalar_wide x is (calls.formals x (formal_own x is)));
     passed = code_passed calls.formals calls.copied;
     shown = inr (λ sub has q there n actuals result is. scalar_shown calls.formals (LendsShared wide sub) (sub_of flow n).formals actuals);
   }

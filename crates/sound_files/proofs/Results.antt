@@ -42,10 +42,10 @@ module _ (p : Program) where
       let found = body_there own (length own.objects) (bodies_of p) sub has in
       let named : NamedSub = named_sub own found.0 (sub_temporaries own sub) sub in
       let there : Has (flow_named table (typed_of p)) named = inr found.1 in
-      sub_silent (record { typing = own; temporary = numbers_from found.0 (sub_temporaries own sub) }) sub (GivesScalar own) (GivesNamed own)
+      sub_silent (record { typing = own; temporary = numbers_from found.0 (sub_temporaries own sub) }) sub (GivesScalar own) (GivesNamed own) (λ n. ⊥)
       (λ q at. calls (flow_sub own named) (Has-map (flow_sub own) (flow_named table (typed_of p)) named there) (flow_at own named q)
       (Has-map (λ (z : NamedPoint). flow_at own named z) named.points q at))
 
   pub results_fit : CallsProcedures flow ⊎ ResultsAreScalar p → AllResultsFit p
   results_fit (inl calls) sub has = procedures_fit calls sub has
-  results_fit (inr scalar) sub has = code_all (GivesScalar own) (GivesNamed own) (scalar_results p scalar) sub.body
+  results_fit (inr scalar) sub has = code_all (GivesScalar own) (GivesNamed own) (λ n. ⊥) (λ n asked t is. no_anonymous (full own.table t) (asked t is)) (scalar_results p scalar) sub.body

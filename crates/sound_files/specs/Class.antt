@@ -20,7 +20,7 @@ use Rattle.soundness.specs.Seen.{is_view_formal}
 use Rattle.soundness.specs.Sound.{calls_nothing, calls_procedures, goes_through_none, AreCopied}
 use Rattle.soundness.specs.Ready.{root_of}
 use Rattle.gathered_laws.specs.Named.{IsNamed}
-use Rattle.viewed_soundness.specs.Holds.{is_exclusive}
+use Rattle.viewed_soundness.specs.Taken.{GivesPlainly}
 use Rattle.scope_laws.specs.Alone.{ResultsFit}
 use Rattle.viewed_steps.specs.Sound.{LendsShared}
 use Rattle.called_subs.specs.Called.{CodeCalls}
@@ -107,39 +107,28 @@ FormalsAreKinds p =
 abbrev pub laid_in : Program → Typing
 laid_in p = flow_typing (flow_program (known_of p).table (typed_of p))
 
--- Through such formals of functions nothing is changed.
-abbrev pub FunctionsSee : Program → Type 0
-FunctionsSee p =
-    (n t x : ℕ) → (sub_at (laid_in p) n).result ≡ Some t → Has (sub_at (laid_in p) n).formals x → is_formal (laid_in p) x ≡ true
-    → IsScalarAt (laid_in p) x ⊎ (is_view_formal (laid_in p) x ≡ true → is_exclusive (laid_in p) x ≡ false)
+-- An actual for one of a named access type is rooted in an object that belongs to no package. (It is null, or a name of
+-- its type.)
+abbrev pub IsShownActual : Typing → TypedTree → Type 0
+IsShownActual s e = (y : ℕ) → Has (root_of e) y → is_package_object s y ≡ false
 
--- An actual for one of a named access type is null, or a name of its type that is rooted in an object that belongs to no
--- package.
-abbrev pub IsShownActual : Typing → ℕ → TypedTree → Type 0
-IsShownActual s x typed.Null = Unit {0}
-IsShownActual s x (Name p y path u) = (shape_of s.table u ≡ shape_of s.table (object_at s x).of) × (is_package_object s y ≡ false)
-IsShownActual s x e = ⊥
-
--- One for a formal of mode `in` whose type owns nothing is a name of its type.
+-- In one for a formal of mode `in` whose type owns nothing, as a name or an aggregate, functions give scalar parts alone.
 abbrev pub IsCopiedActual : Typing → ℕ → TypedTree → Type 0
-IsCopiedActual s x (Name p y path u) = shape_of s.table u ≡ shape_of s.table (object_at s x).of
-IsCopiedActual s x e = ⊥
+IsCopiedActual s x e = GivesPlainly s e
 
--- One that is copied back to goes through no access value, and isn't rooted in a formal of mode `in` that owns; or the
--- formal is of a scalar type, or the object that it is rooted in is no borrower or observer, and no such formal.
+-- One that is copied back to goes through no access value; or the formal is of a scalar type, or the object that it is
+-- rooted in is no borrower or observer, and no formal of mode `in` that owns.
 abbrev pub IsOwnRoot : Typing → ℕ → Type 0
 IsOwnRoot s y = (is_anonymous (view_of s y) ≡ false) × (is_view_formal s y ≡ false)
 
 abbrev pub IsKeptActual : Typing → ℕ → TypedTree → Type 0
 IsKeptActual s x e =
-    IsScalarAt s x
-    ⊎ (((goes_through_none e ≡ true) × ((y : ℕ) → Has (root_of e) y → is_view_formal s y ≡ false))
-    ⊎ ((y : ℕ) → Has (root_of e) y → IsOwnRoot s y))
+    IsScalarAt s x ⊎ ((goes_through_none e ≡ true) ⊎ ((y : ℕ) → Has (root_of e) y → IsOwnRoot s y))
 
 abbrev pub IsFitActual : Typing → ℕ → Mode → TypedTree → Type 0
 IsFitActual s x mode.In e =
     IsScalarAt s x
-    ⊎ (((is_owning s.table (object_at s x).of ≡ true) × IsShownActual s x e) ⊎ ((is_owning s.table (object_at s x).of ≡ false) × IsCopiedActual s x e))
+    ⊎ (((is_owning s.table (object_at s x).of ≡ true) × IsShownActual s e) ⊎ ((is_owning s.table (object_at s x).of ≡ false) × IsCopiedActual s x e))
 IsFitActual s x m e = IsKeptActual s x e
 
 abbrev pub AreFitActuals : Typing → List ℕ → TypedTree → Type 0
@@ -181,6 +170,5 @@ AllResultsFit p = (sub : TypedSub) → Has (bodies_of p) sub → ResultsFit (typ
 pub record CallsWithOwners (p : Program) : Type 0 where
   pub results : AllResultsFit p
   pub formals : FormalsAreKinds p
-  pub seen : FunctionsSee p
   pub passed : PassFitActuals p
   pub shown : ShowOwners p ⊎ ShowsFit p

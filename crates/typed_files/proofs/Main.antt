@@ -31,6 +31,8 @@ use Rattle.file_positions.specs.Texts.{AreParsed}
 use Rattle.file_positions.proofs.Ascending.{events_ascend}
 use Rattle.file_positions.proofs.Main.{files_apart as parsed_apart, files_ended}
 use Rattle.flow_paths.specs.Objects.{object_at}
+use Rattle.flow_paths.specs.Points.{FlowPoint}
+use Rattle.flow_paths.specs.Laid.{FlowSub, flow_typing}
 use Rattle.gathered_laws.specs.Made.{IsMade}
 use Rattle.gathered_laws.specs.Views.{AreViews}
 use Rattle.gathered_laws.proofs.Components.{components_left}
@@ -61,14 +63,16 @@ use Rattle.settled_types.proofs.Main.{second, rows_first, rows_second}
 use Rattle.sound_files.proofs.Flat.{unit_flat}
 use Rattle.sound_files.proofs.Once.{files_once}
 use Rattle.sound_files.proofs.Written.{files_written}
+use Rattle.sound_files.proofs.Fronts.{files_fronts}
 use Rattle.typed_laws.specs.Fine.{Denotes, Laws}
 use Rattle.typed_laws.specs.Needed.{AreFine}
 use Rattle.typed_points.proofs.Numbers.{object_numbered, denotes}
 use Rattle.typed_steps.specs.Steps.{AreTyped, AreCounted}
+use Rattle.typed_runs.specs.Code.{IsTypedUse}
 use Rattle.typed_runs.specs.Formals.{AreProfiled}
 use Rattle.typed_runs.specs.Meant.{laid_in, site_in, typing_laid}
 use Rattle.typed_texts.specs.Meant.{IsMeant}
-use Rattle.typed_texts.proofs.Main.{text_typed, text_fine, text_counted, text_is_typed}
+use Rattle.typed_texts.proofs.Main.{text_typed, text_used, text_fine, text_counted, text_is_typed}
 use Rattle.typed_files.proofs.Profiled.{are_profiled}
 use Rattle.typed_files.proofs.Denoted.{same_object, laid_object, denotes_laid}
 
@@ -145,7 +149,8 @@ module _ (files : List (List SourceUnit)) where
     profiled : AreProfiled (known_of p) (site_in p).bodies (typing_laid p) (IsMade p.units)
     profiled =
         are_profiled p formed orderly none (files_apart files up named) (IsMade p.units) laws once (laid_object p) object_named (units_faultless p none) declared
-        (formals_are_apart (identified files) files named) bodied
+        (formals_are_apart (identified files) files named)
+        (λ u has. files_fronts (identified files) files u has (formals_are_apart (identified files) files named u has)) bodied
         (λ d i. formal (IsMade p.units) (λ u less. inl less) (known_of p) (are_types p orderly) d i)
 
     pub are_meant : IsMeant p
@@ -164,6 +169,10 @@ module _ (files : List (List SourceUnit)) where
 
     pub files_steps : AreTyped (laid_in p)
     files_steps = text_typed p none are_meant
+
+    -- So are what is passed, and sources of views.
+    pub files_used : (sub : FlowSub) → Has (laid_in p).subs sub → (q : FlowPoint) → Has sub.points q → IsTypedUse (flow_typing (laid_in p)) sub.result q.instr
+    files_used = text_used p none are_meant
 
     -- Instructions are as soundness needs them.
     pub files_fine : AreFine (laid_in p)

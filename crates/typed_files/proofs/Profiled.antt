@@ -43,6 +43,7 @@ use Rattle.typed_laws.proofs.Cases.{is_access_view}
 use Rattle.typed_points.proofs.Sources.{anonymous_shape}
 use Rattle.gathered_laws.specs.Components.{AreWordsApart}
 use Rattle.gathered_laws.specs.Views.{AreViewsApart}
+use Rattle.anonymous_types.specs.Fronts.{AllFronts}
 use Rattle.anonymous_types.proofs.Main as views
 use Rattle.type_sizes.specs.Formed.{all_formed}
 use Rattle.settled_types.specs.Orderly.{IsOrderly}
@@ -53,7 +54,7 @@ use Rattle.typed_runs.specs.Meant.{site_in, typing_laid}
 
 -- ---- lists with one number for each element
 
-abbrev Pairs : {B : Type 0} → (ℕ → B → Type 0) → List ℕ → List B → Type 0
+abbrev pub Pairs : {B : Type 0} → (ℕ → B → Type 0) → List ℕ → List B → Type 0
 Pairs R [] [] = Unit {0}
 Pairs R (n ∷ ns) (v ∷ vs) = R n v × Pairs R ns vs
 Pairs R ns vs = ⊥
@@ -166,22 +167,22 @@ module _ (table : Table) where
 -- ---- the front of each body
 
 -- A body's front breaks no sentence, its formals are objects of the program of their types, with names of their own.
-record IsGoodFront (known : Known) (all : List DeclaredObject) (front : Code) : Type 0 where
-  context : Context
-  same : context.known ≡ known
-  faultless : body_faults context front ≡ []
-  typed : IsFrontTyped known front
-  apart : IsFrontApart front
-  home : Home
-  scope : ℕ
-  declared : (o : DeclaredObject) → Has (flat_map (home_formals home scope) (front_formals front)) o → Has all o
+pub record IsGoodFront (known : Known) (all : List DeclaredObject) (front : Code) : Type 0 where
+  pub context : Context
+  pub same : context.known ≡ known
+  pub faultless : body_faults context front ≡ []
+  pub typed : IsFrontTyped known front
+  pub apart : IsFrontApart front
+  pub home : Home
+  pub scope : ℕ
+  pub declared : (o : DeclaredObject) → Has (flat_map (home_formals home scope) (front_formals front)) o → Has all o
 
-record HasFront (s : Site) (all : List DeclaredObject) (d : ℕ) (sub : Signature) : Type 0 where
-  front : Code
-  number : front_number front ≡ d
-  formals : sub.formals ≡ flat_map (formal_numbers s) (front_formals front)
-  result : sub.result ≡ (profile_of (entry_of s.context.known d)).result
-  good : IsGoodFront s.context.known all front
+pub record HasFront (s : Site) (all : List DeclaredObject) (d : ℕ) (sub : Signature) : Type 0 where
+  pub front : Code
+  pub number : front_number front ≡ d
+  pub formals : sub.formals ≡ flat_map (formal_numbers s) (front_formals front)
+  pub result : sub.result ≡ (profile_of (entry_of s.context.known d)).result
+  pub good : IsGoodFront s.context.known all front
 
 pairs_map : {B : Type 0} (R S : ℕ → B → Type 0) → ((n : ℕ) (v : B) → R n v → S n v) → (ns : List ℕ) (vs : List B) → Pairs R ns vs → Pairs S ns vs
 pairs_map R S on [] [] h = tt
@@ -246,7 +247,7 @@ module _ (units : List Code) (all : List DeclaredObject) (made : ℕ → Type 0)
       (λ o has. into o (Has-append_right (objects_in units h a k x) (objects_in units h a (k + scope_count x) rest) o has)))
   unit_fronts s h a n k u faultless typed apart into = tt
 
-  units_fronts : (s : Site) (h : Home) (n : ℕ) (us : List Code) → ((u : Code) → Has us u → code_faults s.context u ≡ []) → ((u : Code) → Has us u → AreTyped made s.context u)
+  pub units_fronts : (s : Site) (h : Home) (n : ℕ) (us : List Code) → ((u : Code) → Has us u → code_faults s.context u ≡ []) → ((u : Code) → Has us u → AreTyped made s.context u)
       → ((u : Code) → Has us u → AreFormalsApart u) → ((o : DeclaredObject) → Has (over_units (objects_in units h 0) n us) o → Has all o)
       → Fronts s (flat_map bodies_in us) (over_units (subs_in s) n us)
   units_fronts s h n [] faultless typed apart into = tt
@@ -318,7 +319,7 @@ module _ (p : Program) (formed : IsTrue (all_formed p.units)) (orderly : IsOrder
   abbrev Formed : FormalInfo → ℕ → Type 0
   Formed f u =
       Agree table f.of u
-      ⊎ ((f.traversed ≡ true) × (f.mode ≡ mode.In) × (is_anonymous (full table f.of) ≡ true) × AreSameViews table f.of u)
+      ⊎ ((f.traversed ≡ true) × (f.mode ≡ mode.In) × (is_anonymous (full table f.of) ≡ true) × (is_anonymous (full table u) ≡ true) × AreSameViews table f.of u)
 
   same_views : (t u : ℕ) → made t → made u → is_anonymous (full table t) ≡ true → is_anonymous (full table u) ≡ true
       → is_same table (designated (full table t)) (designated (full table u)) ≡ true → AreSameViews table t u
@@ -341,27 +342,27 @@ module _ (p : Program) (formed : IsTrue (all_formed p.units)) (orderly : IsOrder
           → (if a && b then (if to_constant (full table f.of) then to_constant (full table u) else not (to_constant (full table u))) && designated_same else is_same table f.of u) ≡ true
           → Formed f u
       by true true first second h =
-          inr ((passes first).0, (passes first).1, first, same_views f.of u m k first second (and_right _ designated_same h))
+          inr ((passes first).0, (passes first).1, first, second, same_views f.of u m k first second (and_right _ designated_same h))
       by true false first second h = inl (agree_same f.of u m k h)
       by false b first second h = inl (agree_same f.of u m k h)
 
   -- ---- one formal
 
   -- What is declared with a number of a front's formals.
-  abbrev Declared : Mode → ℕ → Type 0
+  abbrev pub Declared : Mode → ℕ → Type 0
   Declared m d = (o : DeclaredObject) × Has all o × (o.number ≡ d) × (o.object.mode ≡ m)
 
-  there : (m : Mode) (d : ℕ) → Declared m d → Has s.objects d
+  pub there : (m : Mode) (d : ℕ) → Declared m d → Has s.objects d
   there m d found = subst (Has s.objects) found.2 (Has-map (λ (o : DeclaredObject). o.number) all found.0 found.1)
 
-  mode_at : (m : Mode) (d : ℕ) → Declared m d → (object_at y (object_number s d)).mode ≡ m
+  pub mode_at : (m : Mode) (d : ℕ) → Declared m d → (object_at y (object_number s d)).mode ≡ m
   mode_at m d found =
       ap (λ (x : Object). x.mode) (laid d (there m d found))
       ∙ subst (λ n. (get_or (map (λ (o : DeclaredObject). o.object) all) (position_or_len (nat_eq n) (map (λ (o : DeclaredObject). o.number) all)) text_io).mode ≡ m) found.2
       (ap (λ (x : Object). x.mode) (object_there all found.0 once found.1) ∙ found.3)
 
   -- A mark denotes a type, where no sentence is broken.
-  typed_mark : (of : Code) → indication_faults known of ≡ [] → indicates_type known of ≡ true
+  pub typed_mark : (of : Code) → indication_faults known of ≡ [] → indicates_type known of ≡ true
   typed_mark (Plain m) none = and_left (denotes_type known m.decl) _ (holds 1 m.pos (denotes_type known m.decl && is_complete known (marked known m) m.pos) (nil_left _ _ none))
   typed_mark (Anonymous q constant m) none = holds 1 m.pos (denotes_type known m.decl) (nil_left _ _ none)
   typed_mark of none = refl
@@ -382,7 +383,7 @@ module _ (p : Program) (formed : IsTrue (all_formed p.units)) (orderly : IsOrder
   AllMade fs = AllByRecursion (λ (f : FormalInfo). made f.of × IsThrough f) fs
 
   -- Each identifier is declared with this mode.
-  abbrev AllDeclared : Mode → Code → Type 0
+  abbrev pub AllDeclared : Mode → Code → Type 0
   AllDeclared m (More d rest) = Declared m (declared_number d) × AllDeclared m rest
   AllDeclared m ids = Unit {0}
 
@@ -397,7 +398,7 @@ module _ (p : Program) (formed : IsTrue (all_formed p.units)) (orderly : IsOrder
   )
   fit_ids first m of ids more xs declared typed none on fs make same = on fs make same
 
-  abbrev GroupsDeclared : Code → Type 0
+  abbrev pub GroupsDeclared : Code → Type 0
   GroupsDeclared (More (Formals ids m of) rest) = AllDeclared m ids × (indication_faults known of ≡ []) × GroupsDeclared rest
   GroupsDeclared (More group rest) = GroupsDeclared rest
   GroupsDeclared formals = Unit {0}
@@ -452,13 +453,13 @@ module _ (p : Program) (formed : IsTrue (all_formed p.units)) (orderly : IsOrder
     abbrev of_formals : List Fault
     of_formals = formals_faults c (is_some q.result) q.result (is_traversal c.known q) formals
 
-    faultless : front_faults c (Front x formals result) ≡ []
+    pub faultless : front_faults c (Front x formals result) ≡ []
     faultless = nil_left (front_faults c (Front x formals result)) _ good.faultless
 
-    none_result : result_faults known result ≡ []
+    pub none_result : result_faults known result ≡ []
     none_result = subst (λ k. result_faults k result ≡ []) good.same (nil_left (result_faults c.known result) _ faultless)
 
-    none_formals : of_formals ≡ []
+    pub none_formals : of_formals ≡ []
     none_formals =
         let last : List Fault = demand 6 (declared_pos x) (not (is_traversal c.known q && has_none formals)) in
         nil_left of_formals last (nil_right (result_faults c.known result) (of_formals ++ last) faultless)
@@ -468,10 +469,10 @@ module _ (p : Program) (formed : IsTrue (all_formed p.units)) (orderly : IsOrder
         subst (λ k. agrees k (Front x formals result) ≡ true) good.same
         (holds 3 (declared_pos x) (agrees c.known (Front x formals result)) (nil_right (front_faults c (Front x formals result)) _ good.faultless))
 
-    declared : GroupsDeclared formals
+    pub declared : GroupsDeclared formals
     declared = groups_declared c good.same (is_some q.result) q.result (is_traversal c.known q) formals good.home good.scope none_formals good.declared
 
-    same_results : same_result known (profile_of (entry_of known n)).result result ≡ true
+    pub same_results : same_result known (profile_of (entry_of known n)).result result ≡ true
     same_results = and_right (same_formals table (formals_of known n) (formal_infos known (anonymous_result result) formals)) _ agreed
 
     fits : AllMade (formals_of known n) → AreFormals y (flat_map (formal_numbers s) (code_items formals)) (formals_of known n) × AreWordsApart (names_in (formals_of known n))
@@ -521,7 +522,7 @@ module _ (p : Program) (formed : IsTrue (all_formed p.units)) (orderly : IsOrder
   first_access k same f r (More group more) first none declared typed o rest e = absurd first
   first_access k same f r formals first none declared typed o rest e = cc
 
-  seen_anonymous : (v : View) → anonymous_view v ≡ true → is_anonymous v ≡ true
+  pub seen_anonymous : (v : View) → anonymous_view v ≡ true → is_anonymous v ≡ true
   seen_anonymous (view.Access d constant true) e = cc
   seen_anonymous (view.Access d constant false) e = refl
   seen_anonymous (view.Whole low high) e = absurd (true≢false (sym e))
@@ -530,7 +531,7 @@ module _ (p : Program) (formed : IsTrue (all_formed p.units)) (orderly : IsOrder
   seen_anonymous v e = absurd (true≢false (sym e))
 
   -- The result of the body of a traversal function is of an anonymous access type.
-  traverses_as : (n t : ℕ) (k : Known) → k ≡ known → (formals result : Code) → IsResult result → result_faults known result ≡ [] → same_result known (Some t) result ≡ true
+  pub traverses_as : (n t : ℕ) (k : Known) → k ≡ known → (formals result : Code) → IsResult result → result_faults known result ≡ [] → same_result known (Some t) result ≡ true
       → is_anonymous (full table t) ≡ true → t ≡ n → is_traversal k (profile_from k n formals result) ≡ true
   traverses_as n t k same formals (More (Plain m) rest) is none agree anonymous own =
       let denotes : denotes_type known m.decl ≡ true = typed_mark (Plain m) none in
@@ -566,12 +567,20 @@ module _ (p : Program) (formed : IsTrue (all_formed p.units)) (orderly : IsOrder
   all_made [] make passes = tt
   all_made (f ∷ fs) make passes = ((make zero, passes.0), all_made fs (λ i. make (suc i)) passes.1)
 
+  first_through : ((u : Code) → Has p.units u → AllFronts IsFrontApart IsFrontApart u) → (d : ℕ) (profile : Profile) → entry_of known d ≡ entry.Subprogram profile
+      → (r : Option ℕ) → r ≡ profile.result → traverses table r ≡ true → (f : FormalInfo) (rest : List FormalInfo) → formals_of known d ≡ f ∷ rest → f.traversed ≡ true
+  first_through fronts d profile is None same e f rest list = absurd (true≢false (sym e))
+  first_through fronts d profile is (Some t) same e f rest list =
+      views.first_traversed p formed orderly none_broken own_numbers fronts d t profile is (sym same) (seen_anonymous (full table t) e) f rest
+      (ap (λ z. (profile_of z).formals) (sym is) ∙ list)
+
   -- The law: what is asked of subprograms that are called, where formals of profiles have types that are made.
   pub are_profiled : ((u : Code) → Has p.units u → code_faults (outside known) u ≡ []) → ((u : Code) → Has p.units u → AreTyped made (outside known) u)
-      → ((u : Code) → Has p.units u → AreFormalsApart u) → ((d : ℕ) (profile : Profile) → entry_of known d ≡ entry.Subprogram profile → Has s.bodies d)
+      → ((u : Code) → Has p.units u → AreFormalsApart u) → ((u : Code) → Has p.units u → AllFronts IsFrontApart IsFrontApart u)
+      → ((d : ℕ) (profile : Profile) → entry_of known d ≡ entry.Subprogram profile → Has s.bodies d)
       → ((d i : ℕ) → made (get_or (formals_of known d) i no_formal).of) → AreProfiled known s.bodies y made
   unfolding typed_program
-  are_profiled faultless typed apart bodied making d profile is =
+  are_profiled faultless typed apart grammar bodied making d profile is =
       let h : Home = record { known = known; identifier = None } in
       let i : ℕ = position_or_len (nat_eq d) s.bodies in
       let fronts = units_fronts p.units all made s h 1 p.units faultless typed apart (λ o has. has) in
@@ -592,4 +601,5 @@ module _ (p : Program) (formed : IsTrue (all_formed p.units)) (orderly : IsOrder
         names = λ k v less same. by_its_name (formals_of known d) k v (subst (λ n. AreWordsApart (names_in (formals_of known n))) here.number fits.1) less same;
         through = λ e o rest first.
             goes_through here.front here.good profile known_here (sub_at y (i + 1)).result (here.result ∙ ap (λ z. (profile_of z).result) is) e o rest (sym here.formals ∙ first);
+        first = λ e f rest list. first_through grammar d profile is (sub_at y (i + 1)).result (here.result ∙ ap (λ z. (profile_of z).result) is) e f rest list;
       }

@@ -19,14 +19,16 @@ use Rattle.type_definitions.specs.Entries.{entry_of, same_word}
 use Rattle.type_definitions.specs.Faults.{demand}
 use Rattle.type_definitions.specs.Names.{Context, reading_of}
 use Rattle.type_definitions.specs.Names.{seen}
-use Rattle.type_definitions.specs.Expressions.{own_of, around, inside, reading_faults, call_arguments, around_variable, around_formal, around_traversed, traversed_anonymous, traversed_name, traversed_value, traverses, is_of, is_variable, is_in, is_access, is_anonymous, is_object_name, designated, arguments, formal, no_formal, formal_names, profile_of, associates, all_by_position, each_once, count_of, given_names}
+use Rattle.type_definitions.specs.Expressions.{own_of, around, inside, reading_faults, call_arguments, around_variable, around_formal, around_traversed, traversed_anonymous, traversed_name, traversed_value, traverses, is_of, is_variable, is_in, suits, allowed, is_access, is_anonymous, is_object_name, designated, arguments, formal, no_formal, formal_names, profile_of, associates, all_by_position, each_once, count_of, given_names}
 use Rattle.typed_tree.specs.Trees.{TypedTree, Name, typed_list}
 use Rattle.typed_tree.specs.Trees as typed
 use Rattle.typed_tree.specs.declared.object.Object.{Object}
 use Rattle.typed_tree.specs.Expressions.{Site, sub_number, typed_expression, typed_values, named_value, arguments_given}
 use Rattle.flow_paths.specs.Objects.{Typing, Signature, object_at, sub_at}
+use Rattle.flow_paths.specs.Objects as flow
+use Rattle.type_definitions.specs.Types.{is_owning}
 use Rattle.typed_laws.specs.Fine.{Agree, Has, Laws, IsMeant, AreArguments}
-use Rattle.typed_laws.proofs.Agreeing.{of_known, holds, nil_left, nil_right, and_left, and_right, agree_trans, agree_access, retyped}
+use Rattle.typed_laws.proofs.Agreeing.{of_known, holds, nil_left, nil_right, and_left, and_right, agree_trans, agree_access, agree_owns, retyped}
 use Rattle.typed_laws.proofs.Assigns as assigns
 use Rattle.typed_laws.proofs.Main.{has_type}
 use Rattle.type_definitions.specs.declared.table.Shape.{Shape}
@@ -43,7 +45,9 @@ use Rattle.typed_laws.proofs.Main.{fine_suffixes}
 use Rattle.typed_points.proofs.Sources.{anonymous_shape}
 use Rattle.typed_steps.specs.Steps.{IsViewed, Views}
 use Rattle.typed_steps.specs.Steps.{Taken, IsPlaceOf, IsActual, ActualsTaken, IsCall}
+use Rattle.typed_runs.specs.Code.{IsName, IsNamedOwner, NamesOwner, NamesOwners, NamesFirst, ArePassed}
 use Rattle.typed_runs.specs.Formals.{AreSameViews, IsFormal, AreFormals, formals_of, IsProfiled}
+use Rattle.typed_runs.proofs.Owners.{anonymous_apart, owner_named, object_named}
 
 refused : (p : Pos) (b : Bool) → demand 1 p b ++ demand 2 p false ≡ [] → ⊥
 refused p true e = cc
@@ -117,7 +121,7 @@ module _ (s : Site) (objects : List Object) (subs : List Signature) (made : ℕ 
       let f = nil_left (reading_faults c p d true (given_names (call_arguments rest)) (reading_of c d rest)) _ within in
       let g : reading_faults c p d true (given_names (call_arguments rest)) reading.Off ≡ [] = rw is at f in cc
 
-  tight : (e : Tree) (want : ℕ) → is_object_name c e ≡ true → inside c true want e ≡ [] → inside c false want e ≡ []
+  pub tight : (e : Tree) (want : ℕ) → is_object_name c e ≡ true → inside c true want e ≡ [] → inside c false want e ≡ []
   unfolding inside
   tight (Named p d rest) want is within = by (reading_of c d rest) is within
     where
@@ -207,6 +211,25 @@ module _ (s : Site) (objects : List Object) (subs : List Signature) (made : ℕ 
       by true is h = inr (anonymous_viewed e want meant m is h within)
       by false is h = inl (has_type s objects subs made laws e stands.Actual want meant m (nil_left (around c stands.Actual want e) _ h) (tight e want (holds 6 (position e) (is_object_name c e) (nil_right (around c stands.Actual want e) _ h)) within))
 
+  anonymous_object : (e : Tree) (want : ℕ) → traversed_anonymous c want e ≡ [] → inside c true want e ≡ [] → is_object_name c e ≡ true
+  anonymous_object (Named p d rest) want h within = on (reading_of c d rest) refl h
+    where
+      on : (r : Reading) → reading_of c d rest ≡ r → traversed_name c want p r ≡ [] → is_object r ≡ true
+      on (reading.Place t) is g = refl
+      on reading.Off is g = absurd (off_read p d want rest is within)
+      on (reading.Value u v) is g = absurd (no_name p (own_of c.known (reading.Value u v)) g)
+      on (reading.Call f) is g = absurd (no_name p (own_of c.known (reading.Call f)) g)
+      on (reading.Image u) is g = absurd (no_name p (own_of c.known (reading.Image u)) g)
+      on reading.EndOfFile is g = absurd (no_name p (own_of c.known reading.EndOfFile) g)
+  anonymous_object e want h within = absurd (let f = nil_right (demand 1 (position e) (traversed_fits c want e)) (K6 (position e)) h in cc)
+
+  traversed_object : (e : Tree) (want : ℕ) → around_traversed c want e ≡ [] → inside c true want e ≡ [] → is_object_name c e ≡ true
+  traversed_object e want demands within = by (is_anonymous (full table want)) demands
+    where
+      by : (b : Bool) → (if b then traversed_anonymous c want e else around c stands.Actual want e ++ demand 6 (position e) (is_object_name c e)) ≡ [] → is_object_name c e ≡ true
+      by true h = anonymous_object e want h within
+      by false h = holds 6 (position e) (is_object_name c e) (nil_right (around c stands.Actual want e) _ h)
+
   -- ---- types of formals
 
   target : (z w : Shape) (d k : ℕ) (c n e m : Bool) → z ≡ w → z ≡ shape.Access d c n → w ≡ shape.Access k e m → d ≡ k
@@ -250,7 +273,7 @@ module _ (s : Site) (objects : List Object) (subs : List Signature) (made : ℕ 
 
       Formed : Type 0
       Formed =
-          Agree table f.of o ⊎ ((f.traversed ≡ true) × (f.mode ≡ mode.In) × (is_anonymous (full table f.of) ≡ true) × AreSameViews table f.of o)
+          Agree table f.of o ⊎ ((f.traversed ≡ true) × (f.mode ≡ mode.In) × (is_anonymous (full table f.of) ≡ true) × (is_anonymous (full table o) ≡ true) × AreSameViews table f.of o)
 
       plain : (b : Bool) → (if b then around_traversed c f.of e else around c stands.Actual f.of e) ≡ [] → inside c b f.of e ≡ [] → Taken y f.of (typed_expression s f.of e)
       plain true g w = traversed e f.of meant m g w
@@ -262,7 +285,7 @@ module _ (s : Site) (objects : List Object) (subs : List Signature) (made : ℕ 
           let g : around_traversed c f.of e ≡ [] = subst (λ b. (if b then around_traversed c f.of e else around c stands.Actual f.of e) ≡ []) v.0 h in
           let k : traversed_anonymous c f.of e ≡ []
           = subst (λ b. (if b then traversed_anonymous c f.of e else around c stands.Actual f.of e ++ demand 6 (position e) (is_object_name c e)) ≡ []) v.2 g in
-          inr (viewed_as (typed_expression s f.of e) f.of o v.3 (anonymous_viewed e f.of meant m v.2 k (subst (λ b. inside c b f.of e ≡ []) v.0 within)))
+          inr (viewed_as (typed_expression s f.of e) f.of o v.4 (anonymous_viewed e f.of meant m v.2 k (subst (λ b. inside c b f.of e ≡ []) v.0 within)))
 
       placed : (k : Mode) → f.mode ≡ k → (k ≡ mode.In → ⊥) → Formed → around_variable c f.of e ≡ [] → (u : ℕ) × IsPlaceOf y u (typed_expression s f.of e) × Agree table u o
       placed k has other (inl agree) h =
@@ -277,7 +300,93 @@ module _ (s : Site) (objects : List Object) (subs : List Signature) (made : ℕ 
       by mode.Out has k h = rw k (placed mode.Out has (λ e. cc) is.1 h)
       by mode.InOut has k h = rw k (placed mode.InOut has (λ e. cc) is.1 h)
 
+  -- One that owns is null, or a name of its type.
+  owner_given : (f : FormalInfo) (x : ℕ) (e : Tree) → IsFormal y x f → made f.of → IsMeant s y e
+      → around_formal c f e ≡ [] → inside c f.traversed f.of e ≡ [] → NamesOwner y x (typed_expression s f.of e)
+  owner_given f x e is m meant demands within of_in owns = elim is.1 [
+    | inr v ↦ absurd (anonymous_apart s objects subs made laws (object_at y x).of v.3 owns)
+    | inl agree ↦ by agree (agree_owns table f.of (object_at y x).of laws.owns agree ∙ owns) f.traversed within (plain f.mode is.0 demands)
+  ]
+    where
+      IsOwner : Type 0
+      IsOwner = IsNamedOwner (typed_expression s f.of e) × Has y (object_at y x).of (typed_expression s f.of e)
+
+      plain : (k : Mode) → (object_at y x).mode ≡ k
+          → (if not (is_in k) then around_variable c f.of e else if f.traversed then around_traversed c f.of e else around c stands.Actual f.of e) ≡ []
+          → (if f.traversed then around_traversed c f.of e else around c stands.Actual f.of e) ≡ []
+      plain mode.In at h = h
+      plain mode.Out at h = absurd (let no : mode.In ≡ mode.Out = sym of_in ∙ at in cc)
+      plain mode.InOut at h = absurd (let no : mode.In ≡ mode.InOut = sym of_in ∙ at in cc)
+
+      allowed_there : (a b : Bool) → a ≡ true → not a || b ≡ true → b ≡ true
+      allowed_there true b is h = h
+      allowed_there false b is h = cc
+
+      had : Agree table f.of (object_at y x).of → is_owning table f.of ≡ true → around c stands.Actual f.of e ≡ [] → inside c false f.of e ≡ [] → IsOwner
+      had agree owner h w =
+          let has = has_type s objects subs made laws e stands.Actual f.of meant m h w in (
+            owner_named s objects subs made laws e f.of has owner
+                (allowed_there (is_owning table f.of) (allowed c stands.Actual e) owner
+                (holds 5 (position e) (not (is_owning table f.of) || allowed c stands.Actual e) (nil_right (demand 1 (position e) (suits c f.of e)) _ h))),
+            retyped y laws.owns (typed_expression s f.of e) f.of (object_at y x).of agree has,
+          )
+
+      by : Agree table f.of (object_at y x).of → is_owning table f.of ≡ true → (b : Bool) → inside c b f.of e ≡ []
+          → (if b then around_traversed c f.of e else around c stands.Actual f.of e) ≡ [] → IsOwner
+      by agree owner false w h = had agree owner h w
+      by agree owner true w h = through (is_anonymous (full table f.of)) refl h
+        where
+          through : (a : Bool) → is_anonymous (full table f.of) ≡ a
+              → (if a then traversed_anonymous c f.of e else around c stands.Actual f.of e ++ demand 6 (position e) (is_object_name c e)) ≡ [] → IsOwner
+          through true view k = absurd (anonymous_apart s objects subs made laws f.of view owner)
+          through false view k =
+              had agree owner (nil_left (around c stands.Actual f.of e) _ k)
+              (tight e f.of (holds 6 (position e) (is_object_name c e) (nil_right (around c stands.Actual f.of e) _ k)) w)
+
+  -- what is traversed is a name of an object
+  pub traversed_named : (f : FormalInfo) (e : Tree) → f.traversed ≡ true → around_formal c f e ≡ [] → inside c true f.of e ≡ [] → is_object_name c e ≡ true
+  traversed_named f e traversed demands within = by f.mode (rw traversed at demands) within
+    where
+      by : (k : Mode) → (if not (is_in k) then around_variable c f.of e else around_traversed c f.of e) ≡ [] → inside c true f.of e ≡ [] → is_object_name c e ≡ true
+      by mode.In h w = traversed_object e f.of h w
+      by mode.Out h w = variable_object e f.of h w
+      by mode.InOut h w = variable_object e f.of h w
+
+  first_given : (f : FormalInfo) (e : Tree) → around_formal c f e ≡ [] → inside c f.traversed f.of e ≡ [] → f.traversed ≡ true → IsName (typed_expression s f.of e)
+  first_given f e demands within traversed =
+      object_named s objects subs made laws e f.of (traversed_named f e traversed demands (subst (λ b. inside c b f.of e ≡ []) traversed within))
+
   -- ---- all actuals of a call
+
+  -- What is known of an actual, its formal, and the formal of the profile.
+  abbrev IsGiven : ℕ → FormalInfo → TypedTree → Type 0
+  IsGiven x k e = IsActual y x e × NamesOwner y x e × (k.traversed ≡ true → IsName e)
+
+  one_given : (f : FormalInfo) (x : ℕ) (e : Tree) → IsFormal y x f → made f.of → IsMeant s y e → around_formal c f e ≡ [] → inside c f.traversed f.of e ≡ []
+      → IsGiven x f (typed_expression s f.of e)
+  one_given f x e is m meant demands within =
+      (actual_given f x e is m meant demands within, owner_given f x e is m meant demands within, first_given f e demands within)
+
+  abbrev AreGiven : List ℕ → List FormalInfo → TypedTree → Type 0
+  AreGiven (x ∷ xs) (k ∷ ks) (typed.More e rest) = IsGiven x k e × AreGiven xs ks rest
+  AreGiven [] [] NoMore = Unit {0}
+  AreGiven xs ks e = ⊥
+
+  all_taken : (xs : List ℕ) (ks : List FormalInfo) (e : TypedTree) → AreGiven xs ks e → ActualsTaken y xs e
+  all_taken (x ∷ xs) (k ∷ ks) (typed.More e rest) given = (given.0.0, all_taken xs ks rest given.1)
+  all_taken [] [] NoMore given = tt
+  all_taken xs ks e given = absurd given
+
+  all_named : (xs : List ℕ) (ks : List FormalInfo) (e : TypedTree) → AreGiven xs ks e → NamesOwners y xs e
+  all_named (x ∷ xs) (k ∷ ks) (typed.More e rest) given = (given.0.1, all_named xs ks rest given.1)
+  all_named [] [] NoMore given = tt
+  all_named xs ks e given = absurd given
+
+  first_named : (sub : Signature) (xs : List ℕ) (ks : List FormalInfo) (e : TypedTree)
+      → (flow.traverses y.table sub.result ≡ true → (f : FormalInfo) (rest : List FormalInfo) → ks ≡ f ∷ rest → f.traversed ≡ true) → AreGiven xs ks e → NamesFirst y sub e
+  first_named sub (x ∷ xs) (k ∷ ks) (typed.More e rest) first given = (λ through. given.0.2 (first through k ks refl))
+  first_named sub [] [] NoMore first given = tt
+  first_named sub xs ks e first given = absurd given
 
   module _ (f : ℕ) (profiled : IsProfiled s.context.known s.bodies y made f) where
     abbrev fs : List FormalInfo
@@ -289,14 +398,15 @@ module _ (s : Site) (objects : List Object) (subs : List Signature) (made : ℕ 
     -- By position, from the i-th on.
     by_position : (args : Tree) (i : ℕ) (xs : List ℕ) (rest : List FormalInfo) → AreFormals y xs rest → ((j : ℕ) → get_or fs (i + j) no_formal ≡ get_or rest j no_formal)
         → length (given_names args) ≡ length rest → all_by_position (given_names args) ≡ true → AreArguments s y args → arguments c (role.Actuals f) i args ≡ []
-        → ActualsTaken y xs (typed_list (values i args))
+        → AreGiven xs rest (typed_list (values i args))
     unfolding arguments typed_values AreArguments
     by_position (Argument None e more) i (x ∷ xs) (k ∷ rest) are same count all meant none =
         let info = formal c f i None in
         let here : info ≡ k = ap (λ n. get_or fs n no_formal) (let z : i ≡ i + 0 = omega arith in z) ∙ same 0 in
         let later = nil_right (around_formal c info e) _ none in (
-          actual_given info x e (subst (IsFormal y x) (sym here) are.0) (profiled.types i) meant.0
-              (nil_left (around_formal c info e) _ none) (nil_left (inside c info.traversed info.of e) _ later),
+          subst (λ (z : FormalInfo). IsGiven x z (typed_expression s info.of e)) here
+              (one_given info x e (subst (IsFormal y x) (sym here) are.0) (profiled.types i) meant.0
+              (nil_left (around_formal c info e) _ none) (nil_left (inside c info.traversed info.of e) _ later)),
           by_position more (i + 1) xs rest are.1 (λ j. ap (λ n. get_or fs n no_formal) (let z : i + 1 + j ≡ i + suc j = omega arith in z) ∙ same (suc j))
               (let n = count in omega (arith, n)) all meant.1 (nil_right (inside c info.traversed info.of e) _ later),
         )
@@ -312,7 +422,7 @@ module _ (s : Site) (objects : List Object) (subs : List Signature) (made : ℕ 
     -- The value that is given by a name.
     value_given : (args : Tree) (i x : ℕ) (k : FormalInfo) (w : List ℕ) → IsFormal y x k → made k.of
         → ((v : List ℕ) → same_word w v ≡ true → formal c f 0 (Some v) ≡ k) → (count_of w (given_names args) ≡ 0 → ⊥) → AreArguments s y args
-        → arguments c (role.Actuals f) i args ≡ [] → IsActual y x (named_value w (given_names args) (values i args))
+        → arguments c (role.Actuals f) i args ≡ [] → IsGiven x k (named_value w (given_names args) (values i args))
     unfolding arguments typed_values AreArguments
     value_given (Argument None e more) i x k w is m here there meant none =
         let info = formal c f i None in
@@ -324,12 +434,12 @@ module _ (s : Site) (objects : List Object) (subs : List Signature) (made : ℕ 
         (λ gone. value_given more (i + 1) x k w is m here gone meant.1 (nil_right (inside c info.traversed info.of e) _ later))
       where
         by : (b : Bool) → same_word w v ≡ b → around_formal c (formal c f i (Some v)) e ≡ [] → inside c (formal c f i (Some v)).traversed (formal c f i (Some v)).of e ≡ []
-            → ((count_of w (given_names more) ≡ 0 → ⊥) → IsActual y x (named_value w (given_names more) (values (i + 1) more)))
-            → IsActual y x (if same_word w v then typed_expression s (formal c f i (Some v)).of e else named_value w (given_names more) (values (i + 1) more))
+            → ((count_of w (given_names more) ≡ 0 → ⊥) → IsGiven x k (named_value w (given_names more) (values (i + 1) more)))
+            → IsGiven x k (if same_word w v then typed_expression s (formal c f i (Some v)).of e else named_value w (given_names more) (values (i + 1) more))
         by true same around within on =
             let one : formal c f i (Some v) ≡ k = here v same in
-            rw same (actual_given (formal c f i (Some v)) x e (subst (IsFormal y x) (sym one) is)
-            (subst made (ap (λ (z : FormalInfo). z.of) (sym one)) m) meant.0 around within)
+            rw same (subst (λ (z : FormalInfo). IsGiven x z (typed_expression s (formal c f i (Some v)).of e)) one
+            (one_given (formal c f i (Some v)) x e (subst (IsFormal y x) (sym one) is) (subst made (ap (λ (z : FormalInfo). z.of) (sym one)) m) meant.0 around within))
         by false same around within on = rw same (on (λ zero. there (rw same zero)))
     value_given args i x k w is m here there meant none = absurd (there refl)
 
@@ -337,7 +447,7 @@ module _ (s : Site) (objects : List Object) (subs : List Signature) (made : ℕ 
     by_names : (args : Tree) (n : ℕ) (xs : List ℕ) (rest : List FormalInfo) → AreFormals y xs rest → ((j : ℕ) → get_or fs (n + j) no_formal ≡ get_or rest j no_formal)
         → n + length rest ≡ length fs → each_once (map (λ (k : FormalInfo). k.name) rest) (given_names args) ≡ true → AreArguments s y args
         → arguments c (role.Actuals f) 0 args ≡ []
-        → ActualsTaken y xs (typed_list (map (λ w. named_value w (given_names args) (values 0 args)) (map (λ (k : FormalInfo). k.name) rest)))
+        → AreGiven xs rest (typed_list (map (λ w. named_value w (given_names args) (values 0 args)) (map (λ (k : FormalInfo). k.name) rest)))
     by_names args n [] [] are same count once meant none = tt
     by_names args n (x ∷ xs) (k ∷ rest) are same count once meant none =
         let at : get_or fs n no_formal ≡ k = ap (λ z. get_or fs z no_formal) (let z : n ≡ n + 0 = omega arith in z) ∙ same 0 in
@@ -353,12 +463,14 @@ module _ (s : Site) (objects : List Object) (subs : List Signature) (made : ℕ 
 
     -- The law: actuals that break no sentence are as the formals ask.
     pub call_given : (given : Bool) → is_some (profile_of (entry_of s.context.known f)).result ≡ given → (args : Tree) → AreArguments s y args → arguments c (role.Actuals f) 0 args ≡ [] → associates (formal_names (profile_of (entry_of s.context.known f))) (given_names args) ≡ true
-        → IsCall y given (sub_number s f) (arguments_given c (role.Actuals f) args (values 0 args))
-    call_given given gives args meant none fit = (
-      by (all_by_position (given_names args)) refl (and_right (nat_eq (length (given_names args)) (length (formal_names (profile_of (entry_of s.context.known f))))) _ fit),
-      profiled.through,
-      ap is_some profiled.result ∙ gives,
-    )
+        → IsCall y given (sub_number s f) (arguments_given c (role.Actuals f) args (values 0 args)) × ArePassed y (sub_number s f) (arguments_given c (role.Actuals f) args (values 0 args))
+    call_given given gives args meant none fit =
+        let are = by (all_by_position (given_names args)) refl (and_right (nat_eq (length (given_names args)) (length (formal_names (profile_of (entry_of s.context.known f))))) _ fit) in
+        let es : TypedTree = arguments_given c (role.Actuals f) args (values 0 args) in
+        let xs : List ℕ = (sub_at y (sub_number s f)).formals in (
+          (all_taken xs fs es are, profiled.through, ap is_some profiled.result ∙ gives),
+          (all_named xs fs es are, first_named (sub_at y (sub_number s f)) xs fs es profiled.first are),
+        )
       where
         count : length (given_names args) ≡ length fs
         count =
@@ -366,7 +478,7 @@ module _ (s : Site) (objects : List Object) (subs : List Signature) (made : ℕ 
             ∙ map_count (λ (k : FormalInfo). k.name) fs
 
         by : (b : Bool) → all_by_position (given_names args) ≡ b → b || each_once (formal_names (profile_of (entry_of s.context.known f))) (given_names args) ≡ true
-            → ActualsTaken y (sub_at y (sub_number s f)).formals (typed_list (if b then values 0 args
+            → AreGiven (sub_at y (sub_number s f)).formals fs (typed_list (if b then values 0 args
             else map (λ w. named_value w (given_names args) (values 0 args)) (formal_names (profile_of (entry_of s.context.known f)))))
         by true all h = by_position args 0 (sub_at y (sub_number s f)).formals fs profiled.formals (λ j. ap (λ n. get_or fs n no_formal) (let z : 0 + j ≡ j = omega arith in z)) count all meant none
         by false all h =

@@ -31,7 +31,7 @@ use Rattle.typed_laws.proofs.Agreeing.{holds, nil_left, nil_right, and_left, and
 use Rattle.typed_points.proofs.Flags.{flagged, at_flags, typed_same, meant_same}
 use Rattle.typed_points.proofs.Strings.{string_own}
 use Rattle.typed_steps.specs.Steps.{IsPlaceOf, FirstText, IsText, IsCall}
-use Rattle.typed_runs.specs.Code.{IsTypedUse, IsTypedCode, Within}
+use Rattle.typed_runs.specs.Code.{ArePassed, IsTypedUse, IsTypedCode, Within}
 use Rattle.typed_runs.specs.Formals.{AreProfiled}
 use Rattle.typed_runs.proofs.Actuals.{variable_placed}
 use Rattle.typed_runs.proofs.Within.{actuals_within}
@@ -95,7 +95,7 @@ module _ (s : Site) (objects : List Object) (subs : List Signature) (made : ℕ 
     placed e t meant m none =
         let found = variable_placed z objects subs made laws e t (meant_same looped starts s y e meant) m none in (
           (found.0, subst (λ x. IsPlaceOf y found.0 x) (typed_same looped starts s t e) found.1, found.2),
-          inner s objects subs made laws profiled looped starts e false t meant m (nil_right (around_variable c t e) _ none),
+          inner s objects subs made laws profiled looped starts e t meant m (nil_right (around_variable c t e) _ none),
         )
 
     -- ---- instances of Unchecked_Deallocation
@@ -120,7 +120,7 @@ module _ (s : Site) (objects : List Object) (subs : List Signature) (made : ℕ 
         let kept = meant_same looped starts s y e meant.0 in
         let text = string_own z objects subs made laws e integer kept (nil_left (around_string c e) _ more) into in (
           (refl, subst (IsText y) (typed_same looped starts s integer e) (written z objects subs made laws e integer kept text into)),
-          (inner s objects subs made laws profiled looped starts e false integer meant.0 laws.integers into, tt),
+          (inner s objects subs made laws profiled looped starts e integer meant.0 laws.integers into, tt),
         )
     put p args meant none = cc
 
@@ -135,9 +135,9 @@ module _ (s : Site) (objects : List Object) (subs : List Signature) (made : ℕ 
     -- ---- procedures
 
     procedure_called : (p : Pos) (d : ℕ) (profile : Profile) (rest : Tree) → entry_of s.context.known d ≡ entry.Subprogram profile → IsMeant s y (Named p d rest)
-        → called c p d (entry.Subprogram profile) (actuals_of rest) ≡ [] → IsCall y false (sub_number s d) (typed_actuals s d rest) × Within y (typed_actuals s d rest)
+        → called c p d (entry.Subprogram profile) (actuals_of rest) ≡ [] → IsCall y false (sub_number s d) (typed_actuals s d rest) × ArePassed y (sub_number s d) (typed_actuals s d rest) × Within y (typed_actuals s d rest)
     unfolding IsMeant behind within_suffix arguments
-    procedure_called p d profile rest is meant none = subst (λ es. IsCall y false (sub_number s d) es × Within y es) (actuals_same looped starts s d rest) (by rest (kept (meant_same looped starts s y (Named p d rest) meant)) none)
+    procedure_called p d profile rest is meant none = subst (λ es. IsCall y false (sub_number s d) es × ArePassed y (sub_number s d) es × Within y es) (actuals_same looped starts s d rest) (by rest (kept (meant_same looped starts s y (Named p d rest) meant)) none)
       where
         kept : IsMeant z y (Named p d rest) → AreSuffixes z y rest
         kept h = h.1
@@ -147,7 +147,7 @@ module _ (s : Site) (objects : List Object) (subs : List Signature) (made : ℕ 
 
         at : (rest args : Tree) → call_arguments rest ≡ args → AreSuffixes z y rest → behind c (way.Giving (role.Actuals d)) rest ≡ []
             → is_none profile.result && associates (map (λ (f : FormalInfo). f.name) profile.formals) (given_names args) ≡ true
-            → IsCall y false (sub_number s d) (typed_actuals z d rest) × Within y (typed_actuals z d rest)
+            → IsCall y false (sub_number s d) (typed_actuals z d rest) × ArePassed y (sub_number s d) (typed_actuals z d rest) × Within y (typed_actuals z d rest)
         at rest args same kept inner fit =
             actuals_within z objects subs made laws profiled false d rest (profiled d profile is)
             (ap (λ e. is_some (profile_of e).result) is ∙ none_given profile.result (and_left (is_none profile.result) _ fit)) kept inner
@@ -155,7 +155,7 @@ module _ (s : Site) (objects : List Object) (subs : List Signature) (made : ℕ 
             (subst (λ x. associates (map (λ (f : FormalInfo). f.name) profile.formals) (given_names x) ≡ true) (sym same) (and_right (is_none profile.result) _ fit)))
 
         by : (rest : Tree) → AreSuffixes z y rest → called c p d (entry.Subprogram profile) (actuals_of rest) ≡ []
-            → IsCall y false (sub_number s d) (typed_actuals z d rest) × Within y (typed_actuals z d rest)
+            → IsCall y false (sub_number s d) (typed_actuals z d rest) × ArePassed y (sub_number s d) (typed_actuals z d rest) × Within y (typed_actuals z d rest)
         by NoMore h none = at NoMore NoMore refl h refl (holds 3 p _ (nil_left _ (arguments c (role.Actuals d) 0 NoMore) none))
         by (More (Applied args) NoMore) h none =
             at (More (Applied args) NoMore) args refl h (ap (λ xs. xs ++ []) (nil_right (demand 3 p (is_none profile.result && associates (map (λ (f : FormalInfo). f.name) profile.formals) (given_names args))) _ none))
@@ -180,7 +180,7 @@ module _ (s : Site) (objects : List Object) (subs : List Signature) (made : ℕ 
       call_typed (Named p d rest) meant none = by (entry_of s.context.known d) refl none
         where
           by : (e : Entry) → entry_of s.context.known d ≡ e → called c p d e (actuals_of rest) ≡ [] → IsTypedCall (call_of s p d e rest)
-          by (entry.Subprogram profile) is h = procedure_called p d profile rest is meant h
+          by (entry.Subprogram profile) is h = (let call = procedure_called p d profile rest is meant h in (call.0, (call.1, call.2)))
           by (entry.Instance t) is h =
               with_arguments s y rest (λ args. IsTypedUse y None (instruction.Release (typed_first s t args))) (λ o. called c p d (entry.Instance t) o) (λ e. cc)
               (λ args m n. released p d t args is m n) meant.1 h

@@ -9,8 +9,7 @@ use Rattle.flow_paths.specs.Objects.{Typing, Signature}
 use Rattle.flow_paths.specs.Points.{NamedPoint, FlowPoint, flow_point}
 use Rattle.flow_paths.specs.Prep.{Setting}
 use Rattle.flow_paths.specs.Laid.{Temporary, NamedSub, FlowSub, signature, typing_of, flow_typing, named_subs, sub_temporaries, numbers_from, unnumbered, all_named, frame_of, kept_roots, sub_facts, number_in, flow_sub, flow_named, flow_program}
-use Rattle.typed_steps.specs.Steps.{IsTypedStep}
-use Rattle.typed_runs.specs.Code.{IsTypedCode}
+use Rattle.typed_runs.specs.Code.{IsTypedCode, IsTypedUse}
 use Rattle.typed_runs.proofs.Points.{Typed, sub_typed, elaboration_typed}
 
 abbrev flow_signature : FlowSub → Signature
@@ -61,7 +60,7 @@ module _ (y s : Typing) where
   ]
 
 pub laid_typed : (table : Table) (typed : TypedProgram) (y : Typing) → ((sub : TypedSub) → Has typed.subs sub → IsTypedCode y sub.result sub.body)
-    → (sub : FlowSub) → Has (flow_program table typed).subs sub → (p : FlowPoint) → Has sub.points p → IsTypedStep y sub.result p.instr
+    → (sub : FlowSub) → Has (flow_program table typed).subs sub → (p : FlowPoint) → Has sub.points p → IsTypedUse y sub.result p.instr
 unfolding flow_program
 laid_typed table typed y are sub has p there =
     let s : Typing = typing_of table typed in
@@ -70,7 +69,7 @@ laid_typed table typed y are sub has p there =
     let made_point = flow_point (frame_of s named.sub (kept_roots s 0 s.objects (sub_facts s named.sub named.points))) (number_in named.points) in
     let at = Has-map_from made_point named.points p (subst (λ (x : FlowSub). Has x.points p) (sym from.2) there) in
     let same : at.0.instr ≡ p.instr = ap (λ (x : FlowPoint). x.instr) at.2 in
-    let here : IsTypedStep y named.sub.result at.0.instr =
-    all_has (λ (q : NamedPoint). IsTypedStep y named.sub.result q.instr) named.points at.0 (all_typed y s typed.subs are named from.1) at.1 in
+    let here : IsTypedUse y named.sub.result at.0.instr =
+    all_has (λ (q : NamedPoint). IsTypedUse y named.sub.result q.instr) named.points at.0 (all_typed y s typed.subs are named from.1) at.1 in
     let result : named.sub.result ≡ sub.result = ap (λ (x : FlowSub). x.result) from.2 in
-    subst (λ r. IsTypedStep y r p.instr) result (subst (λ i. IsTypedStep y named.sub.result i) same here)
+    subst (λ r. IsTypedUse y r p.instr) result (subst (λ i. IsTypedUse y named.sub.result i) same here)

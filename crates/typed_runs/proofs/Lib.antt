@@ -1,6 +1,7 @@
 -- typed as the machine says it
 pub mod Words
 -- actuals, and what stands within expressions
+pub mod Owners
 pub mod Actuals
 pub mod Images
 pub mod Within

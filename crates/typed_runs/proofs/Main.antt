@@ -16,11 +16,13 @@ use Rattle.typed_tree.specs.Statements.{scope_count, statements}
 use Rattle.typed_tree.specs.Programs.{TypedSub, placed, over_units, subs_in, site_of, typed_program}
 use Rattle.typed_tree.specs.Programs as programs
 use Rattle.flow_paths.specs.Objects.{Typing, Signature}
+use Rattle.flow_paths.specs.Points.{FlowPoint}
+use Rattle.flow_paths.specs.Laid.{FlowSub, flow_typing}
 use Rattle.typed_laws.specs.Fine.{Laws}
 use Rattle.typed_laws.proofs.Agreeing.{nil_left, nil_right}
 use Rattle.typed_points.specs.Meant.{AreMeantBodies, AreMeantObjects}
-use Rattle.typed_steps.specs.Steps.{AreTyped, IsTypedStep}
-use Rattle.typed_runs.specs.Code.{IsTypedCode}
+use Rattle.typed_steps.specs.Steps.{AreTyped}
+use Rattle.typed_runs.specs.Code.{IsTypedUse, IsTypedCode}
 use Rattle.typed_runs.specs.Formals.{AreProfiled}
 use Rattle.typed_runs.specs.Bounds.{HaveBounds}
 use Rattle.typed_runs.specs.Meant.{typed_in, laid_in, site_in, typing_laid, IsMeantText}
@@ -146,9 +148,14 @@ program_typed p made laws text none sub has =
           (λ n u there. bodies_typed s y.objects y.subs made laws text.profiled text.bounds n u (text.bodies u there) (none u there))) more
     ]
 
--- The law. `made` says of which numbers stand for types.
-pub are_typed : (p : Program) (made : ℕ → Type 0) → type_fault p ≡ None → Laws (known_of p) made → IsMeantText p made → AreTyped (laid_in p)
+-- The law, with what stands within the steps. `made` says of which numbers stand for types.
+pub are_used : (p : Program) (made : ℕ → Type 0) → type_fault p ≡ None → Laws (known_of p) made → IsMeantText p made → (sub : FlowSub) → Has (laid_in p).subs sub
+    → (q : FlowPoint) → Has sub.points q → IsTypedUse (flow_typing (laid_in p)) sub.result q.instr
 unfolding sentence_faults
-are_typed p made none laws text sub has q there =
-    subst (λ z. IsTypedStep z sub.result q.instr) (laid_typing (known_of p).table (typed_in p))
+are_used p made none laws text sub has q there =
+    subst (λ z. IsTypedUse z sub.result q.instr) (laid_typing (known_of p).table (typed_in p))
     (laid_typed (known_of p).table (typed_in p) (typing_laid p) (program_typed p made laws text (unit_none (known_of p) p.units (no_fault p none))) sub has q there)
+
+-- The steps are typed.
+pub are_typed : (p : Program) (made : ℕ → Type 0) → type_fault p ≡ None → Laws (known_of p) made → IsMeantText p made → AreTyped (laid_in p)
+are_typed p made none laws text sub has q there = (are_used p made none laws text sub has q there).0

@@ -164,7 +164,7 @@ module _ (s : Site) (objects : List Object) (subs : List Signature) (made : ℕ 
         = is ∙ ap (λ o. base table (type_or_integer o)) (sym (own_same looped starts s.context low) ∙ found.1) in
         agreed found.0 (object_at y (object_number s (declared_number d))).of (typed_range s (Bounds low high))
         (subst (Agree table found.0) (sym of_low) (based_agree found.0 found.2))
-        (scalar, found.4, last.0, inner s objects subs made laws profiled looped starts low false integer meant.0 laws.integers into, last.1)
+        (scalar, found.4, last.0, inner s objects subs made laws profiled looped starts low integer meant.0 laws.integers into, last.1)
     range_typed d (Marked m) meant is none =
         let scalar = (mark_scalar m none).1 in
         subst (λ t. AreBounds t (bounds_seen (full table (marked known m)))) (sym is) (type_bounds (marked known m) scalar)

@@ -2,6 +2,8 @@
 use Rattle.std.proofs.Common.{◌≡◌, refl, subst, inl, ℕ, Bool, true, false, List, [], ◌++◌, if◌then◌else◌}
 use Rattle.resolved_tree.specs.Trees.{Tree, Null, Named, position}
 use Rattle.type_definitions.specs.declared.judgement.Fault.{Fault}
+use Rattle.type_definitions.specs.declared.judgement.View.{View}
+use Rattle.type_definitions.specs.declared.judgement.View.TheVariants as view
 use Rattle.type_definitions.specs.declared.judgement.Where.{Where}
 use Rattle.type_definitions.specs.declared.judgement.Where.TheVariants as stands
 use Rattle.type_definitions.specs.Types.{Table, full, is_scalar}
@@ -13,15 +15,16 @@ use Rattle.type_definitions.specs.Statements.{source_name, source_fits, is_name,
 use Rattle.typed_tree.specs.declared.object.Object.{Object}
 use Rattle.typed_tree.specs.Expressions.{Site, typed_expression}
 use Rattle.flow_paths.specs.Objects.{Typing, Signature}
+use Rattle.flow_paths.specs.Objects as flow
 use Rattle.typed_laws.specs.Fine.{Has, Laws, IsMeant}
 use Rattle.typed_laws.proofs.Agreeing.{nil_left, nil_right}
 use Rattle.typed_points.proofs.Flags.{flagged, at_flags, typed_same, meant_same}
 use Rattle.typed_points.proofs.Values.{has_at, unwanted, scalar_own_type}
 use Rattle.typed_steps.specs.Steps.{Taken}
-use Rattle.typed_runs.specs.Code.{Within}
+use Rattle.typed_runs.specs.Code.{Within, WithinSource}
 use Rattle.typed_runs.specs.Formals.{AreProfiled}
 use Rattle.typed_runs.proofs.Views.{source_taken, return_taken, formal_taken}
-use Rattle.typed_runs.proofs.Within.{within}
+use Rattle.typed_runs.proofs.Within.{within, source_within, plain_within}
 
 -- A source whose sentences are those of a borrower or an observer.
 source_inside : (c : Context) (want : ℕ) (e : Tree) → source_faults c want e ≡ [] → inside c true want e ≡ []
@@ -37,6 +40,12 @@ return_inside c want e none = source_inside c want e none
 pub target_inside : (b : Bool) (a n k : List Fault) → (if b then a ++ n else k) ≡ [] → (b ≡ false → k ≡ [] → ⊥) → n ≡ []
 target_inside true a n k e never = nil_right a n e
 target_inside false a n k e never = absurd (never refl e)
+
+view_shown : (v : View) → is_anonymous v ≡ true → flow.is_anonymous v ≡ true
+view_shown (view.Access d true false) e = refl
+view_shown (view.Access d false false) e = refl
+view_shown (view.Access d k true) e = cc
+view_shown v e = cc
 
 module _ (s : Site) (objects : List Object) (subs : List Signature) (made : ℕ → Type 0) (laws : Laws s.context.known made)
     (profiled : AreProfiled s.context.known s.bodies (record { table = s.context.known.table; objects = objects; subs = subs }) made) where
@@ -56,12 +65,19 @@ module _ (s : Site) (objects : List Object) (subs : List Signature) (made : ℕ 
     abbrev same : (want : ℕ) (e : Tree) → typed_expression z want e ≡ typed_expression s want e
     same want e = typed_same looped starts s want e
 
-    pub inner : (e : Tree) (loose : Bool) (want : ℕ) → IsMeant s y e → made want → inside c loose want e ≡ [] → Within y (typed_expression s want e)
-    inner e loose want meant m none =
-        subst (Within y) (same want e) (within z objects subs made laws profiled e loose want (meant_same looped starts s y e meant) m none)
+    pub inner : (e : Tree) (want : ℕ) → IsMeant s y e → made want → inside c false want e ≡ [] → Within y (typed_expression s want e)
+    inner e want meant m none =
+        subst (Within y) (same want e) (within z objects subs made laws profiled e want (meant_same looped starts s y e meant) m none)
+
+    -- a source of a view, which may be what a traversal function gives
+    source_inner : (e : Tree) (loose : Bool) (want : ℕ) → IsMeant s y e → made want → is_anonymous (full table want) ≡ true → inside c loose want e ≡ []
+        → WithinSource y want (typed_expression s want e)
+    source_inner e loose want meant m anonymous none =
+        subst (WithinSource y want) (same want e)
+        (source_within z objects subs made laws profiled e loose want (meant_same looped starts s y e meant) m (λ any. view_shown (full table want) anonymous) none)
 
     pub had : (e : Tree) (at : Where) (want : ℕ) → IsMeant s y e → made want → faults c at want e ≡ [] → Has y want (typed_expression s want e) × Within y (typed_expression s want e)
-    had e at want meant m none = (has_at s objects subs made laws looped starts e at want meant m none, inner e false want meant m (nil_right (around c at want e) _ none))
+    had e at want meant m none = (has_at s objects subs made laws looped starts e at want meant m none, inner e want meant m (nil_right (around c at want e) _ none))
 
     -- Where a scalar type is demanded, and the text is typed for Integer.
     pub bound_had : (e : Tree) (t : ℕ) → IsMeant s y e → made t → is_scalar (full table t) ≡ true → faults c stands.Elsewhere t e ≡ []
@@ -73,26 +89,26 @@ module _ (s : Site) (objects : List Object) (subs : List Signature) (made : ℕ 
 
     -- ---- sources
 
-    pub plain_source : (e : Tree) (want : ℕ) → IsMeant s y e → made want → faults c stands.Stored want e ≡ [] → Taken y want (typed_expression s want e) × Within y (typed_expression s want e)
-    plain_source e want meant m none = let found = had e stands.Stored want meant m none in (inl found.0, found.1)
+    pub plain_source : (e : Tree) (want : ℕ) → IsMeant s y e → made want → faults c stands.Stored want e ≡ [] → Taken y want (typed_expression s want e) × WithinSource y want (typed_expression s want e)
+    plain_source e want meant m none = let found = had e stands.Stored want meant m none in (inl found.0, plain_within y want (typed_expression s want e) found.1)
 
     pub viewed_source : (e : Tree) (want : ℕ) → IsMeant s y e → made want → is_anonymous (full table want) ≡ true → source_faults c want e ≡ []
-        → Taken y want (typed_expression s want e) × Within y (typed_expression s want e)
+        → Taken y want (typed_expression s want e) × WithinSource y want (typed_expression s want e)
     viewed_source e want meant m anonymous none = (
       subst (Taken y want) (same want e) (source_taken z objects subs made laws want m anonymous e (meant_same looped starts s y e meant) none),
-      inner e true want meant m (source_inside c want e none),
+      source_inner e true want meant m anonymous (source_inside c want e none),
     )
 
     pub returned_source : (e : Tree) (want : ℕ) → IsMeant s y e → made want → is_anonymous (full table want) ≡ true → return_source c want e ≡ []
-        → Taken y want (typed_expression s want e) × Within y (typed_expression s want e)
+        → Taken y want (typed_expression s want e) × WithinSource y want (typed_expression s want e)
     returned_source e want meant m anonymous none = (
       subst (Taken y want) (same want e) (return_taken z objects subs made laws want m anonymous e (meant_same looped starts s y e meant) none),
-      inner e true want meant m (return_inside c want e none),
+      source_inner e true want meant m anonymous (return_inside c want e none),
     )
 
     pub formal_given : (e : Tree) (want : ℕ) → IsMeant s y e → made want → is_anonymous (full table want) ≡ true → formal_source c want e ≡ []
-        → Taken y want (typed_expression s want e) × Within y (typed_expression s want e)
+        → Taken y want (typed_expression s want e) × WithinSource y want (typed_expression s want e)
     formal_given e want meant m anonymous none = (
       subst (Taken y want) (same want e) (formal_taken z objects subs made laws want m anonymous e (meant_same looped starts s y e meant) none),
-      inner e (is_name e) want meant m (nil_right (demand 1 (position e) (source_fits c want e)) _ none),
+      source_inner e (is_name e) want meant m anonymous (nil_right (demand 1 (position e) (source_fits c want e)) _ none),
     )

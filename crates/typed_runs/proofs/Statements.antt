@@ -32,17 +32,18 @@ use Rattle.typed_points.proofs.Flags.{flagged, at_flags, typed_same, meant_same,
 use Rattle.typed_points.proofs.Values.{seen_full, scalar_at}
 use Rattle.typed_points.proofs.Statements.{result_given, marked_made}
 use Rattle.typed_steps.specs.Steps.{FirstHas, FirstTaken, IsPlaceOf, Returned, Taken}
-use Rattle.typed_runs.specs.Code.{IsTypedCode, Within}
+use Rattle.typed_runs.specs.Code.{IsTypedCode, Within, WithinSource, FirstWithin, AssignedWithin, ReturnedWithin}
 use Rattle.typed_runs.specs.Formals.{AreProfiled}
+use Rattle.typed_runs.proofs.Within.{plain_within}
 use Rattle.typed_runs.proofs.Sources.{inner, had, plain_source, viewed_source, returned_source, formal_given, target_inside}
 use Rattle.typed_runs.proofs.Actuals.{place}
 
 -- A value, and what stands within it.
 abbrev pub TakenWithin : Typing → ℕ → TypedTree → Type 0
-TakenWithin y t v = FirstTaken y t v × Within y v
+TakenWithin y t v = FirstTaken y t v × FirstWithin y t v
 
 -- One value.
-one_value : (y : Typing) (t : ℕ) (e : TypedTree) → Taken y t e → Within y e → TakenWithin y t (typed.More e typed.NoMore)
+one_value : (y : Typing) (t : ℕ) (e : TypedTree) → Taken y t e → WithinSource y t e → TakenWithin y t (typed.More e typed.NoMore)
 unfolding Within
 one_value y t e h g = ((refl, h), (g, tt))
 
@@ -71,18 +72,18 @@ module _ (s : Site) (objects : List Object) (subs : List Signature) (made : ℕ 
         → AreTyped (map (typed_object s v) (code_items ids))
     unfolding IsTypedCode
     each_typed (More d rest) i v t h is source =
-        ((subst (λ x. FirstTaken y x v) (sym (h.0 ∙ is (declared_number d))) source.0, source.1), each_typed rest i v t h.2 is source)
+        ((subst (λ x. FirstTaken y x v) (sym (h.0 ∙ is (declared_number d))) source.0, subst (λ x. FirstWithin y x v) (sym (h.0 ∙ is (declared_number d))) source.1), each_typed rest i v t h.2 is source)
     each_typed ids i v t h is source = tt
 
     one_typed : (ids i : Code) (v : TypedTree) → is_single ids ≡ true → AreDeclared s y made i ids → TakenWithin y (indicated known (first_number ids) i) v
         → AreTyped (map (typed_object s v) (code_items ids))
     unfolding IsTypedCode
-    one_typed (More d NoMore) i v single h source = ((subst (λ x. FirstTaken y x v) (sym h.0) source.0, source.1), tt)
+    one_typed (More d NoMore) i v single h source = ((subst (λ x. FirstTaken y x v) (sym h.0) source.0, subst (λ x. FirstWithin y x v) (sym h.0) source.1), tt)
     one_typed ids i v single h source = cc
 
     numbers_typed : (ids : Code) (v : TypedTree) → AreNumbers s y ids → TakenWithin y integer v → AreTyped (map (typed_object s v) (code_items ids))
     unfolding IsTypedCode
-    numbers_typed (More d rest) v h source = ((subst (λ x. FirstTaken y x v) (sym h.0) source.0, source.1), numbers_typed rest v h.1 source)
+    numbers_typed (More d rest) v h source = ((subst (λ x. FirstTaken y x v) (sym h.0) source.0, subst (λ x. FirstWithin y x v) (sym h.0) source.1), numbers_typed rest v h.1 source)
     numbers_typed ids v h source = tt
 
   module _ (looped starts : Bool) where
@@ -145,7 +146,7 @@ module _ (s : Site) (objects : List Object) (subs : List Signature) (made : ℕ 
         → AreTyped result (map (typed_object s (typed.More (typed_expression s integer e) typed.NoMore)) (code_items ids))
     named_numbers_typed result ids e h meant none =
         let found = had s objects subs made laws profiled looped (in_package s.context) e stands.Elsewhere integer meant laws.integers (nil_left (faults (starting c) stands.Elsewhere integer e) _ none) in
-        numbers_typed result ids (typed.More (typed_expression s integer e) typed.NoMore) h (one_value y integer (typed_expression s integer e) (inl found.0) found.1)
+        numbers_typed result ids (typed.More (typed_expression s integer e) typed.NoMore) h (one_value y integer (typed_expression s integer e) (inl found.0) (plain_within y integer (typed_expression s integer e) found.1))
 
     -- ---- conditions
 
@@ -163,7 +164,7 @@ module _ (s : Site) (objects : List Object) (subs : List Signature) (made : ℕ 
         let into = nil_right (demand 1 (position e) (scalar_own c (own_type c e))) _ none in
         let found = scalar_at s objects subs made laws looped starts e integer meant own into in (
           (found.0, seen_full s objects subs made laws c found.0 refl found.3, found.4),
-          inner s objects subs made laws profiled looped starts e false integer meant laws.integers into,
+          inner s objects subs made laws profiled looped starts e integer meant laws.integers into,
         )
 
     -- ---- return
@@ -172,24 +173,24 @@ module _ (s : Site) (objects : List Object) (subs : List Signature) (made : ℕ 
         → (if is_none r then K3 (position e) ++ inside c true integer e
         else if is_some r && is_anonymous (full table (result_type r)) then return_source c (result_type r) e
         else faults c stands.Stored (result_type r) e) ≡ []
-        → Returned y r (typed.More (typed_expression s (result_type r) e) typed.NoMore) × Within y (typed.More (typed_expression s (result_type r) e) typed.NoMore)
+        → Returned y r (typed.More (typed_expression s (result_type r) e) typed.NoMore) × ReturnedWithin y r (typed.More (typed_expression s (result_type r) e) typed.NoMore)
     unfolding Within
     value_returned p e None meant types none = cc
     value_returned p e (Some t) meant types none =
         let found = by (is_anonymous (full table t)) refl none in ((typed_expression s t e, refl, found.0), (found.1, tt))
       where
         by : (b : Bool) → is_anonymous (full table t) ≡ b → (if b then return_source c t e else faults c stands.Stored t e) ≡ []
-            → Taken y t (typed_expression s t e) × Within y (typed_expression s t e)
+            → Taken y t (typed_expression s t e) × WithinSource y t (typed_expression s t e)
         by true is h = returned_source s objects subs made laws profiled looped starts e t meant (types t refl) is h
         by false is h = plain_source s objects subs made laws profiled looped starts e t meant (types t refl) h
 
-    none_returned : (p : Pos) (r : Option ℕ) → demand 3 p (is_none r) ≡ [] → Returned y r typed.NoMore × Within y typed.NoMore
+    none_returned : (p : Pos) (r : Option ℕ) → demand 3 p (is_none r) ≡ [] → Returned y r typed.NoMore × ReturnedWithin y r typed.NoMore
     unfolding Within
     none_returned p None none = (refl, tt)
     none_returned p (Some t) none = cc
 
     pub return_typed : (p : Pos) (v : Tree) (sub : Option ℕ) → IsMeantOptional s y v → returned c p (sub_profile known sub) v ≡ []
-        → Returned y (result_given (sub_profile known sub)) (typed_optional s (returned_type s.context sub) v) × Within y (typed_optional s (returned_type s.context sub) v)
+        → Returned y (result_given (sub_profile known sub)) (typed_optional s (returned_type s.context sub) v) × ReturnedWithin y (result_given (sub_profile known sub)) (typed_optional s (returned_type s.context sub) v)
     return_typed p v None meant none = cc
     return_typed p (More e rest) (Some f) meant none = value_returned p e (profile_of (entry_of known f)).result meant (λ t is. laws.result f t is) none
     return_typed p NoMore (Some f) meant none = none_returned p (profile_of (entry_of known f)).result none
@@ -212,23 +213,27 @@ module _ (s : Site) (objects : List Object) (subs : List Signature) (made : ℕ 
 
     source_assigned : (whole_target : Bool) (root : Entry) (e : Tree) (t : ℕ) → IsMeant s y e → made t
         → (if not (whole_target && is_anonymous (full table t)) then faults c stands.Stored t e else if is_formal root then formal_source c t e else source_faults c t e) ≡ []
-        → Taken y t (typed_expression s t e) × Within y (typed_expression s t e)
+        → Taken y t (typed_expression s t e) × WithinSource y t (typed_expression s t e)
     source_assigned true root e t meant m none = by (is_anonymous (full table t)) refl none
       where
         by : (b : Bool) → is_anonymous (full table t) ≡ b → (if not b then faults c stands.Stored t e else if is_formal root then formal_source c t e else source_faults c t e) ≡ []
-            → Taken y t (typed_expression s t e) × Within y (typed_expression s t e)
+            → Taken y t (typed_expression s t e) × WithinSource y t (typed_expression s t e)
         by false is h = plain_source s objects subs made laws profiled looped starts e t meant m h
         by true is h = under (is_formal root) h
           where
-            under : (f : Bool) → (if f then formal_source c t e else source_faults c t e) ≡ [] → Taken y t (typed_expression s t e) × Within y (typed_expression s t e)
+            under : (f : Bool) → (if f then formal_source c t e else source_faults c t e) ≡ [] → Taken y t (typed_expression s t e) × WithinSource y t (typed_expression s t e)
             under true g = formal_given s objects subs made laws profiled looped starts e t meant m is g
             under false g = viewed_source s objects subs made laws profiled looped starts e t meant m is g
     source_assigned false root e t meant m none = plain_source s objects subs made laws profiled looped starts e t meant m none
 
+    assigned_at : (target : TypedTree) (t : ℕ) (e : TypedTree) → IsPlaceOf y t target → WithinSource y t e → AssignedWithin y target e
+    assigned_at (typed.Name p x path u) t e there within = subst (λ k. WithinSource y k e) (sym there.1) within
+    assigned_at target t e there within = absurd there
+
     abbrev pub IsAssigned : Tree → Tree → Type 0
     IsAssigned target e =
         ((t : ℕ) × IsPlaceOf y t (typed_expression s integer target) × Taken y t (typed_expression s (type_read (target_reading s.context target)) e))
-        × Within y (typed_expression s (type_read (target_reading s.context target)) e) × Within y (typed_expression s integer target)
+        × AssignedWithin y (typed_expression s integer target) (typed_expression s (type_read (target_reading s.context target)) e) × Within y (typed_expression s integer target)
 
     pub assigned_typed : (target e : Tree) → IsMeant s y target → IsMeant s y e → target_faults c target ≡ [] → assign_faults c target e ≡ [] → IsAssigned target e
     assigned_typed (Named p d rest) e meant value none source =
@@ -238,13 +243,15 @@ module _ (s : Site) (objects : List Object) (subs : List Signature) (made : ℕ 
         let at = assigns.target_placed z objects subs made laws p d t rest (meant_same looped starts s y (Named p d rest) meant) none read.1 in
         let takes = source_assigned (is_end rest) (entry_of s.context.known d) e t value at.0 (rw read.1 at source) in
         let into = target_inside (is_object_entry (entry_of s.context.known d)) (demand 2 p (is_variable (entry_of s.context.known d) (reading_of c d rest)))
-        (inside c false integer (Named p d rest)) (K2 p ++ behind c (way_of s.context.known d (entry_of s.context.known d)) rest) none (λ e f. cc) in (
+        (inside c false integer (Named p d rest)) (K2 p ++ behind c (way_of s.context.known d (entry_of s.context.known d)) rest) none (λ e f. cc) in
+        let there = subst (λ x. IsPlaceOf y t x) (typed_same looped starts s integer (Named p d rest)) (place z objects subs made laws (typed_expression z integer (Named p d rest)) t at.1) in (
           (
             t,
-            subst (λ x. IsPlaceOf y t x) (typed_same looped starts s integer (Named p d rest)) (place z objects subs made laws (typed_expression z integer (Named p d rest)) t at.1),
+            there,
             subst (λ r. Taken y t (typed_expression s (type_read r) e)) (sym here) takes.0,
           ),
-          subst (λ r. Within y (typed_expression s (type_read r) e)) (sym here) takes.1,
-          inner s objects subs made laws profiled looped starts (Named p d rest) false integer meant laws.integers into,
+          assigned_at (typed_expression s integer (Named p d rest)) t (typed_expression s (type_read (reading_of s.context d rest)) e) there
+              (subst (λ r. WithinSource y t (typed_expression s (type_read r) e)) (sym here) takes.1),
+          inner s objects subs made laws profiled looped starts (Named p d rest) integer meant laws.integers into,
         )
     assigned_typed target e meant value none source = cc

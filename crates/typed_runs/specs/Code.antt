@@ -1,19 +1,50 @@
 -- Typed code whose steps have expressions of the types of their places, and what stands at points of
 -- its own before a step: calls, and the operands of short circuits.
-use Rattle.std.specs.Prelude.{ℕ, true, Option, None}
+use Rattle.std.specs.Prelude.{◌≡◌, ◌⊎◌, ℕ, true, false, List, ◌∷◌, Option, Some, None}
+use Rattle.place_names.specs.declared.act.Mode.TheVariants as mode
+use Rattle.type_definitions.specs.Types.{is_owning, full}
 use Rattle.type_definitions.specs.Entries.{boolean}
 use Rattle.typed_tree.specs.Trees.{TypedTree, Name, Component, Designated, Element, Image, Parens, Unary, Binary, Short, IsNull, Aggregate, Alike, New, TypedCode, Declare, Assign, Output, Input, Release, If, Branch, Case, When, Loop, While, For, Exit, Return, Block, More}
 use Rattle.typed_tree.specs.Trees as typed
 use Rattle.flow_paths.specs.Instructions.{Instruction}
 use Rattle.flow_paths.specs.Instructions as instruction
-use Rattle.flow_paths.specs.Objects.{Typing}
+use Rattle.flow_paths.specs.Objects.{Typing, Signature, object_at, sub_at, traverses, is_anonymous}
 use Rattle.flow_paths.specs.Layout.{choices_of}
 use Rattle.typed_laws.specs.Fine.{Has}
 use Rattle.typed_steps.specs.Steps.{IsCall, IsTypedStep}
 
--- The calls and the operands of short circuits within an expression.
+-- What owns and is passed by a formal of mode `in` is null, or what a name of its type stands for; and what a traversal
+-- function goes through is what a name stands for.
+abbrev pub IsName : TypedTree → Type 0
+IsName (Name p x steps t) = Unit {0}
+IsName e = ⊥
+
+abbrev pub IsNamedOwner : TypedTree → Type 0
+IsNamedOwner typed.Null = Unit {0}
+IsNamedOwner (Name p x steps t) = Unit {0}
+IsNamedOwner e = ⊥
+
+abbrev pub NamesOwner : Typing → ℕ → TypedTree → Type 0
+NamesOwner s x e = (object_at s x).mode ≡ mode.In → is_owning s.table (object_at s x).of ≡ true → IsNamedOwner e × Has s (object_at s x).of e
+
+abbrev pub NamesOwners : Typing → List ℕ → TypedTree → Type 0
+NamesOwners s (x ∷ formals) (More e rest) = NamesOwner s x e × NamesOwners s formals rest
+NamesOwners s formals e = Unit {0}
+
+abbrev pub NamesFirst : Typing → Signature → TypedTree → Type 0
+NamesFirst s sub (More e rest) = traverses s.table sub.result ≡ true → IsName e
+NamesFirst s sub e = Unit {0}
+
+abbrev pub ArePassed : Typing → ℕ → TypedTree → Type 0
+ArePassed s sub actuals = NamesOwners s (sub_at s sub).formals actuals × NamesFirst s (sub_at s sub) actuals
+
+-- It is no traversal function.
+abbrev pub GivesNoView : Typing → ℕ → Type 0
+GivesNoView s sub = traverses s.table (sub_at s sub).result ≡ false
+
+-- The calls and the operands of short circuits within an expression. None is of a traversal function.
 unfoldable pub Within : Typing → TypedTree → Type 0
-Within s (typed.Call p sub actuals) = IsCall s true sub actuals × Within s actuals
+Within s (typed.Call p sub actuals) = IsCall s true sub actuals × ArePassed s sub actuals × GivesNoView s sub × Within s actuals
 Within s (Short op p a q b) = Has s boolean a × Has s boolean b × Within s a × Within s b
 Within s (Name p x steps t) = Within s steps
 Within s (Component i rest) = Within s rest
@@ -30,23 +61,41 @@ Within s (New t v) = Within s v
 Within s (More e rest) = Within s e × Within s rest
 Within s e = Unit {0}
 
+-- What a traversal function gives may be all of a source for a place of an anonymous access type, or for such a result.
+abbrev pub WithinSource : Typing → ℕ → TypedTree → Type 0
+WithinSource s want (typed.Call p sub actuals) =
+    IsCall s true sub actuals × ArePassed s sub actuals × (GivesNoView s sub ⊎ (is_anonymous (full s.table want) ≡ true)) × Within s actuals
+WithinSource s want e = Within s e
+
+abbrev pub FirstWithin : Typing → ℕ → TypedTree → Type 0
+FirstWithin s want (More e rest) = WithinSource s want e × Within s rest
+FirstWithin s want v = Within s v
+
+abbrev pub AssignedWithin : Typing → TypedTree → TypedTree → Type 0
+AssignedWithin s (Name p x path u) e = WithinSource s u e
+AssignedWithin s target e = Within s e
+
+abbrev pub ReturnedWithin : Typing → Option ℕ → TypedTree → Type 0
+ReturnedWithin s (Some t) v = FirstWithin s t v
+ReturnedWithin s None v = Within s v
+
 -- Those within the expressions of a step.
-abbrev pub WithinStep : Typing → Instruction → Type 0
-WithinStep s (instruction.Declare x v) = Within s v
-WithinStep s (instruction.Assign target e) = Within s e × Within s target
-WithinStep s (instruction.Call sub actuals r) = Within s actuals
-WithinStep s (instruction.Output text line) = Within s text
-WithinStep s (instruction.Input target) = Within s target
-WithinStep s (instruction.Release e) = Within s e
-WithinStep s (instruction.Test e) = Within s e
-WithinStep s (instruction.Choose e choices) = Within s e
-WithinStep s (instruction.Start x reversed low high) = Within s low × Within s high
-WithinStep s (instruction.LeaveLoop e) = Within s e
-WithinStep s (instruction.Hold v) = Within s v
-WithinStep s _ = Unit {0}
+abbrev pub WithinStep : Typing → Option ℕ → Instruction → Type 0
+WithinStep s result (instruction.Declare x v) = FirstWithin s (object_at s x).of v
+WithinStep s result (instruction.Assign target e) = AssignedWithin s target e × Within s target
+WithinStep s result (instruction.Call sub actuals r) = ArePassed s sub actuals × Within s actuals
+WithinStep s result (instruction.Output text line) = Within s text
+WithinStep s result (instruction.Input target) = Within s target
+WithinStep s result (instruction.Release e) = Within s e
+WithinStep s result (instruction.Test e) = Within s e
+WithinStep s result (instruction.Choose e choices) = Within s e
+WithinStep s result (instruction.Start x reversed low high) = Within s low × Within s high
+WithinStep s result (instruction.LeaveLoop e) = Within s e
+WithinStep s result (instruction.Hold v) = ReturnedWithin s result v
+WithinStep s result _ = Unit {0}
 
 abbrev pub IsTypedUse : Typing → Option ℕ → Instruction → Type 0
-IsTypedUse s result i = IsTypedStep s result i × WithinStep s i
+IsTypedUse s result i = IsTypedStep s result i × WithinStep s result i
 
 -- The statements of a subprogram with this result.
 unfoldable pub IsTypedCode : Typing → Option ℕ → TypedCode → Type 0

@@ -10,7 +10,7 @@ use Rattle.type_definitions.specs.Types.{Table, shape_of, full}
 use Rattle.type_definitions.specs.declared.table.Profile.{Profile}
 use Rattle.type_definitions.specs.Entries.{entry_of, same_word}
 use Rattle.type_definitions.specs.Expressions.{is_anonymous, by_name, no_formal, profile_of}
-use Rattle.flow_paths.specs.Objects.{Typing, object_at, sub_at}
+use Rattle.flow_paths.specs.Objects.{Typing, object_at, sub_at, traverses}
 use Rattle.typed_laws.specs.Fine.{Agree}
 use Rattle.typed_steps.specs.Steps.{GoesThrough}
 
@@ -26,7 +26,8 @@ abbrev pub IsFormal : Typing → ℕ → FormalInfo → Type 0
 IsFormal y x f =
     ((object_at y x).mode ≡ f.mode)
     × (Agree y.table f.of (object_at y x).of
-    ⊎ ((f.traversed ≡ true) × (f.mode ≡ mode.In) × (is_anonymous (full y.table f.of) ≡ true) × AreSameViews y.table f.of (object_at y x).of))
+    ⊎ ((f.traversed ≡ true) × (f.mode ≡ mode.In) × (is_anonymous (full y.table f.of) ≡ true) × (is_anonymous (full y.table (object_at y x).of) ≡ true)
+    × AreSameViews y.table f.of (object_at y x).of))
 
 abbrev pub AreFormals : Typing → List ℕ → List FormalInfo → Type 0
 AreFormals y [] [] = Unit {0}
@@ -45,6 +46,9 @@ pub record IsProfiled (known : Known) (bodies : List ℕ) (y : Typing) (made : �
   pub names : (k : ℕ) (v : List ℕ) → k < length (formals_of known d) → same_word (get_or (formals_of known d) k no_formal).name v ≡ true
       → by_name (λ (f : FormalInfo). f.name) no_formal v (formals_of known d) ≡ get_or (formals_of known d) k no_formal
   pub through : GoesThrough y (sub_at y (position_or_len (nat_eq d) bodies + 1))
+  -- what a traversal goes through is its first formal
+  pub first : traverses y.table (sub_at y (position_or_len (nat_eq d) bodies + 1)).result ≡ true → (f : FormalInfo) (rest : List FormalInfo)
+      → formals_of known d ≡ f ∷ rest → f.traversed ≡ true
 
 -- So it is of all subprograms.
 abbrev pub AreProfiled : Known → List ℕ → Typing → (ℕ → Type 0) → Type 0

@@ -29,20 +29,21 @@ use Rattle.flow_paths.specs.Names.{Written, name_of, selectors, written, first, 
 use Rattle.flow_paths.specs.Acts.{acts_in, acts_of, used, placed, naming, observe, reborrow, target_pos, index_acts, source_acts, assigned_to, stored_acts, declared_acts, returned_acts, gives_variable, actual_act, actual_acts}
 use Rattle.flow_paths.specs.Views.{changes, lends}
 use Rattle.machine.specs.Words.{component_type, element_of, no_component}
-use Rattle.machine.specs.Owners.{is_in, is_in_formal}
+use Rattle.machine.specs.Owners.{is_in}
 use Rattle.soundness.specs.Typed.{OwnsByShape}
 use Rattle.soundness.specs.Sound.{IsNoCall}
 use Rattle.soundness.proofs.Passing.{IsRead, AreReads}
 use Rattle.typed_laws.specs.Needed.{Matches, Stays, Leads, Gives, GivesParts, GivesFirst, Writes, FirstWrites, Source, FirstSource, IsPlace, FirstStays, Returns, IsFine}
 use Rattle.viewed_soundness.specs.Holds.{IsNamed, PartsAreNamed}
 use Rattle.viewed_soundness.proofs.Evaluated.{matches_named}
-use Rattle.viewed_steps.specs.Sound.{IsCopiedBack, IsKindOfFormal}
+use Rattle.viewed_steps.specs.Sound.{IsCopiedBack, IsKindOfFormal, IsStoredAt}
 use Rattle.view_laws.specs.Program.{IsPassedTo, ArePassedTo}
 use Rattle.viewed_steps.proofs.Read.{scalar_named}
 use Rattle.viewed_steps.proofs.Called.{way_to}
+use Rattle.viewed_steps.proofs.Views.{given_formal}
 use Rattle.scope_laws.specs.Code.{roots}
 use Rattle.scope_laws.specs.Order.{named_in}
-use Rattle.view_laws.specs.InOrder.{is_call, NamesSource}
+use Rattle.view_laws.specs.InOrder.{is_call, IsTraversed, NamesSource}
 
 -- ---- types
 
@@ -488,16 +489,34 @@ module _ (s : Typing) (own_law : OwnsByShape s.table) (parts_named : PartsAreNam
         λ k e. cc,
       )
 
-  lent_good : (want : ℕ) (e : TypedTree) (a : PlaceName → Act) → IsLending a → is_anonymous (full s.table want) ≡ true → is_call e ≡ false
+  -- A source as a view may have.
+  abbrev IsSourced : TypedTree → Type 0
+  IsSourced e = (is_call e ≡ false) ⊎ IsTraversed s e
+
+  -- what is called goes through what it is given first
+  traversed_good : (e : TypedTree) (a : PlaceName → Act) → IsLending a → IsTraversed s e → IsGoodSource e a
+  unfolding roots
+  traversed_good e a lends t =
+      subst (λ z. IsGoodSource z a) (sym t.is)
+      (λ w named. subst (λ (z : Written). IsGood (roots (Call t.pos t.sub (More (Name t.name_pos t.root t.path t.of) t.others))) (a z.name))
+      (let same : record { pos = t.name_pos; name = name_of t.root t.path; of = t.of } ≡ w = cc in same)
+      (lends (name_of t.root t.path) (roots (Call t.pos t.sub (More (Name t.name_pos t.root t.path t.of) t.others))) (inl refl) (leads_lasts (object_at s t.root).of t.path t.of t.leads t.lasts)))
+
+  named_good : (want : ℕ) (e : TypedTree) (a : PlaceName → Act) → IsLending a → is_anonymous (full s.table want) ≡ true → is_call e ≡ false
       → Source s want e → IsGoodSource e a
   unfolding roots
-  lent_good want (Name p x steps t) a lends anonymous silent fine w is =
+  named_good want (Name p x steps t) a lends anonymous silent fine w is =
       subst (λ (z : Written). IsGood (x ∷ roots steps) (a z.name)) (let same : record { pos = p; name = name_of x steps; of = t } ≡ w = cc in same)
       (lends (name_of x steps) (x ∷ roots steps) (inl refl) (source_lasts want p x steps t anonymous fine))
-  lent_good want (Call p sub actuals) a lends anonymous silent fine w is = cc
-  lent_good want _ a lends anonymous silent fine w is = cc
+  named_good want (Call p sub actuals) a lends anonymous silent fine w is = cc
+  named_good want _ a lends anonymous silent fine w is = cc
 
-  first_lent : (want : ℕ) (v : TypedTree) (a : PlaceName → Act) → IsLending a → is_anonymous (full s.table want) ≡ true → is_call (first v) ≡ false
+  lent_good : (want : ℕ) (e : TypedTree) (a : PlaceName → Act) → IsLending a → is_anonymous (full s.table want) ≡ true → IsSourced e
+      → Source s want e → IsGoodSource e a
+  lent_good want e a lends anonymous (inr traversed) fine = traversed_good e a lends traversed
+  lent_good want e a lends anonymous (inl silent) fine = named_good want e a lends anonymous silent fine
+
+  first_lent : (want : ℕ) (v : TypedTree) (a : PlaceName → Act) → IsLending a → is_anonymous (full s.table want) ≡ true → IsSourced (first v)
       → FirstSource s want v → AreGood (source_acts s (first v) a) (roots v)
   first_lent want (More e rest) a lends anonymous silent fine = first_source want (More e rest) a (lent_good want e a lends anonymous silent fine.1) fine
   first_lent want NoMore a lends anonymous silent fine = first_source want NoMore a (λ w is. cc) fine
@@ -515,13 +534,13 @@ module _ (s : Typing) (own_law : OwnsByShape s.table) (parts_named : PartsAreNam
 
   -- ---- instructions
 
-  -- Objects of anonymous access types are borrowers and observers.
-  module _ (local : (x : ℕ) → is_anonymous (view_of s x) ≡ true → is_variable (object_at s x).kind ≡ true) where
-    no_view : (x : ℕ) → is_borrower s x ≡ false → is_observer s x ≡ false → is_anonymous (view_of s x) ≡ true → ⊥
-    no_view x no_borrower none anonymous =
+  -- What is declared or assigned, of an anonymous access type, is a borrower or an observer.
+  module _ (i : Instruction) (local : (x : ℕ) → IsStoredAt i x → is_anonymous (view_of s x) ≡ true → is_variable (object_at s x).kind ≡ true) where
+    no_view : (x : ℕ) → IsStoredAt i x → is_borrower s x ≡ false → is_observer s x ≡ false → is_anonymous (view_of s x) ≡ true → ⊥
+    no_view x stored no_borrower none anonymous =
         elim (either (is_borrowing (view_of s x)) (is_observing (view_of s x)) anonymous) [
-          | inl borrows ↦ true_false (is_borrower s x) (ap (λ b. b && is_borrowing (view_of s x)) (local x anonymous) ∙ borrows) no_borrower
-          | inr sees ↦ true_false (is_observer s x) (ap (λ b. b && is_observing (view_of s x)) (local x anonymous) ∙ sees) none
+          | inl borrows ↦ true_false (is_borrower s x) (ap (λ b. b && is_borrowing (view_of s x)) (local x stored anonymous) ∙ borrows) no_borrower
+          | inr sees ↦ true_false (is_observer s x) (ap (λ b. b && is_observing (view_of s x)) (local x stored anonymous) ∙ sees) none
         ]
 
     given : (want : ℕ) (e : TypedTree) → (is_anonymous (full s.table want) ≡ true → ⊥) → Source s want e → Gives s want e
@@ -533,14 +552,14 @@ module _ (s : Typing) (own_law : OwnsByShape s.table) (parts_named : PartsAreNam
     first_given want NoMore plain fine = nothing
     first_given want _ plain fine = absurd fine
 
-    declared_good : (x : ℕ) (v : TypedTree) → (is_anonymous (view_of s x) ≡ true → is_call (first v) ≡ false) → FirstSource s (object_at s x).of v → AreGood (declared_acts s x v) (roots v)
-    declared_good x v silent fine = by (is_borrower s x) (is_observer s x) refl refl
+    declared_good : (x : ℕ) (v : TypedTree) → i ≡ Declare x v → (is_anonymous (view_of s x) ≡ true → IsSourced (first v)) → FirstSource s (object_at s x).of v → AreGood (declared_acts s x v) (roots v)
+    declared_good x v here silent fine = by (is_borrower s x) (is_observer s x) refl refl
       where
         by : (b c : Bool) → is_borrower s x ≡ b → is_observer s x ≡ c
             → AreGood (if b then source_acts s (first v) (act.Borrow x) else (if c then source_acts s (first v) (observe s x) else acts_in s v)) (roots v)
         by true c e f = first_lent (object_at s x).of v (act.Borrow x) (borrow_lends x) (borrower_anonymous s x e) (silent (borrower_anonymous s x e)) fine
         by false true e f = first_lent (object_at s x).of v (observe s x) (observe_lends x) (observer_anonymous s x f) (silent (observer_anonymous s x f)) fine
-        by false false e f = first_given (object_at s x).of v (no_view x e f) fine
+        by false false e f = first_given (object_at s x).of v (no_view x (inl (v, here)) e f) fine
 
     stored_good : (p : Pos) (x : ℕ) (steps : TypedTree) (t u : ℕ) (e : TypedTree) → Leads s (object_at s x).of steps t → Gives s u e
         → ((m : PlaceName) → name_of x steps ≡ m → m.sels ≡ [] → is_observer s m.root ≡ false)
@@ -569,11 +588,11 @@ module _ (s : Typing) (own_law : OwnsByShape s.table) (parts_named : PartsAreNam
         (given u e (λ anonymous. part (leads_whole (object_at s x).of steps t leads (ap (λ z. is_anonymous (full s.table z)) same ∙ anonymous))) origin)
         (λ m is none. absurd (some (ap (λ (z : PlaceName). z.sels) is ∙ none)))
 
-    assigned_good : (pos p : Pos) (x : ℕ) (steps : TypedTree) (t u : ℕ) (e : TypedTree) → Leads s (object_at s x).of steps t → t ≡ u
-        → ((y : ℕ) → whole (Name p x steps t) ≡ Some y → is_anonymous (view_of s y) ≡ true → is_call e ≡ false) → Source s u e
+    assigned_good : (pos p : Pos) (x : ℕ) (steps : TypedTree) (t u : ℕ) (e : TypedTree) → i ≡ Assign (Name p x steps t) e → Leads s (object_at s x).of steps t → t ≡ u
+        → ((y : ℕ) → whole (Name p x steps t) ≡ Some y → is_anonymous (view_of s y) ≡ true → IsSourced e) → Source s u e
         → AreGood (assigned_to s pos (whole (Name p x steps t)) (Name p x steps t) e) (roots e ++ roots (Name p x steps t))
     unfolding Leads selectors
-    assigned_good pos p x NoMore t u e leads same silent origin = by (is_borrower s x) (is_observer s x) refl refl
+    assigned_good pos p x NoMore t u e here leads same silent origin = by (is_borrower s x) (is_observer s x) refl refl
       where
         target : TypedTree
         target = Name p x NoMore t
@@ -591,21 +610,21 @@ module _ (s : Typing) (own_law : OwnsByShape s.table) (parts_named : PartsAreNam
             (ap (λ z. is_anonymous (full s.table z)) (sym (leads ∙ same)) ∙ observer_anonymous s x c_is) (silent x refl (observer_anonymous s x c_is)) origin) (source_indexed u e origin))
         by false false b_is c_is =
             stored_good p x NoMore t u e leads
-            (given u e (λ anonymous. no_view x b_is c_is (ap (λ z. is_anonymous (full s.table z)) (leads ∙ same) ∙ anonymous)) origin)
+            (given u e (λ anonymous. no_view x (inr (p, t, e, here)) b_is c_is (ap (λ z. is_anonymous (full s.table z)) (leads ∙ same) ∙ anonymous)) origin)
             (λ m is none. ap (λ (z : PlaceName). is_observer s z.root) (sym is) ∙ c_is)
-    assigned_good pos p x (Component i rest) t u e leads same silent origin =
-        part_good p x (Component i rest) t u e (λ none. cc) (λ none. cc) leads same origin
-    assigned_good pos p x (Element index low high rest) t u e leads same silent origin =
+    assigned_good pos p x (Component k rest) t u e here leads same silent origin =
+        part_good p x (Component k rest) t u e (λ none. cc) (λ none. cc) leads same origin
+    assigned_good pos p x (Element index low high rest) t u e here leads same silent origin =
         part_good p x (Element index low high rest) t u e (λ none. cc) (λ none. cc) leads same origin
-    assigned_good pos p x (Designated rest) t u e leads same silent origin =
+    assigned_good pos p x (Designated rest) t u e here leads same silent origin =
         part_good p x (Designated rest) t u e (λ none. cc) (λ none. cc) leads same origin
-    assigned_good pos p x _ t u e leads same silent origin = absurd leads
+    assigned_good pos p x _ t u e here leads same silent origin = absurd leads
 
-    target_good : (pos : Pos) (target : TypedTree) (u : ℕ) (e : TypedTree) → IsPlace s target u
-        → ((y : ℕ) → whole target ≡ Some y → is_anonymous (view_of s y) ≡ true → is_call e ≡ false) → Source s u e
+    target_good : (pos : Pos) (target : TypedTree) (u : ℕ) (e : TypedTree) → i ≡ Assign target e → IsPlace s target u
+        → ((y : ℕ) → whole target ≡ Some y → is_anonymous (view_of s y) ≡ true → IsSourced e) → Source s u e
         → AreGood (assigned_to s pos (whole target) target e) (roots e ++ roots target)
-    target_good pos (Name p x steps t) u e there silent origin = assigned_good pos p x steps t u e there.0 there.1 silent origin
-    target_good pos _ u e there silent origin = absurd there
+    target_good pos (Name p x steps t) u e here there silent origin = assigned_good pos p x steps t u e here there.0 there.1 silent origin
+    target_good pos _ u e here there silent origin = absurd there
 
     -- The place of a name, with an act that changes it and moves nothing.
     place_good : (target : TypedTree) (u : ℕ) → IsPlace s target u → is_anonymous (full s.table u) ≡ false → (a : PlaceName → Act)
@@ -635,32 +654,33 @@ module _ (s : Typing) (own_law : OwnsByShape s.table) (parts_named : PartsAreNam
             alone fine.0 NoMore refl
             (gives_good t fine.0 (given t fine.0 (λ anonymous. true_false (traverses s.table (Some t)) anonymous e) fine.2))
 
-    pub instruction_good : (result : Option ℕ) (kept : List ℕ) (pos : Pos) (i : Instruction) → IsFine s result i → IsNoCall i → NamesSource s i
-        → AreGood (acts_of (record { typing = s; result = result; roots = kept }) pos i) (named_in i)
-    instruction_good result kept pos Skip fine no_call names = good_none []
-    instruction_good result kept pos (Declare x v) fine no_call names = declared_good x v names fine
-    instruction_good result kept pos (Assign target e) fine no_call names =
-        target_good pos target fine.0 e fine.1 names fine.2
-    instruction_good result kept pos (instruction.Call sub actuals temporary) fine no_call names = absurd (no_call sub actuals temporary refl)
-    instruction_good result kept pos (Output text line) fine no_call names = first_writes text fine
-    instruction_good result kept pos (Input target) fine no_call names =
-        place_good target fine.0 fine.1 (scalar_plain fine.0 fine.2) (λ m. act.Actual m mode.Out false false) (λ m name none. none)
-        (λ m k e. (let same : m ≡ k = cc in same)) (λ m k e. cc)
-    instruction_good result kept pos (Release e) fine no_call names =
-        place_good e fine.0 fine.2 (ap (λ z. is_anonymous (view_of_shape z)) fine.3) act.Free (λ m name none. none) (λ m k e. (let same : m ≡ k = cc in same)) (λ m k e. cc)
-    instruction_good result kept pos (Test e) fine no_call names = stays_good e fine
-    instruction_good result kept pos (Choose e choices) fine no_call names = stays_good e fine
-    instruction_good result kept pos (Start x reversed low high) fine no_call names =
-        good_both (acts_in s low) (acts_in s high) (roots low) (roots high) (stays_good low fine.1) (stays_good high fine.2)
-    instruction_good result kept pos (Next x reversed low high) fine no_call names = good_none []
-    instruction_good result kept pos (Evaluate temporary e left) fine no_call names = stays_good e fine
-    instruction_good result kept pos (LeaveLoop e) fine no_call names = first_stays e fine
-    instruction_good result kept pos (Hold v) fine no_call names = returned_good result v fine
-    instruction_good result kept pos (EndScope x) fine no_call names =
-        good_one (placed pos (act.EndScope x (is_borrower s x))) [] (good_quiet [] (act.EndScope x (is_borrower s x)) ((λ name none. none), (λ m e. cc), (λ m e. cc)))
-    instruction_good result kept pos Finish fine no_call names =
-        good_one (placed pos (act.Return kept)) [] (good_quiet [] (act.Return kept) ((λ name none. none), (λ m e. cc), (λ m e. cc)))
-    instruction_good result kept pos Fall fine no_call names = good_none []
+  pub instruction_good : (i : Instruction) → ((x : ℕ) → IsStoredAt i x → is_anonymous (view_of s x) ≡ true → is_variable (object_at s x).kind ≡ true)
+      → (result : Option ℕ) (kept : List ℕ) (pos : Pos) → IsFine s result i → IsNoCall i → NamesSource s i
+      → AreGood (acts_of (record { typing = s; result = result; roots = kept }) pos i) (named_in i)
+  instruction_good Skip local result kept pos fine no_call names = good_none []
+  instruction_good (Declare x v) local result kept pos fine no_call names = declared_good (Declare x v) local x v refl names fine
+  instruction_good (Assign target e) local result kept pos fine no_call names =
+      target_good (Assign target e) local pos target fine.0 e refl fine.1 names fine.2
+  instruction_good (instruction.Call sub actuals temporary) local result kept pos fine no_call names = absurd (no_call sub actuals temporary refl)
+  instruction_good (Output text line) local result kept pos fine no_call names = first_writes text fine
+  instruction_good (Input target) local result kept pos fine no_call names =
+      place_good (Input target) local target fine.0 fine.1 (scalar_plain fine.0 fine.2) (λ m. act.Actual m mode.Out false false) (λ m name none. none)
+      (λ m k e. (let same : m ≡ k = cc in same)) (λ m k e. cc)
+  instruction_good (Release e) local result kept pos fine no_call names =
+      place_good (Release e) local e fine.0 fine.2 (ap (λ z. is_anonymous (view_of_shape z)) fine.3) act.Free (λ m name none. none) (λ m k e. (let same : m ≡ k = cc in same)) (λ m k e. cc)
+  instruction_good (Test e) local result kept pos fine no_call names = stays_good e fine
+  instruction_good (Choose e choices) local result kept pos fine no_call names = stays_good e fine
+  instruction_good (Start x reversed low high) local result kept pos fine no_call names =
+      good_both (acts_in s low) (acts_in s high) (roots low) (roots high) (stays_good low fine.1) (stays_good high fine.2)
+  instruction_good (Next x reversed low high) local result kept pos fine no_call names = good_none []
+  instruction_good (Evaluate temporary e left) local result kept pos fine no_call names = stays_good e fine
+  instruction_good (LeaveLoop e) local result kept pos fine no_call names = first_stays e fine
+  instruction_good (Hold v) local result kept pos fine no_call names = returned_good (Hold v) local result v fine
+  instruction_good (EndScope x) local result kept pos fine no_call names =
+      good_one (placed pos (act.EndScope x (is_borrower s x))) [] (good_quiet [] (act.EndScope x (is_borrower s x)) ((λ name none. none), (λ m e. cc), (λ m e. cc)))
+  instruction_good Finish local result kept pos fine no_call names =
+      good_one (placed pos (act.Return kept)) [] (good_quiet [] (act.Return kept) ((λ name none. none), (λ m e. cc), (λ m e. cc)))
+  instruction_good Fall local result kept pos fine no_call names = good_none []
 
   -- What reads moves and changes nothing.
   pub reads_good : (acts : List Placed) (xs : List ℕ) → AreReads acts → AreGood acts xs
@@ -703,8 +723,7 @@ module _ (s : Typing) (own_law : OwnsByShape s.table) (parts_named : PartsAreNam
       named_kind (inr (inl (back, own))) = own
       named_kind (inr (inr (inr plain))) = plain.2
       named_kind (inr (inr (inl (shown, access)))) =
-          absurd (in_mode (object_at s x).mode copied (both_second (is_formal s x) (is_in (object_at s x).mode)
-          (both_first (is_in_formal s x) (is_owning s.table (object_at s x).of) shown)))
+          absurd (in_mode (object_at s x).mode copied (both_second (is_formal s x) (is_in (object_at s x).mode) (given_formal s x shown)))
 
   -- what a formal is shown is read, or lent
   shown_good : (owning access : Bool) (e : TypedTree) (xs : List ℕ) → ((y : ℕ) → Has (roots e) y → Has xs y) → AreGood (actual_act (passing_by mode.In owning access) e) xs

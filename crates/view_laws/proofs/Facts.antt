@@ -41,6 +41,7 @@ use Rattle.soundness.proofs.Waits.{drop_none}
 use Rattle.scope_laws.specs.Order.{IsOrdered, named_in}
 use Rattle.viewed_soundness.specs.Holds.{PartsAreNamed}
 use Rattle.viewed_steps.specs.Awaited.{is_held}
+use Rattle.viewed_steps.specs.Sound.{IsStoredAt}
 use Rattle.view_laws.specs.InOrder.{NamesSource}
 use Rattle.view_laws.proofs.Calls.{AreViewCalls, point_good}
 
@@ -132,8 +133,8 @@ ended_fact x borrower facts name has root = elim (Has-append_cases (filter (λ f
 module _ (table : Table) (typed : TypedProgram) (effects : Effects) (owns : OwnsByShape (flow_program table typed).table)
     (parts_named : PartsAreNamed (flow_program table typed).table) (fine : AreFine (flow_program table typed))
     (effects_are : AreEffects (flow_program table typed) effects)
-    (local : (x : ℕ) → is_anonymous (view_of (flow_typing (flow_program table typed)) x) ≡ true
-    → is_variable (object_at (flow_typing (flow_program table typed)) x).kind ≡ true)
+    (local : (sub : FlowSub) → Has (flow_program table typed).subs sub → (p : FlowPoint) → Has sub.points p → (x : ℕ) → IsStoredAt p.instr x
+    → is_anonymous (view_of (flow_typing (flow_program table typed)) x) ≡ true → is_variable (object_at (flow_typing (flow_program table typed)) x).kind ≡ true)
     (sources : (sub : FlowSub) → Has (flow_program table typed).subs sub → (p : FlowPoint) → Has sub.points p
     → NamesSource (flow_typing (flow_program table typed)) p.instr)
     (plainly : AreViewCalls (flow_program table typed) owns) where
@@ -197,7 +198,7 @@ module _ (table : Table) (typed : TypedProgram) (effects : Effects) (owns : Owns
       -- what the acts of the point move
       own_known : (a : Placed) → Has (acts_here p.instr) a → (name : PlaceName) → Has (adds a.act) (Moved name) → Known p name.root
       own_known a has name moved =
-          let found = (point_good program owns parts_named local named.sub.result kept p.pos p.instr fine_there
+          let found = (point_good program owns parts_named p.instr (local (flow_sub own named) in_program (flow_at own named p) in_sub) named.sub.result kept p.pos fine_there
           (plainly (flow_sub own named) in_program (flow_at own named p) in_sub) (sources (flow_sub own named) in_program (flow_at own named p) in_sub) a has).0 (Moved name) moved in
           (found.1, unheld p there name.root found.0, seen p there name.root found.0 found.1)
 

@@ -25,7 +25,7 @@ use Rattle.typed_tree.specs.Trees.{TypedTree, Name, Component, Designated, Eleme
 use Rattle.typed_tree.specs.Programs.{TypedProgram}
 use Rattle.flow_paths.specs.declared.report.Effects.{Effects}
 use Rattle.flow_paths.specs.Instructions.{Call, Input}
-use Rattle.flow_paths.specs.Objects.{Typing, passing_by, passings, object_at, sub_at, is_variable, is_borrower, is_borrowing, traverses, is_formal, is_formal_kind, is_named_access, is_observer, is_anonymous, is_package_object, has_scope_end, view_of}
+use Rattle.flow_paths.specs.Objects.{Typing, Signature, passing_by, passings, object_at, sub_at, is_variable, is_borrower, is_borrowing, traverses, is_formal, is_formal_kind, is_named_access, is_observer, is_anonymous, is_package_object, has_scope_end, view_of}
 use Rattle.flow_paths.specs.Names.{selectors, name_of}
 use Rattle.flow_paths.specs.Acts.{placed, acts_in, acts_of, gives_variable, actual_values, actual_act, actual_acts}
 use Rattle.flow_paths.specs.Points.{NamedPoint, FlowPoint}
@@ -44,7 +44,9 @@ use Rattle.soundness.specs.Sound.{goes_through_none}
 use Rattle.viewed_soundness.specs.Holds.{is_given, is_of_procedure, is_first, is_exclusive, lends_first, sees_only, is_fixed, KeepsObserved, AllKeep}
 use Rattle.scope_laws.specs.Order.{named_in}
 use Rattle.view_laws.specs.Program.{IsPassedTo, ArePassedTo, IsViewProgram}
-use Rattle.view_laws.proofs.Calls.{point_good}
+use Rattle.view_laws.proofs.Calls.{IsPlainCall, IsThroughCall, point_good}
+use Rattle.viewed_steps.proofs.Followed.{is_traversing}
+use Rattle.soundness.proofs.Passing.{signature_is}
 use Rattle.view_laws.proofs.Reports.{unchanged, not_observed}
 use Rattle.view_laws.proofs.Scoped as scoped
 use Rattle.view_laws.proofs.Valued as valued
@@ -84,7 +86,7 @@ seen_none true given exclusive none other = cc
 seen_none false false exclusive none other = refl
 seen_none false true exclusive none other = ap not (other refl)
 
-any_there : {A : Type 0} (test : A → Bool) (xs : List A) (x : A) → Has xs x → test x ≡ true → list_any test xs ≡ true
+pub any_there : {A : Type 0} (test : A → Bool) (xs : List A) (x : A) → Has xs x → test x ≡ true → list_any test xs ≡ true
 any_there test [] x has is = absurd has
 any_there test (y ∷ xs) x (inl same) is = ap (λ b. b || list_any test xs) (ap test same ∙ is)
 any_there test (y ∷ xs) x (inr has) is = or_right (test y) (list_any test xs) (any_there test xs x has is)
@@ -189,9 +191,6 @@ module _ (table : Table) (typed : TypedProgram) (effects : Effects) (given : IsV
   abbrev own : Typing
   own = typing_of table typed
 
-  local : (x : ℕ) → is_anonymous (view_of s x) ≡ true → (is_variable (object_at s x).kind ≡ true) × (is_package_object s x ≡ false)
-  local = scoped.local table typed effects given
-
   given_formal : (x : ℕ) → is_given s x ≡ true → is_in_formal s x ≡ true
   given_formal x is = elim (either_one (is_view_formal s x) (is_in_formal s x && is_anonymous (view_of s x)) is) [
     | inl shown ↦ both_first (is_in_formal s x) (is_owning s.table (object_at s x).of) shown
@@ -238,13 +237,13 @@ module _ (table : Table) (typed : TypedProgram) (effects : Effects) (given : IsV
     -- what is changed is named, and no observer if it is changed as a whole
     changed_named : (a : Placed) → Has at.acts a → (m : PlaceName) → changes a.act ≡ Some m → Has (named_in p.instr) m.root × (m.sels ≡ [] → is_observer s m.root ≡ false)
     changed_named a h m e =
-        (point_good program given.owns given.parts_named (λ x anonymous. (local x anonymous).0) named.sub.result kept p.pos p.instr fine_there
+        (point_good program given.owns given.parts_named p.instr (given.stored sub in_program at in_sub) named.sub.result kept p.pos fine_there
         (scoped.plainly table typed effects given sub in_program at in_sub) (scoped.source_there table typed effects given named has p there) a
         (subst (λ ps. Has ps a) (sym (scoped.acts_same table typed effects given named has p there named.sub.result kept)) h)).1 m e
 
     lent_named : (a : Placed) → Has at.acts a → (m : PlaceName) → lends a.act ≡ Some m → Has (named_in p.instr) m.root
     lent_named a h m e =
-        (point_good program given.owns given.parts_named (λ x anonymous. (local x anonymous).0) named.sub.result kept p.pos p.instr fine_there
+        (point_good program given.owns given.parts_named p.instr (given.stored sub in_program at in_sub) named.sub.result kept p.pos fine_there
         (scoped.plainly table typed effects given sub in_program at in_sub) (scoped.source_there table typed effects given named has p there) a
         (subst (λ ps. Has ps a) (sym (scoped.acts_same table typed effects given named has p there named.sub.result kept)) h)).2 m e
 
@@ -254,7 +253,7 @@ module _ (table : Table) (typed : TypedProgram) (effects : Effects) (given : IsV
       | inr some ↦ unchanged program effects given.accepted.no_reports sub in_program at in_sub a h m e (ap not some)
     ]
 
-    signature_here : Has s.subs (signature named.sub)
+    pub signature_here : Has s.subs (signature named.sub)
     signature_here = subst (λ subs. Has subs (signature named.sub)) (sym (scoped.alike table typed effects given).subs) (Has-map signature typed.subs named.sub sub_there)
       where
         sub_there : Has typed.subs named.sub
@@ -302,7 +301,7 @@ module _ (table : Table) (typed : TypedProgram) (effects : Effects) (given : IsV
     unfixed a h m e =
         fixed_none (is_observer s m.root) (is_given s m.root) (is_exclusive s m.root) (is_nil m.sels) (changed_plain a h m e)
         (λ is. (let found = changed_formal a h m e is in
-            (own_exclusive m.root (changed_named a h m e).0 is found.0 found.1, flipped (is_nil m.sels) found.2)))
+        (own_exclusive m.root (changed_named a h m e).0 is found.0 found.1, flipped (is_nil m.sels) found.2)))
 
     -- nor is what a call of a procedure lends
     pub unlent : (a : Placed) → Has at.acts a → (k m : PlaceName) (how : Mode) (owning access : Bool) → a.act ≡ act.Actual k how owning access → lends a.act ≡ Some m
@@ -404,18 +403,38 @@ module _ (table : Table) (typed : TypedProgram) (effects : Effects) (given : IsV
     all_open procedure [] actuals acts = tt
     all_open procedure (x ∷ formals) actuals acts = tt
 
-    call_acts : (n : ℕ) (actuals : TypedTree) (result : Option ℕ) → p.instr ≡ Call n actuals result → (a : Placed)
+    call_acts : (n : ℕ) (actuals : TypedTree) (result : Option ℕ) → p.instr ≡ Call n actuals result → IsPlainCall program n → (a : Placed)
         → Has (actual_acts (map (way_to s given.owns (not (is_some (sub_of program n).result))) (sub_of program n).formals) actuals) a → Has at.acts a
-    call_acts n actuals result is a h =
-        let call = scoped.plainly table typed effects given sub in_program at in_sub n actuals result is in
+    call_acts n actuals result is plain a h =
         act_there a (subst (λ i. Has (acts_of (record { typing = s; result = named.sub.result; roots = kept }) p.pos i) a) (sym is)
         (Has-append_right (actual_values s (passings s (sub_at s n)) actuals) (actual_acts (passings s (sub_at s n)) actuals) a
-        (subst (λ ways. Has (actual_acts ways actuals) a) (sym (passes_to program n call.no_traversal)) h)))
+        (subst (λ ways. Has (actual_acts ways actuals) a) (sym (passes_to program n plain.0)) h)))
+
+    -- the formals of a traversal function are of mode `in`
+    through_modes : (n : ℕ) (actuals : TypedTree) → IsThroughCall program n actuals → (x : ℕ) → Has (sub_of program n).formals x → (object_at s x).mode ≡ mode.In
+    through_modes n actuals goes x has =
+        let ways = is_traversing program n goes.f goes.traversed in
+        given.modes n ways.of (ap (λ (z : Signature). z.result) (signature_is program n) ∙ ways.result) x
+        (subst (λ (z : Signature). Has z.formals x) (sym (signature_is program n)) has)
+
+    none_open : (formals : List ℕ) (actuals : TypedTree) → ((x : ℕ) → Has formals x → (object_at s x).mode ≡ mode.In) → AreUnobserved s formals actuals
+    none_open (x ∷ formals) (More e rest) modes =
+        ((λ back. (let no : true ≡ false = sym (ap is_in (modes x (inl refl))) ∙ back in cc)), none_open formals rest (λ y has. modes y (inr has)))
+    none_open [] actuals modes = tt
+    none_open (x ∷ formals) actuals modes = tt
+
+    none_back : (formals : List ℕ) (actuals : TypedTree) → ((x : ℕ) → Has formals x → (object_at s x).mode ≡ mode.In) → ArePassedTo s formals actuals → AreActualsTo s formals actuals
+    none_back (x ∷ formals) (More e rest) modes passed =
+        (subst (λ how. IsActualTo s x how e) (sym (modes x (inl refl))) (subst (λ how. IsPassedTo s x how e) (modes x (inl refl)) passed.0), none_back formals rest (λ y has. modes y (inr has)) passed.1)
+    none_back [] actuals modes passed = passed
+    none_back (x ∷ formals) actuals modes passed = passed
 
     -- It isn't rooted in what only sees.
     pub unobserved : (n : ℕ) (actuals : TypedTree) (result : Option ℕ) → p.instr ≡ Call n actuals result → AreUnobserved s (sub_of program n).formals actuals
-    unobserved n actuals result is =
-        all_open (not (is_some (sub_of program n).result)) (sub_of program n).formals actuals (λ a h. call_acts n actuals result is a h)
+    unobserved n actuals result is = elim (scoped.plainly table typed effects given sub in_program at in_sub n actuals result is).passes [
+      | inl plain ↦ all_open (not (is_some (sub_of program n).result)) (sub_of program n).formals actuals (λ a h. call_acts n actuals result is plain a h)
+      | inr goes ↦ none_open (sub_of program n).formals actuals (through_modes n actuals goes)
+    ]
 
     -- Nor, where it goes through no access value, in a formal of mode `in`.
     no_part : (z : ℕ) (steps : TypedTree) (t : ℕ) → Leads s (object_at s z).of steps t → (d : ℕ) (k n : Bool) → shape_of s.table (object_at s z).of ≡ shape.Access d k n
@@ -437,9 +456,9 @@ module _ (table : Table) (typed : TypedProgram) (effects : Effects) (given : IsV
     root_own z steps u leads none y (inr never) a h e = absurd never
     root_own z steps u leads none y (inl same) a h e =
         subst (λ k. is_view_formal s k ≡ false) same (by_true (is_view_formal s z) (λ view.
-            (let found = changed_formal a h (name_of z steps) e (ap (λ b. b || (is_in_formal s z && is_anonymous (view_of s z))) view) in
-            let access = unnamed_access (shape_of s.table (object_at s z).of) found.1 in
-            no_part z steps u leads access.0 access.1 access.2 access.3 none found.2)))
+        (let found = changed_formal a h (name_of z steps) e (ap (λ b. b || (is_in_formal s z && is_anonymous (view_of s z))) view) in
+        let access = unnamed_access (shape_of s.table (object_at s z).of) found.1 in
+        no_part z steps u leads access.0 access.1 access.2 access.3 none found.2)))
 
     own_root : (m : Mode) (owning access : Bool) → is_in m ≡ false → (e : TypedTree) (t : ℕ) → IsPlace s e t → goes_through_none e ≡ true
         → ((a : Placed) → Has (actual_act (passing_by m owning access) e) a → Has at.acts a) → IsOwnPlace s e
@@ -481,8 +500,10 @@ module _ (table : Table) (typed : TypedProgram) (effects : Effects) (given : IsV
 
     owned : (n : ℕ) (actuals : TypedTree) (result : Option ℕ) → p.instr ≡ Call n actuals result → ArePassedTo s (sub_of program n).formals actuals
         → AreActualsTo s (sub_of program n).formals actuals
-    owned n actuals result is passed =
-        each_owned (not (is_some (sub_of program n).result)) (sub_of program n).formals actuals passed (λ a h. call_acts n actuals result is a h)
+    owned n actuals result is passed = elim (scoped.plainly table typed effects given sub in_program at in_sub n actuals result is).passes [
+      | inl plain ↦ each_owned (not (is_some (sub_of program n).result)) (sub_of program n).formals actuals passed (λ a h. call_acts n actuals result is plain a h)
+      | inr goes ↦ none_back (sub_of program n).formals actuals (through_modes n actuals goes) passed
+    ]
 
   -- Nothing is moved, written or freed through an observer, or through a formal that owns nothing and isn't changed through.
   pub all_kept : (sub : FlowSub) → Has program.subs sub → (p : FlowPoint) → Has sub.points p → AllKeep (is_fixed s) (map (λ (a : Placed). a.act) p.acts)

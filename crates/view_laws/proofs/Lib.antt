@@ -9,8 +9,10 @@ pub mod Facts
 pub mod Formals
 pub mod Passing
 pub mod Valued
+pub mod Waiting
 pub mod Scoped
 pub mod Own
 pub mod Fixed
 pub mod Points
+pub mod Traversals
 pub mod Ready

@@ -1,13 +1,13 @@
 -- Of a program whose subprograms are in order: formals differ, belong to no package, and are in scope at
 -- first; what is passed is in scope; and where a subprogram ends, formals of its own alone are.
-use Rattle.std.proofs.Common.{◌≡◌, refl, sym, ap, ◌∙◌, subst, inl, inr, ℕ, suc, true, ◌||◌, List, [], ◌∷◌, drop, Option, is_some}
+use Rattle.std.proofs.Common.{◌≡◌, refl, sym, ap, ◌∙◌, subst, inl, inr, ℕ, suc, true, false, ◌||◌, List, [], ◌∷◌, drop, Option, is_some}
 use Rattle.std.specs.Prelude.{reverse}
 use Rattle.spark_base.specs.Lists.{Has}
 use Rattle.spark_base.proofs.Lists.{Has-append_left, Has-append_right}
 use Rattle.place_names.specs.declared.act.Mode.{Mode}
 use Rattle.place_names.specs.declared.act.Mode.TheVariants as mode
 use Rattle.type_definitions.specs.Types.{Table, full, is_scalar, is_owning}
-use Rattle.typed_tree.specs.Trees.{TypedTree, Name, More}
+use Rattle.typed_tree.specs.Trees.{TypedTree, More}
 use Rattle.typed_tree.specs.Programs.{TypedSub, TypedProgram}
 use Rattle.flow_paths.specs.declared.report.Effects.{Effects}
 use Rattle.flow_paths.specs.Instructions.{Instruction, Declare, Call, Finish}
@@ -16,7 +16,7 @@ use Rattle.flow_paths.specs.Points.{FlowPoint}
 use Rattle.flow_paths.specs.Laid.{FlowSub, FlowProgram, NamedSub, all_named, named_sub, sub_temporaries, declared_within, typing_of, flow_typing, flow_program, flow_named}
 use Rattle.flow_paths.specs.Scopes.{taken, is_within}
 use Rattle.machine.specs.States.{sub_of}
-use Rattle.typed_laws.specs.Needed.{Matches, Stays}
+use Rattle.typed_laws.specs.Needed.{Matches}
 use Rattle.soundness.specs.Typed.{OwnsByShape}
 use Rattle.soundness.specs.Sound.{Accepted, IsNamedSub, IsRunnable}
 use Rattle.soundness.specs.Ready.{IsActualBy, AreActuals}
@@ -33,8 +33,10 @@ use Rattle.ready_laws.proofs.Subs.{setting_from, body_at, one_named}
 use Rattle.ready_laws.proofs.Ready as ordered
 use Rattle.ready_laws.proofs.Ready.{seen_has}
 use Rattle.viewed_steps.specs.Sound.{IsScalarObject}
-use Rattle.viewed_steps.specs.Ready.{AreDifferent, ArePassed, IsCopyOf, IsActualTo, AreActualsTo, IsCalled, AreCalled}
+use Rattle.viewed_steps.specs.Ready.{is_shown_type, AreDifferent, ArePassed, AreActualsTo, IsCalled, AreCalled}
+use Rattle.viewed_soundness.proofs.Names.{both_no}
 use Rattle.viewed_steps.proofs.Placed.{within_on}
+use Rattle.viewed_steps.proofs.Views.{scalar_unseen}
 use Rattle.view_laws.specs.Program.{IsPassedTo, ArePassedTo, PassActuals}
 use Rattle.view_laws.proofs.Formals.{first_scope, has_within, has_reversed, once_different, passed_named}
 
@@ -48,13 +50,8 @@ module _ (s : Typing) where
   plain_place : (x : ℕ) (e : TypedTree) → IsScalarObject s x → IsPassedTo s x mode.InOut e → IsActualBy s mode.InOut e
   plain_place x e plain (t, place, fits, which) = (t, place, scalar_back t (object_at s x).of fits plain)
 
-  copy_stays : (x : ℕ) (e : TypedTree) → IsScalarObject s x → IsCopyOf s x e → Stays s e
-  unfolding Stays
-  copy_stays x (Name p y path u) plain (leads, fits) = (leads, scalar_back u (object_at s x).of fits plain)
-  copy_stays x e plain never = absurd never
-
   plain_actual : OwnsByShape s.table → (x : ℕ) (m : Mode) (e : TypedTree) → IsScalarObject s x → IsPassedTo s x m e → IsActualBy s m e
-  plain_actual owns x mode.In e plain actual = elim (actual.0 (plain_type s owns (object_at s x).of plain)) [ inl value ↦ value.1 | inr copy ↦ copy_stays x e plain copy.1 ]
+  plain_actual owns x mode.In e plain actual = elim (actual.0 (both_no (is_owning s.table (object_at s x).of) (is_anonymous (view_of s x)) (plain_type s owns (object_at s x).of plain) (scalar_unseen s x plain))) [ inl value ↦ value.1 | inr (many, named, copy) ↦ absurd (let no : true ≡ false = sym plain ∙ many in cc) ]
   plain_actual owns x mode.Out e plain actual = plain_place x e plain actual
   plain_actual owns x mode.InOut e plain actual = plain_place x e plain actual
 
@@ -159,6 +156,16 @@ module _ (table : Table) (typed : TypedProgram) (effects : Effects) (accepted : 
       ∙ (order.local order.main (in_rest order.number order.main order.stands)).formals x
       (subst (λ z. Has z x) (ap (λ (z : Signature). z.formals) (signature_is program (suc order.number)) ∙ formals_are order.number order.main order.stands) has)
 
+  -- the formals of what is called differ
+  pub differ_there : (sub : FlowSub) → Has program.subs sub → (p : FlowPoint) → Has sub.points p → (n : ℕ) (actuals : TypedTree) (result : Option ℕ)
+      → p.instr ≡ Call n actuals result → AreDifferent (sub_of program n).formals
+  differ_there sub has p there n actuals result is =
+      let found = answered sub has p there n actuals result is in
+      subst (λ m. AreDifferent (sub_of program m).formals) (sym found.2)
+      (subst AreDifferent (sym (formals_are found.0 found.1 found.3))
+      (once_different (found.1).formals (once_left (found.1).formals (declared_within (found.1).body)
+      (order.bodies found.1 (ordered.in_subs table typed effects accepted owns order answered passed still found.1 (in_rest found.0 found.1 found.3))).once)))
+
   module _ (passed_to : (sub : FlowSub) → Has (flow_program table typed).subs sub → (p : FlowPoint) → Has sub.points p → (n : ℕ) (actuals : TypedTree) (result : Option ℕ)
       → p.instr ≡ Call n actuals result → ((x : ℕ) → Has (sub_of (flow_program table typed) n).formals x → is_formal s x ≡ true)
       → AreActualsTo s (sub_of (flow_program table typed) n).formals actuals) where
@@ -192,10 +199,9 @@ module _ (table : Table) (typed : TypedProgram) (effects : Effects) (accepted : 
           text_io = ordered.text_io_there table typed effects accepted owns order answered passed still;
         }
           where
-            ends_there : (x : ℕ) → is_formal s x ≡ true → is_owning s.table (object_at s x).of ≡ true → has_scope_end (setting_from own (laid_out k callee is_sub).0 callee).typing x ≡ true
-            ends_there x is_one owns =
-                ap (λ b. b || is_anonymous (view_of own x))
-                (sym (λ j. is_owning (alike.table j) (formal_object s own alike x is_one j).of) ∙ owns)
+            ends_there : (x : ℕ) → is_formal s x ≡ true → is_shown_type s x ≡ true → has_scope_end (setting_from own (laid_out k callee is_sub).0 callee).typing x ≡ true
+            ends_there x is_one shown =
+                sym (λ j. is_owning (alike.table j) (formal_object s own alike x is_one j).of || is_anonymous (full (alike.table j) (formal_object s own alike x is_one j).of)) ∙ shown
 
     pub called_to : AreCalled table typed
     called_to sub has p there n actuals result is =

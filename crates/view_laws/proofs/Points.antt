@@ -17,21 +17,22 @@ use Rattle.type_definitions.specs.declared.judgement.View.{View}
 use Rattle.type_definitions.specs.declared.judgement.View.TheVariants as view
 use Rattle.type_definitions.specs.Types.{Table, full, is_owning}
 use Rattle.typed_tree.specs.Trees.{TypedTree, Name, Call, NoMore, More}
-use Rattle.typed_tree.specs.Programs.{TypedProgram}
+use Rattle.typed_tree.specs.Trees.{Call as CallIn}
+use Rattle.typed_tree.specs.Programs.{TypedSub, TypedProgram}
 use Rattle.flow_paths.specs.declared.report.Effects.{Effects}
 use Rattle.flow_paths.specs.Instructions.{Instruction, Declare, Assign, EndScope}
 use Rattle.flow_paths.specs.Objects.{Typing, object_at, is_variable, is_borrower, is_observer, is_borrowing, is_observing, is_anonymous, is_formal, is_package_object, has_scope_end, view_of}
 use Rattle.flow_paths.specs.Names.{first, name_of, written, source}
 use Rattle.flow_paths.specs.Acts.{placed, observe, reborrow, target_pos, index_acts, source_acts, assigned_to, stored_acts, declared_acts, acts_in, acts_of}
 use Rattle.flow_paths.specs.Points.{PointName, same_place, same_point, NamedPoint, FlowPoint}
-use Rattle.flow_paths.specs.Laid.{FlowSub, FlowProgram, NamedSub, unnumbered, number_in, kept_roots, sub_facts, flow_sub, typing_of, flow_typing, flow_program, flow_named}
+use Rattle.flow_paths.specs.Laid.{FlowSub, FlowProgram, NamedSub, declared_within, unnumbered, number_in, kept_roots, sub_facts, flow_sub, typing_of, flow_typing, flow_program, flow_named}
 use Rattle.flow_paths.specs.Scopes.{Differ, is_last, is_within, is_ready, brought, scope_behind, taken}
 use Rattle.flow_paths.specs.Views.{encloses, scope_of, is_assignment}
-use Rattle.soundness.specs.Sound.{IsAtPoint}
+use Rattle.soundness.specs.Sound.{IsAtPoint, is_temporary_object}
 use Rattle.soundness.proofs.Points.{flow_at, next_there}
 use Rattle.soundness.proofs.Typings.{package_same, formal_same}
 use Rattle.soundness.proofs.Waits.{drop_none}
-use Rattle.typed_laws.specs.Needed.{Leads, IsFine}
+use Rattle.typed_laws.specs.Needed.{Leads, FirstSource, IsFine}
 use Rattle.viewed_soundness.specs.Holds.{sees_only}
 use Rattle.machine.specs.Owners.{is_in, is_in_formal}
 use Rattle.soundness.specs.Seen.{is_view_formal}
@@ -43,10 +44,11 @@ use Rattle.layered_scopes.specs.Layered.{is_older}
 use Rattle.layered_scopes.specs.Points.{GoesOn, AreFading}
 use Rattle.ready_laws.proofs.Ready.{seen_has}
 use Rattle.ready_laws.proofs.Subs.{setting_from}
-use Rattle.viewed_steps.specs.Traversals.{IsSourceName}
-use Rattle.view_laws.specs.InOrder.{is_name_of, is_list_end, is_one_name_of, is_any, is_call, gives_view, NamesSource, fits}
-use Rattle.view_laws.specs.Program.{IsViewProgram}
-use Rattle.view_laws.proofs.Acts.{source_lasts}
+use Rattle.viewed_steps.specs.Traversals.{GivesView, IsSourceName}
+use Rattle.viewed_steps.specs.Sound.{IsStoredAt}
+use Rattle.view_laws.specs.InOrder.{is_name_of, is_list_end, is_one_name_of, is_any, is_call, gives_view, IsTraversed, NamesSource, fits}
+use Rattle.view_laws.specs.Program.{TakesView, IsViewProgram}
+use Rattle.view_laws.proofs.Acts.{source_lasts, leads_lasts}
 use Rattle.view_laws.proofs.Reports.{observed_encloses, reborrowed_own}
 use Rattle.view_laws.proofs.Enclosing.{enclosing_less}
 use Rattle.view_laws.proofs.Scoped as scoped
@@ -161,6 +163,47 @@ reborrow_there s pos q x w r y path u is =
     else (if is_observer s x then source_acts s e (observe s x) else stored_acts s target e)) a) (sym is)
     (Has-append_right (acts_in s path) (a ∷ []) a (inl refl))
 
+-- of calls of traversal functions
+pub call_root : (r : Pos) (n : ℕ) (q : Pos) (y : ℕ) (path : TypedTree) (u : ℕ) (more rest : TypedTree) → Has (roots (More (CallIn r n (More (Name q y path u) more)) rest)) y
+unfolding roots
+call_root r n q y path u more rest = inl refl
+
+call_first : (r : Pos) (n : ℕ) (q : Pos) (y : ℕ) (path : TypedTree) (u : ℕ) (more : TypedTree) (xs : List ℕ) → Has (roots (CallIn r n (More (Name q y path u) more)) ++ xs) y
+unfolding roots
+call_first r n q y path u more xs = inl refl
+
+pub borrow_called : (s : Typing) (x : ℕ) (r : Pos) (n : ℕ) (q : Pos) (y : ℕ) (path : TypedTree) (u : ℕ) (more : TypedTree) → is_borrower s x ≡ true
+    → Has (declared_acts s x (More (CallIn r n (More (Name q y path u) more)) NoMore)) (placed q (act.Borrow x (name_of y path)))
+borrow_called s x r n q y path u more is =
+    let e : TypedTree = CallIn r n (More (Name q y path u) more) in
+    subst (λ b. Has (if b then source_acts s e (act.Borrow x) else (if is_observer s x then source_acts s e (observe s x) else acts_in s (More e NoMore))) (placed q (act.Borrow x (name_of y path)))) (sym is)
+    (inl refl)
+
+observe_called : (s : Typing) (pos q : Pos) (x w : ℕ) (r : Pos) (n : ℕ) (k : Pos) (y : ℕ) (path : TypedTree) (u : ℕ) (more : TypedTree) → is_borrower s x ≡ false → is_observer s x ≡ true
+    → Has (assigned_to s pos (Some x) (Name q x NoMore w) (CallIn r n (More (Name k y path u) more))) (placed k (observe s x (name_of y path)))
+observe_called s pos q x w r n k y path u more none sees =
+    let target : TypedTree = Name q x NoMore w in
+    let e : TypedTree = CallIn r n (More (Name k y path u) more) in
+    let a : Placed = placed k (observe s x (name_of y path)) in
+    subst (λ b. Has (if b then index_acts s e ++ reborrow (target_pos pos (written target)) x (source e)
+    else (if is_observer s x then source_acts s e (observe s x) else stored_acts s target e)) a) (sym none)
+    (subst (λ b. Has (if b then source_acts s e (observe s x) else stored_acts s target e) a) (sym sees) (inl refl))
+
+pub reborrow_called : (s : Typing) (pos q : Pos) (x w : ℕ) (r : Pos) (n : ℕ) (k : Pos) (y : ℕ) (path : TypedTree) (u : ℕ) (more : TypedTree) → is_borrower s x ≡ true
+    → Has (assigned_to s pos (Some x) (Name q x NoMore w) (CallIn r n (More (Name k y path u) more))) (placed q (act.Reborrow x (name_of y path)))
+reborrow_called s pos q x w r n k y path u more is =
+    let target : TypedTree = Name q x NoMore w in
+    let e : TypedTree = CallIn r n (More (Name k y path u) more) in
+    let a : Placed = placed q (act.Reborrow x (name_of y path)) in
+    subst (λ b. Has (if b then index_acts s e ++ reborrow (target_pos pos (written target)) x (source e)
+    else (if is_observer s x then source_acts s e (observe s x) else stored_acts s target e)) a) (sym is) (inl refl)
+
+-- a value that is a call is that alone
+first_alone : (s : Typing) (want : ℕ) (v call : TypedTree) → FirstSource s want v → is_call call ≡ true → first v ≡ call → v ≡ More call NoMore
+first_alone s want (More e rest) call fine calls is = (λ j. More (is j) (fine.0 j))
+first_alone s want NoMore call fine calls is = absurd (let no : false ≡ true = ap is_call is ∙ calls in cc)
+first_alone s want _ call fine calls is = absurd fine
+
 -- ---- points by name and number
 
 point_decides : (a b : PointName) → Decides (same_point a b) (a ≡ b)
@@ -177,7 +220,7 @@ point_decides a b =
     both_true a b e f = ap (λ x. x && b) e ∙ f
 
 -- A name of a point has the number at which the point stands.
-number_there : (points : List NamedPoint) (q : NamedPoint) → Differ points → Has points q → IsAtPoint points (number_in points q.name) q
+pub number_there : (points : List NamedPoint) (q : NamedPoint) → Differ points → Has points q → IsAtPoint points (number_in points q.name) q
 number_there [] q differ has = absurd has
 number_there (p ∷ rest) q (apart, differ) (inl e) = subst (λ z. IsAtPoint (p ∷ rest) (number_in (p ∷ rest) z.name) z) e
     ([], rest, refl, sym (ap (λ b. cond (not b) (1 + position_or_len (λ r. same_point p.name r.name) rest) 0) ((point_decides p.name p.name).1 refl)))
@@ -256,24 +299,18 @@ module _ (table : Table) (typed : TypedProgram) (effects : Effects) (given : IsV
   abbrev own : Typing
   own = typing_of table typed
 
-  text_local : (x : ℕ) → is_anonymous (view_of own x) ≡ true → is_variable (object_at own x).kind ≡ true
-  text_local x anonymous = (given.views.local x anonymous).0
-
-  anonymous_same : (x : ℕ) → is_anonymous (view_of s x) ≡ is_anonymous (view_of own x)
-  anonymous_same = same.anonymous_same table typed (valued.temporaries_named table typed effects given) text_local
+  anonymous_same : (x : ℕ) → is_temporary_object s x ≡ false → is_anonymous (view_of s x) ≡ is_anonymous (view_of own x)
+  anonymous_same = same.anonymous_same table typed
 
   observer_same : (x : ℕ) → is_observer s x ≡ is_observer own x
-  observer_same = same.observer_same table typed (valued.temporaries_named table typed effects given) text_local
+  observer_same = same.observer_same table typed
 
   scope_same : (x : ℕ) → scope_of s x ≡ scope_of own x
-  scope_same = same.scope_same table typed (valued.temporaries_named table typed effects given) text_local
+  scope_same = same.scope_same table typed
 
   scopes_same : program.scopes ≡ typed.scopes
   unfolding flow_program
   scopes_same = refl
-
-  local : (x : ℕ) → is_anonymous (view_of s x) ≡ true → (is_variable (object_at s x).kind ≡ true) × (is_package_object s x ≡ false)
-  local = scoped.local table typed effects given
 
   -- An object is there as long as another one may be used, where these objects are in scope.
   abbrev pub Outlives : List ℕ → ℕ → ℕ → Type 0
@@ -282,9 +319,8 @@ module _ (table : Table) (typed : TypedProgram) (effects : Effects) (given : IsV
       ⊎ ((is_within y scope ≡ true) × (has_scope_end s y ≡ true) × (encloses program.scopes (scope_of s y) (scope_of s x) ≡ true) × (is_held s y ≡ false))
 
   -- a view that isn't an observer is a borrower
-  borrows : (x : ℕ) → is_anonymous (view_of s x) ≡ true → is_observer s x ≡ false → is_borrower s x ≡ true
-  borrows x anonymous none =
-      let kind = (local x anonymous).0 in
+  pub borrows : (x : ℕ) → is_variable (object_at s x).kind ≡ true → is_anonymous (view_of s x) ≡ true → is_observer s x ≡ false → is_borrower s x ≡ true
+  borrows x kind anonymous none =
       let plain : is_observing (view_of s x) ≡ false = sym (ap (λ b. b && is_observing (view_of s x)) kind) ∙ none in
       ap (λ b. b && is_borrowing (view_of s x)) kind
       ∙ elim (either (is_borrowing (view_of s x)) (is_observing (view_of s x)) anonymous) [
@@ -336,7 +372,7 @@ module _ (table : Table) (typed : TypedProgram) (effects : Effects) (given : IsV
     good : AllByRecursion Above named.points × AreFading own named.points
     good = scoped.body_good table typed effects given named body
 
-    formals_known : (x : ℕ) → Has named.sub.formals x → is_formal s x ≡ true
+    pub formals_known : (x : ℕ) → Has named.sub.formals x → is_formal s x ≡ true
     formals_known x there =
         let mine : Has (body.0).formals x = subst (λ (z : NamedSub). Has z.sub.formals x) (sym body.4) there in
         formal_same s own (scoped.alike table typed effects given) x ∙ (given.order.local body.0 body.1).formals x mine
@@ -375,32 +411,41 @@ module _ (table : Table) (typed : TypedProgram) (effects : Effects) (given : IsV
       abbrev here : FlowPoint
       here = flow_at own named p
 
-      act_has : (i : Instruction) → p.instr ≡ i → (a : Placed)
+      pub act_has : (i : Instruction) → p.instr ≡ i → (a : Placed)
           → Has (acts_of (record { typing = s; result = named.sub.result; roots = kept named has p there }) p.pos i) a → Has here.acts a
       act_has i is a h =
           act_there named has p there a
           (subst (λ j. Has (acts_of (record { typing = s; result = named.sub.result; roots = kept named has p there }) p.pos j) a) (sym is) h)
 
       -- what a borrower is declared with
+      stored_here : (x : ℕ) → IsStoredAt p.instr x → is_anonymous (view_of s x) ≡ true → is_variable (object_at s x).kind ≡ true
+      stored_here = given.stored (flow_sub own named) (in_program named has p there) here (in_sub named has p there)
+
+      lasts_here : (x : ℕ) → IsStoredAt p.instr x → is_anonymous (view_of s x) ≡ true → is_temporary_object s x ≡ false
+      lasts_here x stored anonymous = scoped.variable_lasts table typed effects given x (stored_here x stored anonymous)
+
       older_there : (x : ℕ) (q : Pos) (y : ℕ) (path : TypedTree) (u : ℕ) → is_anonymous (view_of s x) ≡ true → is_observer own x || nat_lt y x ≡ true
           → p.instr ≡ Declare x (More (Name q y path u) NoMore) → is_observer s x ≡ false → (sees_only s y ≡ false) × (y < x)
       older_there x q y path u anonymous test is none = (
         fixed.lendable table typed effects given named has p there formals_known x (name_of y path) q
-            (act_has (Declare x (More (Name q y path u) NoMore)) is (placed q (act.Borrow x (name_of y path))) (borrow_there s x q y path u (borrows x anonymous none)))
+            (act_has (Declare x (More (Name q y path u) NoMore)) is (placed q (act.Borrow x (name_of y path)))
+            (borrow_there s x q y path u (borrows x (stored_here x (inl (More (Name q y path u) NoMore, is)) anonymous) anonymous none)))
             (subst (λ i. Has (named_in i) y) (sym is) (first_root q y path u NoMore)),
         ltb-true y x (or_other (is_observer own x) (nat_lt y x) (sym (observer_same x) ∙ none) test),
       )
 
-      -- where a view is declared
-      pub declared_there : (x : ℕ) (e : TypedTree) → p.instr ≡ Declare x e → is_anonymous (view_of s x) ≡ true
-          → (q : Pos) × (y : ℕ) × (path : TypedTree) × (u : ℕ) × (v : TypedTree) × (e ≡ More v NoMore)
+      -- What a view is declared with.
+      abbrev IsDeclaredWith : ℕ → TypedTree → Type 0
+      IsDeclaredWith x e =
+          (q : Pos) × (y : ℕ) × (path : TypedTree) × (u : ℕ) × (v : TypedTree) × (e ≡ More v NoMore)
           × IsSourceName s (object_at s x).of v q y path u × Outlives p.scope y x
           × (is_observer s x ≡ false → (sees_only s y ≡ false) × (y < x))
-      declared_there x e is anonymous =
+
+      declared_named : (x : ℕ) (e : TypedTree) → p.instr ≡ Declare x e → is_anonymous (view_of s x) ≡ true → is_call (first e) ≡ false → IsDeclaredWith x e
+      declared_named x e is anonymous silent =
           let test : ℕ → Bool = λ y. is_observer own x || nat_lt y x in
-          let mine : is_anonymous (view_of own x) ≡ true = sym (anonymous_same x) ∙ anonymous in
-          let names : NamesSource s (Declare x e) = subst (NamesSource s) is (source_there named has p there) in
-          let found = one_name_is test e (or_first (is_one_name_of test e) (gives_view own (first e)) (ap not (no_view own (first e) (names anonymous)))
+          let mine : is_anonymous (view_of own x) ≡ true = sym (anonymous_same x (lasts_here x (inl (e, is)) anonymous)) ∙ anonymous in
+          let found = one_name_is test e (or_first (is_one_name_of test e) (gives_view own (first e)) (ap not (no_view own (first e) silent))
           (not_test (is_anonymous (view_of own x)) (is_one_name_of test e || gives_view own (first e)) mine (sym (ap (fits own) is) ∙ above.declared x e is))) in
           let value : TypedTree = More (Name found.0 found.1 found.2 found.3) NoMore in
           let whole_is : p.instr ≡ Declare x value = is ∙ ap (Declare x) found.4 in
@@ -417,17 +462,57 @@ module _ (table : Table) (typed : TypedProgram) (effects : Effects) (given : IsV
             older_there x found.0 found.1 found.2 found.3 anonymous found.5 whole_is,
           )
 
-      -- where a view is assigned
-      pub assigned_there : (q : Pos) (x w : ℕ) (e : TypedTree) → p.instr ≡ Assign (Name q x NoMore w) e → is_anonymous (view_of s x) ≡ true
-          → (r : Pos) × (y : ℕ) × (path : TypedTree) × (u : ℕ) × IsSourceName s (object_at s x).of e r y path u × (is_observer s x ≡ true → Outlives p.scope y x)
+      -- with what a traversal function gives
+      declared_called : (x : ℕ) (e : TypedTree) → p.instr ≡ Declare x e → is_anonymous (view_of s x) ≡ true → IsTraversed s (first e) → IsDeclaredWith x e
+      declared_called x e is anonymous t =
+          let call : TypedTree = CallIn t.pos t.sub (More (Name t.name_pos t.root t.path t.of) t.others) in
+          let e_is : e ≡ More call NoMore = first_alone s (object_at s x).of e call (subst (IsFine s named.sub.result) is (fine_there named has p there)) refl t.is in
+          let whole_is : p.instr ≡ Declare x (More call NoMore) = is ∙ ap (Declare x) e_is in
+          let take = subst (TakesView s named.sub.result) whole_is (given.take (flow_sub own named) (in_program named has p there) here (in_sub named has p there)) t.gives in
+          let names : Has (named_in p.instr) t.root = subst (λ i. Has (named_in i) t.root) (sym whole_is) (call_root t.pos t.sub t.name_pos t.root t.path t.of t.others NoMore) in (
+            t.name_pos,
+            t.root,
+            t.path,
+            t.of,
+            call,
+            e_is,
+            inr (t.pos, t.sub, t.others, refl, take.1),
+            outlives t.root x names (leads_lasts s given.owns given.parts_named (object_at s t.root).of t.path t.of t.leads t.lasts) (around_declared x e is t.root),
+            λ none. (
+              fixed.lendable table typed effects given named has p there formals_known x (name_of t.root t.path) t.name_pos
+                  (act_has (Declare x (More call NoMore)) whole_is (placed t.name_pos (act.Borrow x (name_of t.root t.path)))
+                  (borrow_called s x t.pos t.sub t.name_pos t.root t.path t.of t.others (borrows x (stored_here x (inl (e, is)) anonymous) anonymous none)))
+                  names,
+              elim (seen_there t.root names) [
+                | inl shared ↦ absurd (true_false (is_package_object s t.root) shared t.own)
+                | inr within ↦ ltb-true t.root x (and_first (nat_lt t.root x) (encloses typed.scopes (scope_of own t.root) (scope_of own x)) (above.declares x e is t.root (within_has t.root left within)))
+              ],
+            ),
+          )
+
+      -- where a view is declared
+      pub declared_there : (x : ℕ) (e : TypedTree) → p.instr ≡ Declare x e → is_anonymous (view_of s x) ≡ true
+          → (q : Pos) × (y : ℕ) × (path : TypedTree) × (u : ℕ) × (v : TypedTree) × (e ≡ More v NoMore)
+          × IsSourceName s (object_at s x).of v q y path u × Outlives p.scope y x
+          × (is_observer s x ≡ false → (sees_only s y ≡ false) × (y < x))
+      declared_there x e is anonymous = elim (subst (NamesSource s) is (source_there named has p there) anonymous) [
+        | inl silent ↦ declared_named x e is anonymous silent
+        | inr traversed ↦ declared_called x e is anonymous traversed
+      ]
+
+      -- What a view is assigned.
+      abbrev IsAssigned : ℕ → TypedTree → Type 0
+      IsAssigned x e =
+          (r : Pos) × (y : ℕ) × (path : TypedTree) × (u : ℕ) × IsSourceName s (object_at s x).of e r y path u × (is_observer s x ≡ true → Outlives p.scope y x)
           × (is_observer s x ≡ false → y ≡ x)
+
+      assigned_named : (q : Pos) (x w : ℕ) (e : TypedTree) → p.instr ≡ Assign (Name q x NoMore w) e → is_anonymous (view_of s x) ≡ true → is_call e ≡ false → IsAssigned x e
       unfolding Leads
-      assigned_there q x w e is anonymous =
+      assigned_named q x w e is anonymous silent =
           let target : TypedTree = Name q x NoMore w in
-          let mine : is_anonymous (view_of own x) ≡ true = sym (anonymous_same x) ∙ anonymous in
-          let names : NamesSource s (Assign target e) = subst (NamesSource s) is (source_there named has p there) in
+          let mine : is_anonymous (view_of own x) ≡ true = sym (anonymous_same x (lasts_here x (inr (q, w, e, is)) anonymous)) ∙ anonymous in
           let found = name_is is_any e (not_test (is_anonymous (view_of own x)) (is_name_of is_any e) mine
-          (or_first (not (is_anonymous (view_of own x)) || is_name_of is_any e) (gives_view own e) (ap not (no_view own e (names x refl anonymous))) (sym (ap (fits own) is) ∙ above.assigned target e is))) in
+          (or_first (not (is_anonymous (view_of own x)) || is_name_of is_any e) (gives_view own e) (ap not (no_view own e silent)) (sym (ap (fits own) is) ∙ above.assigned target e is))) in
           let y : ℕ = found.1 in
           let n : TypedTree = Name found.0 y found.2 found.3 in
           let whole_is : p.instr ≡ Assign target n = is ∙ ap (Assign target) found.4 in
@@ -448,8 +533,42 @@ module _ (table : Table) (typed : TypedProgram) (effects : Effects) (given : IsV
             λ none. reborrowed_own program effects given.accepted.no_reports (flow_sub own named) (in_program named has p there) here (in_sub named has p there)
                 q x (name_of y found.2)
                 (act_has (Assign target n) whole_is (placed q (act.Reborrow x (name_of y found.2)))
-                (reborrow_there s p.pos q x w found.0 y found.2 found.3 (borrows x anonymous none))),
+                (reborrow_there s p.pos q x w found.0 y found.2 found.3 (borrows x (stored_here x (inr (q, w, e, is)) anonymous) anonymous none))),
           )
+
+      -- what a traversal function gives
+      assigned_called : (q : Pos) (x w : ℕ) (e : TypedTree) → p.instr ≡ Assign (Name q x NoMore w) e → is_anonymous (view_of s x) ≡ true → IsTraversed s e → IsAssigned x e
+      assigned_called q x w e is anonymous t =
+          let target : TypedTree = Name q x NoMore w in
+          let call : TypedTree = CallIn t.pos t.sub (More (Name t.name_pos t.root t.path t.of) t.others) in
+          let whole_is : p.instr ≡ Assign target call = is ∙ ap (Assign target) t.is in
+          let take = subst (TakesView s named.sub.result) whole_is (given.take (flow_sub own named) (in_program named has p there) here (in_sub named has p there)) t.gives in
+          let same_object : x ≡ take.1 = (let both : Name q x NoMore w ≡ Name take.0 take.1 NoMore take.2 = take.3 in let number : x ≡ take.1 = cc in number) in
+          let lasts : has_scope_end s t.root ≡ true = leads_lasts s given.owns given.parts_named (object_at s t.root).of t.path t.of t.leads t.lasts in (
+            t.name_pos,
+            t.root,
+            t.path,
+            t.of,
+            inr (t.pos, t.sub, t.others, t.is, subst (λ z. GivesView s t.sub (object_at s z).of) (sym same_object) take.5),
+            λ sees. outlives t.root x (subst (λ i. Has (named_in i) t.root) (sym whole_is) (call_first t.pos t.sub t.name_pos t.root t.path t.of t.others (roots target))) lasts
+                (λ within. observed_encloses program effects given.accepted.no_reports (flow_sub own named) (in_program named has p there) here (in_sub named has p there)
+                t.name_pos x (name_of t.root t.path) (is_observer s t.root)
+                (act_has (Assign target call) whole_is (placed t.name_pos (observe s x (name_of t.root t.path)))
+                (observe_called s p.pos q x w t.pos t.sub t.name_pos t.root t.path t.of t.others (no_borrower x sees) sees)) (ap is_assignment whole_is)),
+            λ none. reborrowed_own program effects given.accepted.no_reports (flow_sub own named) (in_program named has p there) here (in_sub named has p there)
+                q x (name_of t.root t.path)
+                (act_has (Assign target call) whole_is (placed q (act.Reborrow x (name_of t.root t.path)))
+                (reborrow_called s p.pos q x w t.pos t.sub t.name_pos t.root t.path t.of t.others (borrows x (stored_here x (inr (q, w, e, is)) anonymous) anonymous none))),
+          )
+
+      -- where a view is assigned
+      pub assigned_there : (q : Pos) (x w : ℕ) (e : TypedTree) → p.instr ≡ Assign (Name q x NoMore w) e → is_anonymous (view_of s x) ≡ true
+          → (r : Pos) × (y : ℕ) × (path : TypedTree) × (u : ℕ) × IsSourceName s (object_at s x).of e r y path u × (is_observer s x ≡ true → Outlives p.scope y x)
+          × (is_observer s x ≡ false → y ≡ x)
+      assigned_there q x w e is anonymous = elim (subst (NamesSource s) is (source_there named has p there) x refl anonymous) [
+        | inl silent ↦ assigned_named q x w e is anonymous silent
+        | inr traversed ↦ assigned_called q x w e is anonymous traversed
+      ]
 
       -- what else is in scope where a scope ends
       left_there : (y x : ℕ) → p.instr ≡ EndScope y → is_within x p.scope ≡ true → (x ≡ y → ⊥) → Has (drop 1 p.scope) x
@@ -505,17 +624,23 @@ module _ (table : Table) (typed : TypedProgram) (effects : Effects) (given : IsV
 
   -- no object of a body that its points declare or end is a formal
   module _ (named : NamedSub) (has : Has (flow_named table typed) named) (p : NamedPoint) (there : Has named.points p) where
-    begun_there : Begins (λ x. is_formal s x ≡ false) p.instr
+    abbrev IsOfText : ℕ → Type 0
+    IsOfText x = (is_formal s x ≡ false) × (is_temporary_object s x ≡ false)
+
+    text_there : (sub : TypedSub) → Has typed.subs sub → (x : ℕ) → Has (declared_within sub.body) x → IsOfText x
+    text_there sub in_text x declared = (
+      formal_same s own (scoped.alike table typed effects given) x ∙ given.views.declared sub in_text x declared,
+      valued.text_object table typed effects given x ((given.order.bodies sub in_text).numbered x (Has-append_right sub.formals (declared_within sub.body) x declared)).1,
+    )
+
+    begun_there : Begins IsOfText p.instr
     begun_there = elim (valued.where_is table typed effects given named has) [
-      | inl e ↦ package_begun (unnumbered own) (λ x. is_formal s x ≡ false) given.order.first
-          (λ x declared. formal_same s own (scoped.alike table typed effects given) x
-          ∙ given.views.declared given.order.first (subst (λ subs. Has subs given.order.first) (sym given.order.subs) (inl refl)) x declared)
+      | inl e ↦ package_begun (unnumbered own) IsOfText given.order.first
+          (text_there given.order.first (subst (λ subs. Has subs given.order.first) (sym given.order.subs) (inl refl)))
           p (subst (λ (z : NamedSub). Has z.points p) (sym e) there)
       | inr inside ↦ (
           let body = valued.body table typed effects given named has inside in
-          sub_begun (setting_from own body.2 body.0) (λ x. is_formal s x ≡ false) body.0
-          (λ x declared. formal_same s own (scoped.alike table typed effects given) x
-          ∙ given.views.declared body.0 (scoped.in_subs table typed effects given body.0 body.1) x declared)
+          sub_begun (setting_from own body.2 body.0) IsOfText body.0 (text_there body.0 (scoped.in_subs table typed effects given body.0 body.1))
           p (subst (λ (z : NamedSub). Has z.points p) (sym body.4) there))
     ]
 
@@ -523,10 +648,23 @@ module _ (table : Table) (typed : TypedProgram) (effects : Effects) (given : IsV
     none_shown x none = ap (λ b. (b && is_in (object_at s x).mode) && is_owning s.table (object_at s x).of) none
 
     pub begins_plain : (x : ℕ) (e : TypedTree) → p.instr ≡ Declare x e → is_view_formal s x ≡ false
-    begins_plain x e is = none_shown x (subst (Begins (λ y. is_formal s y ≡ false)) is begun_there)
+    begins_plain x e is = none_shown x (subst (Begins IsOfText) is begun_there).0
+
+    -- what is declared is no temporary
+    pub begins_lasts : (x : ℕ) (e : TypedTree) → p.instr ≡ Declare x e → is_temporary_object s x ≡ false
+    begins_lasts x e is = (subst (Begins IsOfText) is begun_there).1
+
+    -- what ends, of an anonymous access type, is a variable
+    pub ends_variable : (x : ℕ) → p.instr ≡ EndScope x → is_anonymous (view_of s x) ≡ true → is_variable (object_at s x).kind ≡ true
+    ends_variable x is anonymous =
+        let of_text : IsOfText x = subst (Begins IsOfText) is begun_there in
+        elim (scoped.text_view table typed effects given x anonymous of_text.1).0 [
+          | inl variable ↦ variable
+          | inr formal ↦ absurd (true_false (is_formal s x) (and_first (is_formal s x) (is_in (object_at s x).mode) formal) of_text.0)
+        ]
 
     pub ends_plain : (x : ℕ) → p.instr ≡ EndScope x → is_view_formal s x ≡ false
-    ends_plain x is = none_shown x (subst (Begins (λ y. is_formal s y ≡ false)) is begun_there)
+    ends_plain x is = none_shown x (subst (Begins IsOfText) is begun_there).0
 
   -- formals that own nothing belong to no package
   pub shown_apart : (x : ℕ) → is_view_formal s x ≡ true → is_package_object s x ≡ false
@@ -547,7 +685,7 @@ module _ (table : Table) (typed : TypedProgram) (effects : Effects) (given : IsV
   package_there named has e p there =
       let found = scoped.declares table typed effects given named e p there (scoped.still_there table typed effects given named e p there) in
       let plain = scoped.plain_there table typed effects given named e p there found.0 found.1 found.2 in
-      (found.0, found.1, found.2, anonymous_same found.0 ∙ not_true (is_anonymous (view_of own found.0)) (and_first _ _ plain))
+      (found.0, found.1, found.2, anonymous_same found.0 (begins_lasts named has p there found.0 found.1 found.2) ∙ not_true (is_anonymous (view_of own found.0)) (and_first _ _ plain))
     where
       not_true : (b : Bool) → not b ≡ true → b ≡ false
       not_true true e = cc

@@ -1,13 +1,13 @@
 -- An accepted program with borrowers and observers whose subprograms and views are in order is ready, as
 -- soundness with views asks.
-use Rattle.std.proofs.Common.{◌≡◌, refl, sym, ap, ◌∙◌, inl, inr, ℕ, suc, true, false, List, map}
+use Rattle.std.proofs.Common.{◌≡◌, refl, sym, ap, ◌∙◌, ◌⊎◌, inl, inr, ℕ, suc, true, false, List, map}
 use Rattle.spark_base.specs.Lists.{Has}
 use Rattle.type_definitions.specs.Types.{Table}
 use Rattle.typed_tree.specs.Trees.{TypedTree, Name, NoMore}
 use Rattle.typed_tree.specs.Programs.{TypedProgram}
 use Rattle.flow_paths.specs.declared.report.Effects.{Effects}
 use Rattle.flow_paths.specs.Instructions.{Instruction, Declare, Assign, EndScope}
-use Rattle.flow_paths.specs.Objects.{Typing, is_anonymous, view_of}
+use Rattle.flow_paths.specs.Objects.{Typing, object_at, is_variable, is_anonymous, view_of}
 use Rattle.flow_paths.specs.Points.{NamedPoint, FlowPoint}
 use Rattle.flow_paths.specs.Laid.{FlowProgram, NamedSub, number_in, flow_typing, flow_program, flow_named}
 use Rattle.machine.specs.States.{sub_of}
@@ -15,11 +15,15 @@ use Rattle.soundness.specs.Sound.{IsAtPoint, RunIsSound}
 use Rattle.viewed_steps.specs.Sound.{IsViewClass}
 use Rattle.viewed_steps.specs.Ready.{AreOrderly, ViewsAreOrderly, IsReady}
 use Rattle.viewed_steps.proofs.Main.{ready_sound}
+use Rattle.viewed_steps.specs.Sound.{IsStoredAt}
+use Rattle.soundness.proofs.Points.{flow_at}
+use Rattle.flow_paths.specs.Laid.{flow_sub, typing_of}
 use Rattle.view_laws.specs.Program.{IsViewProgram}
 use Rattle.view_laws.proofs.Enclosing.{itself, transitive}
 use Rattle.view_laws.proofs.Passing as passing
 use Rattle.view_laws.proofs.Scoped as scoped
-use Rattle.view_laws.proofs.Valued as valued
+use Rattle.view_laws.proofs.Traversals as traversals
+use Rattle.view_laws.proofs.Waiting as waiting
 use Rattle.view_laws.proofs.Points as points
 use Rattle.view_laws.proofs.Fixed as fixed
 
@@ -42,13 +46,21 @@ module _ (table : Table) (typed : TypedProgram) (effects : Effects) (given : IsV
   abbrev Follows : NamedSub → NamedPoint → NamedPoint → Type 0
   Follows named p q = (n : ℕ) × Has (map (number_in named.points) p.next) n × IsAtPoint named.points n q
 
+  -- what is declared, assigned or ends and is of an anonymous access type is a variable
+  variables_there : (named : NamedSub) → Has (flow_named table typed) named → (p : NamedPoint) → Has named.points p → (x : ℕ) → IsStoredAt p.instr x ⊎ (p.instr ≡ EndScope x)
+      → is_anonymous (view_of s x) ≡ true → is_variable (object_at s x).kind ≡ true
+  variables_there named has p there x (inl stored) anonymous =
+      given.stored (flow_sub (typing_of table typed) named) (scoped.in_program table typed effects given named has) (flow_at (typing_of table typed) named p)
+      (scoped.in_sub table typed effects given named has p there) x stored anonymous
+  variables_there named has p there x (inr ends) anonymous = points.ends_variable table typed effects given named has p there x ends anonymous
+
   -- a point that declares a package object
   package_orderly : (named : NamedSub) → Has (flow_named table typed) named → scoped.Elaborates table typed effects given named → (p : NamedPoint)
       → Has named.points p → AreOrderly program p (Follows named p)
   package_orderly named has e p there =
       let found = points.package_there table typed effects given named has e p there in
       record {
-        variables = λ x stored anonymous. (scoped.local table typed effects given x anonymous).0;
+        variables = variables_there named has p there;
         begun = points.begins_plain table typed effects given named has p there;
         over = points.ends_plain table typed effects given named has p there;
         declared = λ x v is anonymous.
@@ -64,7 +76,7 @@ module _ (table : Table) (typed : TypedProgram) (effects : Effects) (given : IsV
       → Has named.points p → AreOrderly program p (Follows named p)
   body_orderly named has body p there = record {
     declared = points.declared_there table typed effects given named has body p there;
-    variables = λ x stored anonymous. (scoped.local table typed effects given x anonymous).0;
+    variables = variables_there named has p there;
     begun = points.begins_plain table typed effects given named has p there;
     over = points.ends_plain table typed effects given named has p there;
     assigned = points.assigned_there table typed effects given named has body p there;
@@ -92,7 +104,7 @@ module _ (table : Table) (typed : TypedProgram) (effects : Effects) (given : IsV
   pub views_orderly : ViewsAreOrderly table typed
   unfolding flow_program
   views_orderly = record {
-    local = λ x anonymous. (scoped.local table typed effects given x anonymous).1;
+    local = scoped.local table typed effects given;
     passed = points.shown_apart table typed effects given;
     packages = packages_plain;
     transitive = transitive typed.scopes given.views.inner;
@@ -104,9 +116,9 @@ module _ (table : Table) (typed : TypedProgram) (effects : Effects) (given : IsV
   class : IsViewClass program
   class = record {
     parts_named = given.parts_named;
-    results = valued.named_results table typed effects given;
     formals = given.formals;
     functions = given.functions;
+    lends = given.lends;
     modes = given.modes;
     procedures = given.procedures;
     copied = given.copied;
@@ -125,8 +137,8 @@ module _ (table : Table) (typed : TypedProgram) (effects : Effects) (given : IsV
     orderly = views_orderly;
     called = passing.called_to table typed effects given.accepted given.owns given.order given.answered given.passed given.still (fixed.actuals_owned table typed effects given);
     returning = scoped.are_returning table typed effects given;
-    valued = valued.are_valued table typed effects given;
-    traversing = scoped.are_traversing table typed effects given;
+    valued = waiting.are_valued table typed effects given;
+    traversing = traversals.are_traversing table typed effects given;
     packages = scoped.packages table typed effects given;
     stands = scoped.packages_stand table typed effects given;
     main = suc given.order.number;

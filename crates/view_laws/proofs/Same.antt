@@ -1,5 +1,4 @@
--- Which objects are views, and where they stand, is the same by the text and as the program is laid out: temporaries
--- are no views.
+-- Which objects of the text are views, and where they stand, is the same by the text and as the program is laid out.
 use Rattle.std.proofs.Common.{◌≡◌, refl, sym, ap, ◌∙◌, ◌⊎◌, inl, inr, ℕ, zero, suc, Bool, true, false, ◌&&◌, List, [], ◌∷◌, ◌++◌, map, get_or}
 use Rattle.std.specs.Prelude.{flat_map}
 use Rattle.type_definitions.specs.Types.{Table, full}
@@ -30,9 +29,7 @@ false_and : (a b : Bool) → a ≡ false → a && b ≡ false
 false_and true b e = let no : true ≡ false = e in cc
 false_and false b e = refl
 
-module _ (table : Table) (typed : TypedProgram)
-    (temporaries : (x : ℕ) → is_temporary_object (flow_typing (flow_program table typed)) x ≡ true → is_anonymous (view_of (flow_typing (flow_program table typed)) x) ≡ false)
-    (local : (x : ℕ) → is_anonymous (view_of (typing_of table typed) x) ≡ true → is_variable (object_at (typing_of table typed) x).kind ≡ true) where
+module _ (table : Table) (typed : TypedProgram) where
   abbrev s : Typing
   s = flow_typing (flow_program table typed)
 
@@ -48,15 +45,15 @@ module _ (table : Table) (typed : TypedProgram)
   unfolding flow_program
   object_or x = object_there typed.objects (flat_map temporaries_of (flow_named table typed)) x
 
-  pub anonymous_same : (x : ℕ) → is_anonymous (view_of s x) ≡ is_anonymous (view_of own x)
-  anonymous_same x = elim (object_or x) [
-    | inl same ↦ (λ j. is_anonymous (full (alike.table j) (same j).of))
-    | inr (temporary, scope, none) ↦ temporaries x temporary ∙ sym (plain (is_anonymous (view_of own x)) refl none)
+  -- what is no temporary is a view where the text has one
+  pub as_text : (x : ℕ) → is_temporary_object s x ≡ false → object_at s x ≡ object_at own x
+  as_text x lasts = elim (object_or x) [
+    | inl same ↦ same
+    | inr (temporary, scope, none) ↦ (let no : true ≡ false = sym temporary ∙ lasts in cc)
   ]
-    where
-      plain : (b : Bool) → is_anonymous (view_of own x) ≡ b → object_at own x ≡ text_io → b ≡ false
-      plain true is none = (let no : true ≡ false = sym (local x is) ∙ ap (λ (o : Object). is_variable o.kind) none in cc)
-      plain false is none = refl
+
+  pub anonymous_same : (x : ℕ) → is_temporary_object s x ≡ false → is_anonymous (view_of s x) ≡ is_anonymous (view_of own x)
+  anonymous_same x lasts = (λ j. is_anonymous (full (alike.table j) (as_text x lasts j).of))
 
   pub observer_same : (x : ℕ) → is_observer s x ≡ is_observer own x
   observer_same x = elim (alike.object x) [

@@ -1,11 +1,14 @@
 -- Of an accepted program with borrowers and observers whose subprograms are in order: that no fact speaks of an
 -- object that is declared, beside what `ready_laws` says of any program in order.
-use Rattle.std.proofs.Common.{◌≡◌, refl, sym, ap, ◌∙◌, subst, ◌⊎◌, inl, inr, ℕ, suc, Bool, true, false, not, ◌&&◌, ◌||◌, List, ◌∷◌, map, get_or, Option, None, Some}
+use Rattle.std.proofs.Common.{◌≡◌, refl, sym, ap, ◌∙◌, subst, ◌⊎◌, inl, inr, ℕ, suc, Bool, true, false, not, ◌&&◌, ◌||◌, List, [], ◌∷◌, map, get_or, Option, None, Some}
 use Rattle.std.specs.Prelude.{reverse}
 use Rattle.std.specs.List.{AllByRecursion}
 use Rattle.spark_base.specs.declared.position.Pos.{Pos}
 use Rattle.spark_base.specs.Lists.{Has}
 use Rattle.spark_base.proofs.Lists.{Has-map, Has-map_from, Has-append_left, Has-append_right}
+use Rattle.place_names.specs.declared.act.Mode.{Mode}
+use Rattle.place_names.specs.declared.act.Mode.TheVariants as mode
+use Rattle.machine.specs.Owners.{is_in, is_in_formal}
 use Rattle.place_names.specs.declared.act.Act.{Act}
 use Rattle.place_names.specs.declared.act.Act.TheVariants as act
 use Rattle.place_names.specs.declared.act.Placed.{Placed}
@@ -13,14 +16,18 @@ use Rattle.place_names.specs.declared.rule.Rule.TheVariants as rule
 use Rattle.place_names.specs.declared.fact.Fact.TheVariants.{Moved}
 use Rattle.place_names.specs.Facts.{adds}
 use Rattle.place_names.specs.Names.{Name as PlaceName}
-use Rattle.type_definitions.specs.Types.{Table, is_owning}
-use Rattle.typed_tree.specs.Trees.{TypedTree}
+use Rattle.type_definitions.specs.declared.table.Shape.TheVariants as shape
+use Rattle.type_definitions.specs.Types.{Table, full, shape_of, is_owning, is_scalar, owns_of, view_of as view_of_shape}
+use Rattle.typed_tree.specs.Trees.{TypedTree, Name, NoMore, More}
 use Rattle.typed_tree.specs.Trees as typed_tree
 use Rattle.typed_tree.specs.declared.object.Object.{Object}
+use Rattle.typed_tree.specs.declared.object.ObjectKind.{ObjectKind}
+use Rattle.typed_tree.specs.declared.object.ObjectKind.TheVariants as object_kind
 use Rattle.typed_tree.specs.Programs.{TypedSub, TypedProgram, text_io}
 use Rattle.flow_paths.specs.declared.report.Effects.{Effects}
 use Rattle.flow_paths.specs.Instructions.{Instruction, Declare, Assign, Call}
-use Rattle.flow_paths.specs.Objects.{Typing, Signature, object_at, sub_at, is_variable, is_anonymous, is_formal, is_package_object, traverses, has_scope_end, view_of}
+use Rattle.flow_paths.specs.Names.{has_call, whole_object}
+use Rattle.flow_paths.specs.Objects.{Typing, Signature, object_at, sub_at, is_variable, is_anonymous, is_formal, is_formal_kind, is_package_object, traverses, has_scope_end, view_of}
 use Rattle.flow_paths.specs.Acts.{acts_of}
 use Rattle.flow_paths.specs.Points.{NamedPoint, FlowPoint}
 use Rattle.flow_paths.specs.Laid.{FlowSub, FlowProgram, NamedSub, temporary_object, declared_within, unnumbered, elaborated, kept_roots, sub_facts, flow_sub, typing_of, flow_typing, flow_program, flow_named}
@@ -29,14 +36,17 @@ use Rattle.flow_paths.specs.Reports.{on_views}
 use Rattle.flow_paths.specs.Views.{text_report, elsewhere, traversed_of, traversed_formal, sub_acts, IsOnlyRoot}
 use Rattle.machine.specs.Run.{no_point}
 use Rattle.flow_paths.specs.Effects.{path_points}
-use Rattle.flow_paths.specs.Scopes.{is_ready}
+use Rattle.flow_paths.specs.Scopes.{is_ready, is_temporary}
 use Rattle.machine.specs.States.{sub_of}
-use Rattle.soundness.specs.Sound.{IsNamedSub, IsProcedure, IsEntered, calls_procedures, is_temporary_object}
+use Rattle.soundness.specs.Sound.{IsNamedSub, IsProcedure, calls_procedures, is_temporary_object}
 use Rattle.soundness.specs.Ready.{AreScoped, AreNew, AreElaborated, AreReturning, IsSupplied}
 use Rattle.soundness.proofs.Points.{IsLaid, flow_at}
 use Rattle.soundness.proofs.Typings.{Agree, flow_agrees, instruction_same, package_same}
-use Rattle.soundness.proofs.Passing.{signature_there}
-use Rattle.scope_laws.specs.Alone.{GivesNamed}
+use Rattle.soundness.proofs.Contents.{bool_cases}
+use Rattle.soundness.proofs.Passing.{plain_type, signature_there, signature_is as signature_of}
+use Rattle.scope_laws.specs.Alone.{GivesScalar, GivesNamed, GivesSeen}
+use Rattle.scope_laws.proofs.Followed.{IsFollowed, sub_followed}
+use Rattle.scope_laws.proofs.Given.{Takes, sub_given}
 use Rattle.scope_laws.specs.Code.{roots, objects_of}
 use Rattle.scope_laws.specs.Order.{named_in, IsSeen}
 use Rattle.scope_laws.specs.Supplied.{IsLeft}
@@ -52,13 +62,21 @@ use Rattle.ready_laws.proofs.Ready as ordered
 use Rattle.ready_laws.proofs.Ready.{seen_has}
 use Rattle.typed_laws.specs.Needed.{IsFine}
 use Rattle.viewed_steps.specs.Awaited.{is_held}
-use Rattle.viewed_steps.specs.Ready.{AreTraversing}
-use Rattle.soundness.proofs.Points.{sub_there}
-use Rattle.view_laws.specs.InOrder.{no_views, stores_name, NamesSource, fits}
-use Rattle.view_laws.specs.Program.{IsViewProgram}
+use Rattle.viewed_soundness.specs.Holds.{IsAccess, is_given}
+use Rattle.viewed_soundness.proofs.Names.{true_false, both_no}
+use Rattle.viewed_soundness.proofs.Outcomes.{named_plain}
+use Rattle.viewed_steps.specs.Ready.{AreDifferent, IsAccessAs, IsSeen as IsSeenBy, is_shown_type}
+use Rattle.viewed_steps.specs.Sound.{IsKindOfFormal, IsStoredAt}
+use Rattle.viewed_steps.proofs.Followed.{is_traversing}
+use Rattle.viewed_steps.proofs.Views.{given_formal, given_type, scalar_unseen}
+use Rattle.view_laws.specs.InOrder.{no_views, IsTraversed, NamesSource, fits}
+use Rattle.view_laws.specs.Program.{IsPassedTo, ArePassedTo, IsViewProgram}
+use Rattle.view_laws.proofs.Passing as passing
 use Rattle.view_laws.proofs.Same as same
 use Rattle.view_laws.proofs.Valued as valued
-use Rattle.view_laws.proofs.Calls.{AreViewCalls, point_good}
+use Rattle.view_laws.proofs.Waiting as waiting
+use Rattle.view_laws.proofs.Acts.{access_lasts}
+use Rattle.view_laws.proofs.Calls.{AreViewCalls, IsPlainCall, IsThroughCall, point_good}
 use Rattle.view_laws.proofs.Packages.{IsPlain, package_plain, no_view, owners_same}
 use Rattle.view_laws.proofs.Facts.{new_there}
 
@@ -70,13 +88,22 @@ not_both : (a b : Bool) → a ≡ true → not a && b ≡ true → ⊥
 not_both true b is e = cc
 not_both false b is e = cc
 
-no_source : (a b : Bool) → a ≡ true → b ≡ false → not a || b ≡ true → ⊥
-no_source true b is none e = (let no : true ≡ false = sym e ∙ none in cc)
-no_source false b is none e = cc
+-- a view that is declared or assigned with no name gets what a traversal function gives
+source_gives : (a b : Bool) → a ≡ true → not a || b ≡ true → b ≡ true
+source_gives true b is e = e
+source_gives false b is e = cc
 
-no_stored : (a b : Bool) → a ≡ true → b ≡ false → (not a || false) || b ≡ true → ⊥
-no_stored true b is none e = (let no : true ≡ false = sym e ∙ none in cc)
-no_stored false b is none e = cc
+silent_end : has_call NoMore ≡ false
+unfolding has_call
+silent_end = refl
+
+whole_end : (y x : ℕ) (steps : TypedTree) → whole_object y steps ≡ Some x → (steps ≡ NoMore) × (y ≡ x)
+whole_end y x NoMore is = (refl, cc)
+whole_end y x steps is = cc
+
+stored_gives : (a b : Bool) → a ≡ true → (not a || false) || b ≡ true → b ≡ true
+stored_gives true b is e = e
+stored_gives false b is e = cc
 
 module _ (table : Table) (typed : TypedProgram) (effects : Effects) (given : IsViewProgram table typed effects) where
   abbrev pub program : FlowProgram
@@ -154,55 +181,157 @@ module _ (table : Table) (typed : TypedProgram) (effects : Effects) (given : IsV
 
   -- ---- objects
 
-  text_local : (x : ℕ) → is_anonymous (view_of own x) ≡ true → is_variable (object_at own x).kind ≡ true
-  text_local x anonymous = (given.views.local x anonymous).0
+  pub anonymous_same : (x : ℕ) → is_temporary_object s x ≡ false → is_anonymous (view_of s x) ≡ is_anonymous (view_of own x)
+  anonymous_same = same.anonymous_same table typed
 
-  pub anonymous_same : (x : ℕ) → is_anonymous (view_of s x) ≡ is_anonymous (view_of own x)
-  anonymous_same = same.anonymous_same table typed (valued.temporaries_named table typed effects given) text_local
+  -- views are variables and formals of subprograms, or temporaries
+  pub text_view : (x : ℕ) → is_anonymous (view_of s x) ≡ true → is_temporary_object s x ≡ false
+      → ((is_variable (object_at s x).kind ≡ true) ⊎ (is_in_formal s x ≡ true)) × (is_package_object s x ≡ false)
+  text_view x anonymous lasts =
+      let is : object_at s x ≡ object_at own x = same.as_text table typed x lasts in
+      let text = given.views.local x (sym (anonymous_same x lasts) ∙ anonymous) in (
+        elim text.0 [
+          | inl variable ↦ inl (ap (λ (o : Object). is_variable o.kind) is ∙ variable)
+          | inr formal ↦ inr (ap (λ (o : Object). is_formal_kind o.kind && is_in o.mode) is ∙ formal)
+        ],
+        package_same s own alike x ∙ text.1,
+      )
 
-  -- an object is as the text has it, or a temporary
-  object_or : (x : ℕ) → (object_at s x ≡ object_at own x) ⊎ (is_temporary_object s x ≡ true)
-  object_or = ordered.object_or table typed effects given.accepted given.owns given.order given.answered given.passed given.still
-
-  pub local : (x : ℕ) → is_anonymous (view_of s x) ≡ true → (is_variable (object_at s x).kind ≡ true) × (is_package_object s x ≡ false)
-  local x anonymous = elim (object_or x) [
-    | inl is ↦ (
-        let text = given.views.local x (sym (anonymous_same x) ∙ anonymous) in
-        (ap (λ (o : Object). is_variable o.kind) is ∙ text.0, package_same s own alike x ∙ text.1))
-    | inr held ↦ (let no : true ≡ false = sym anonymous ∙ valued.temporaries_named table typed effects given x held in cc)
+  pub local : (x : ℕ) → is_anonymous (view_of s x) ≡ true → is_package_object s x ≡ false
+  local x anonymous = elim (alike.object x) [
+    | inl same_object ↦ package_same s own alike x ∙ (given.views.local x (sym (λ j. is_anonymous (full (alike.table j) (same_object j).of)) ∙ anonymous)).1
+    | inr others ↦ others.0.2
   ]
+
+  -- a variable is no temporary
+  pub variable_lasts : (x : ℕ) → is_variable (object_at s x).kind ≡ true → is_temporary_object s x ≡ false
+  variable_lasts x variable = by_kind (object_at s x).kind variable
+    where
+      by_kind : (k : ObjectKind) → is_variable k ≡ true → is_temporary k ≡ false
+      by_kind object_kind.Variable is = refl
+      by_kind k is = cc
 
   -- ---- calls
 
-  pub plainly : AreViewCalls program given.owns
-  plainly sub has p there n actuals result is =
-      let known = ordered.formals_known table typed effects given.accepted given.owns given.order given.answered given.passed given.still sub has p there n actuals result is in
-      record {
-        known = known;
-        kinds = λ x formal. given.formals x (known x formal);
-        actuals_stay = given.passes sub has p there n actuals result is known;
-        no_traversal = by_result (sub_of program n).result refl;
-      }
+  abbrev signature_is : (n : ℕ) → sub_at s n ≡ record { formals = (sub_of program n).formals; result = (sub_of program n).result }
+  signature_is = signature_of program
+
+  pub result_same : (n : ℕ) → (sub_at s n).result ≡ (sub_of program n).result
+  result_same n = ap (λ (z : Signature). z.result) (signature_is n)
+
+  formals_same : (n : ℕ) → (sub_at s n).formals ≡ (sub_of program n).formals
+  formals_same n = ap (λ (z : Signature). z.formals) (signature_is n)
+
+  -- the first formal of a traversal function
+  pub first_there : (n : ℕ) → traverses s.table (sub_of program n).result ≡ true
+      → (f : ℕ) × (rest : List ℕ) × ((sub_of program n).formals ≡ f ∷ rest) × (is_given s f ≡ true) × (traversed_formal s (sub_of program n) ≡ Some f)
+  first_there n gives =
+      let found = given.first n (ap (traverses s.table) (result_same n) ∙ gives) in
+      let formals_are : (sub_of program n).formals ≡ found.0 ∷ found.1 = sym (formals_same n) ∙ found.2 in
+      (found.0, found.1, formals_are, found.3, (λ j. traversed_of (gives j) (formals_are j)))
+
+  -- a formal of an anonymous access type is one
+  pub firsts_there : (n x : ℕ) → Has (sub_of program n).formals x → is_anonymous (view_of s x) ≡ true → traversed_formal s (sub_of program n) ≡ Some x
+  firsts_there n x has anonymous =
+      (λ j. traversed_of (traverses s.table (sym (result_same n) j)) (sym (formals_same n) j)) ∙ given.firsts n x (subst (λ z. Has z x) (sym (formals_same n)) has) anonymous
+
+  some_same : (a b : ℕ) → Some a ≡ Some b → a ≡ b
+  some_same a b is = cc
+
+  -- an access formal's type
+  access_of : (f : ℕ) → IsKindOfFormal s f → is_given s f ≡ true → IsAccess s f
+  access_of f (inl plain) is_one =
+      absurd (true_false (is_shown_type s f) (given_type s f is_one)
+      (both_no (is_owning s.table (object_at s f).of) (is_anonymous (view_of s f)) (plain_type s given.owns (object_at s f).of plain) (scalar_unseen s f plain)))
+  access_of f (inr (inl (back, own_type))) is_one = absurd (back (in_mode (object_at s f).mode (and_second (is_formal s f) (is_in (object_at s f).mode) (given_formal s f is_one))))
     where
-      by_result : (r : Option ℕ) → (sub_of program n).result ≡ r → traverses s.table r ≡ false
-      by_result None answer = refl
-      by_result (Some of) answer = valued.named_results table typed effects given sub has p there n actuals result is of answer
+      in_mode : (m : Mode) → is_in m ≡ true → m ≡ mode.In
+      in_mode mode.In e = refl
+      in_mode mode.Out e = cc
+      in_mode mode.InOut e = cc
+  access_of f (inr (inr (inl shown))) is_one = shown.1
+  access_of f (inr (inr (inr plain))) is_one =
+      absurd (true_false (is_shown_type s f) (given_type s f is_one)
+      (both_no (is_owning s.table (object_at s f).of) (is_anonymous (view_of s f)) plain.1 (named_plain s.table (object_at s f).of plain.2)))
+
+  access_type_lasts : (u d : ℕ) (c n : Bool) → shape_of s.table u ≡ shape.Access d c n → is_owning s.table u || is_anonymous (full s.table u) ≡ true
+  access_type_lasts u d c n is =
+      ap (λ b. b || is_anonymous (full s.table u)) (given.owns u) ∙ ap (λ z. owns_of (is_owning s.table) z || is_anonymous (view_of_shape z)) is
+      ∙ access_lasts (is_owning s.table) d c n
+
+  not_scalar : (d : ℕ) (c n : Bool) → is_scalar (view_of_shape (shape.Access d c n)) ≡ true → ⊥
+  not_scalar d c n is = cc
+
+  seen_lasts : (f u : ℕ) → IsAccess s f → IsAccessAs s u (object_at s f).of → is_owning s.table u || is_anonymous (full s.table u) ≡ true
+  seen_lasts f u (d, c, n, is) (inl (inl alike_type)) = access_type_lasts u d c n (alike_type ∙ is)
+  seen_lasts f u (d, c, n, is) (inl (inr scalars)) = absurd (not_scalar d c n (sym (ap (λ z. is_scalar (view_of_shape z)) is) ∙ scalars.1))
+  seen_lasts f u access (inr (d, c, n, k, e, o, of, is, designates)) = access_type_lasts u d c n of
+
+  module _ (sub : FlowSub) (has : Has program.subs sub) (p : FlowPoint) (there : Has sub.points p) (n : ℕ) (actuals : TypedTree) (result : Option ℕ) (is : p.instr ≡ Call n actuals result) where
+    known_formals : (x : ℕ) → Has (sub_of program n).formals x → is_formal s x ≡ true
+    known_formals = ordered.formals_known table typed effects given.accepted given.owns given.order given.answered given.passed given.still sub has p there n actuals result is
+
+    passed_there : ArePassedTo s (sub_of program n).formals actuals
+    passed_there = given.passes sub has p there n actuals result is known_formals
+
+    differ_there : AreDifferent (sub_of program n).formals
+    differ_there = passing.differ_there table typed effects given.accepted given.owns given.order given.answered given.passed given.still sub has p there n actuals result is
+
+    plain_call : traverses s.table (sub_of program n).result ≡ false → IsPlainCall program n
+    plain_call none = (none, λ x formal. by_kind x formal (is_anonymous (view_of s x)) refl)
+      where
+        by_kind : (x : ℕ) → Has (sub_of program n).formals x → (b : Bool) → is_anonymous (view_of s x) ≡ b → b ≡ false
+        by_kind x formal false e = refl
+        by_kind x formal true e =
+            let never : None ≡ Some x = sym (ap (λ b. traversed_of b (sub_of program n).formals) none) ∙ firsts_there n x formal e in cc
+
+    pub through_call : traverses s.table (sub_of program n).result ≡ true → IsThroughCall program n actuals
+    through_call gives =
+        let first = first_there n gives in
+        let f : ℕ = first.0 in
+        let named = given.traverse sub has p there n actuals result is gives in
+        let ways = is_traversing program n f first.4 in
+        let differ : AreDifferent (f ∷ ways.rest) = subst AreDifferent ways.formals differ_there in
+        let passed : ArePassedTo s (f ∷ ways.rest) (More (Name named.0 named.1 named.2 named.3) named.4) =
+        subst (λ z. ArePassedTo s z (More (Name named.0 named.1 named.2 named.3) named.4)) ways.formals (subst (ArePassedTo s (sub_of program n).formals) named.5 passed_there) in
+        let in_mode : (object_at s f).mode ≡ mode.In =
+        given.modes n ways.of (result_same n ∙ ways.result) f (subst (λ z. Has z f) (sym (formals_same n ∙ ways.formals)) (inl refl)) in
+        let seen : IsSeenBy s f (Name named.0 named.1 named.2 named.3) = (subst (λ z. IsPassedTo s f z (Name named.0 named.1 named.2 named.3)) in_mode passed.0).1 (given_type s f first.3) in
+        let access = access_of f (given.formals f (known_formals f (subst (λ z. Has z f) (sym first.2) (inl refl)))) first.3 in record {
+          f = f;
+          traversed = first.4;
+          unseen = λ x others. by_kind x (is_anonymous (view_of s x)) refl (λ anonymous. differ.0 x others
+              (sym (some_same f x (sym first.4 ∙ firsts_there n x (subst (λ z. Has z x) (sym ways.formals) (inr others)) anonymous))));
+          q = named.0;
+          y = named.1;
+          path = named.2;
+          u = named.3;
+          more = named.4;
+          actuals_are = named.5;
+          leads = seen.0;
+          lasts = seen_lasts f named.3 access seen.1;
+          own = named.6;
+        }
+      where
+        by_kind : (x : ℕ) (b : Bool) → is_anonymous (view_of s x) ≡ b → (is_anonymous (view_of s x) ≡ true → ⊥) → is_anonymous (view_of s x) ≡ false
+        by_kind x false e none = e
+        by_kind x true e none = absurd (none e)
+
+  pub plainly : AreViewCalls program given.owns
+  plainly sub has p there n actuals result is = record {
+    known = known_formals sub has p there n actuals result is;
+    kinds = λ x formal. given.formals x (known_formals sub has p there n actuals result is x formal);
+    actuals_stay = passed_there sub has p there n actuals result is;
+    passes = elim (bool_cases (traverses s.table (sub_of program n).result)) [
+      | inl gives ↦ inr (through_call sub has p there n actuals result is gives)
+      | inr none ↦ inl (plain_call sub has p there n actuals result is none)
+    ];
+  }
 
   -- ---- traversal functions
 
-  not_traversed : (sub : FlowSub) (f : ℕ) → traverses s.table sub.result ≡ false → traversed_formal s sub ≡ Some f → ⊥
-  not_traversed sub f none traversed = (let never : None ≡ Some f = sym (ap (λ b. traversed_of b sub.formals) none) ∙ traversed in cc)
-
-  -- none is entered
-  none_traverses : (n f : ℕ) → IsEntered program n → traversed_formal s (sub_of program n) ≡ Some f → ⊥
-  none_traverses n f (inl main) = not_traversed (sub_of program n) f
-      (ap (traverses s.table) (subst (λ k. (sub_of program k).result ≡ None)
-      (let same : Some (suc given.order.number) ≡ Some n = sym main_is ∙ main in let number : suc given.order.number ≡ n = cc in number)
-      (ordered.main_result table typed effects given.accepted given.owns given.order given.answered given.passed given.still)))
-  none_traverses n f (inr (sub, has, p, there, actuals, result, is)) = not_traversed (sub_of program n) f (plainly sub has p there n actuals result is).no_traversal
-
   -- what one gives is named by its first formal, or nothing refutes that (V3)
-  given_through : (sub : FlowSub) → Has program.subs sub → (p : FlowPoint) → Has sub.points p
+  pub given_through : (sub : FlowSub) → Has program.subs sub → (p : FlowPoint) → Has sub.points p
       → (m : PlaceName) (b : Bool) → Has (map (λ (a : Placed). a.act) p.acts) (act.Give m b)
       → ((f : ℕ) → traversed_formal s sub ≡ Some f → IsOnlyRoot s (sub_acts sub) m.root f → ⊥) → ⊥
   given_through sub has p there m b gives none =
@@ -214,28 +343,28 @@ module _ (table : Table) (typed : TypedProgram) (effects : Effects) (given : IsV
       placed_at : (a : Placed) (b : Act) → a.act ≡ b → a ≡ record { pos = a.pos; act = b }
       placed_at a b is = (λ i. record { pos = a.pos; act = is i })
 
-  -- so none has a result of an anonymous type
-  none_gives : (n : ℕ) → IsEntered program n → traverses s.table (sub_of program n).result ≡ true → ⊥
-  none_gives n (inl main) gives = (
-      let same : Some (suc given.order.number) ≡ Some n = sym main_is ∙ main in
-      let number : suc given.order.number ≡ n = cc in
-      let none = subst (λ k. (sub_of program k).result ≡ None) number
-      (ordered.main_result table typed effects given.accepted given.owns given.order given.answered given.passed given.still) in
-      (let never : true ≡ false = sym gives ∙ ap (traverses s.table) none in cc))
-  none_gives n (inr (sub, has, p, there, actuals, result, is)) gives =
-      (let never : true ≡ false = sym gives ∙ (plainly sub has p there n actuals result is).no_traversal in cc)
-
-  pub are_traversing : AreTraversing table typed effects
-  are_traversing = record {
-    first = λ n f entered traversed. absurd (none_traverses n f entered traversed);
-    formal = λ n entered gives. absurd (none_gives n entered gives);
-    given = given_through;
-    returned = λ n entered named of_named p there e last is of result view. absurd (none_gives n entered
-        (ap (traverses s.table) (ap (λ (z : FlowSub). z.result) (sub_there table typed n named of_named) ∙ result) ∙ view));
-    followed = λ sub has p there n actuals result is f traversed.
-        absurd (none_traverses n f (inr (flow_sub own sub, in_program sub has, flow_at own sub p, Has-map (λ (q : NamedPoint). flow_at own sub q) sub.points p there, actuals, result, is)) traversed);
-    ending = ordered.are_closed table typed effects given.accepted given.owns given.order given.answered given.passed given.still;
-  }
+  -- the call of one leads to the point that takes its result
+  pub followed_there : (named : NamedSub) → Has (flow_named table typed) named → (p : NamedPoint) → Has named.points p → (n : ℕ) (actuals : TypedTree) (t : ℕ)
+      → p.instr ≡ Call n actuals (Some t) → traverses s.table (sub_of program n).result ≡ true → IsFollowed named.points p n actuals
+  followed_there named has p there n actuals t is gives = elim (valued.where_is table typed effects given named has) [
+    | inl e ↦ absurd (valued.no_call table typed effects given named e p there n actuals (Some t) is)
+    | inr inside ↦ (
+        let body = valued.body table typed effects given named has inside in
+        elim (sub_followed (setting_from own body.2 body.0) body.0 (GivesScalar own) (GivesNamed own) (GivesSeen own) (valued.weaker table typed effects given) (given.results body.0 body.1)
+        p (subst (λ (z : NamedSub). Has z.points p) (sym body.4) there) n actuals t is) [
+          | inl plain ↦ absurd (not_plain plain)
+          | inr follows ↦ subst (λ (z : NamedSub). IsFollowed z.points p n actuals) body.4 follows
+        ])
+  ]
+    where
+      not_plain : GivesNamed own n → ⊥
+      not_plain plain = by_result (sub_of program n).result refl gives
+        where
+          by_result : (r : Option ℕ) → (sub_of program n).result ≡ r → traverses s.table r ≡ true → ⊥
+          by_result None answer seen = cc
+          by_result (Some of) answer seen =
+              true_false (is_anonymous (full s.table of)) seen
+              (ap (λ (rows : Table). is_anonymous (full rows of)) alike.table ∙ plain of (sym (valued.result_same table typed effects given n) ∙ answer))
 
   -- ---- the text
 
@@ -262,42 +391,72 @@ module _ (table : Table) (typed : TypedProgram) (effects : Effects) (given : IsV
     pub fine_there : IsFine s named.sub.result p.instr
     fine_there = given.accepted.fine (flow_sub own named) (in_program named has) (flow_at own named p) in_sub
 
-    -- No view has what a function gives as its source.
+    -- what a call gives that a point takes was called with a name
+    traversed_there : (q : Pos) (n : ℕ) (a : TypedTree) → Takes p.instr (typed_tree.Call q n a) → traverses s.table (sub_at s n).result ≡ true → IsTraversed s (typed_tree.Call q n a)
+    traversed_there q n a takes gives = elim (valued.where_is table typed effects given named has) [
+      | inl e ↦ absurd (waiting.takes_none table typed effects given named e p there q n a takes)
+      | inr inside ↦ (
+          let body = valued.body table typed effects given named has inside in
+          let found = sub_given (setting_from own body.2 body.0) body.0 p (subst (λ (z : NamedSub). Has z.points p) (sym body.4) there) q n a takes in
+          let r : NamedPoint = found.3 in
+          let at = subst (λ (z : NamedSub). Has z.points r) body.4 found.4 in
+          let through = through_call (flow_sub own named) (in_program named has) (flow_at own named r) (Has-map (λ (z : NamedPoint). flow_at own named z) named.points r at) n a (Some found.0) found.5
+          (ap (traverses s.table) (sym (result_same n)) ∙ gives) in record {
+            pos = q;
+            sub = n;
+            name_pos = through.q;
+            root = through.y;
+            path = through.path;
+            of = through.u;
+            others = through.more;
+            is = ap (typed_tree.Call q n) through.actuals_are;
+            gives = gives;
+            leads = through.leads;
+            lasts = through.lasts;
+            own = through.own;
+          })
+    ]
+
+    -- No view has what a function gives as its source, but where it is called with a name.
     pub source_there : NamesSource s p.instr
     source_there = elim (valued.where_is table typed effects given named has) [
       | inl e ↦ (
           let declared = declares named e p there (still_there named e p there) in
-          subst (NamesSource s) (sym declared.2) (plain_source declared.0 declared.1 (plain_there named e p there declared.0 declared.1 declared.2)))
+          subst (NamesSource s) (sym declared.2) (plain_source declared.0 declared.1 declared.2 (plain_there named e p there declared.0 declared.1 declared.2)))
       | inr inside ↦ body_source p.instr refl
           (all_has Above named.points p (body_good named (valued.body table typed effects given named has inside)).0 there)
-          (valued.source_named table typed effects given named has inside p there)
     ]
       where
-        plain_source : (x : ℕ) (v : TypedTree) → not (is_anonymous (view_of own x)) && no_views own (roots v) ≡ true → NamesSource s (Declare x v)
-        plain_source x v plain anonymous =
-            absurd (not_both (is_anonymous (view_of own x)) (no_views own (roots v)) (sym (anonymous_same x) ∙ anonymous) plain)
+        stored_lasts : (x : ℕ) → IsStoredAt p.instr x → is_anonymous (view_of s x) ≡ true → is_temporary_object s x ≡ false
+        stored_lasts x stored anonymous = variable_lasts x (given.stored (flow_sub own named) (in_program named has) (flow_at own named p) in_sub x stored anonymous)
 
-        no_traversal : (n : ℕ) → GivesNamed own n → traverses own.table (sub_at own n).result ≡ false
-        no_traversal n may = by (sub_at own n).result refl
-          where
-            by : (r : Option ℕ) → (sub_at own n).result ≡ r → traverses own.table r ≡ false
-            by None is = refl
-            by (Some t) is = may t is
+        plain_source : (x : ℕ) (v : TypedTree) → p.instr ≡ Declare x v → not (is_anonymous (view_of own x)) && no_views own (roots v) ≡ true → NamesSource s (Declare x v)
+        plain_source x v is plain anonymous =
+            absurd (not_both (is_anonymous (view_of own x)) (no_views own (roots v)) (sym (anonymous_same x (stored_lasts x (inl (v, is)) anonymous)) ∙ anonymous) plain)
 
-        body_source : (i : Instruction) → p.instr ≡ i → Above p → ((q : Pos) (n : ℕ) (a : TypedTree) → valued.IsSourceOf p.instr (typed_tree.Call q n a) → GivesNamed own n)
-            → NamesSource s i
-        body_source (Declare x (typed_tree.More (typed_tree.Call q n a) rest)) is above may = λ anonymous.
-            absurd (no_source (is_anonymous (view_of own x)) (traverses own.table (sub_at own n).result) (sym (anonymous_same x) ∙ anonymous)
-            (no_traversal n (may q n a (inl (x, rest, is)))) (sym (ap (fits own) is) ∙ above.declared x (typed_tree.More (typed_tree.Call q n a) rest) is))
-        body_source (Declare x (typed_tree.More e rest)) is above may = λ anonymous. refl
-        body_source (Declare x v) is above may = λ anonymous. refl
-        body_source (Assign target (typed_tree.Call q n a)) is above may = λ x whole_is anonymous.
-            absurd (no_stored (is_anonymous (view_of own x)) (traverses own.table (sub_at own n).result) (sym (anonymous_same x) ∙ anonymous)
-            (no_traversal n (may q n a (inr (target, is))))
-            (subst (λ w. stores_name own w (typed_tree.Call q n a) || traverses own.table (sub_at own n).result ≡ true) whole_is
-            (sym (ap (fits own) is) ∙ above.assigned target (typed_tree.Call q n a) is)))
-        body_source (Assign target e) is above may = λ x whole_is anonymous. refl
-        body_source i is above may = tt
+        in_layout : (n : ℕ) → traverses own.table (sub_at own n).result ≡ true → traverses s.table (sub_at s n).result ≡ true
+        in_layout n gives = (λ j. traverses (alike.table j) (get_or (alike.subs j) n (record { formals = []; result = None })).result) ∙ gives
+
+        body_source : (i : Instruction) → p.instr ≡ i → Above p → NamesSource s i
+        body_source (Declare x (typed_tree.More (typed_tree.Call q n a) rest)) is above = λ anonymous.
+            let none : rest ≡ NoMore = (subst (IsFine s named.sub.result) is fine_there).0 in
+            let fit = sym (ap (fits own) is) ∙ above.declared x (typed_tree.More (typed_tree.Call q n a) rest) is in
+            inr (traversed_there q n a (inl (x, is ∙ ap (λ z. Declare x (typed_tree.More (typed_tree.Call q n a) z)) none))
+            (in_layout n (source_gives (is_anonymous (view_of own x)) (traverses own.table (sub_at own n).result)
+            (sym (anonymous_same x (stored_lasts x (inl (typed_tree.More (typed_tree.Call q n a) rest, is)) anonymous)) ∙ anonymous) fit)))
+        body_source (Declare x (typed_tree.More e rest)) is above = λ anonymous. inl refl
+        body_source (Declare x v) is above = λ anonymous. inl refl
+        body_source (Assign (Name k y steps u) (typed_tree.Call q n a)) is above = λ x whole_is anonymous.
+            let end = whole_end y x steps whole_is in
+            let view : is_anonymous (view_of s y) ≡ true = ap (λ z. is_anonymous (view_of s z)) end.1 ∙ anonymous in
+            let here : p.instr ≡ Assign (Name k y NoMore u) (typed_tree.Call q n a) = is ∙ ap (λ z. Assign (Name k y z u) (typed_tree.Call q n a)) end.0 in
+            let fit = sym (ap (fits own) here) ∙ above.assigned (Name k y NoMore u) (typed_tree.Call q n a) here in
+            inr (traversed_there q n a (inr (inl (k, y, NoMore, u, here, silent_end)))
+            (in_layout n (stored_gives (is_anonymous (view_of own y)) (traverses own.table (sub_at own n).result)
+            (sym (anonymous_same y (stored_lasts y (inr (k, u, typed_tree.Call q n a, here)) view)) ∙ view) fit)))
+        body_source (Assign target (typed_tree.Call q n a)) is above = λ x whole_is anonymous. (let never : None ≡ Some x = whole_is in cc)
+        body_source (Assign target e) is above = λ x whole_is anonymous. inl refl
+        body_source i is above = tt
 
     -- formals of what is called are known as such
     formals_there : (n : ℕ) (actuals : TypedTree) (t : Option ℕ) → p.instr ≡ Call n actuals t → (x : ℕ) → Has (sub_at s n).formals x → is_formal s x ≡ true
@@ -355,7 +514,7 @@ module _ (table : Table) (typed : TypedProgram) (effects : Effects) (given : IsV
         | inl owning ↦ owns_none s (roots declared.1) x declared.3 value owning
         | inr anonymous ↦ no_view own (roots declared.1) x
             (and_second (not (is_anonymous (view_of own declared.0))) _ (plain_there named e p there declared.0 declared.1 declared.2)) value
-            (sym (anonymous_same x) ∙ anonymous)
+            (sym (anonymous_same x (waiting.package_lasts table typed effects given named e p there x names)) ∙ anonymous)
       ]
 
   -- what is named is no temporary whose scope has an end
@@ -375,12 +534,12 @@ module _ (table : Table) (typed : TypedProgram) (effects : Effects) (given : IsV
 
   new_in : (named : NamedSub) → Has (flow_named table typed) named → IsNewIn (flow_sub own named)
   new_in named has = elim (cases named has) [
-    | inl e ↦ new_there table typed effects given.owns given.parts_named given.accepted.fine given.accepted.effects_are (λ x anonymous. (local x anonymous).0)
+    | inl e ↦ new_there table typed effects given.owns given.parts_named given.accepted.fine given.accepted.effects_are given.stored
         sources_there plainly named has (laid named has) (λ p there. (supplied_there named has p there).0)
         (ordered.IsNumbered table typed effects given.accepted given.owns given.order given.answered given.passed given.still) (λ x. ⊥) (reverse given.order.first.formals)
         (λ x what out. out) (ordered.package_is_ordered table typed effects given.accepted given.owns given.order given.answered given.passed given.still named e)
         (λ p there x names lasts. absurd (names_none named e p there x names lasts)) (named_unheld named has)
-    | inr b ↦ new_there table typed effects given.owns given.parts_named given.accepted.fine given.accepted.effects_are (λ x anonymous. (local x anonymous).0)
+    | inr b ↦ new_there table typed effects given.owns given.parts_named given.accepted.fine given.accepted.effects_are given.stored
         sources_there plainly named has (laid named has) (λ p there. (supplied_there named has p there).0)
         (ordered.IsOwn table typed effects given.accepted given.owns given.order given.answered given.passed given.still) (λ x. is_package_object own x ≡ true)
         (reverse (b.0).formals) (λ x what out. (let both : false ≡ true = sym what.1 ∙ out in cc))
@@ -403,8 +562,8 @@ module _ (table : Table) (typed : TypedProgram) (effects : Effects) (given : IsV
       unmoved_there p has a acts name moved =
           let q = package_point p has in
           let kept : List ℕ = kept_roots own 0 own.objects (sub_facts own given.order.first packages.points) in
-          let found = (point_good program given.owns given.parts_named (λ x anonymous. (local x anonymous).0) given.order.first.result kept (q.0).pos (q.0).instr
-          (fine_there packages packages_in q.0 q.1)
+          let found = (point_good program given.owns given.parts_named (q.0).instr (given.stored (flow_sub own packages) (in_program packages packages_in) (flow_at own packages q.0) (in_sub packages packages_in q.0 q.1))
+          given.order.first.result kept (q.0).pos (fine_there packages packages_in q.0 q.1)
           (plainly (flow_sub own packages) (in_program packages packages_in) (flow_at own packages q.0) (in_sub packages packages_in q.0 q.1))
           (source_there packages packages_in q.0 q.1) a
           (subst (λ z. Has z a) (sym (acts_same packages packages_in q.0 q.1 given.order.first.result kept))

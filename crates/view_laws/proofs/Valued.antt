@@ -1,168 +1,114 @@
--- What waits at the points of a program in order: what functions give, of scalar types, or taken alone. What is named is no
--- temporary whose scope has an end; temporaries are of no anonymous access type.
-use Rattle.std.proofs.Common.{◌≡◌, refl, sym, ap, ◌∙◌, subst, ◌⊎◌, inl, inr, ℕ, zero, suc, ◌+◌, ◌<◌, Bool, true, false, ◌&&◌, ◌||◌, List, [], ◌∷◌, ◌++◌, map, take, drop, length, get_or, arith, Option, Some, None, is_some}
-use Rattle.std.specs.Prelude.{filter}
+-- What waits at the points of a program in order: what functions give, of scalar types, or of which a value is made, or alone.
+-- What is named is no temporary.
+use Rattle.std.proofs.Common.{◌≡◌, refl, sym, ap, ◌∙◌, subst, ◌⊎◌, inl, inr, ℕ, ◌<◌, Bool, true, false, ◌&&◌, ◌||◌, List, [], ◌∷◌, ◌++◌, map, take, drop, length, get_or, arith, Option, Some, None, is_some, if◌then◌else◌}
+use Rattle.std.specs.Prelude.{filter, not, nat_lt}
+use Rattle.std.specs.List.{AllByRecursion}
 use Rattle.spark_base.specs.declared.position.Pos.{Pos}
 use Rattle.spark_base.specs.Lists.{Has}
-use Rattle.spark_base.proofs.Lists.{Has-append_cases, Has-map, Has-map_from}
-use Rattle.type_definitions.specs.Entries.{integer, boolean}
+use Rattle.spark_base.proofs.Lists.{Has-append_right, Has-filter, Has-map}
+use Rattle.type_definitions.specs.Entries.{boolean}
 use Rattle.type_definitions.specs.Types.{Table, full, is_scalar}
-use Rattle.typed_tree.specs.Trees.{TypedTree, Name, NoMore, Parens, Aggregate, Alike, New}
+use Rattle.typed_tree.specs.Trees.{TypedTree, Name, Component, Designated, Element, Image, Parens, Unary, Binary, Short, IsNull, NoMore, Aggregate, Alike, New}
 use Rattle.typed_tree.specs.Trees as typed_tree
 use Rattle.typed_tree.specs.declared.object.Object.{Object}
 use Rattle.typed_tree.specs.declared.node.ShortCircuit.{ShortCircuit}
-use Rattle.typed_tree.specs.Programs.{TypedSub, TypedProgram, text_io}
+use Rattle.typed_tree.specs.Programs.{TypedProgram, text_io}
 use Rattle.flow_paths.specs.declared.report.Effects.{Effects}
-use Rattle.flow_paths.specs.Instructions.{Instruction, Declare, Assign, Call, Evaluate, Hold}
-use Rattle.flow_paths.specs.Objects.{Typing, Signature, object_at, sub_at, is_anonymous, is_package_object, has_scope_end, view_of}
-use Rattle.flow_paths.specs.Names.{has_call, waiting}
-use Rattle.flow_paths.specs.Points.{NamedPoint, FlowPoint}
-use Rattle.flow_paths.specs.Laid.{FlowSub, FlowProgram, NamedSub, Temporary, temporary_object, filled, result_of, unnumbered, named_subs, all_named, sub_points, flow_sub, typing_of, flow_typing, flow_program, flow_named}
+use Rattle.flow_paths.specs.Instructions.{Instruction, Declare, Assign, Call, Output, Input, Release, Test, Choose, Start, Evaluate, LeaveLoop, Hold}
+use Rattle.flow_paths.specs.Objects.{Typing, Signature, object_at, sub_at, traverses, is_anonymous, is_observer, is_package_object, has_scope_end, view_of}
+use Rattle.flow_paths.specs.Names.{has_call, whole_object}
+use Rattle.flow_paths.specs.Points.{NamedPoint}
+use Rattle.flow_paths.specs.Laid.{FlowProgram, NamedSub, temporary_object, result_of, named_subs, all_named, sub_points, flow_sub, typing_of, flow_typing, flow_program, flow_named}
 use Rattle.flow_paths.specs.Scopes.{taken, is_temporary}
 use Rattle.machine.specs.States.{sub_of}
-use Rattle.soundness.specs.Sound.{calls_procedures, is_temporary_object}
+use Rattle.typed_laws.specs.Needed.{IsFine, FirstSource, IsPlace, Returns}
+use Rattle.soundness.specs.Sound.{calls_procedures, is_temporary_object, IsEntered, IsNamedSub}
 use Rattle.soundness.specs.Ready.{stored_at, Fills}
-use Rattle.soundness.proofs.Points.{flow_at}
-use Rattle.soundness.proofs.Passing.{plain_type, signature_is}
+use Rattle.soundness.proofs.Points.{flow_at, named_has}
+use Rattle.soundness.proofs.Passing.{signature_is}
 use Rattle.soundness.proofs.Successors.{not_true}
 use Rattle.soundness.proofs.Typings.{Agree, flow_agrees}
 use Rattle.soundness.proofs.Waits.{no_waits}
-use Rattle.viewed_soundness.specs.Taken.{GivesPlainly, IsFed}
+use Rattle.viewed_soundness.specs.Taken.{GivesPlainly, type_given, types_taken, AreScalarTypes, TakesFit}
 use Rattle.viewed_soundness.proofs.Evaluated.{gives_plainly}
-use Rattle.scope_laws.specs.Alone.{CallsOnly, CallsWithin, GivesScalar, GivesNamed, IsMade as IsMadeTree}
+use Rattle.viewed_soundness.proofs.Outcomes.{named_plain}
+use Rattle.scope_laws.specs.Code.{roots}
+use Rattle.scope_laws.specs.Alone.{CallsOnly, SourceFits, InstructionFits, GivesScalar, GivesNamed, GivesSeen}
+use Rattle.scope_laws.specs.Fitted.{types, types_at, Pairs, FillsFit, RightFits, IsFitted}
+use Rattle.scope_laws.specs.Supplied.{IsKept}
 use Rattle.scope_laws.specs.Order.{named_in}
-use Rattle.scope_laws.proofs.Lists.{within_has}
-use Rattle.scope_laws.proofs.Given.{Takes, sub_given}
+use Rattle.scope_laws.proofs.Lists.{within_has, all_has}
+use Rattle.scope_laws.proofs.Given.{Takes as TakesIt, sub_given}
+use Rattle.scope_laws.proofs.Kept.{sub_kept}
+use Rattle.scope_laws.proofs.Fitted.{sub_fit}
 use Rattle.scope_laws.proofs.Filled.{temporaries_of, object_before}
-use Rattle.scope_laws.proofs.Results.{Gives, filled_typed, filled_by}
-use Rattle.scope_laws.proofs.Alone.{AllGood, TakesAsked, IsFine, sub_fine}
+use Rattle.scope_laws.proofs.Results.{Gives, filled_typed}
+use Rattle.layered_scopes.specs.Layered.{is_older}
+use Rattle.layered_scopes.specs.Points.{IsAbove}
+use Rattle.layered_scopes.proofs.Layered.{sub_good}
+use Rattle.ready_laws.specs.InOrder.{IsBody}
 use Rattle.ready_laws.proofs.Subs.{setting_from, IsOfBody, subs_of}
 use Rattle.ready_laws.proofs.Ready as ordered
 use Rattle.ready_laws.proofs.Ready.{seen_has, stored_named}
-use Rattle.viewed_steps.specs.Awaited.{IsMade, is_held, AreScalar, TakesScalars, IsTaken, FillsTyped, AreNamedResults}
+use Rattle.viewed_steps.specs.Awaited.{is_held, Fits, AreScalar, TakesScalars, IsMadeFor, types_for, AreFilled, StoresNone, IsTaken, TakesAlone, FillsTyped}
+use Rattle.viewed_steps.proofs.Sources.{leads_or}
 use Rattle.viewed_steps.specs.Sound.{IsScalarObject}
-use Rattle.viewed_steps.specs.Ready.{roots_passed, AreValued}
+use Rattle.viewed_steps.specs.Traversals.{GivesView}
+use Rattle.viewed_steps.specs.Ready.{roots_passed}
+use Rattle.view_laws.specs.InOrder.{is_name_of, is_list_end, is_any, stores_name, gives_view, fits}
 use Rattle.view_laws.specs.Program.{IsViewProgram}
 use Rattle.view_laws.proofs.Acts.{no_anonymous}
 use Rattle.view_laws.proofs.Formals.{passed_named}
 
 -- ---- lists
 
-pub dropped_has : (k : ℕ) (xs : List ℕ) (x : ℕ) → Has (drop k xs) x → Has xs x
-dropped_has zero [] x has = has
-dropped_has zero (y ∷ xs) x has = has
-dropped_has (suc k) [] x has = has
-dropped_has (suc k) (y ∷ xs) x has = inr (dropped_has k xs x has)
-
-pub beside_first : (k : ℕ) (t : ℕ) (xs : List ℕ) (x : ℕ) → Has (drop (suc k) (t ∷ xs)) x → Has xs x
-beside_first k t xs x has = dropped_has k xs x has
-
-taken_has : (k : ℕ) (xs : List ℕ) (x : ℕ) → Has (take k xs) x → Has xs x
-taken_has zero [] x has = has
-taken_has zero (y ∷ xs) x has = absurd has
-taken_has (suc k) [] x has = has
-taken_has (suc k) (y ∷ xs) x (inl same) = inl same
-taken_has (suc k) (y ∷ xs) x (inr has) = inr (taken_has k xs x has)
-
 take_none : (k : ℕ) (xs : List ℕ) → k ≡ 0 → take k xs ≡ []
 take_none k [] none = ap (λ n. take n []) none
 take_none k (x ∷ xs) none = ap (λ n. take n (x ∷ xs)) none
 
-list_tails : (x y : ℕ) (xs ys : List ℕ) → x ∷ xs ≡ y ∷ ys → xs ≡ ys
-list_tails x y xs ys e = cc
+pub all_there : {A : Type 0} (P : A → Type 0) (xs : List A) → ((x : A) → Has xs x → P x) → AllByRecursion P xs
+all_there P [] each = tt
+all_there P (x ∷ xs) each = (each x (inl refl), all_there P xs (λ y has. each y (inr has)))
 
-flat_from : (subs : List NamedSub) (t : Temporary) → Has (temporaries_of subs) t → (m : NamedSub) × Has subs m × Has m.temporaries t
-flat_from [] t has = absurd has
-flat_from (m ∷ subs) t has = elim (Has-append_cases m.temporaries (temporaries_of subs) t has) [
-  | inl here ↦ (m, inl refl, here)
-  | inr more ↦ (let found = flat_from subs t more in (found.0, inr found.1, found.2))
-]
+-- ---- types
 
--- a temporary among objects that are followed by those of some temporaries
-temporary_from : (os : List Object) (ts : List Temporary) → ((x : ℕ) → is_temporary (get_or os x text_io).kind ≡ false) → (x : ℕ)
-    → is_temporary (get_or (os ++ map temporary_object ts) x text_io).kind ≡ true
-    → (t : Temporary) × Has ts t × ((get_or (os ++ map temporary_object ts) x text_io).of ≡ t.of)
-temporary_from [] [] lasts x is = (let no : false ≡ true = is in cc)
-temporary_from [] (t ∷ ts) lasts zero is = (t, inl refl, refl)
-temporary_from [] (t ∷ ts) lasts (suc x) is = (let found = temporary_from [] ts lasts x is in (found.0, inr found.1, found.2))
-temporary_from (o ∷ os) ts lasts zero is = (let no : false ≡ true = sym (lasts zero) ∙ is in cc)
-temporary_from (o ∷ os) ts lasts (suc x) is = temporary_from os ts (λ y. lasts (suc y)) x is
+-- The types of what an expression takes are those of its calls and truth values.
+types_same : (s : Typing) (e : TypedTree) → types (λ n. type_given (sub_at s n).result) boolean e ≡ types_taken s e
+unfolding types types_taken
+types_same s (typed_tree.Call p sub actuals) = refl
+types_same s (Name p x steps t) = types_same s steps
+types_same s (Component i rest) = types_same s rest
+types_same s (Designated rest) = types_same s rest
+types_same s (Element index low high rest) = (λ j. types_same s rest j ++ types_same s index j)
+types_same s (Image t e) = types_same s e
+types_same s (Parens e) = types_same s e
+types_same s (Unary op e) = types_same s e
+types_same s (Binary op a b) = (λ j. types_same s b j ++ types_same s a j)
+types_same s (Short op p a q b) = (λ j. if has_call b then boolean ∷ [] else types_same s b j ++ types_same s a j)
+types_same s (IsNull equal e) = types_same s e
+types_same s (Aggregate t parts) = types_same s parts
+types_same s (Alike t e) = types_same s e
+types_same s (New t v) = types_same s v
+types_same s (typed_tree.More e rest) = (λ j. types_same s rest j ++ types_same s e j)
+types_same s _ = refl
 
--- ---- what is taken alone
+scalar_both : (s : Typing) (ts us : List ℕ) → AreScalarTypes s ts → AreScalarTypes s us → AreScalarTypes s (ts ++ us)
+scalar_both s [] us h g = g
+scalar_both s (t ∷ ts) us h g = (h.0, scalar_both s ts us h.1 g)
 
-pub takes_one : (i : Instruction) (q : Pos) (n : ℕ) (a : TypedTree) → Takes i (typed_tree.Call q n a) → (k : ℕ) × (taken i ≡ suc k)
-unfolding waiting
-takes_one i q n a (inl (x, is)) = (0, ap taken is)
-takes_one i q n a (inr (inl (p, x, path, u, is, none))) = (waiting path, ap taken is ∙ (let one : 1 + waiting path ≡ suc (waiting path) = omega arith in one))
-takes_one i q n a (inr (inr is)) = (0, ap taken is)
+scalar_if : (s : Typing) (c : Bool) (ts us : List ℕ) → AreScalarTypes s ts → AreScalarTypes s us → AreScalarTypes s (if c then ts else us)
+scalar_if s true ts us h g = h
+scalar_if s false ts us h g = g
 
-no_call_taken : (i : Instruction) (q : Pos) (n m : ℕ) (a b : TypedTree) (r : Option ℕ) → Takes i (typed_tree.Call q n a) → i ≡ Call m b r → ⊥
-no_call_taken i q n m a b r (inl (x, is)) call = (let both : Declare x (typed_tree.More (typed_tree.Call q n a) NoMore) ≡ Call m b r = sym is ∙ call in cc)
-no_call_taken i q n m a b r (inr (inl (p, x, path, u, is, none))) call = (let both : Assign (Name p x path u) (typed_tree.Call q n a) ≡ Call m b r = sym is ∙ call in cc)
-no_call_taken i q n m a b r (inr (inr is)) call = (let both : Hold (typed_tree.More (typed_tree.Call q n a) NoMore) ≡ Call m b r = sym is ∙ call in cc)
+declared_fit : (a n l g : Bool) → a ≡ true → not a || ((n && l) || g) ≡ true → n || g ≡ true
+declared_fit true true l g view e = refl
+declared_fit true false l true view e = refl
+declared_fit true false l false view e = cc
+declared_fit false n l g view e = cc
 
--- ---- one call within an aggregate or an allocator
-
-mutual
-  unfolding CallsWithin waiting
-
-  pub within_waits : (ask : ℕ → Type 0) (n : ℕ) (e : TypedTree) → CallsWithin ask n e → waiting e ≡ 1
-  within_waits ask n (typed_tree.Call p sub actuals) calls = refl
-  within_waits ask n (Parens e) calls = within_waits ask n e calls
-  within_waits ask n (New t (typed_tree.More e more)) (calls, none) =
-      (let one = within_waits ask n e calls in let nothing = no_waits more none in omega (arith, one, nothing))
-  within_waits ask n (Aggregate t es) calls = within_waits ask n es calls
-  within_waits ask n (typed_tree.More e more) (inl (calls, none)) =
-      (let one = within_waits ask n e calls in let nothing = no_waits more none in omega (arith, one, nothing))
-  within_waits ask n (typed_tree.More e more) (inr (none, calls)) =
-      (let one = within_waits ask n more calls in let nothing = no_waits e none in omega (arith, one, nothing))
-  within_waits ask n e calls = absurd calls
-
-mutual
-  unfolding CallsWithin IsFed
-
-  within_fed : (s : Typing) (ask : ℕ → Type 0) (n of : ℕ) → (sub_at s n).result ≡ Some of → (e : TypedTree) → CallsWithin ask n e → IsFed s of e
-  within_fed s ask n of result (typed_tree.Call p sub actuals) calls = ap (λ m. (sub_at s m).result) calls.0 ∙ result
-  within_fed s ask n of result (Parens e) calls = within_fed s ask n of result e calls
-  within_fed s ask n of result (New t (typed_tree.More e more)) calls = (within_fed s ask n of result e calls.0, calls.1)
-  within_fed s ask n of result (Aggregate t es) calls = within_fed s ask n of result es calls
-  within_fed s ask n of result (typed_tree.More e more) (inl calls) = inl (within_fed s ask n of result e calls.0, calls.1)
-  within_fed s ask n of result (typed_tree.More e more) (inr calls) = inr (calls.0, within_fed s ask n of result more calls.1)
-  within_fed s ask n of result e calls = absurd calls
-
-mutual
-  unfolding CallsWithin GivesPlainly
-
-  within_gives : (s : Typing) (ask : ℕ → Type 0) (n : ℕ) → GivesScalar s n → (e : TypedTree) → CallsWithin ask n e → GivesPlainly s e
-  within_gives s ask n scalar (typed_tree.Call p sub actuals) calls = λ k is. scalar k (ap (λ m. (sub_at s m).result) (sym calls.0) ∙ is)
-  within_gives s ask n scalar (Parens e) calls = within_gives s ask n scalar e calls
-  within_gives s ask n scalar (New t (typed_tree.More e more)) calls = (within_gives s ask n scalar e calls.0, gives_plainly s more (inl calls.1))
-  within_gives s ask n scalar (Aggregate t es) calls = within_gives s ask n scalar es calls
-  within_gives s ask n scalar (typed_tree.More e more) (inl calls) = (within_gives s ask n scalar e calls.0, gives_plainly s more (inl calls.1))
-  within_gives s ask n scalar (typed_tree.More e more) (inr calls) = (gives_plainly s e (inl calls.0), within_gives s ask n scalar more calls.1)
-  within_gives s ask n scalar e calls = absurd calls
-
-made_there : (e : TypedTree) → IsMadeTree e → IsMade e
-made_there (Parens e) made = made_there e made
-made_there (Aggregate t es) made = tt
-made_there (New t v) made = tt
-made_there e made = absurd made
-
-pub takes_within : (i : Instruction) (e : TypedTree) → Takes i e → waiting e ≡ 1 → taken i ≡ 1
-unfolding waiting
-takes_within i e (inl (x, is)) one = ap taken is ∙ (let same : waiting e + 0 ≡ 1 = omega (arith, one) in same)
-takes_within i e (inr (inl (p, x, path, u, is, none))) one =
-    ap taken is ∙ (let nothing = no_waits path none in let same : waiting e + waiting path ≡ 1 = omega (arith, one, nothing) in same)
-takes_within i e (inr (inr is)) one = ap taken is ∙ (let same : waiting e + 0 ≡ 1 = omega (arith, one) in same)
-
-pub no_call_takes : (i : Instruction) (e : TypedTree) (m : ℕ) (b : TypedTree) (r : Option ℕ) → Takes i e → i ≡ Call m b r → ⊥
-no_call_takes i e m b r (inl (x, is)) call = (let both : Declare x (typed_tree.More e NoMore) ≡ Call m b r = sym is ∙ call in cc)
-no_call_takes i e m b r (inr (inl (p, x, path, u, is, none))) call = (let both : Assign (Name p x path u) e ≡ Call m b r = sym is ∙ call in cc)
-no_call_takes i e m b r (inr (inr is)) call = (let both : Hold (typed_tree.More e NoMore) ≡ Call m b r = sym is ∙ call in cc)
-
--- an object is declared with this value, or it is assigned
-abbrev pub IsSourceOf : Instruction → TypedTree → Type 0
-IsSourceOf i e = ((x : ℕ) × (rest : TypedTree) × (i ≡ Declare x (typed_tree.More e rest))) ⊎ ((target : TypedTree) × (i ≡ Assign target e))
+stored_fit : (a n g : Bool) → a ≡ true → (not a || n) || g ≡ true → n || g ≡ true
+stored_fit true n g view e = e
+stored_fit false n g view e = cc
 
 module _ (table : Table) (typed : TypedProgram) (effects : Effects) (given : IsViewProgram table typed effects) where
   abbrev program : FlowProgram
@@ -178,51 +124,147 @@ module _ (table : Table) (typed : TypedProgram) (effects : Effects) (given : IsV
   alike = flow_agrees table typed
 
   -- functions with results of scalar types, and those that may stand alone
-  abbrev Asked : ℕ → Type 0
+  abbrev pub Asked : ℕ → Type 0
   Asked n = GivesScalar own n
 
-  abbrev May : ℕ → Type 0
+  abbrev pub May : ℕ → Type 0
   May n = GivesNamed own n
 
   pub weaker : (n : ℕ) → Asked n → May n
   weaker n scalar t is = no_anonymous (full own.table t) (scalar t is)
 
-  -- a temporary of a scalar type, or no temporary
-  abbrev Good : ℕ → Type 0
-  Good x = is_temporary_object s x ≡ true → IsScalarObject s x
-
-  good_unheld : (x : ℕ) → Good x → is_held s x ≡ false
-  good_unheld x good = by_kind (is_temporary_object s x) refl
-    where
-      by_kind : (b : Bool) → is_temporary_object s x ≡ b → b && has_scope_end s x ≡ false
-      by_kind false is = refl
-      by_kind true is = (let scalar = good is in (λ j. plain_type s given.owns (object_at s x).of scalar j || no_anonymous (view_of s x) scalar j))
-
-  good_object : (x : ℕ) → is_temporary_object s x ≡ false → Good x
-  good_object x none is = (let no : false ≡ true = sym none ∙ is in cc)
+  -- what is taken alone
+  abbrev pub Single : ℕ → Type 0
+  Single n = GivesSeen own n
 
   -- ---- objects and results
 
   -- What is there by the text is no temporary.
-  text_object : (x : ℕ) → x < length typed.objects → is_temporary_object s x ≡ false
+  pub text_object : (x : ℕ) → x < length typed.objects → is_temporary_object s x ≡ false
   unfolding flow_program
   text_object x less =
       ap (λ (o : Object). is_temporary o.kind) (object_before typed.objects (map temporary_object (temporaries_of (flow_named table typed))) x text_io less) ∙ given.order.lasting x
 
-  shared_object : (x : ℕ) → is_package_object own x ≡ true → is_temporary_object s x ≡ false
+  pub shared_object : (x : ℕ) → is_package_object own x ≡ true → is_temporary_object s x ≡ false
   shared_object x shared = elim (alike.object x) [
     | inl same ↦ ap (λ (o : Object). is_temporary o.kind) same ∙ given.order.lasting x
     | inr others ↦ absurd (let no : false ≡ true = sym others.1.2 ∙ shared in cc)
   ]
 
-  sub_same : (n : ℕ) → sub_at s n ≡ sub_at own n
+  pub sub_same : (n : ℕ) → sub_at s n ≡ sub_at own n
   sub_same n = ap (λ (subs : List Signature). get_or subs n (record { formals = []; result = None })) alike.subs
 
-  result_same : (n : ℕ) → (sub_of program n).result ≡ (sub_at own n).result
+  pub result_same : (n : ℕ) → (sub_of program n).result ≡ (sub_at own n).result
   result_same n = sym (ap (λ (z : Signature). z.result) (signature_is program n)) ∙ ap (λ (z : Signature). z.result) (sub_same n)
+
+  abbrev given_type : ℕ → ℕ
+  given_type n = type_given (sub_at s n).result
 
   scalar_there : (n : ℕ) → Asked n → GivesScalar s n
   scalar_there n asked t is = ap (λ (rows : Table). is_scalar (full rows t)) alike.table ∙ asked t (sym (ap (λ (z : Signature). z.result) (sub_same n)) ∙ is)
+
+  scalar_given : (n : ℕ) → Asked n → is_scalar (full s.table (given_type n)) ≡ true
+  scalar_given n asked = by (sub_at s n).result (scalar_there n asked)
+    where
+      by : (r : Option ℕ) → ((t : ℕ) → r ≡ Some t → is_scalar (full s.table t) ≡ true) → is_scalar (full s.table (type_given r)) ≡ true
+      by None scalar = given.integers
+      by (Some t) scalar = scalar t refl
+
+  -- ---- what is taken
+
+  -- where functions with scalar results alone are called, the types are scalar
+  calls_scalar : (e : TypedTree) → CallsOnly Asked e → AreScalarTypes s (types given_type boolean e)
+  unfolding CallsOnly types
+  calls_scalar (typed_tree.Call p n actuals) asked = (scalar_given n asked.0, tt)
+  calls_scalar (Name p x steps t) asked = calls_scalar steps asked
+  calls_scalar (Component i rest) asked = calls_scalar rest asked
+  calls_scalar (Designated rest) asked = calls_scalar rest asked
+  calls_scalar (Element index low high rest) (first, second) = scalar_both s (types given_type boolean rest) (types given_type boolean index) (calls_scalar rest second) (calls_scalar index first)
+  calls_scalar (Image t e) asked = calls_scalar e asked
+  calls_scalar (Parens e) asked = calls_scalar e asked
+  calls_scalar (Unary op e) asked = calls_scalar e asked
+  calls_scalar (Binary op a b) (first, second) = scalar_both s (types given_type boolean b) (types given_type boolean a) (calls_scalar b second) (calls_scalar a first)
+  calls_scalar (Short op p a q b) (first, second) =
+      scalar_if s (has_call b) (boolean ∷ []) (types given_type boolean b ++ types given_type boolean a) (given.truths, tt)
+      (scalar_both s (types given_type boolean b) (types given_type boolean a) (calls_scalar b second) (calls_scalar a first))
+  calls_scalar (IsNull equal e) asked = calls_scalar e asked
+  calls_scalar (Aggregate t parts) asked = calls_scalar parts asked
+  calls_scalar (Alike t e) asked = calls_scalar e asked
+  calls_scalar (New t v) asked = calls_scalar v asked
+  calls_scalar (typed_tree.More e rest) (first, second) = scalar_both s (types given_type boolean rest) (types given_type boolean e) (calls_scalar rest second) (calls_scalar e first)
+  calls_scalar _ asked = tt
+
+  taken_scalar : (e : TypedTree) → CallsOnly Asked e → AreScalarTypes s (types_taken s e)
+  taken_scalar e asked = subst (AreScalarTypes s) (types_same s e) (calls_scalar e asked)
+
+  takes_fit : (e : TypedTree) → SourceFits Asked May e → TakesFit s e
+  unfolding SourceFits TakesFit
+  takes_fit (typed_tree.Call p n actuals) asked = tt
+  takes_fit (Parens e) asked = takes_fit e asked
+  takes_fit (Aggregate t es) asked = takes_fit es asked
+  takes_fit (Alike t e) asked = takes_fit e asked
+  takes_fit (New t v) asked = takes_fit v asked
+  takes_fit (typed_tree.More e rest) (first, second) = (takes_fit e first, takes_fit rest second)
+  takes_fit e asked = taken_scalar e asked
+
+  gives_only : (e : TypedTree) → CallsOnly Asked e → GivesPlainly s e
+  unfolding CallsOnly GivesPlainly
+  gives_only (typed_tree.Call p n actuals) asked = scalar_there n asked.0
+  gives_only (Parens e) asked = gives_only e asked
+  gives_only (Aggregate t es) asked = gives_only es asked
+  gives_only (Alike t e) asked = gives_only e asked
+  gives_only (New t v) asked = gives_only v asked
+  gives_only (typed_tree.More e rest) asked = (gives_only e asked.0, gives_only rest asked.1)
+  gives_only _ asked = tt
+
+  -- a temporary that fits a type
+  abbrev FitsHeld : ℕ → ℕ → Type 0
+  FitsHeld t x = Fits s t x × (is_temporary_object s x ≡ true)
+
+  held_first : (x : ℕ) (xs : List ℕ) → is_temporary_object s x ≡ true → filter (is_temporary_object s) (x ∷ xs) ≡ x ∷ filter (is_temporary_object s) xs
+  held_first x xs is = by (is_temporary_object s x) is
+    where
+      by : (b : Bool) → b ≡ true → (if b then x ∷ filter (is_temporary_object s) xs else filter (is_temporary_object s) xs) ≡ x ∷ filter (is_temporary_object s) xs
+      by true same = refl
+      by false same = cc
+
+  pairs_scalar : (ts xs : List ℕ) → Pairs FitsHeld ts xs → AreScalarTypes s ts → AreScalar s (filter (is_temporary_object s) xs)
+  pairs_scalar [] [] pairs scalar = tt
+  pairs_scalar [] (x ∷ xs) pairs scalar = absurd pairs
+  pairs_scalar (t ∷ ts) [] pairs scalar = absurd pairs
+  pairs_scalar (t ∷ ts) (x ∷ xs) pairs scalar =
+      subst (AreScalar s) (sym (held_first x xs pairs.0.1))
+      (elim pairs.0.0 [ inl both ↦ both.1 | inr same ↦ ap (λ k. is_scalar (full s.table k)) (sym same) ∙ scalar.0 ], pairs_scalar ts xs pairs.1 scalar.1)
+
+  pairs_filled : (ts xs : List ℕ) → Pairs FitsHeld ts xs → AreFilled s ts (filter (is_temporary_object s) xs)
+  pairs_filled [] [] pairs = tt
+  pairs_filled [] (x ∷ xs) pairs = absurd pairs
+  pairs_filled (t ∷ ts) [] pairs = absurd pairs
+  pairs_filled (t ∷ ts) (x ∷ xs) pairs = subst (AreFilled s (t ∷ ts)) (sym (held_first x xs pairs.0.1)) (pairs.0.0, pairs_filled ts xs pairs.1)
+
+  -- an instruction that stores no value takes scalar ones
+  plain_types : (i : Instruction) → StoresNone i → InstructionFits Asked May Single i → AreScalarTypes s (types_at given_type boolean i)
+  plain_types (Call n actuals (Some t)) none (may, asked) = calls_scalar actuals asked
+  plain_types (Call n actuals None) none asked = calls_scalar actuals asked
+  plain_types (Output text line) none asked = calls_scalar text asked
+  plain_types (Input target) none asked = calls_scalar target asked
+  plain_types (Release m) none asked = calls_scalar m asked
+  plain_types (Test e) none asked = calls_scalar e asked
+  plain_types (Choose e choices) none asked = calls_scalar e asked
+  plain_types (Start x reversed low high) none (first, second) =
+      scalar_both s (types given_type boolean high) (types given_type boolean low) (calls_scalar high second) (calls_scalar low first)
+  plain_types (Evaluate t e left) none asked = calls_scalar e asked
+  plain_types (LeaveLoop e) none asked = calls_scalar e asked
+  plain_types (Declare x v) none asked = absurd none
+  plain_types (Assign target e) none asked = absurd none
+  plain_types (Hold v) none asked = absurd none
+  plain_types i none asked = tt
+
+  plain_stores : (i : Instruction) → StoresNone i → TakesScalars s i
+  plain_stores (Declare x v) none = absurd none
+  plain_stores (Assign target e) none = absurd none
+  plain_stores (Hold v) none = absurd none
+  plain_stores i none = tt
 
   -- ---- subprograms
 
@@ -259,11 +301,11 @@ module _ (table : Table) (typed : TypedProgram) (effects : Effects) (given : IsV
     pub body : IsOfBody own given.order.rest named
     body = subs_of own (length own.objects) given.order.rest named (omega arith) inside
 
-    in_points : (r : NamedPoint) → Has (sub_points (setting_from own (body.2) (body.0)) (body.0)) r → Has named.points r
+    pub in_points : (r : NamedPoint) → Has (sub_points (setting_from own (body.2) (body.0)) (body.0)) r → Has named.points r
     in_points r there = subst (λ (z : NamedSub). Has z.points r) (body.4) there
 
     -- the temporary that a call fills
-    call_type : (r : NamedPoint) → Has named.points r → (n : ℕ) (a : TypedTree) (t : ℕ) → r.instr ≡ Call n a (Some t) → (u : ℕ) × ((sub_at own n).result ≡ Some u) × ((object_at s t).of ≡ u)
+    pub call_type : (r : NamedPoint) → Has named.points r → (n : ℕ) (a : TypedTree) (t : ℕ) → r.instr ≡ Call n a (Some t) → (u : ℕ) × ((sub_at own n).result ≡ Some u) × ((object_at s t).of ≡ u)
     call_type r there n a t is =
         let one = answers_one named has r there n a t is in (
           one.0,
@@ -271,213 +313,139 @@ module _ (table : Table) (typed : TypedProgram) (effects : Effects) (given : IsV
           filled_there named inside r there t (result_of (sub_at own n).result) (subst (λ i. Gives own i t (result_of (sub_at own n).result)) (sym is) (refl, refl)) ∙ ap result_of one.1,
         )
 
-    scalar_object : (t u : ℕ) → (object_at s t).of ≡ u → is_scalar (full own.table u) ≡ true → IsScalarObject s t
-    scalar_object t u is scalar = (λ j. is_scalar (full (alike.table j) (is j))) ∙ scalar
-
-    fills_good : (r : NamedPoint) → Has named.points r → (n : ℕ) (a : TypedTree) (t : ℕ) → r.instr ≡ Call n a (Some t) → Asked n → Good t
-    fills_good r there n a t is asked temporary = (let found = call_type r there n a t is in scalar_object t found.0 found.2 (asked found.0 found.1))
-
-    truth_type : (r : NamedPoint) → Has named.points r → (t : ℕ) (e : TypedTree) (op : ShortCircuit) → r.instr ≡ Evaluate t e (Some op) → IsScalarObject s t
+    pub truth_type : (r : NamedPoint) → Has named.points r → (t : ℕ) (e : TypedTree) (op : ShortCircuit) → r.instr ≡ Evaluate t e (Some op) → IsScalarObject s t
     truth_type r there t e op is =
         ap (λ k. is_scalar (full s.table k)) (filled_there named inside r there t boolean (subst (λ i. Gives own i t boolean) (sym is) (refl, refl))) ∙ given.truths
 
-    point_fine : (p : NamedPoint) → Has named.points p → IsFine (sub_points (setting_from own (body.2) (body.0)) (body.0)) Asked May Good p
-    point_fine p there =
-        sub_fine (setting_from own (body.2) (body.0)) (body.0) Asked May Good weaker (λ r at. fills_good r (in_points r at)) (λ r at t e op is temporary. truth_type r (in_points r at) t e op is)
-        (given.results (body.0) (body.1))
-        (λ x object. good_object x (text_object x ((given.order.bodies (body.0) (ordered.in_subs table typed effects given.accepted given.owns given.order given.answered given.passed given.still (body.0) (body.1))).numbered x object).1))
-        p (subst (λ (z : NamedSub). Has z.points p) (sym (body.4)) there)
+    abbrev pub laid_points : List NamedPoint
+    laid_points = sub_points (setting_from own (body.2) (body.0)) (body.0)
 
-    -- What is left in scope is good.
-    left_good : (p : NamedPoint) → Has named.points p → AllGood Good (drop (taken p.instr) p.scope)
-    left_good p there x in_left = elim (point_fine p there) [
-      | inl (all, asked) ↦ all x (dropped_has (taken p.instr) p.scope x in_left)
-      | inr (inr (t, rest, scope, all, e, n, takes, calls, made, may, r, at, a, call)) ↦ (
-          let one = takes_within p.instr e takes (within_waits Asked n e calls) in
-          all x (beside_first 0 t rest x (subst (λ xs. Has (drop 1 xs) x) scope (subst (λ k. Has (drop k p.scope) x) one in_left))))
-      | inr (inl (t, rest, scope, all, q, n, a, takes, may)) ↦ (
-          let one = takes_one p.instr q n a takes in
-          all x (beside_first one.0 t rest x (subst (λ xs. Has (drop (suc one.0) xs) x) scope (subst (λ k. Has (drop k p.scope) x) one.1 in_left))))
+    pub in_laid : (p : NamedPoint) → Has named.points p → Has laid_points p
+    in_laid p there = subst (λ (z : NamedSub). Has z.points p) (sym (body.4)) there
+
+    in_text : IsBody own (body.0)
+    in_text = given.order.bodies (body.0) (ordered.in_subs table typed effects given.accepted given.owns given.order given.answered given.passed given.still (body.0) (body.1))
+
+    fills_held : (r : NamedPoint) → Has named.points r → Fills s r.instr (drop (taken r.instr) r.scope)
+    fills_held r there = (ordered.supplied_there table typed effects given.accepted given.owns given.order given.answered given.passed given.still named has r there).1
+
+    filling : (r : NamedPoint) → Has named.points r → FillsFit FitsHeld given_type boolean r.instr
+    filling r there = by r.instr refl (fills_held r there)
+      where
+        by : (i : Instruction) → r.instr ≡ i → Fills s i (drop (taken r.instr) r.scope) → FillsFit FitsHeld given_type boolean i
+        by (Call n a (Some t)) is temporary = (
+          (let found = call_type r there n a t is in inr (ap type_given (ap (λ (z : Signature). z.result) (sub_same n) ∙ found.1) ∙ sym found.2)),
+          temporary,
+        )
+        by (Evaluate t e (Some op)) is temporary = (inl (given.truths, truth_type r there t e op is), temporary)
+        by (Call n a None) is temporary = tt
+        by (Evaluate t e None) is temporary = tt
+        by i is temporary = tt
+
+    pub fitted_there : (p : NamedPoint) → Has named.points p → IsFitted FitsHeld given_type boolean Asked May Single p
+    fitted_there p there =
+        all_has (IsFitted FitsHeld given_type boolean Asked May Single) laid_points p
+        (sub_fit FitsHeld given_type boolean Asked May Single weaker (setting_from own (body.2) (body.0)) (body.0) (given.results (body.0) (body.1))
+        (all_there (λ (r : NamedPoint). FillsFit FitsHeld given_type boolean r.instr) laid_points (λ r at. filling r (in_points r at))))
+        (in_laid p there)
+
+    -- What is named is no temporary.
+    abbrev lasts : ℕ → Bool
+    lasts x = not (is_temporary_object s x)
+
+    kept_there : (p : NamedPoint) → Has named.points p → IsKept (is_package_object own) lasts p
+    kept_there p there =
+        all_has (IsKept (is_package_object own) lasts) laid_points p
+        (sub_kept (is_package_object own) lasts (setting_from own (body.2) (body.0)) (body.0) (λ x object. ap not (text_object x (in_text.numbered x object).1)) (given.order.local (body.0) (body.1)).seen)
+        (in_laid p there)
+
+    named_lasts : (p : NamedPoint) → Has named.points p → (x : ℕ) → Has (named_in p.instr) x → is_temporary_object s x ≡ false
+    named_lasts p there x names = elim (seen_has (is_package_object own) (filter lasts p.scope) (named_in p.instr) x (kept_there p there) names) [
+      | inl outer ↦ shared_object x outer
+      | inr within ↦ not_true (is_temporary_object s x) (Has-filter lasts p.scope x (within_has x (filter lasts p.scope) within)).1
     ]
 
-    named_good : (p : NamedPoint) → Has named.points p → (x : ℕ) → Has (named_in p.instr) x → Good x
-    named_good p there x names = elim (seen_has (is_package_object own) (drop (taken p.instr) p.scope) (named_in p.instr) x
-        (ordered.body_is_left table typed effects given.accepted given.owns given.order given.answered given.passed given.still named body p there) names) [
-          | inl outer ↦ good_object x (shared_object x outer)
-          | inr within ↦ left_good p there x (within_has x (drop (taken p.instr) p.scope) within)
-        ]
-
-    -- So what is named is no temporary whose scope has an end.
     pub body_unheld : (p : NamedPoint) → Has named.points p → (x : ℕ) → Has (named_in p.instr) x → is_held s x ≡ false
-    body_unheld p there x names = good_unheld x (named_good p there x names)
+    body_unheld p there x names = ap (λ b. b && has_scope_end s x) (named_lasts p there x names)
 
     -- ---- what is taken
 
-    scalars : (xs : List ℕ) → AllGood Good xs → AreScalar s (filter (is_temporary_object s) xs)
-    scalars [] all = tt
-    scalars (x ∷ xs) all = one (is_temporary_object s x) refl (scalars xs (λ y more. all y (inr more)))
+    fine_there : (p : NamedPoint) → Has named.points p → IsFine s named.sub.result p.instr
+    fine_there p there =
+        given.accepted.fine (flow_sub own named) (ordered.in_program table typed effects given.accepted given.owns given.order given.answered given.passed given.still named has) (flow_at own named p)
+        (Has-map (λ (q : NamedPoint). flow_at own named q) named.points p there)
+
+    above_there : (p : NamedPoint) → Has named.points p → IsAbove (is_older own typed.scopes) (fits own) p
+    above_there p there =
+        let layered = given.views.layered (body.0) (body.1) in
+        all_has (IsAbove (is_older own typed.scopes) (fits own)) named.points p
+        (subst (λ (z : NamedSub). AllByRecursion (IsAbove (is_older own typed.scopes) (fits own)) z.points) (body.4)
+        (sub_good (setting_from own (body.2) (body.0)) (is_older own typed.scopes) (fits own) layered.0 (body.0) in_text.settled layered.1).0) there
+
+    -- what a lone call gives, which sees, is the last temporary
+    pub lone_taken : (p : NamedPoint) → Has named.points p → (q : Pos) (n : ℕ) (a : TypedTree) → TakesIt p.instr (typed_tree.Call q n a) → Single n
+        → (alone : TakesAlone s p) × (p.scope ≡ alone.0 ∷ alone.1)
+    lone_taken p there q n a takes (t, answer, view) =
+        let given_by = sub_given (setting_from own (body.2) (body.0)) (body.0) p (in_laid p there) q n a takes in
+        let found = call_type given_by.3 (in_points given_by.3 given_by.4) n a given_by.0 given_by.5 in
+        let same : found.0 ≡ t = (let both : Some found.0 ≡ Some t = sym found.1 ∙ answer in cc) in
+        let of : (object_at s given_by.0).of ≡ t = found.2 ∙ same in
+        let seen : is_anonymous (full s.table (object_at s given_by.0).of) ≡ true = (λ j. is_anonymous (full (alike.table j) (of j))) ∙ view in (
+          (
+            given_by.0,
+            given_by.1,
+            given_by.2,
+            q,
+            n,
+            a,
+            ap (λ (z : Signature). z.result) (sub_same n) ∙ answer ∙ ap (λ k. Some k) (sym of),
+            not_scalar (is_scalar (full s.table (object_at s given_by.0).of)) (λ scalar. (let never : true ≡ false = sym seen ∙ no_anonymous (full s.table (object_at s given_by.0).of) scalar in cc)),
+            takes,
+          ),
+          given_by.2,
+        )
       where
-        one : (b : Bool) → is_temporary_object s x ≡ b → AreScalar s (filter (is_temporary_object s) xs) → AreScalar s (filter (is_temporary_object s) (x ∷ xs))
-        one true is more = subst (AreScalar s) (sym (let first : filter (is_temporary_object s) (x ∷ xs) ≡ x ∷ filter (is_temporary_object s) xs = rw is refl in first)) (all x (inl refl) is, more)
-        one false is more = subst (AreScalar s) (sym (let others : filter (is_temporary_object s) (x ∷ xs) ≡ filter (is_temporary_object s) xs = rw is refl in others)) more
-
-    gives_only : (e : TypedTree) → CallsOnly Asked e → GivesPlainly s e
-    unfolding CallsOnly GivesPlainly
-    gives_only (typed_tree.Call p n actuals) asked = scalar_there n asked.0
-    gives_only (Parens e) asked = gives_only e asked
-    gives_only (Aggregate t es) asked = gives_only es asked
-    gives_only (Alike t e) asked = gives_only e asked
-    gives_only (New t v) asked = gives_only v asked
-    gives_only (typed_tree.More e rest) asked = (gives_only e asked.0, gives_only rest asked.1)
-    gives_only _ asked = tt
-
-    takes_scalars : (i : Instruction) → TakesAsked Asked May i → TakesScalars s i
-    takes_scalars (Declare x v) asked = gives_only v asked
-    takes_scalars (Assign target e) asked = gives_only e asked
-    takes_scalars (Hold v) asked = gives_only v asked
-    takes_scalars i asked = tt
-
-    -- one call of a scalar type
-    call_scalars : (i : Instruction) (q : Pos) (n : ℕ) (a : TypedTree) → Takes i (typed_tree.Call q n a) → GivesScalar s n → TakesScalars s i
-    unfolding GivesPlainly
-    call_scalars i q n a (inl (x, is)) scalar = subst (TakesScalars s) (sym is) (scalar, tt)
-    call_scalars i q n a (inr (inl (p, x, path, u, is, none))) scalar = subst (TakesScalars s) (sym is) scalar
-    call_scalars i q n a (inr (inr is)) scalar = subst (TakesScalars s) (sym is) (scalar, tt)
-
-    body_takes : (p : NamedPoint) → Has named.points p → IsTaken s p
-    unfolding GivesPlainly
-    body_takes p there = elim (point_fine p there) [
-      | inl (all, asked) ↦ inl (scalars (take (taken p.instr) p.scope) (λ x more. all x (taken_has (taken p.instr) p.scope x more)), takes_scalars p.instr asked)
-      | inr (inr (t, rest, scope, all, e, n, takes, calls, made, may, r, at, a, call)) ↦ within t rest scope all e n takes calls made r at a call
-      | inr (inl (t, rest, scope, all, q, n, a, takes, may)) ↦ alone t rest scope all q n a takes
-          (sub_given (setting_from own (body.2) (body.0)) (body.0) p (subst (λ (z : NamedSub). Has z.points p) (sym (body.4)) there) q n a takes)
-    ]
-      where
-        within_scalars : (i : Instruction) (e : TypedTree) (n : ℕ) → Takes i e → CallsWithin Asked n e → GivesScalar s n → TakesScalars s i
-        within_scalars i e n (inl (x, is)) calls scalar = subst (TakesScalars s) (sym is) (within_gives s Asked n scalar e calls, tt)
-        within_scalars i e n (inr (inl (p, x, path, u, is, none))) calls scalar = subst (TakesScalars s) (sym is) (within_gives s Asked n scalar e calls)
-        within_scalars i e n (inr (inr is)) calls scalar = subst (TakesScalars s) (sym is) (within_gives s Asked n scalar e calls, tt)
-
-        within : (t : ℕ) (rest : List ℕ) → p.scope ≡ t ∷ rest → AllGood Good rest → (e : TypedTree) (n : ℕ) → Takes p.instr e → CallsWithin Asked n e → IsMadeTree e
-            → (r : NamedPoint) → Has (sub_points (setting_from own (body.2) (body.0)) (body.0)) r → (a : TypedTree) → r.instr ≡ Call n a (Some t) → IsTaken s p
-        within t rest scope all e n takes calls made r at a call =
-            let found = call_type r (in_points r at) n a t call in
-            let answer : (sub_at s n).result ≡ Some (object_at s t).of = ap (λ (z : Signature). z.result) (sub_same n) ∙ found.1 ∙ ap (λ k. Some k) (sym found.2) in
-            by (is_scalar (full s.table (object_at s t).of)) refl answer
-          where
-            good_scope : IsScalarObject s t → AllGood Good p.scope
-            good_scope scalar x more = elim (subst (λ xs. Has xs x) scope more) [
-              | inl same ↦ subst Good same (λ temporary. scalar)
-              | inr later ↦ all x later
-            ]
-
-            by : (b : Bool) → is_scalar (full s.table (object_at s t).of) ≡ b → (sub_at s n).result ≡ Some (object_at s t).of → IsTaken s p
-            by true scalar answer =
-                inl (
-                  scalars (take (taken p.instr) p.scope) (λ x more. good_scope scalar x (taken_has (taken p.instr) p.scope x more)),
-                  within_scalars p.instr e n takes calls (λ k is. ap (λ m. is_scalar (full s.table m)) (let both : Some k ≡ Some (object_at s t).of = sym is ∙ answer in let same : k ≡ (object_at s t).of = cc in same) ∙ scalar),
-                )
-            by false others_are answer = inr (inr (t, rest, scope, e, within_fed s Asked n (object_at s t).of answer e calls, others_are, takes, made_there e made))
-
-        alone : (t : ℕ) (rest : List ℕ) → p.scope ≡ t ∷ rest → AllGood Good rest → (q : Pos) (n : ℕ) (a : TypedTree) → Takes p.instr (typed_tree.Call q n a)
-            → (u : ℕ) × (others : List ℕ) × (p.scope ≡ u ∷ others) × (r : NamedPoint) × Has (sub_points (setting_from own (body.2) (body.0)) (body.0)) r × (r.instr ≡ Call n a (Some u))
-            → IsTaken s p
-        alone t rest scope all q n a takes (u, others, also, r, at, call) =
-            let found = call_type r (in_points r at) n a u call in
-            let answer : (sub_at s n).result ≡ Some (object_at s u).of = ap (λ (z : Signature). z.result) (sub_same n) ∙ found.1 ∙ ap (λ k. Some k) (sym found.2) in
-            by (is_scalar (full s.table (object_at s u).of)) refl answer
-          where
-            first_good : IsScalarObject s u → AllGood Good p.scope
-            first_good scalar x more = elim (subst (λ xs. Has xs x) also more) [
-              | inl same ↦ subst Good same (λ temporary. scalar)
-              | inr later ↦ all x (subst (λ xs. Has xs x) (list_tails u t others rest (sym also ∙ scope)) later)
-            ]
-
-            by : (b : Bool) → is_scalar (full s.table (object_at s u).of) ≡ b → (sub_at s n).result ≡ Some (object_at s u).of → IsTaken s p
-            by true scalar answer =
-                inl (
-                  scalars (take (taken p.instr) p.scope) (λ x more. first_good scalar x (taken_has (taken p.instr) p.scope x more)),
-                  call_scalars p.instr q n a takes (λ k is. ap (λ m. is_scalar (full s.table m)) (let both : Some k ≡ Some (object_at s u).of = sym is ∙ answer in let same : k ≡ (object_at s u).of = cc in same) ∙ scalar),
-                )
-            by false others_are answer = inr (inl (u, others, also, q, n, a, answer, others_are, takes))
+        not_scalar : (b : Bool) → (b ≡ true → ⊥) → b ≡ false
+        not_scalar true none = absurd (none refl)
+        not_scalar false none = refl
 
     -- ---- what is filled
 
     body_fills : (p : NamedPoint) → Has named.points p → FillsTyped program p.instr (drop (taken p.instr) p.scope)
-    body_fills p there =
-        by p.instr refl (drop (taken p.instr) p.scope) (left_good p there)
-        (ordered.supplied_there table typed effects given.accepted given.owns given.order given.answered given.passed given.still named has p there).1
+    body_fills p there = by p.instr refl (drop (taken p.instr) p.scope) (fitted_there p there).2
       where
-        by : (i : Instruction) → p.instr ≡ i → (left : List ℕ) → AllGood Good left → Fills s i left → FillsTyped program i left
-        by (Call n actuals (Some x)) is left good fills = λ r result. (
+        by : (i : Instruction) → p.instr ≡ i → (left : List ℕ) → RightFits FitsHeld boolean p.instr left → FillsTyped program i left
+        by (Call n actuals (Some x)) is left right_one = λ r result. (
             let found = call_type p there n actuals x is in
             let both : Some r ≡ Some found.0 = sym result ∙ result_same n ∙ found.1 in
             let same : r ≡ found.0 = cc in
             inr (same ∙ sym found.2))
-        by (Evaluate x e (Some op)) is left good fills = (given.truths, truth_type p there x e op is)
-        by (Evaluate t e None) is left good (y, others, same, temporary) = (
-          given.truths,
-          λ x rest first. good x (subst (λ xs. Has xs x) (sym first) (inl refl))
-              (ap (is_temporary_object s) (let both : x ∷ rest ≡ y ∷ others = sym first ∙ same in let is_one : x ≡ y = cc in is_one) ∙ temporary),
-        )
-        by (Call n actuals None) is left good fills = tt
-        by i is left good fills = tt
-
-    -- a function that is called gives no value of an anonymous access type
-    body_named : (p : NamedPoint) → Has named.points p → (n : ℕ) (actuals : TypedTree) (t : ℕ) → p.instr ≡ Call n actuals (Some t) → May n
-    body_named p there n actuals t is = elim (point_fine p there) [
-      | inl (all, asked) ↦ subst (TakesAsked Asked May) is asked
-      | inr (inl (x, rest, scope, all, q, m, a, takes, may)) ↦ absurd (no_call_taken p.instr q m n a actuals (Some t) takes is)
-      | inr (inr (x, rest, scope, all, e, m, takes, calls, made, may, r, at, b, call)) ↦ absurd (no_call_takes p.instr e n actuals (Some t) takes is)
-    ]
-
-    pub source_named : (p : NamedPoint) → Has named.points p → (q : Pos) (n : ℕ) (a : TypedTree) → IsSourceOf p.instr (typed_tree.Call q n a) → May n
-    unfolding CallsOnly
-    source_named p there q n a source = elim (point_fine p there) [
-      | inl (all, asked) ↦ elim source [
-        | inl (x, rest, is) ↦ weaker n (subst (TakesAsked Asked May) is asked).0.0
-        | inr (target, is) ↦ weaker n (subst (TakesAsked Asked May) is asked).0
-      ]
-      | inr (inl (t, rest, scope, all, r, m, b, takes, may)) ↦ subst May (one p.instr r m b takes source) may
-      | inr (inr (t, rest, scope, all, e, m, takes, calls, made, may, r, at, b, call)) ↦ absurd (subst IsMadeTree (same_source p.instr e takes source) made)
-    ]
-      where
-        same_source : (i : Instruction) (e : TypedTree) → Takes i e → IsSourceOf i (typed_tree.Call q n a) → e ≡ typed_tree.Call q n a
-        same_source i e (inl (x, is)) (inl (y, rest, also)) = (let both : Declare x (typed_tree.More e NoMore) ≡ Declare y (typed_tree.More (typed_tree.Call q n a) rest) = sym is ∙ also in cc)
-        same_source i e (inl (x, is)) (inr (target, also)) = (let both : Declare x (typed_tree.More e NoMore) ≡ Assign target (typed_tree.Call q n a) = sym is ∙ also in cc)
-        same_source i e (inr (inl (k, x, path, u, is, none))) (inl (y, rest, also)) =
-            (let both : Assign (Name k x path u) e ≡ Declare y (typed_tree.More (typed_tree.Call q n a) rest) = sym is ∙ also in cc)
-        same_source i e (inr (inl (k, x, path, u, is, none))) (inr (target, also)) = (let both : Assign (Name k x path u) e ≡ Assign target (typed_tree.Call q n a) = sym is ∙ also in cc)
-        same_source i e (inr (inr is)) (inl (y, rest, also)) = (let both : Hold (typed_tree.More e NoMore) ≡ Declare y (typed_tree.More (typed_tree.Call q n a) rest) = sym is ∙ also in cc)
-        same_source i e (inr (inr is)) (inr (target, also)) = (let both : Hold (typed_tree.More e NoMore) ≡ Assign target (typed_tree.Call q n a) = sym is ∙ also in cc)
-
-        one : (i : Instruction) (r : Pos) (m : ℕ) (b : TypedTree) → Takes i (typed_tree.Call r m b) → IsSourceOf i (typed_tree.Call q n a) → m ≡ n
-        one i r m b (inl (x, is)) (inl (y, rest, also)) =
-            (let both : Declare x (typed_tree.More (typed_tree.Call r m b) NoMore) ≡ Declare y (typed_tree.More (typed_tree.Call q n a) rest) = sym is ∙ also in cc)
-        one i r m b (inl (x, is)) (inr (target, also)) =
-            (let both : Declare x (typed_tree.More (typed_tree.Call r m b) NoMore) ≡ Assign target (typed_tree.Call q n a) = sym is ∙ also in cc)
-        one i r m b (inr (inl (k, x, path, u, is, none))) (inl (y, rest, also)) =
-            (let both : Assign (Name k x path u) (typed_tree.Call r m b) ≡ Declare y (typed_tree.More (typed_tree.Call q n a) rest) = sym is ∙ also in cc)
-        one i r m b (inr (inl (k, x, path, u, is, none))) (inr (target, also)) =
-            (let both : Assign (Name k x path u) (typed_tree.Call r m b) ≡ Assign target (typed_tree.Call q n a) = sym is ∙ also in cc)
-        one i r m b (inr (inr is)) (inl (y, rest, also)) =
-            (let both : Hold (typed_tree.More (typed_tree.Call r m b) NoMore) ≡ Declare y (typed_tree.More (typed_tree.Call q n a) rest) = sym is ∙ also in cc)
-        one i r m b (inr (inr is)) (inr (target, also)) =
-            (let both : Hold (typed_tree.More (typed_tree.Call r m b) NoMore) ≡ Assign target (typed_tree.Call q n a) = sym is ∙ also in cc)
+        by (Evaluate x e (Some op)) is left right_one = (given.truths, truth_type p there x e op is)
+        by (Evaluate t e None) is left right_one =
+            let found : (y : ℕ) × (others : List ℕ) × (left ≡ y ∷ others) × FitsHeld boolean y = subst (λ i. RightFits FitsHeld boolean i left) is right_one in (
+              given.truths,
+              λ x rest first. scalar_first x (let both : x ∷ rest ≡ found.0 ∷ found.1 = sym first ∙ found.2 in let same : x ≡ found.0 = cc in same) found.3.0,
+            )
+          where
+            scalar_first : (x : ℕ) {y : ℕ} → x ≡ y → Fits s boolean y → is_scalar (full s.table (object_at s x).of) ≡ true
+            scalar_first x same (inl both) = ap (λ z. is_scalar (full s.table (object_at s z).of)) same ∙ both.1
+            scalar_first x same (inr is) = ap (λ z. is_scalar (full s.table (object_at s z).of)) same ∙ ap (λ k. is_scalar (full s.table k)) (sym is) ∙ given.truths
+        by (Call n actuals None) is left right_one = tt
+        by i is left right_one = tt
 
   -- ---- the package objects
 
   module _ (named : NamedSub) (e : ordered.Elaborates table typed effects given.accepted given.owns given.order given.answered given.passed given.still named) (p : NamedPoint) (there : Has named.points p) where
-    declared : (x : ℕ) × (v : TypedTree) × (p.instr ≡ Declare x v) × (has_call v ≡ false)
+    pub declared : (x : ℕ) × (v : TypedTree) × (p.instr ≡ Declare x v) × (has_call v ≡ false)
     declared =
         let still = ordered.still_there table typed effects given.accepted given.owns given.order given.answered given.passed given.still named e p there in
         let one = ordered.declares table typed effects given.accepted given.owns given.order given.answered given.passed given.still named e p there still in
         (one.0, one.1, one.2, not_true (has_call one.1) (sym (ap calls_procedures one.2) ∙ still))
 
-    no_call : (n : ℕ) (actuals : TypedTree) (r : Option ℕ) → p.instr ≡ Call n actuals r → ⊥
+    pub no_call : (n : ℕ) (actuals : TypedTree) (r : Option ℕ) → p.instr ≡ Call n actuals r → ⊥
     no_call n actuals r is = (let both : Declare (declared.0) (declared.1) ≡ Call n actuals r = sym (declared.2) ∙ is in cc)
 
-    package_takes : IsTaken s p
+    package_takes : IsTaken s named.sub.result p
     package_takes =
         inl (
           subst (λ xs. AreScalar s (filter (is_temporary_object s) xs))
@@ -491,90 +459,195 @@ module _ (table : Table) (typed : TypedProgram) (effects : Effects) (given : IsV
   -- ---- all of it
 
   module _ (named : NamedSub) (has : Has (flow_named table typed) named) (p : NamedPoint) (there : Has named.points p) where
-    stored_unheld : (x : ℕ) → Has (stored_at p.instr) x → is_held s x ≡ false
+    pub stored_unheld : (x : ℕ) → Has (stored_at p.instr) x → is_held s x ≡ false
     stored_unheld x stored = elim (where_is named has) [
       | inl e ↦ absurd (subst (λ i. Has (stored_at i) x) (declared named e p there).2 stored)
       | inr inside ↦ body_unheld named has inside p there x (stored_named p.instr x stored)
     ]
 
-    passed_unheld : (n : ℕ) (actuals : TypedTree) (result : Option ℕ) → p.instr ≡ Call n actuals result → (x : ℕ) → Has (roots_passed actuals) x → is_held s x ≡ false
+    pub passed_unheld : (n : ℕ) (actuals : TypedTree) (result : Option ℕ) → p.instr ≡ Call n actuals result → (x : ℕ) → Has (roots_passed actuals) x → is_held s x ≡ false
     passed_unheld n actuals result is x names = elim (where_is named has) [
       | inl e ↦ absurd (no_call named e p there n actuals result is)
       | inr inside ↦ body_unheld named has inside p there x (subst (λ i. Has (named_in i) x) (sym is) (passed_named actuals x names))
     ]
 
-    takes_there : IsTaken s p
-    takes_there = elim (where_is named has) [ inl e ↦ package_takes named e p there | inr inside ↦ body_takes named has inside p there ]
-
-    fills_there : FillsTyped program p.instr (drop (taken p.instr) p.scope)
+    pub fills_there : FillsTyped program p.instr (drop (taken p.instr) p.scope)
     fills_there = elim (where_is named has) [ inl e ↦ package_fills named e p there | inr inside ↦ body_fills named has inside p there ]
 
-  -- ---- results and temporaries
+  -- ---- what points take
 
-  pub named_results : AreNamedResults program
-  unfolding flow_program
-  named_results sub has p there n actuals result is t answer =
-      let named = Has-map_from (flow_sub own) (flow_named table typed) sub has in
-      let q = Has-map_from (λ (z : NamedPoint). flow_at own named.0 z) (named.0).points p (subst (λ (z : FlowSub). Has z.points p) (sym named.2) there) in
-      let here : (q.0).instr ≡ Call n actuals result = ap (λ (z : FlowPoint). z.instr) q.2 ∙ is in
-      let some : is_some result ≡ true = sym ((ordered.runs_there table typed effects given.accepted given.owns given.order given.answered given.passed given.still sub has p there n actuals result is).1) ∙ ap is_some answer in
-      ap (λ (rows : Table). is_anonymous (full rows t)) alike.table
-      ∙ by result some (elim (where_is named.0 named.1) [
-        | inl e ↦ absurd (no_call named.0 e q.0 q.1 n actuals result here)
-        | inr inside ↦ (λ x one. body_named named.0 named.1 inside q.0 q.1 n actuals x (here ∙ ap (Call n actuals) one))
-      ]) t (sym (result_same n) ∙ answer)
+  not_named : (n : ℕ) {of : ℕ} → GivesView s n of → May n → ⊥
+  not_named n gives may =
+      let there : (sub_at own n).result ≡ Some gives.result = sym (ap (λ (z : Signature). z.result) (sub_same n)) ∙ gives.result_is in
+      let never : true ≡ false = sym gives.anonymous ∙ ap (λ (rows : Table). is_anonymous (full rows gives.result)) alike.table ∙ may gives.result there in cc
+
+  no_traversal : (n : ℕ) → May n → traverses own.table (sub_at own n).result ≡ false
+  no_traversal n may = by (sub_at own n).result refl
     where
-      by : (r : Option ℕ) → is_some r ≡ true → ((x : ℕ) → r ≡ Some x → May n) → May n
-      by None none may = cc
-      by (Some x) some may = may x refl
+      by : (r : Option ℕ) → (sub_at own n).result ≡ r → traverses own.table r ≡ false
+      by None is = refl
+      by (Some t) is = may t is
 
-  filled_named : (sub : TypedSub) → Has given.order.rest sub → (q : NamedPoint) → Has (sub_points (unnumbered own) sub) q → (t : Temporary) → Has (filled own q.name.place q.instr) t
-      → is_anonymous (full own.table t.of) ≡ false
-  filled_named sub has q there t fills =
-      by q.instr fills (elim (sub_fine (unnumbered own) sub Asked May (λ x. Unit {0}) weaker (λ r at n a x is asked. tt) (λ r at x e op is. tt) (given.results sub has) (λ x object. tt) q there) [
-        | inl (all, asked) ↦ (λ n a x is. subst (TakesAsked Asked May) is asked)
-        | inr (inl (x, rest, scope, all, p, m, b, takes, may)) ↦ (λ n a y is. absurd (no_call_taken q.instr p m n b a (Some y) takes is))
-        | inr (inr (x, rest, scope, all, e, m, takes, calls, made, may, r, at, b, call)) ↦ (λ n a y is. absurd (no_call_takes q.instr e n a (Some y) takes is))
-      ]) refl
-    where
-      plain : (k : ℕ) → is_scalar (full s.table k) ≡ true → is_anonymous (full own.table k) ≡ false
-      plain k scalar = no_anonymous (full own.table k) (sym (ap (λ (rows : Table). is_scalar (full rows k)) alike.table) ∙ scalar)
+  -- a name, or what a traversal function gives, which none does
+  name_only : (test : ℕ → Bool) (e : TypedTree) → is_name_of test e || gives_view own e ≡ true → SourceFits Asked May e → CallsOnly Asked e
+  unfolding SourceFits CallsOnly
+  name_only test (Name q y steps t) fit asked = asked
+  name_only test (typed_tree.Call q n a) fit asked = (let never : true ≡ false = sym fit ∙ no_traversal n asked.0 in cc)
+  name_only test e fit asked = cc
 
-      result_named : (n : ℕ) (r : Option ℕ) → (sub_at own n).result ≡ r → May n → is_anonymous (full own.table (result_of r)) ≡ false
-      result_named n None is may = plain integer given.integers
-      result_named n (Some k) is may = may k is
+  -- an object that is no temporary is as the text has it
+  view_same : (x : ℕ) → is_temporary_object s x ≡ false → is_anonymous (view_of s x) ≡ is_anonymous (view_of own x)
+  view_same x lasts = elim (ordered.object_or table typed effects given.accepted given.owns given.order given.answered given.passed given.still x) [
+    | inl same ↦ (λ j. is_anonymous (full (alike.table j) (same j).of))
+    | inr temporary ↦ (let never : true ≡ false = sym temporary ∙ lasts in cc)
+  ]
 
-      by : (i : Instruction) → Has (filled own q.name.place i) t → ((n : ℕ) (a : TypedTree) (x : ℕ) → q.instr ≡ Call n a (Some x) → May n) → q.instr ≡ i
-          → is_anonymous (full own.table t.of) ≡ false
-      by (Call n a (Some x)) (inl same) may is =
-          subst (λ (z : Temporary). is_anonymous (full own.table z.of) ≡ false) same (result_named n (sub_at own n).result refl (may n a x is))
-      by (Call n a (Some x)) (inr never) may is = absurd never
-      by (Evaluate x e (Some op)) (inl same) may is = subst (λ (z : Temporary). is_anonymous (full own.table z.of) ≡ false) same (plain boolean given.truths)
-      by (Evaluate x e (Some op)) (inr never) may is = absurd never
-      by (Call n a None) none may is = absurd none
-      by (Evaluate x e None) none may is = absurd none
-      by i none may is = absurd none
+  module _ (named : NamedSub) (has : Has (flow_named table typed) named) (inside : Has bodies named) (n : ℕ) (entered : IsEntered program n)
+      (stands : IsNamedSub (flow_named table typed) n named) (p : NamedPoint) (there : Has named.points p) where
+    abbrev Goal : Type 0
+    Goal = IsTaken s named.sub.result p
 
-  -- Temporaries are of types with names.
-  pub temporaries_named : (x : ℕ) → is_temporary_object s x ≡ true → is_anonymous (view_of s x) ≡ false
-  unfolding flow_program
-  temporaries_named x is =
-      let found = temporary_from typed.objects (temporaries_of (flow_named table typed)) given.order.lasting x is in
-      let sub = flat_from (flow_named table typed) found.0 found.1 in
-      ap (λ (rows : Table). is_anonymous (full rows (object_at s x).of)) alike.table ∙ ap (λ k. is_anonymous (full own.table k)) found.2
-      ∙ elim (where_is sub.0 sub.1) [
-        | inl e ↦ absurd (subst (λ (z : NamedSub). Has z.temporaries found.0) (sym e) sub.2)
-        | inr inside ↦ (
-            let body = subs_of own (length own.objects) given.order.rest sub.0 (omega arith) inside in
-            let fills = filled_by own (sub_points (unnumbered own) body.0) found.0 (subst (λ (z : NamedSub). Has z.temporaries found.0) (sym body.4) sub.2) in
-            filled_named body.0 body.1 fills.0 fills.1 found.0 fills.2)
-      ]
+    abbrev Takes : List ℕ → Type 0
+    Takes ts = Pairs FitsHeld ts (take (taken p.instr) p.scope)
 
-  pub are_valued : AreValued table typed
-  are_valued = record {
-    lasting = stored_unheld;
-    passed = passed_unheld;
-    takes = takes_there;
-    seen = λ named has p there. inl (λ x within is. temporaries_named x is);
-    fills = fills_there;
-  }
+    plainly : (ts : List ℕ) → Takes ts → AreScalarTypes s ts → TakesScalars s p.instr → Goal
+    plainly ts pairs scalar takes = inl (pairs_scalar ts (take (taken p.instr) p.scope) pairs scalar, takes)
+
+    together : (i : Instruction) → p.instr ≡ i → (e : TypedTree) → IsMadeFor s named.sub.result p.instr e → SourceFits Asked May e → (ts : List ℕ) → ts ≡ types_for s i → Takes ts → Goal
+    together i is e made source ts same pairs =
+        inr (inr (
+          e,
+          made,
+          takes_fit e source,
+          subst (λ z. AreFilled s z (filter (is_temporary_object s) (take (taken p.instr) p.scope))) (same ∙ sym (ap (types_for s) is))
+              (pairs_filled ts (take (taken p.instr) p.scope) pairs),
+        ))
+
+    abbrev above : IsAbove (is_older own typed.scopes) (fits own) p
+    above = above_there named has inside p there
+
+    declared_takes : (x : ℕ) (v : TypedTree) → p.instr ≡ Declare x v → FirstSource s (object_at s x).of v → SourceFits Asked May v → Takes (types given_type boolean v) → Goal
+    unfolding SourceFits CallsOnly
+    declared_takes x NoMore is source asked pairs =
+        plainly (types given_type boolean NoMore) pairs (calls_scalar NoMore tt) (subst (TakesScalars s) (sym is) (gives_only NoMore tt))
+    declared_takes x (typed_tree.More e rest) is (last, source) asked pairs = by_kind (is_anonymous (view_of s x)) refl
+      where
+        lasts_here : is_temporary_object s x ≡ false
+        lasts_here = subst (λ i. Fills s i (drop (taken p.instr) p.scope)) is (fills_held named has inside p there)
+
+        fit_here : is_anonymous (view_of s x) ≡ true → is_name_of (λ y. is_observer own x || nat_lt y x) e || gives_view own e ≡ true
+        fit_here view =
+            declared_fit (is_anonymous (view_of own x)) (is_name_of (λ y. is_observer own x || nat_lt y x) e) (is_list_end rest) (gives_view own e) (sym (view_same x lasts_here) ∙ view)
+            (sym (ap (fits own) is) ∙ above.declared x (typed_tree.More e rest) is)
+
+        calls_here : is_anonymous (view_of s x) ≡ true → CallsOnly Asked (typed_tree.More e rest)
+        calls_here view = (name_only (λ y. is_observer own x || nat_lt y x) e (fit_here view) asked.0, subst (CallsOnly Asked) (sym last) tt)
+
+        by_kind : (b : Bool) → is_anonymous (view_of s x) ≡ b → Goal
+        by_kind false named_object =
+            together (Declare x (typed_tree.More e rest)) is e (inl (x, is ∙ ap (λ z. Declare x (typed_tree.More e z)) last, named_object)) asked.0 (types given_type boolean (typed_tree.More e rest))
+            (types_same s (typed_tree.More e rest)) pairs
+        by_kind true view =
+            plainly (types given_type boolean (typed_tree.More e rest)) pairs (calls_scalar (typed_tree.More e rest) (calls_here view))
+            (subst (TakesScalars s) (sym is) (gives_only (typed_tree.More e rest) (calls_here view)))
+    declared_takes x v is source asked pairs = absurd source
+
+    assigned_takes : (target e : TypedTree) → p.instr ≡ Assign target e → (t : ℕ) → IsPlace s target t → CallsOnly Asked target → SourceFits Asked May e
+        → Takes (types given_type boolean target ++ types given_type boolean e) → Goal
+    unfolding CallsOnly types types_taken roots
+    assigned_takes (Name q x path u) e is t (leads, of) path_asked asked pairs = by_kind (is_anonymous (full s.table u)) refl
+      where
+        lasts_here : is_temporary_object s x ≡ false
+        lasts_here = named_lasts named has inside p there x (subst (λ i. Has (named_in i) x) (sym is) (Has-append_right (roots e) (x ∷ roots path) x (inl refl)))
+
+        fit_here : path ≡ NoMore → is_anonymous (view_of s x) ≡ true → is_name_of is_any e || gives_view own e ≡ true
+        fit_here whole_path view =
+            stored_fit (is_anonymous (view_of own x)) (is_name_of is_any e) (gives_view own e) (sym (view_same x lasts_here) ∙ view)
+            (subst (λ z. stores_name own (whole_object x z) e || gives_view own e ≡ true) whole_path (sym (ap (fits own) is) ∙ above.assigned (Name q x path u) e is))
+
+        view_takes : is_anonymous (full s.table u) ≡ true → CallsOnly Asked e
+        view_takes view = elim (leads_or s given.parts_named path (object_at s x).of u leads) [
+          | inr own_type ↦ (let never : true ≡ false = sym view ∙ named_plain s.table u own_type in cc)
+          | inl whole_place ↦ name_only is_any e (fit_here whole_place.0 (ap (λ z. is_anonymous (full s.table z)) whole_place.1 ∙ view)) asked
+        ]
+
+        by_kind : (b : Bool) → is_anonymous (full s.table u) ≡ b → Goal
+        by_kind false place =
+            together (Assign (Name q x path u) e) is e (inr (inl (q, x, path, u, is, place, taken_scalar path path_asked))) asked (types given_type boolean path ++ types given_type boolean e)
+            (λ j. types_same s path j ++ types_same s e j) pairs
+        by_kind true view =
+            plainly (types given_type boolean path ++ types given_type boolean e) pairs
+            (scalar_both s (types given_type boolean path) (types given_type boolean e) (calls_scalar path path_asked) (calls_scalar e (view_takes view)))
+            (subst (TakesScalars s) (sym is) (gives_only e (view_takes view)))
+    assigned_takes target e is t place path_asked asked pairs = absurd place
+
+    returned_takes : (v : TypedTree) → p.instr ≡ Hold v → (r : Option ℕ) → named.sub.result ≡ r → Returns s r v → SourceFits Asked May v → Takes (types given_type boolean v) → Goal
+    unfolding SourceFits CallsOnly
+    returned_takes v is None result none asked pairs =
+        plainly (types given_type boolean v) pairs (calls_scalar v (subst (CallsOnly Asked) (sym none) tt)) (subst (TakesScalars s) (sym is) (gives_only v (subst (CallsOnly Asked) (sym none) tt)))
+    returned_takes v is (Some t) result (e, value_is, source) asked pairs =
+        by_kind (is_anonymous (full s.table t)) refl
+      where
+        value_asked : SourceFits Asked May e
+        value_asked = (subst (SourceFits Asked May) value_is asked).0
+
+        only_result : (k : ℕ) → named.sub.result ≡ Some k → k ≡ t
+        only_result k same = (let both : Some k ≡ Some t = sym same ∙ result in cc)
+
+        -- null, or a name: what gives a view stands alone
+        seen_calls : is_anonymous (full s.table t) ≡ true → CallsOnly Asked e
+        seen_calls view =
+            elim (given.returned (flow_sub own named) (ordered.in_program table typed effects given.accepted given.owns given.order given.answered given.passed given.still named has) (flow_at own named p)
+            (Has-map (λ (q : NamedPoint). flow_at own named q) named.points p there) e NoMore (is ∙ ap Hold value_is) t result view) [
+              | inl none ↦ subst (CallsOnly Asked) (sym none) tt
+              | inr (q, y, path, u, inl name) ↦ subst (CallsOnly Asked) (sym name) (subst (SourceFits Asked May) name value_asked)
+              | inr (q, y, path, u, inr (r, m, more, call, gives)) ↦ absurd (not_named m gives (subst (SourceFits Asked May) call value_asked).0)
+            ]
+
+        list_calls : is_anonymous (full s.table t) ≡ true → CallsOnly Asked v
+        list_calls view = subst (CallsOnly Asked) (sym value_is) (seen_calls view, tt)
+
+        by_kind : (b : Bool) → is_anonymous (full s.table t) ≡ b → Goal
+        by_kind false named_type =
+            together (Hold v) is e (inr (inr (is ∙ ap Hold value_is, (λ k same. ap (λ z. is_anonymous (full s.table z)) (only_result k same) ∙ named_type)))) value_asked
+            (types given_type boolean v) (types_same s v) pairs
+        by_kind true view =
+            plainly (types given_type boolean v) pairs (calls_scalar v (list_calls view)) (subst (TakesScalars s) (sym is) (gives_only v (list_calls view)))
+
+    abbrev Found : Instruction → Type 0
+    Found i = InstructionFits Asked May Single i × Takes (types_at given_type boolean i)
+
+    -- a lone call
+    lone_takes : (q : Pos) (m : ℕ) (a : TypedTree) → TakesIt p.instr (typed_tree.Call q m a) → Single m → Goal
+    lone_takes q m a takes single = inr (inl (lone_taken named has inside p there q m a takes single).0)
+
+    found_here : Found p.instr
+    found_here = (let all = fitted_there named has inside p there in (all.0, all.1))
+
+    others : (i : Instruction) → p.instr ≡ i → StoresNone i → Found i → Goal
+    others i is none found = plainly (types_at given_type boolean i) found.1 (plain_types i none found.0) (subst (TakesScalars s) (sym is) (plain_stores i none))
+
+    takes_by : (i : Instruction) → p.instr ≡ i → IsFine s named.sub.result i → Found i → Goal
+    takes_by (Declare x v) is fine found = elim found.0 [
+      | inl source ↦ declared_takes x v is fine source found.1
+      | inr (q, m, a, same, single, calls) ↦ lone_takes q m a (inl (x, is ∙ ap (Declare x) same)) single
+    ]
+    takes_by (Assign target e) is (t, place, source) found = elim found.0.1 [
+      | inl asked ↦ assigned_takes target e is t place found.0.0 asked found.1
+      | inr (q, m, a, same, single, calls, r, x, path, u, target_is, none) ↦
+          lone_takes q m a (inr (inl (r, x, path, u, is ∙ (λ j. Assign (target_is j) (same j)), none))) single
+    ]
+    takes_by (Hold v) is fine found = elim found.0 [
+      | inl source ↦ returned_takes v is named.sub.result refl fine source found.1
+      | inr (q, m, a, same, single, calls) ↦ lone_takes q m a (inr (inr (is ∙ ap Hold same))) single
+    ]
+    takes_by i is fine found = others i is tt found
+
+    pub body_takes : Goal
+    body_takes = takes_by p.instr refl (fine_there named has inside p there) found_here
+
+  pub takes_there : (n : ℕ) → IsEntered program n → (named : NamedSub) → IsNamedSub (flow_named table typed) n named → (p : NamedPoint) → Has named.points p
+      → IsTaken s named.sub.result p
+  takes_there n entered named stands p there =
+      let has : Has (flow_named table typed) named = named_has (flow_named table typed) n named stands in
+      elim (where_is named has) [ inl e ↦ package_takes named e p there | inr inside ↦ body_takes named has inside n entered stands p there ]

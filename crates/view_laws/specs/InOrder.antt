@@ -1,9 +1,10 @@
 -- What is asked of a typed program with borrowers and observers, beside that its subprograms are in
 -- order. Nothing here speaks of points, paths or facts.
-use Rattle.std.specs.Prelude.{◌≡◌, ℕ, ◌≤◌, Bool, true, false, not, ◌&&◌, ◌||◌, List, get_or, nat_lt, Option, Some, None}
+use Rattle.std.specs.Prelude.{◌≡◌, ◌⊎◌, ℕ, ◌≤◌, Bool, true, false, not, ◌&&◌, ◌||◌, List, get_or, nat_lt, Option, Some, None}
 use Rattle.std.specs.List.{list_all}
 use Rattle.spark_base.specs.Lists.{Has}
-use Rattle.type_definitions.specs.Types.{Table}
+use Rattle.spark_base.specs.declared.position.Pos.{Pos}
+use Rattle.type_definitions.specs.Types.{Table, full, is_owning}
 use Rattle.typed_tree.specs.Trees.{TypedTree, Name, Call, NoMore, More, TypedCode}
 use Rattle.typed_tree.specs.Trees as typed
 use Rattle.typed_tree.specs.Programs.{TypedSub, TypedProgram}
@@ -11,6 +12,8 @@ use Rattle.flow_paths.specs.Instructions.{Instruction, Declare, Assign}
 use Rattle.flow_paths.specs.Objects.{Typing, object_at, sub_at, traverses, is_variable, is_anonymous, is_observer, is_formal, is_package_object, view_of}
 use Rattle.flow_paths.specs.Names.{first, whole}
 use Rattle.flow_paths.specs.Laid.{declared_within, typing_of}
+use Rattle.machine.specs.Owners.{is_in_formal}
+use Rattle.typed_laws.specs.Needed.{Leads}
 use Rattle.scope_laws.specs.Code.{roots, body_seen}
 use Rattle.layered_scopes.specs.Layered.{is_older, is_body_layered}
 
@@ -53,10 +56,25 @@ fits s (Declare x v) = not (is_anonymous (view_of s x)) || (is_one_name_of (λ y
 fits s (Assign target e) = stores_name s (whole target) e || gives_view s e
 fits s i = true
 
--- What a view is declared or assigned with isn't what a function gives.
+-- The call of a traversal function whose first actual is a name of an access value that is rooted in no package object.
+pub record IsTraversed (s : Typing) (e : TypedTree) : Type 0 where
+  pub pos : Pos
+  pub sub : ℕ
+  pub name_pos : Pos
+  pub root : ℕ
+  pub path : TypedTree
+  pub of : ℕ
+  pub others : TypedTree
+  pub is : e ≡ Call pos sub (More (Name name_pos root path of) others)
+  pub gives : traverses s.table (sub_at s sub).result ≡ true
+  pub leads : Leads s (object_at s root).of path of
+  pub lasts : is_owning s.table of || is_anonymous (full s.table of) ≡ true
+  pub own : is_package_object s root ≡ false
+
+-- What a view is declared or assigned with isn't what a function gives; or it is such a call.
 abbrev pub NamesSource : Typing → Instruction → Type 0
-NamesSource s (Declare x v) = is_anonymous (view_of s x) ≡ true → is_call (first v) ≡ false
-NamesSource s (Assign target e) = (x : ℕ) → whole target ≡ Some x → is_anonymous (view_of s x) ≡ true → is_call e ≡ false
+NamesSource s (Declare x v) = is_anonymous (view_of s x) ≡ true → (is_call (first v) ≡ false) ⊎ IsTraversed s (first v)
+NamesSource s (Assign target e) = (x : ℕ) → whole target ≡ Some x → is_anonymous (view_of s x) ≡ true → (is_call e ≡ false) ⊎ IsTraversed s e
 NamesSource s i = Unit {0}
 
 -- ---- the package objects
@@ -84,6 +102,7 @@ pub record AreViewsInOrder (table : Table) (program : TypedProgram) (first : Typ
   -- what is declared is no formal, and formals belong to no package
   pub declared : (sub : TypedSub) → Has program.subs sub → (x : ℕ) → Has (declared_within sub.body) x → is_formal (typing_of table program) x ≡ false
   pub apart : (x : ℕ) → is_formal (typing_of table program) x ≡ true → is_package_object (typing_of table program) x ≡ false
-  -- views are variables of subprograms
+  -- views are variables or formals of subprograms
   pub local : (x : ℕ) → is_anonymous (view_of (typing_of table program) x) ≡ true
-      → (is_variable (object_at (typing_of table program) x).kind ≡ true) × (is_package_object (typing_of table program) x ≡ false)
+      → ((is_variable (object_at (typing_of table program) x).kind ≡ true) ⊎ (is_in_formal (typing_of table program) x ≡ true))
+      × (is_package_object (typing_of table program) x ≡ false)

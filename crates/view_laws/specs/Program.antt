@@ -1,15 +1,18 @@
 -- A program with borrowers and observers and what is known of it.
 use Rattle.std.specs.Prelude.{◌≡◌, ◌⊎◌, ℕ, suc, true, false, List, ◌∷◌, Option, Some, None}
 use Rattle.spark_base.specs.Lists.{Has}
+use Rattle.spark_base.specs.declared.position.Pos.{Pos}
 use Rattle.place_names.specs.declared.act.Mode.{Mode}
 use Rattle.place_names.specs.declared.act.Mode.TheVariants as mode
 use Rattle.type_definitions.specs.Types.{Table, full, is_scalar}
 use Rattle.type_definitions.specs.Entries.{integer, boolean}
-use Rattle.typed_tree.specs.Trees.{TypedTree, More}
+use Rattle.typed_tree.specs.Trees.{TypedTree, Name, Call as CallIn, Null, NoMore, More}
 use Rattle.typed_tree.specs.Programs.{TypedSub, TypedProgram}
 use Rattle.flow_paths.specs.declared.report.Effects.{Effects}
-use Rattle.flow_paths.specs.Instructions.{Call}
-use Rattle.flow_paths.specs.Objects.{Typing, is_named_access, view_of, object_at, sub_at, is_formal}
+use Rattle.flow_paths.specs.Instructions.{Instruction, Declare, Assign, Call, Hold}
+use Rattle.flow_paths.specs.Acts.{gives_variable}
+use Rattle.flow_paths.specs.Objects.{Typing, is_named_access, is_anonymous, is_borrower, is_variable, is_package_object, traverses, view_of, object_at, sub_at, is_formal}
+use Rattle.flow_paths.specs.Views.{traversed_of}
 use Rattle.flow_paths.specs.Points.{FlowPoint}
 use Rattle.flow_paths.specs.Laid.{FlowSub, FlowProgram, typing_of, flow_typing, flow_program}
 use Rattle.machine.specs.States.{sub_of}
@@ -19,8 +22,9 @@ use Rattle.soundness.specs.Sound.{Accepted, goes_through_none}
 use Rattle.scope_laws.specs.Alone.{ResultsFit}
 use Rattle.ready_laws.specs.InOrder.{IsInOrder, AreAnswered, AreStill, ArePassed}
 use Rattle.soundness.specs.Seen.{is_view_formal}
-use Rattle.viewed_soundness.specs.Holds.{PartsAreNamed, is_given, lends_first, is_exclusive}
-use Rattle.viewed_steps.specs.Sound.{IsScalarObject, IsKindOfFormal, AreKeptPlaces, LendsShared, AreShownOwn}
+use Rattle.viewed_soundness.specs.Holds.{PartsAreNamed, is_given, is_exclusive, lends_first}
+use Rattle.viewed_steps.specs.Traversals.{GivesView, IsSourceName}
+use Rattle.viewed_steps.specs.Sound.{IsScalarObject, IsKindOfFormal, AreKeptPlaces, LendsShared, AreShownOwn, IsStoredAt}
 use Rattle.viewed_steps.specs.Ready.{IsOwnPlace, IsActualTo}
 use Rattle.view_laws.specs.InOrder.{AreViewsInOrder}
 
@@ -41,9 +45,33 @@ PassActuals program =
     → p.instr ≡ Call n actuals result → ((x : ℕ) → Has (sub_of program n).formals x → is_formal (flow_typing program) x ≡ true)
     → ArePassedTo (flow_typing program) (sub_of program n).formals actuals
 
--- It is accepted and typed, and anonymous access types are those of objects alone. What functions give is of scalar
--- types; or it stands alone, and is of no anonymous access type. Formals are of the four kinds, those of functions of mode
--- `in`, and nothing is changed through these; actuals that are copied back to go through no access value, or are scalar and
+-- ---- traversal functions
+
+-- In each call of one, the first actual is a name that is rooted in no package object.
+abbrev pub TraversesNames : FlowProgram → Type 0
+TraversesNames program =
+    (sub : FlowSub) → Has program.subs sub → (p : FlowPoint) → Has sub.points p → (n : ℕ) (actuals : TypedTree) (result : Option ℕ)
+    → p.instr ≡ Call n actuals result → traverses program.table (sub_of program n).result ≡ true
+    → (q : Pos) × (y : ℕ) × (path : TypedTree) × (u : ℕ) × (more : TypedTree) × (actuals ≡ More (Name q y path u) more)
+    × (is_package_object (flow_typing program) y ≡ false)
+
+-- What one gives is taken by a view, or returned by another one; a borrower is taken by a borrower.
+abbrev pub TakesView : Typing → Option ℕ → Instruction → Type 0
+TakesView s result (Declare x (More (CallIn q n a) rest)) =
+    traverses s.table (sub_at s n).result ≡ true
+    → (is_anonymous (view_of s x) ≡ true) × GivesView s n (object_at s x).of × (gives_variable s (sub_at s n).result ≡ true → is_borrower s x ≡ true)
+TakesView s result (Assign target (CallIn q n a)) =
+    traverses s.table (sub_at s n).result ≡ true
+    → (r : Pos) × (x : ℕ) × (u : ℕ) × (target ≡ Name r x NoMore u) × (is_anonymous (view_of s x) ≡ true) × GivesView s n (object_at s x).of
+    × (gives_variable s (sub_at s n).result ≡ true → is_borrower s x ≡ true)
+TakesView s result (Hold (More (CallIn q n a) rest)) =
+    traverses s.table (sub_at s n).result ≡ true
+    → (traverses s.table result ≡ true) × (gives_variable s (sub_at s n).result ≡ true → gives_variable s result ≡ true)
+TakesView s result i = Unit {0}
+
+-- It is accepted and typed, and anonymous access types are those of objects and results alone. What functions give is of
+-- scalar types; or it stands alone. Formals are of the four kinds, those of functions of mode `in`, and nothing is changed
+-- through these but through the first one of a function that gives a borrower, which is shown alone; actuals that are copied back to go through no access value, or are scalar and
 -- belong to no package; and its subprograms and views are in order.
 pub record IsViewProgram (table : Table) (typed : TypedProgram) (effects : Effects) : Type 0 where
   pub accepted : Accepted table typed effects
@@ -57,6 +85,8 @@ pub record IsViewProgram (table : Table) (typed : TypedProgram) (effects : Effec
       → is_given (flow_typing (flow_program table typed)) x ≡ true
       → lends_first (flow_typing (flow_program table typed)) x (sub_at (flow_typing (flow_program table typed)) n) ≡ false
       → is_exclusive (flow_typing (flow_program table typed)) x ≡ false
+  pub lends : (n x y : ℕ) → lends_first (flow_typing (flow_program table typed)) x (sub_at (flow_typing (flow_program table typed)) n) ≡ true
+      → Has (sub_at (flow_typing (flow_program table typed)) n).formals y → is_given (flow_typing (flow_program table typed)) y ≡ true → y ≡ x
   pub modes : (n t : ℕ) → (sub_at (flow_typing (flow_program table typed)) n).result ≡ Some t → (x : ℕ)
       → Has (sub_at (flow_typing (flow_program table typed)) n).formals x → (object_at (flow_typing (flow_program table typed)) x).mode ≡ mode.In
   pub procedures : (n : ℕ) → (sub_at (flow_typing (flow_program table typed)) n).result ≡ None → (x : ℕ)
@@ -69,6 +99,22 @@ pub record IsViewProgram (table : Table) (typed : TypedProgram) (effects : Effec
   pub shown : (sub : FlowSub) → Has (flow_program table typed).subs sub → (p : FlowPoint) → Has sub.points p → (n : ℕ) (actuals : TypedTree)
       (result : Option ℕ) → p.instr ≡ Call n actuals result
       → AreShownOwn (flow_typing (flow_program table typed)) (LendsShared (flow_typing (flow_program table typed)) sub) (sub_of (flow_program table typed) n).formals actuals
+  -- formals of anonymous access types are the first ones of traversal functions, whose first formals see
+  pub firsts : (n x : ℕ) → Has (sub_at (flow_typing (flow_program table typed)) n).formals x → is_anonymous (view_of (flow_typing (flow_program table typed)) x) ≡ true
+      → traversed_of (traverses (flow_program table typed).table (sub_at (flow_typing (flow_program table typed)) n).result)
+      (sub_at (flow_typing (flow_program table typed)) n).formals ≡ Some x
+  pub first : (n : ℕ) → traverses (flow_program table typed).table (sub_at (flow_typing (flow_program table typed)) n).result ≡ true
+      → (f : ℕ) × (rest : List ℕ) × ((sub_at (flow_typing (flow_program table typed)) n).formals ≡ f ∷ rest) × (is_given (flow_typing (flow_program table typed)) f ≡ true)
+  pub traverse : TraversesNames (flow_program table typed)
+  pub take : (sub : FlowSub) → Has (flow_program table typed).subs sub → (p : FlowPoint) → Has sub.points p
+      → TakesView (flow_typing (flow_program table typed)) sub.result p.instr
+  pub returned : (sub : FlowSub) → Has (flow_program table typed).subs sub → (p : FlowPoint) → Has sub.points p → (e last : TypedTree) → p.instr ≡ Hold (More e last)
+      → (of : ℕ) → sub.result ≡ Some of → is_anonymous (full (flow_program table typed).table of) ≡ true
+      → (e ≡ Null)
+      ⊎ ((q : Pos) × (y : ℕ) × (path : TypedTree) × (u : ℕ) × IsSourceName (flow_typing (flow_program table typed)) of e q y path u)
+  -- what is declared or assigned as a whole and is of an anonymous access type is a variable
+  pub stored : (sub : FlowSub) → Has (flow_program table typed).subs sub → (p : FlowPoint) → Has sub.points p → (x : ℕ) → IsStoredAt p.instr x
+      → is_anonymous (view_of (flow_typing (flow_program table typed)) x) ≡ true → is_variable (object_at (flow_typing (flow_program table typed)) x).kind ≡ true
   pub order : IsInOrder table typed
   pub results : (sub : TypedSub) → Has order.rest sub → ResultsFit (typing_of table typed) sub.body
   pub answered : AreAnswered table typed order.rest

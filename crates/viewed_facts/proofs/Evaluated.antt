@@ -73,7 +73,7 @@ module _ (h : Here) (settled : IsSettled h.typing.table) (leaks : List Leak) (wa
   then_exact now P facts (Traps t n) f none next = tt
 
   -- what changes no memory
-  quiet_on : (on : List (List machine.Word)) (m : Memory) (P : List machine.Word → Type 0) (facts facts' : List Fact) (x : Evaluated (List machine.Word))
+  pub quiet_on : (on : List (List machine.Word)) (m : Memory) (P : List machine.Word → Type 0) (facts facts' : List Fact) (x : Evaluated (List machine.Word))
       → Quiet (record { memory = m; waits = on }) P x → facts' ≡ facts → Exact m facts → ExactTo facts' x
   quiet_on on m P facts facts' (Done a n) (same, p) less exact =
       subst (λ (z : Now). Exact z.memory facts') (sym same) (subst (Exact m) (sym less) exact)

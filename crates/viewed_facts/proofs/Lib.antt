@@ -12,6 +12,8 @@ pub mod Given
 pub mod Frames
 pub mod Here
 pub mod Sighted
+pub mod Turning
+pub mod Within
 pub mod Stepping
 pub mod Told
 pub mod ScopeEnds

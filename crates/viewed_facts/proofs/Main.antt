@@ -1,7 +1,7 @@
 -- In each sound state of a program that is ready whose facts are exact, no leak check of the step fails that is excused.
 use Rattle.viewed_soundness.specs.Holds.{sees_only}
 use Rattle.std.specs.Prelude.{is_some}
-use Rattle.std.proofs.Common.{not, ◌≡◌, refl, sym, ap, ◌∙◌, subst, ◌⊎◌, inl, inr, ℕ, suc, Bool, true, false, nat_le, List, [], ◌∷◌, ◌++◌, map, length, get_or, Option, None}
+use Rattle.std.proofs.Common.{Some, ◌+◌, not, ◌≡◌, refl, sym, ap, ◌∙◌, subst, ◌⊎◌, inl, inr, ℕ, suc, Bool, true, false, nat_le, List, [], ◌∷◌, ◌++◌, map, length, get_or, Option, None}
 use Rattle.spark_base.specs.Lists.{Has}
 use Rattle.spark_base.proofs.Lists.{Has-append_left, Has-map_from}
 use Rattle.spark_base.specs.declared.position.Pos.{Pos}
@@ -17,7 +17,7 @@ use Rattle.typed_tree.specs.Programs.{TypedProgram}
 use Rattle.flow_paths.specs.declared.report.Effects.{Effects}
 use Rattle.flow_paths.specs.Instructions.{Instruction, Declare, Call, EndScope, Finish}
 use Rattle.flow_paths.specs.declared.point.LeakSpot.{LeakSpot}
-use Rattle.flow_paths.specs.Objects.{Typing, Signature, Passing, sub_at, passing, passings}
+use Rattle.flow_paths.specs.Objects.{Typing, Signature, Passing, sub_at, passing, passings, traverses, Traversed}
 use Rattle.flow_paths.specs.Acts.{spot, actual_values, actual_acts, call_spots, leaks_of}
 use Rattle.flow_paths.specs.Points.{NamedPoint, FlowPoint}
 use Rattle.flow_paths.specs.Laid.{FlowSub, FlowProgram, NamedSub, flow_sub, kept_roots, sub_facts, typing_of, flow_typing, flow_program, flow_named}
@@ -46,15 +46,20 @@ use Rattle.owned_loans.specs.Views.{Around, known_gone, Views, Viewed}
 use Rattle.viewed_steps.specs.Sound.{ArePast, IsResting, HoldsAt, ArePlaced, NoneAbove, ViewStage, stages_of, GoneElsewhere, AreWaiting, IsRunning, HasTraversals}
 use Rattle.viewed_steps.specs.Awaited.{AreAwaited, lasting_of}
 use Rattle.viewed_steps.specs.Ready.{IsCalled, IsReady}
-use Rattle.viewed_steps.proofs.Called.{call_adds_none}
+use Rattle.viewed_steps.proofs.Called.{call_adds_none, passes_to}
 use Rattle.viewed_steps.proofs.LaidOut.{AreLaidOut}
 use Rattle.viewed_steps.proofs.Passed.{after_less}
 use Rattle.viewed_steps.proofs.Standing as standing
 use Rattle.viewed_steps.proofs.Calling as calling
+use Rattle.viewed_steps.proofs.CallActs as acting
+use Rattle.viewed_steps.proofs.Followed as followed
+use Rattle.viewed_steps.proofs.Followed.{IsTraversing}
+use Rattle.viewed_steps.specs.Ready.{IsTraversalCall}
+use Rattle.flow_paths.specs.Views.{traversed_formal}
 use Rattle.exact_facts.specs.Exact.{NoneFails, checks_of}
 use Rattle.exact_facts.specs.Exact.{IsOfVariable}
 use Rattle.exact_facts.proofs.Checks.{none_made}
-use Rattle.viewed_facts.proofs.Outs.{outs_hold}
+use Rattle.viewed_facts.proofs.Outs.{outs_hold, ins_none}
 use Rattle.viewed_facts.proofs.Steps.{of_others, definite_variable}
 use Rattle.viewed_facts.proofs.Here as here
 use Rattle.exact_facts.proofs.Spots.{values_same, call_same, ways_same}
@@ -189,72 +194,105 @@ module _ (table : Table) (typed : TypedProgram) (effects : Effects) (input : Lis
       agree : Agree s own
       agree = standing.agree table typed effects input ready
 
-      ways_are : passings s (sub_at s n) ≡ ways_there
-      ways_are = calling.ways_are table typed effects input ready state top below more_frames rest named p frames deep stages running awaiting of_sub at_point path views viewed_before kept scope holds placed_before above n actuals result e
+      -- where no traversal function is called
+      module _ (none : traverses s.table (sub_of program n).result ≡ false) where
+        ways_are : passings s (sub_at s n) ≡ ways_there
+        ways_are = passes_to program n none
 
-      own_ways : passings own (sub_at own n) ≡ ways_there
-      own_ways =
-          sym (ways_same s own agree n (λ x formal. called.formals x (subst (λ (z : Signature). Has z.formals x) (signature_is program n) formal)))
-          ∙ ways_are
+        own_ways : passings own (sub_at own n) ≡ ways_there
+        own_ways =
+            sym (ways_same s own agree n (λ x formal. called.formals x (subst (λ (z : Signature). Has z.formals x) (signature_is program n) formal)))
+            ∙ ways_are
 
-      -- the spots are those by the typing that the machine has
-      spots_are : call_spots own (passings own (sub_at own n)) actuals (length (actual_values own (passings own (sub_at own n)) actuals)) ≡ spots
-      spots_are =
-          ap (λ z. call_spots own z actuals (length (actual_values own z actuals))) own_ways
-          ∙ ap (λ z. call_spots own ways_there actuals (length z)) (sym (values_same s own agree p.pos ways_there actuals))
-          ∙ sym (call_same s own agree ways_there actuals (length values))
+        -- the spots are those by the typing that the machine has
+        spots_are : call_spots own (passings own (sub_at own n)) actuals (length (actual_values own (passings own (sub_at own n)) actuals)) ≡ spots
+        spots_are =
+            ap (λ z. call_spots own z actuals (length (actual_values own z actuals))) own_ways
+            ∙ ap (λ z. call_spots own ways_there actuals (length z)) (sym (values_same s own agree p.pos ways_there actuals))
+            ∙ sym (call_same s own agree ways_there actuals (length values))
 
-      acts_are : standing.acts_by table typed effects input ready state top older outer named p frames of_sub at_point s (Call n actuals result) ≡ values ++ copies
-      acts_are = ap (λ z. actual_values s z actuals ++ actual_acts z actuals) ways_are
+        acts_are : standing.acts_by table typed effects input ready state top older outer named p frames of_sub at_point s (Call n actuals result) ≡ values ++ copies
+        acts_are = ap (λ z. actual_values s z actuals ++ actual_acts z actuals) ways_are
 
-      -- what an excused one knows before the call
-      knows_there : (front others : List Placed) → values ++ copies ≡ front ++ others → (name : PlaceName) (q' : Pos) (q : List Sel) → Excused (spot q' name (length front) q)
-          → (has_elem (name.sels ++ q) ≡ false) × Has facts_here (Moved (extend name q))
-      knows_there front others is name q' q excused =
-          let known = here.knows table typed effects input ready state top below more_frames rest named p frames deep stages running awaiting of_sub at_point path views viewed_before kept scope holds placed_before above exact_before
-          (Call n actuals result) e front others (acts_are ∙ is) q' name (q ∷ []) q (inl refl) excused in (
-            known.0,
-            after_less (acts front)
-                (λ a there. (let from = Has-map_from (λ (z : Placed). z.act) front a there in
-                λ f new. call_adds_none s ready.owns procedure formals actuals
-                called.actuals_stay from.0
-                (subst (λ z. Has z from.0) (sym is) (Has-append_left front others from.0 from.1)) f (subst (λ z. Has (adds z) f) (sym from.2) new)))
-                facts_here (Moved (extend name q)) known.1,
-          )
+        -- what an excused one knows before the call
+        knows_there : (front others : List Placed) → values ++ copies ≡ front ++ others → (name : PlaceName) (q' : Pos) (q : List Sel) → Excused (spot q' name (length front) q)
+            → (has_elem (name.sels ++ q) ≡ false) × Has facts_here (Moved (extend name q))
+        knows_there front others is name q' q excused =
+            let known = here.knows table typed effects input ready state top below more_frames rest named p frames deep stages running awaiting of_sub at_point path views viewed_before kept scope holds placed_before above exact_before
+            (Call n actuals result) e front others (acts_are ∙ is) q' name (q ∷ []) q (inl refl) excused in (
+              known.0,
+              after_less (acts front)
+                  (λ a there. (let from = Has-map_from (λ (z : Placed). z.act) front a there in
+                  λ f new. call_adds_none s ready.owns procedure ready.class.parts_named formals actuals
+                  (acting.unseen_plain table typed effects input ready state top below more_frames rest named p frames deep stages running awaiting of_sub at_point path views viewed_before kept scope holds placed_before above n actuals result e none) called.actuals_stay from.0
+                  (subst (λ z. Has z from.0) (sym is) (Has-append_left front others from.0 from.1)) f (subst (λ z. Has (adds z) f) (sym from.2) new)))
+                  facts_here (Moved (extend name q)) known.1,
+            )
 
-      -- where the actuals are evaluated, the checks of the outs are made in the memory before the call
-      entered_holds : (f : List Passed → Memory → Outcome) → Enters at ready.accepted.settled n actuals f → (passed : List Passed) → AreLaidOut s state.memory depth views view_there formals actuals passed
-          → NoneFails Excused spots (checks_of (f passed state.memory))
-      entered_holds f enters passed laid = by_room (nat_le (frames_with at ready.accepted.settled n actuals passed state.memory) stack_words) refl
+        -- where the actuals are evaluated, the checks of the outs are made in the memory before the call
+        entered_holds : (f : List Passed → Memory → Outcome) → Enters at ready.accepted.settled n actuals f → (passed : List Passed) → AreLaidOut s state.memory depth views view_there formals actuals passed
+            → NoneFails Excused spots (checks_of (f passed state.memory))
+        entered_holds f enters passed laid = by_room (nat_le (frames_with at ready.accepted.settled n actuals passed state.memory) stack_words) refl
+          where
+            by_room : (b : Bool) → nat_le (frames_with at ready.accepted.settled n actuals passed state.memory) stack_words ≡ b → NoneFails Excused spots (checks_of (f passed state.memory))
+            by_room false full = subst (λ z. NoneFails Excused spots (checks_of z)) (sym (enters.full passed state.memory full)) (none_made Excused spots)
+            by_room true fits =
+                subst (λ z. NoneFails Excused spots (checks_of z)) (sym (enters.fits passed state.memory fits))
+                (outs_hold s ready.accepted.settled depth views elsewhere_here state.memory (waiting_in (here.easy table typed effects input ready state top below more_frames rest named p frames deep stages running awaiting of_sub at_point path views viewed_before kept scope holds placed_before above exact_before).state) state.leaks facts_here variables_here (here.exact table typed effects input ready state top below more_frames rest named p frames deep stages running awaiting of_sub at_point path views viewed_before kept scope holds placed_before above exact_before) (here.viewed_easy table typed effects input ready state top below more_frames rest named p frames deep stages running awaiting of_sub at_point path views viewed_before kept scope holds placed_before above exact_before
+                (calling.plain_there table typed effects input ready state top below more_frames rest named p frames deep stages running awaiting of_sub at_point path views viewed_before kept scope holds placed_before above n actuals result e).0).1 holds.only Excused p.pos procedure
+                (values ++ copies) knows_there formals actuals passed laid called.actuals_stay values refl)
+
+        evaluated_holds : (f : List Passed → Memory → Outcome) → Enters at ready.accepted.settled n actuals f → (y : Evaluated (List Passed))
+            → Quiet (calling.then_now table typed effects input ready state top below more_frames rest named p frames deep stages running awaiting of_sub at_point path views viewed_before kept scope holds placed_before above n actuals result e) Given_there y → NoneFails Excused spots (checks_of (steps.evaluated at y f))
+        evaluated_holds f enters (Done passed now) (same, given) =
+            subst (λ (z : Now). NoneFails Excused spots (checks_of (f passed z.memory))) (sym same) (entered_holds f enters passed (calling.given_laid table typed effects input ready state top below more_frames rest named p frames deep stages running awaiting of_sub at_point path views viewed_before kept scope holds placed_before above n actuals result e passed given))
+        evaluated_holds f enters (Raises how now) same = none_made Excused spots
+        evaluated_holds f enters (Traps how now) never = absurd never
+
+        plain_holds : Holds top state
+        plain_holds =
+            laid_holds state top named p of_sub at_point (subst (HoldsBy state top named p of_sub at_point) (sym e)
+            (subst (λ z. NoneFails Excused z (checks_of (step program input state))) (sym spots_are)
+            (subst (λ z. NoneFails Excused spots (checks_of z)) (sym (standing.step_is table typed effects input ready state top older outer named p frames of_sub at_point ∙ ap (turn at) e))
+            (called_holds (record { fits = λ passed m fits. rw fits refl; full = λ passed m full. rw full refl })))))
+          where
+            -- as the machine calls
+            called_holds : {f : List Passed → Memory → Outcome} → Enters at ready.accepted.settled n actuals f
+                → NoneFails Excused spots (checks_of (steps.evaluated at (all_passed (steps.here at) (passings s (sub_at s n)) formals actuals (start at)) f))
+            called_holds {f} enters =
+                evaluated_holds f enters (all_passed (steps.here at) (passings s (sub_at s n)) formals actuals (start at)) (calling.passed_quiet table typed effects input ready state top below more_frames rest named p frames deep stages running awaiting of_sub at_point path views viewed_before kept scope holds placed_before above n actuals result e)
+
+      -- where one is, nothing is passed for a formal of mode `out`
+      traversal_holds : (f : ℕ) → traversed_formal s (sub_of program n) ≡ Some f → Holds top state
+      traversal_holds f traversed =
+          laid_holds state top named p of_sub at_point (subst (HoldsBy state top named p of_sub at_point) (sym e)
+          (subst (λ z. NoneFails Excused z (checks_of (step program input state))) (sym none_there) tt))
         where
-          by_room : (b : Bool) → nat_le (frames_with at ready.accepted.settled n actuals passed state.memory) stack_words ≡ b → NoneFails Excused spots (checks_of (f passed state.memory))
-          by_room false full = subst (λ z. NoneFails Excused spots (checks_of z)) (sym (enters.full passed state.memory full)) (none_made Excused spots)
-          by_room true fits =
-              subst (λ z. NoneFails Excused spots (checks_of z)) (sym (enters.fits passed state.memory fits))
-              (outs_hold s ready.accepted.settled depth views elsewhere_here state.memory (waiting_in (here.easy table typed effects input ready state top below more_frames rest named p frames deep stages running awaiting of_sub at_point path views viewed_before kept scope holds placed_before above exact_before).state) state.leaks facts_here variables_here (here.exact table typed effects input ready state top below more_frames rest named p frames deep stages running awaiting of_sub at_point path views viewed_before kept scope holds placed_before above exact_before) (here.viewed_easy table typed effects input ready state top below more_frames rest named p frames deep stages running awaiting of_sub at_point path views viewed_before kept scope holds placed_before above exact_before
-              (calling.plain_there table typed effects input ready state top below more_frames rest named p frames deep stages running awaiting of_sub at_point path views viewed_before kept scope holds placed_before above n actuals result e).0).1 holds.only Excused p.pos procedure
-              (values ++ copies) knows_there formals actuals passed laid called.actuals_stay values refl)
+          made : IsTraversing program n f
+          made = acting.traversing table typed effects input ready state top below more_frames rest named p frames deep stages running awaiting of_sub at_point path views viewed_before kept scope holds placed_before above n actuals result e f traversed
 
-      evaluated_holds : (f : List Passed → Memory → Outcome) → Enters at ready.accepted.settled n actuals f → (y : Evaluated (List Passed))
-          → Quiet (calling.then_now table typed effects input ready state top below more_frames rest named p frames deep stages running awaiting of_sub at_point path views viewed_before kept scope holds placed_before above n actuals result e) Given_there y → NoneFails Excused spots (checks_of (steps.evaluated at y f))
-      evaluated_holds f enters (Done passed now) (same, given) =
-          subst (λ (z : Now). NoneFails Excused spots (checks_of (f passed z.memory))) (sym same) (entered_holds f enters passed (calling.given_laid table typed effects input ready state top below more_frames rest named p frames deep stages running awaiting of_sub at_point path views viewed_before kept scope holds placed_before above n actuals result e passed given))
-      evaluated_holds f enters (Raises how now) same = none_made Excused spots
-      evaluated_holds f enters (Traps how now) never = absurd never
+          made_call : IsTraversalCall s named (flow_at own named p).next n actuals
+          made_call = acting.made table typed effects input ready state top below more_frames rest named p frames deep stages running awaiting of_sub at_point path views viewed_before kept scope holds placed_before above n actuals result e f traversed
+
+          all_ways : passings own (sub_at own n) ≡ Traversed ∷ map (passing s false) made.rest
+          all_ways =
+              sym (ways_same s own agree n (λ x formal. called.formals x (subst (λ (z : Signature). Has z.formals x) (signature_is program n) formal)))
+              ∙ made.ways
+
+          counted : ℕ
+          counted = length (actual_values own (passings own (sub_at own n)) actuals)
+
+          none_there : call_spots own (passings own (sub_at own n)) actuals counted ≡ []
+          none_there =
+              ap (λ z. call_spots own z actuals counted) all_ways ∙ ap (λ z. call_spots own (Traversed ∷ map (passing s false) made.rest) z counted) made_call.actuals_are
+              ∙ ins_none s own false made.rest ((made_call.call).others) (counted + 0)
+              (followed.modes table typed effects input ready state top older outer named p frames of_sub at_point path n actuals result e f traversed)
 
       call_holds : Holds top state
-      call_holds =
-          laid_holds state top named p of_sub at_point (subst (HoldsBy state top named p of_sub at_point) (sym e)
-          (subst (λ z. NoneFails Excused z (checks_of (step program input state))) (sym spots_are)
-          (subst (λ z. NoneFails Excused spots (checks_of z)) (sym (standing.step_is table typed effects input ready state top older outer named p frames of_sub at_point ∙ ap (turn at) e))
-          (called_holds (record { fits = λ passed m fits. rw fits refl; full = λ passed m full. rw full refl })))))
-        where
-          -- as the machine calls
-          called_holds : {f : List Passed → Memory → Outcome} → Enters at ready.accepted.settled n actuals f
-              → NoneFails Excused spots (checks_of (steps.evaluated at (all_passed (steps.here at) (passings s (sub_at s n)) formals actuals (start at)) f))
-          called_holds {f} enters =
-              subst (λ z. NoneFails Excused spots (checks_of (steps.evaluated at (all_passed (steps.here at) z formals actuals (start at)) f))) (sym ways_are)
-              (evaluated_holds f enters (all_passed (steps.here at) ways_there formals actuals (start at)) (calling.passed_quiet table typed effects input ready state top below more_frames rest named p frames deep stages running awaiting of_sub at_point path views viewed_before kept scope holds placed_before above n actuals result e))
+      call_holds = elim (acting.traverses_or table typed effects input ready state top below more_frames rest named p frames deep stages running awaiting of_sub at_point path views viewed_before kept scope holds placed_before above n actuals result e) [
+        | inl none ↦ plain_holds none
+        | inr (f, traversed) ↦ traversal_holds f traversed
+      ]
 
     main_holds : Holds top state
     main_holds = elim (finish_or p.instr) [

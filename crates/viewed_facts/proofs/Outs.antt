@@ -48,6 +48,26 @@ both_hold Excused (x ∷ a) b (y ∷ c) d same one two = (one.0, both_hold Excus
 both_hold Excused [] b (y ∷ c) d same one two = absurd (omega (arith, same))
 both_hold Excused (x ∷ a) b [] d same one two = absurd (omega (arith, same))
 
+-- none is made of actuals of mode `in`
+pub ins_none : (s own : Typing) (procedure : Bool) (formals : List ℕ) (actuals : TypedTree) (before : ℕ) → ((x : ℕ) → Has formals x → (object_at s x).mode ≡ mode.In)
+    → call_spots own (map (passing s procedure) formals) actuals before ≡ []
+ins_none s own procedure [] actuals before modes = refl
+ins_none s own procedure (x ∷ formals) (More e rest) before modes =
+    ap (λ z. z ++ call_spots own (map (passing s procedure) formals) rest (before + length (actual_act (passing s procedure x) e)))
+    (subst (λ z. actual_spots own (passing_by z owning access) e before ≡ []) (sym (modes x (inl refl))) (by_owning owning))
+    ∙ ins_none s own procedure formals rest (before + length (actual_act (passing s procedure x) e)) (λ y has. modes y (inr has))
+  where
+    owning : Bool
+    owning = is_owning s.table (object_at s x).of
+
+    access : Bool
+    access = procedure && is_named_access (view_of s x)
+
+    by_owning : (b : Bool) → actual_spots own (passing_by mode.In b access) e before ≡ []
+    by_owning true = refl
+    by_owning false = refl
+ins_none s own procedure (x ∷ formals) actuals before modes = refl
+
 -- those of one that is passed
 abbrev head_checks : Typing → Pos → Memory → Passed → TypedTree → List (List Leak)
 head_checks s p m (To k) e = checks_at s (written_pos p (written e)) m k

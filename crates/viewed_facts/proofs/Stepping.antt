@@ -30,7 +30,7 @@ use Rattle.flow_paths.specs.Names.{has_call, name_of, waiting as waits_in}
 use Rattle.flow_paths.specs.Acts as flow
 use Rattle.flow_paths.specs.Acts.{acts_in, leaks_of, spot, stored_acts}
 use Rattle.flow_paths.specs.Points.{NamedPoint}
-use Rattle.flow_paths.specs.Laid.{FlowSub, FlowProgram, NamedSub, number_in, flow_sub, typing_of, flow_typing, flow_program, flow_named}
+use Rattle.flow_paths.specs.Laid.{FlowProgram, NamedSub, number_in, flow_sub, typing_of, flow_typing, flow_program, flow_named}
 use Rattle.flow_paths.specs.Paths.{PathPoint, ControlPath}
 use Rattle.flow_paths.specs.Effects.{path_points}
 use Rattle.flow_paths.specs.LeakPlan.{IsExcused}
@@ -39,7 +39,7 @@ use Rattle.machine.specs.Memory.{Memory, Place, declared, stored, words_of}
 use Rattle.machine.specs.Words as machine
 use Rattle.machine.specs.Words.{fits_type}
 use Rattle.machine.specs.Calls.{checks_at}
-use Rattle.machine.specs.Evaluate.{Now, Exception, ConstraintError, Evaluated, Done, Raises, Traps, followed_by, value, place_of, text_of, checked, evaluate, initial}
+use Rattle.machine.specs.Evaluate.{Now, Exception, ConstraintError, Evaluated, Done, followed_by, value, place_of, text_of, checked, evaluate, initial}
 use Rattle.machine.specs.Evaluate as run
 use Rattle.run_values.specs.Items.{next_item}
 use Rattle.machine.specs.States.{Frame, State, Outcome, Goes, Ends, sub_of}
@@ -52,11 +52,11 @@ use Rattle.soundness.specs.Seen.{home, seen, IsNear}
 use Rattle.soundness.specs.Typed.{Kept}
 use Rattle.soundness.specs.Sound.{Stage, facts_of, AreStages, IsRunnable, IsNoCall, IsTrap, InScope, IsNamedSub, IsAtPoint, view_of as view_here}
 use Rattle.typed_laws.specs.Needed.{IsFine, Source, FirstSource, FirstWrites, FirstStays, Stays, Returns}
+use Rattle.soundness.proofs.Contents.{bool_cases}
 use Rattle.soundness.proofs.Scalars.{after_append, acts, acts_append}
 use Rattle.soundness.proofs.Taking.{Takes, takes_as, takes_both, nothing_more, no_takes}
 use Rattle.soundness.proofs.Eased.{eased}
 use Rattle.soundness.proofs.Continued.{got_with, released_with, started_with, input_eased, release_eased, start_eased}
-use Rattle.soundness.proofs.Operands.{handed_over, hold_is}
 use Rattle.soundness.proofs.Inherited.{after_splits}
 use Rattle.soundness.proofs.Around.{IsFar}
 use Rattle.owned_loans.specs.Views.{Around, known_gone, Views, Viewed}
@@ -80,7 +80,7 @@ use Rattle.viewed_steps.proofs.Rounds.{Starts, started_on as sound_started_on}
 use Rattle.exact_facts.specs.Exact.{NoneFails, Knows, checks_of}
 use Rattle.exact_facts.proofs.Checks.{none_made}
 use Rattle.viewed_facts.specs.Exact.{IsDefiniteOf, IsExact}
-use Rattle.viewed_facts.proofs.Instructions.{ExactOn, value_on, waits_exact, source_exact, declare_on, assign_on, skip_exact, then_declared, then_stored}
+use Rattle.viewed_facts.proofs.Instructions.{ExactOn, value_on, source_exact, declare_on, assign_on, skip_exact, then_declared, then_stored}
 use Rattle.viewed_steps.proofs.Views.{anonymous_view}
 use Rattle.viewed_facts.proofs.Viewing.{view_parts, view_declared_on, view_assigned_on}
 use Rattle.viewed_facts.proofs.Releases.{released_on}
@@ -88,6 +88,8 @@ use Rattle.viewed_facts.proofs.Loops.{next_exact, started_on, output_on, line_ex
 use Rattle.viewed_facts.proofs.Frames.{elsewhere as moved_elsewhere}
 use Rattle.viewed_facts.proofs.Here as here
 use Rattle.viewed_facts.proofs.Sighted as sighted
+use Rattle.viewed_facts.proofs.Turning as turning
+use Rattle.viewed_facts.proofs.Within as within_value
 use Rattle.viewed_steps.proofs.Views.{AreAccess, all_held}
 use Rattle.viewed_facts.proofs.Steps.{IsAway}
 use Rattle.viewed_facts.proofs.Given.{gives_no_call, first_plain}
@@ -241,13 +243,10 @@ module _ (table : Table) (typed : TypedProgram) (effects : Effects) (input : Lis
         holds = all_held s in_formals depth views state.memory (λ x n view e. holds.held x n (λ fading. going fading.0 fading.1) view e) holds.only holds.owners holds.own;
       }
 
-      -- With these values out of the frame, the step makes the same of memory.
-      eased_on : (facts : List Fact) (spots : List LeakSpot) {A : Type 0} (y : Evaluated A) (f g : A → Memory → Outcome)
+      abbrev eased_on : (facts : List Fact) (spots : List LeakSpot) {A : Type 0} (y : Evaluated A) (f g : A → Memory → Outcome)
           → ((a : A) (m : Memory) → ExactAt facts spots (f a m) → ExactAt facts spots (g a m))
           → ExactAt facts spots (steps.evaluated easy y f) → ExactAt facts spots (steps.evaluated at y g)
-      eased_on facts spots (Done a n) f g same on = same a n.memory on
-      eased_on facts spots (Raises e n) f g same on = none_made Excused spots
-      eased_on facts spots (Traps e n) f g same on = none_made Excused spots
+      eased_on = turning.eased_on table typed effects input ready state top below more_frames rest named p frames deep stages running awaiting of_sub at_point path views viewed_before kept scope holds placed_before above exact_before going no_calls
 
       -- no trap, and exact
       abbrev NoTrap : Outcome → Type 0
@@ -282,52 +281,30 @@ module _ (table : Table) (typed : TypedProgram) (effects : Effects) (input : Lis
       skips : Exacts Skip
       skips = skip_exact easy ready.accepted.settled ready.owns other alone in_formals views ready.class.parts_named none_taken refl refl elsewhere away Excused facts_now exact
 
-      -- a declaration, at these turns
-      declared_main : (facts : List Fact) (x : ℕ) (w : TypedTree)
+      abbrev declared_main : (facts : List Fact) (x : ℕ) (w : TypedTree)
           → ExactAt facts [] (steps.evaluated easy (steps.first_value at (object_at s x).of w (start at)) (λ vs m. steps.goes easy (declared depth x vs m) 0))
           → ExactAt facts [] (steps.evaluated at (steps.first_value at (object_at s x).of w (start at)) (λ vs m. steps.goes at (declared depth x vs m) 0))
-      declared_main facts x w on =
-          eased_on facts [] (steps.first_value at (object_at s x).of w (start at))
-          (λ vs m. steps.goes easy (declared depth x vs m) 0) (λ vs m. steps.goes at (declared depth x vs m) 0) (λ vs m there. there) on
+      declared_main = turning.declared_main table typed effects input ready state top below more_frames rest named p frames deep stages running awaiting of_sub at_point path views viewed_before kept scope holds placed_before above exact_before going no_calls
 
-      assigned_main : (facts : List Fact) (spots : List LeakSpot) (target : TypedTree) (of : ℕ) (e : TypedTree)
+      abbrev assigned_main : (facts : List Fact) (spots : List LeakSpot) (target : TypedTree) (of : ℕ) (e : TypedTree)
           → ExactAt facts spots (steps.evaluated easy (followed_by (steps.taken_by at of e (start at))
           (λ ws now. followed_by (place_of (steps.here at) target now) (λ k now. Done (record { words = ws; place = k }) now)))
           (λ (st : steps.Stored) m. steps.leaking_goes (checks_at s (steps.target_pos at target) m st.place) (steps.goes easy (stored s st.place st.words m) 0)))
           → ExactAt facts spots (steps.evaluated at (followed_by (steps.taken_by at of e (start at))
           (λ ws now. followed_by (place_of (steps.here at) target now) (λ k now. Done (record { words = ws; place = k }) now)))
           (λ (st : steps.Stored) m. steps.leaking_goes (checks_at s (steps.target_pos at target) m st.place) (steps.goes at (stored s st.place st.words m) 0)))
-      assigned_main facts spots target of e on =
-          eased_on facts spots _
-          (λ (st : steps.Stored) m. steps.leaking_goes (checks_at s (steps.target_pos at target) m st.place) (steps.goes easy (stored s st.place st.words m) 0))
-          (λ (st : steps.Stored) m. steps.leaking_goes (checks_at s (steps.target_pos at target) m st.place) (steps.goes at (stored s st.place st.words m) 0))
-          (λ st m there. there) on
+      assigned_main = turning.assigned_main table typed effects input ready state top below more_frames rest named p frames deep stages running awaiting of_sub at_point path views viewed_before kept scope holds placed_before above exact_before going no_calls
 
-      -- a return with a value
-      holds_value : (e : TypedTree) (of : ℕ) → p.instr ≡ Hold (More e NoMore) → named.sub.result ≡ Some of
+      abbrev holds_value : (e : TypedTree) (of : ℕ) → p.instr ≡ Hold (More e NoMore) → named.sub.result ≡ Some of → is_anonymous (full s.table of) ≡ false
           → (IsNamed s.table of → AllowsAll facts_now (acts (acts_in s e)) → AllKeep (is_fixed s) (acts (acts_in s e))
           → ExactTo (steps.here at) ready.accepted.settled state.leaks [] other alone (keeps s ready.accepted.settled ready.owns) index_law ready.owns views
           ready.class.parts_named elsewhere away (after (acts (acts_in s e)) facts_now) (steps.taken_by at of e (start at)))
           → AllowsAll facts_now (acts_by (Hold (More e NoMore))) → AllKeep (is_fixed s) (acts_by (Hold (More e NoMore))) → Exacts (Hold (More e NoMore))
-      unfolding acts_in
-      holds_value e of is result value_exact allowed_there keep =
-          let type_there : IsNamed s.table of = plain_named s.table of (innermost.named_result table typed effects input ready state top below more_frames rest named p frames deep stages running awaiting of_sub at_point path views viewed_before kept scope holds placed_before above of result) in
-          let same : acts_by (Hold (More e NoMore)) ≡ acts (acts_in s e) =
-          ap (λ r. acts (flow.returned_acts s r (More e NoMore))) result
-          ∙ ap (λ b. acts (if b then flow.source_acts s e (λ m. act.Give m (flow.gives_variable s (Some of))) else acts_in s e ++ []))
-          (named_plain s.table of type_there)
-          ∙ ap acts (append-nil (acts_in s e)) in
-          let sub_result : (sub_of program top.frame.sub).result ≡ Some of =
-          ap (λ (z : FlowSub). z.result) (standing.sub_is table typed effects input ready state top older outer named p frames of_sub at_point) ∙ result in
-          subst (λ z. ExactAt (after z facts_now) [] (turn at (Hold (More e NoMore)))) (sym same)
-          (subst (ExactAt (after (acts (acts_in s e)) facts_now) []) (sym (hold_is program input at.point state top.frame below.stage.frame rest e NoMore of sub_result))
-          (eased_on (after (acts (acts_in s e)) facts_now) [] (steps.taken_by at of e (start at))
-          (λ ws m. Goes (handed_over program input at.point state top.frame below.stage.frame rest of ws m))
-          (λ ws m. Goes (handed_over program input at.point state top.frame below.stage.frame rest of ws m)) (λ ws m on. on)
-          (waits_exact easy ready.accepted.settled ready.owns other alone in_formals views ready.class.parts_named none_taken refl refl elsewhere away Excused
-          (after (acts (acts_in s e)) facts_now) (steps.taken_by at of e (start at))
-          (value_exact type_there (subst (AllowsAll facts_now) same allowed_there) (subst (AllKeep (is_fixed s)) same keep))
-          (λ ws m. Goes (handed_over program input at.point state top.frame below.stage.frame rest of ws m)) (λ ws m still. (still, tt)))))
+      holds_value = turning.holds_value table typed effects input ready state top below more_frames rest named p frames deep stages running awaiting of_sub at_point path views viewed_before kept scope holds placed_before above exact_before going no_calls
+
+      abbrev returns_view : (e : TypedTree) (of : ℕ) → p.instr ≡ Hold (More e NoMore) → named.sub.result ≡ Some of → Source s of e → is_anonymous (full s.table of) ≡ true
+          → Exacts (Hold (More e NoMore))
+      returns_view = turning.returns_view table typed effects input ready state top below more_frames rest named p frames deep stages running awaiting of_sub at_point path views viewed_before kept scope holds placed_before above exact_before going no_calls
 
       -- ---- what a function gave, alone
 
@@ -451,15 +428,19 @@ module _ (table : Table) (typed : TypedProgram) (effects : Effects) (input : Lis
                   (assigns_view r y (is ∙ ap (λ z. Assign z call) target_is) (ap (λ z. is_anonymous (full s.table z)) whole.1 ∙ view)))
             ]
 
-        returns_alone : (of : ℕ) → p.instr ≡ Hold (More call NoMore) → named.sub.result ≡ Some of
+        returns_alone : (of : ℕ) → p.instr ≡ Hold (More call NoMore) → named.sub.result ≡ Some of → Source s of call
             → AllowsAll facts_now (acts_by (Hold (More call NoMore))) → AllKeep (is_fixed s) (acts_by (Hold (More call NoMore))) → Exacts (Hold (More call NoMore))
         unfolding acts_in
-        returns_alone of is result allowed_there keep = holds_value call of is result (λ type_there allows keeps. call_exact of type_there) allowed_there keep
+        returns_alone of is result source allowed_there keep = elim (bool_cases (is_anonymous (full s.table of))) [
+          | inl view ↦ returns_view call of is result source view
+          | inr owner ↦ holds_value call of is result owner (λ type_there allows keeps. call_exact of type_there) allowed_there keep
+        ]
 
         -- the value is of what the function returns
-        result_there : p.instr ≡ Hold (More call NoMore) → (r : Option ℕ) → named.sub.result ≡ r → Returns s r (More call NoMore) → (of : ℕ) × (named.sub.result ≡ Some of)
+        result_there : p.instr ≡ Hold (More call NoMore) → (r : Option ℕ) → named.sub.result ≡ r → Returns s r (More call NoMore)
+            → (of : ℕ) × (named.sub.result ≡ Some of) × Source s of call
         result_there is None result none = (let never : ◌≡◌ {A = TypedTree} (More call NoMore) NoMore = none in cc)
-        result_there is (Some of) result there = (of, result)
+        result_there is (Some of) result (e, same, source) = (of, result, subst (Source s of) (sym (same_first call e same)) source)
 
         alone_exact : (p.instr ≡ Finish → ⊥) → AllowsAll facts_now (acts_by p.instr) → AllKeep (is_fixed s) (acts_by p.instr) → Exacts p.instr
         alone_exact end allowed_there keep = elim taken_alone.8 [
@@ -468,7 +449,7 @@ module _ (table : Table) (typed : TypedProgram) (effects : Effects) (input : Lis
           | inr (inr is) ↦ (
               let result = result_there is named.sub.result refl (subst (IsFine s named.sub.result) is fine_here) in
               subst Exacts (sym is)
-              (returns_alone result.0 is result.1 (subst (λ i. AllowsAll facts_now (acts_by i)) is allowed_there) (subst (λ i. AllKeep (is_fixed s) (acts_by i)) is keep)))
+              (returns_alone result.0 is result.1 result.2 (subst (λ i. AllowsAll facts_now (acts_by i)) is allowed_there) (subst (λ i. AllKeep (is_fixed s) (acts_by i)) is keep)))
         ]
 
       -- ---- what is taken is scalar
@@ -716,11 +697,13 @@ module _ (table : Table) (typed : TypedProgram) (effects : Effects) (input : Lis
         holds_plain : (e : TypedTree) (of : ℕ) → p.instr ≡ Hold (More e NoMore) → named.sub.result ≡ Some of → Source s of e
             → AllowsAll facts_now (acts_by (Hold (More e NoMore))) → AllKeep (is_fixed s) (acts_by (Hold (More e NoMore))) → Exacts (Hold (More e NoMore))
         unfolding GivesPlainly waits_in
-        holds_plain e of is result source allowed_there keep =
-            holds_value e of is result (λ type_there allows keeps.
-            source_exact easy ready.accepted.settled ready.owns other alone in_formals views ready.class.parts_named none_taken refl refl elsewhere away Excused given_words of e type_there source (subst (TakesScalars s) is plain.1).0
-            (takes_as (taken (Hold (More e NoMore))) (waits_in e) given_words [] (nothing_more (waits_in e)) (takes_of plain.0 (Hold (More e NoMore)) is))
-            facts_now (good plain) allows keeps exact) allowed_there keep
+        holds_plain e of is result source allowed_there keep = elim (bool_cases (is_anonymous (full s.table of))) [
+          | inl view ↦ returns_view e of is result source view
+          | inr owner ↦ holds_value e of is result owner (λ type_there allows keeps.
+              source_exact easy ready.accepted.settled ready.owns other alone in_formals views ready.class.parts_named none_taken refl refl elsewhere away Excused given_words of e type_there source (subst (TakesScalars s) is plain.1).0
+              (takes_as (taken (Hold (More e NoMore))) (waits_in e) given_words [] (nothing_more (waits_in e)) (takes_of plain.0 (Hold (More e NoMore)) is))
+              facts_now (good plain) allows keeps exact) allowed_there keep
+        ]
 
         returns : (v : TypedTree) (r : Option ℕ) → p.instr ≡ Hold v → named.sub.result ≡ r → Returns s r v → AllowsAll facts_now (acts_by (Hold v))
             → AllKeep (is_fixed s) (acts_by (Hold v)) → Exacts (Hold v)
@@ -761,7 +744,9 @@ module _ (table : Table) (typed : TypedProgram) (effects : Effects) (input : Lis
       instruction_exact : (p.instr ≡ Finish → ⊥) → Exacts p.instr
       instruction_exact end = elim (innermost.taken_there table typed effects input ready state top below more_frames rest named p frames deep stages running awaiting of_sub at_point path views viewed_before kept scope holds placed_before above) [
         | inl plain ↦ each_instruction plain p.instr refl end fine_here (allowed_there end) (standing.keeps_there table typed effects input ready state top older outer named p frames of_sub at_point)
-        | inr taken_alone ↦ alone_exact taken_alone end (allowed_there end) (standing.keeps_there table typed effects input ready state top older outer named p frames of_sub at_point)
+        | inr (inl taken_alone) ↦ alone_exact taken_alone end (allowed_there end) (standing.keeps_there table typed effects input ready state top older outer named p frames of_sub at_point)
+        | inr (inr taken_within) ↦ within_value.within_exact table typed effects input ready state top below more_frames rest named p frames deep stages running awaiting of_sub at_point path views viewed_before kept scope holds placed_before above exact_before going no_calls taken_within end (allowed_there end)
+            (standing.keeps_there table typed effects input ready state top older outer named p frames of_sub at_point)
       ]
 
       -- Where the step goes on, facts are exact after its acts; and of the leak checks of the point none fails that is excused.

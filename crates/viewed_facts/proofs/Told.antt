@@ -43,7 +43,6 @@ use Rattle.soundness.proofs.Around.{IsFar}
 use Rattle.owned_loans.specs.Views.{Around, known_gone, Views, Viewed}
 use Rattle.viewed_soundness.proofs.Names.{true_false, free_formal, plain_named}
 use Rattle.viewed_soundness.proofs.Outcomes.{IsGood, assigned_acts}
-use Rattle.viewed_steps.specs.Awaited.{IsMade}
 use Rattle.viewed_steps.specs.Sound.{ArePast, IsResting, HoldsAt, ArePlaced, NoneAbove, ViewStage, stages_of, GoneElsewhere, AreWaiting, IsStoredAt, AreTurned, HasTraversals}
 use Rattle.viewed_steps.specs.Awaited.{AreAwaited, lasting_of, AreScalar, temporaries_of, TakesScalars}
 use Rattle.viewed_steps.specs.Ready.{AreOrderly, IsReady}
@@ -206,16 +205,17 @@ module _ (table : Table) (typed : TypedProgram) (effects : Effects) (input : Lis
       -- ---- facts of all frames
 
       -- what a view gets from a name isn't what a function gave
-      plain_there : (q : Pos) (x u : ℕ) (e : TypedTree) (k : Pos) (z : ℕ) (path_of : TypedTree) (o : ℕ) → e ≡ Name k z path_of o → p.instr ≡ Assign (Name q x NoMore u) e → Plainly
-      plain_there q x u e k z path_of o named_so is =
+      plain_there : (q : Pos) (x u : ℕ) (e : TypedTree) (k : Pos) (z : ℕ) (path_of : TypedTree) (o : ℕ) → e ≡ Name k z path_of o → p.instr ≡ Assign (Name q x NoMore u) e
+          → is_anonymous (full s.table u) ≡ true → Plainly
+      plain_there q x u e k z path_of o named_so is view =
           elim (innermost.taken_there table typed effects input ready state top below more_frames rest named p frames deep stages running awaiting of_sub at_point path views viewed_before kept scope holds placed_before above) [
             | inl plain ↦ plain
-            | inr (inr within) ↦ absurd (elim within.6 [
-              | inl (y, other_instr) ↦ (let never : Assign (Name q x NoMore u) e ≡ Declare y (More within.3 NoMore) = sym is ∙ other_instr in cc)
-              | inr (inl (r, y, steps_there, w, same, calls)) ↦ (
-                  let there : Assign (Name q x NoMore u) e ≡ Assign (Name r y steps_there w) within.3 = sym is ∙ same in
-                  subst IsMade (sym (assigned_same there) ∙ named_so) within.7)
-              | inr (inr other_instr) ↦ (let never : Assign (Name q x NoMore u) e ≡ Hold (More within.3 NoMore) = sym is ∙ other_instr in cc)
+            | inr (inr together) ↦ absurd (elim together.1 [
+              | inl (y, other_instr, owner) ↦ (let never : Assign (Name q x NoMore u) e ≡ Declare y (More together.0 NoMore) = sym is ∙ other_instr in cc)
+              | inr (inl (r, y, steps_there, w, same, place, scalar)) ↦ (
+                  let there : Assign (Name q x NoMore u) e ≡ Assign (Name r y steps_there w) together.0 = sym is ∙ same in
+                  true_false (is_anonymous (full s.table u)) view (ap (λ z. is_anonymous (full s.table z)) (target_same there) ∙ place))
+              | inr (inr (other_instr, plain_result)) ↦ (let never : Assign (Name q x NoMore u) e ≡ Hold (More together.0 NoMore) = sym is ∙ other_instr in cc)
             ])
             | inr (inl taken_alone) ↦ absurd (elim taken_alone.8 [
               | inl (y, other_instr) ↦ (let never : Assign (Name q x NoMore u) e ≡ Declare y (More (CallIn taken_alone.3 taken_alone.4 taken_alone.5) NoMore) = sym is ∙ other_instr in cc)
@@ -228,6 +228,9 @@ module _ (table : Table) (typed : TypedProgram) (effects : Effects) (input : Lis
         where
           assigned_same : {a b c d : TypedTree} → Assign a b ≡ Assign c d → b ≡ d
           assigned_same e = cc
+
+          target_same : {q r : Pos} {x y u w : ℕ} {path_of steps_there a b : TypedTree} → Assign (Name q x path_of u) a ≡ Assign (Name r y steps_there w) b → u ≡ w
+          target_same e = cc
 
           by_source : (e : TypedTree) (k : Pos) (n : ℕ) (actuals : TypedTree) (r : Pos) (y : ℕ) (steps_there : TypedTree) (w : ℕ)
               → e ≡ CallIn k n actuals → e ≡ Name r y steps_there w → ⊥
@@ -244,7 +247,7 @@ module _ (table : Table) (typed : TypedProgram) (effects : Effects) (input : Lis
           by_fine (v, (leads, type), source) =
               let found = orderly.assigned q x u e is view in
               elim found.4 [
-                | inl named_so ↦ from_name (plain_there q x u e found.0 found.1 found.2 found.3 named_so is) found.0 found.1 found.3 found.2 named_so (found.6 borrows)
+                | inl named_so ↦ from_name (plain_there q x u e found.0 found.1 found.2 found.3 named_so is (ap (λ z. is_anonymous (full s.table z)) (sym leads) ∙ view)) found.0 found.1 found.3 found.2 named_so (found.6 borrows)
                     (subst (λ z. Source s z e) (sym (leads ∙ type)) source) leads
                 | inr (r, k, more, call_is, gives) ↦ from_call found.0 found.1 found.3 found.2 r k more call_is leads
               ]

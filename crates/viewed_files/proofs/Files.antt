@@ -1,6 +1,6 @@
 -- Borrowers and observers of files that break no rule are in order, and the runs of their program are sound where
 -- nothing is reported, results are of scalar types or stand alone, and formals are of scalar types or of mode `in out`.
-use Rattle.std.proofs.Common.{◌≡◌, refl, sym, ap, ◌∙◌, subst, ◌⊎◌, inl, inr, ℕ, Bool, true, false, ◌&&◌, List, [], ◌∷◌, Some, None, is_some}
+use Rattle.std.proofs.Common.{◌≡◌, refl, sym, ap, ◌∙◌, subst, inl, inr, ℕ, Bool, true, false, ◌&&◌, List, [], ◌∷◌, Some, None}
 use Rattle.spark_base.specs.Lists.{Has}
 use Rattle.place_names.specs.declared.act.Mode.{Mode}
 use Rattle.place_names.specs.declared.act.Mode.TheVariants as mode
@@ -49,7 +49,7 @@ use Rattle.machine.specs.States.{sub_of}
 use Rattle.machine.specs.Owners.{is_in, is_in_formal}
 use Rattle.soundness.specs.Seen.{is_view_formal}
 use Rattle.soundness.specs.Typed.{OwnsByShape}
-use Rattle.soundness.proofs.Passing.{plain_type}
+use Rattle.soundness.proofs.Passing.{plain_type, signature_is}
 use Rattle.soundness.specs.Sound.{Accepted, RunIsSound}
 use Rattle.soundness.proofs.Points.{flow_table}
 use Rattle.viewed_soundness.specs.Holds.{PartsAreNamed, is_exclusive}
@@ -73,15 +73,17 @@ use Rattle.sound_files.proofs.Laws.{table_laws, files_declared, integers_scalar,
 use Rattle.sound_files.proofs.Called.{files_bodies}
 use Rattle.sound_files.proofs.Mains.{main_formless}
 use Rattle.sound_files.proofs.Functions.{functions_in}
+use Rattle.sound_files.proofs.Shared.{functions_see}
 use Rattle.sound_files.proofs.Declared.{declared_known, formals_apart}
 use Rattle.sound_files.proofs.Owners.{kinds_there, modes_there, main_there, passed_there, owners_shown}
 use Rattle.sound_files.proofs.Classes.{are_answered}
-use Rattle.typed_files.proofs.Main.{files_fine, files_steps}
+use Rattle.typed_runs.specs.Code.{NamesOwners, WithinStep}
+use Rattle.typed_files.proofs.Main.{files_fine, files_steps, files_used}
 use Rattle.sound_files.proofs.Main.{files_orderly}
 use Rattle.viewed_steps.specs.Ready.{IsReady}
 use Rattle.viewed_steps.proofs.Main.{ready_sound}
 use Rattle.view_laws.specs.InOrder.{AreViewsInOrder}
-use Rattle.viewed_steps.specs.Sound.{IsScalarObject, IsShown, IsKindOfFormal, LendsShared}
+use Rattle.viewed_steps.specs.Sound.{IsScalarObject, IsKindOfFormal, LendsShared}
 use Rattle.view_laws.specs.Program.{PassActuals, IsViewProgram}
 use Rattle.view_laws.proofs.Ready.{views_ready}
 use Rattle.viewed_files.proofs.Sources.{scalar_plain}
@@ -290,13 +292,6 @@ module _ (files : List (List SourceUnit)) where
           → (flow.object_at (flow_typing flow_of_files) x).mode ≡ mode.In
       modes = modes_there p (functions_in p (units_faultless p no_fault) text_orderly.once)
 
-      functions : (n t : ℕ) → (flow.sub_at (flow_typing flow_of_files) n).result ≡ Some t → (x : ℕ) → Has (flow.sub_at (flow_typing flow_of_files) n).formals x
-          → flow.is_formal (flow_typing flow_of_files) x ≡ true → is_view_formal (flow_typing flow_of_files) x ≡ true → is_exclusive (flow_typing flow_of_files) x ≡ false
-      functions n t result x has formal view = elim (calls.seen n t x result has formal) [
-        | inl plain ↦ absurd (let no : true ≡ false = sym view ∙ scalar_none x plain in cc)
-        | inr seen ↦ seen view
-      ]
-
       -- what a procedure is shown is of a named access type
       procedures : (n : ℕ) → (flow.sub_at (flow_typing flow_of_files) n).result ≡ None → (x : ℕ) → Has (flow.sub_at (flow_typing flow_of_files) n).formals x
           → flow.is_formal (flow_typing flow_of_files) x ≡ true → is_view_formal (flow_typing flow_of_files) x ≡ true
@@ -320,6 +315,9 @@ module _ (files : List (List SourceUnit)) where
           actuals_passed flow_of_files (subst (λ (rows : Table). counts (shape_of rows integer) ≡ true) same_table laws.whole)
           (subst (λ (rows : Table). lists (shape_of rows boolean) ≡ true) same_table laws.listed)
           (subst (λ (rows : Table). (t : ℕ) → words rows t ≡ words_of (words rows) (shape_of rows t)) same_table laws.word_law) owns typed kinds fit
+          (λ sub has q there n actuals result is.
+              subst (λ fs. NamesOwners (flow_typing flow_of_files) fs actuals) (ap (λ (z : flow.Signature). z.formals) (signature_is flow_of_files n))
+              (subst (λ i. WithinStep (flow_typing flow_of_files) sub.result i) is (files_used files apart ended up named no_fault sub has q there).1).0.0)
 
       main_in : IsSub (bodies_of p) order.number order.main
       main_in = subst (λ rest. IsSub rest order.number order.main) (sym rest_is) order.stands
@@ -332,7 +330,7 @@ module _ (files : List (List SourceUnit)) where
         integers = subst (λ (rows : Table). is_scalar (full rows integer) ≡ true) same_table integers;
         truths = subst (λ (rows : Table). is_scalar (full rows boolean) ≡ true) same_table truths;
         formals = kinds;
-        functions = functions;
+        functions = λ n t result x has formal is lends. functions_see p text_orderly.once n t x result has lends;
         modes = modes;
         procedures = procedures;
         copied = λ sub has q there n actuals result is known. kept_places (flow_typing flow_of_files) (sub_of flow_of_files n).formals actuals known (fit sub has q there n actuals result is);

@@ -3,7 +3,8 @@ use Rattle.std.proofs.Common.{◌≡◌, ◌∙◌, refl, sym, ap, subst, ◌⊎
 use Rattle.spark_base.specs.Lists.{Has as Holds}
 use Rattle.place_names.specs.declared.act.Mode.{Mode}
 use Rattle.place_names.specs.declared.act.Mode.TheVariants as mode
-use Rattle.type_definitions.specs.Types.{shape_of, words, words_of, is_owning}
+use Rattle.type_definitions.specs.declared.table.Shape.TheVariants as shape
+use Rattle.type_definitions.specs.Types.{shape_of, words, words_of, full, is_scalar, is_owning}
 use Rattle.type_definitions.specs.Entries.{integer, boolean}
 use Rattle.typed_tree.specs.Trees.{TypedTree, Name, More}
 use Rattle.typed_tree.specs.Trees as typed
@@ -16,16 +17,21 @@ use Rattle.machine.specs.Owners.{is_in, is_in_formal}
 use Rattle.soundness.specs.Typed.{OwnsByShape}
 use Rattle.soundness.specs.Sound.{goes_through_none}
 use Rattle.typed_laws.specs.Fine.{Has, Agree, counts, lists}
-use Rattle.typed_laws.specs.Needed.{Matches, IsPlace}
-use Rattle.typed_laws.proofs.Sound.{matches, leads}
-use Rattle.typed_steps.specs.Steps.{Taken, IsPlaceOf, IsActual, ActualsTaken, IsTypedStep, AreTyped}
+use Rattle.typed_laws.specs.Needed.{Matches, Gives, IsPlace}
+use Rattle.typed_laws.proofs.Sound.{matches, leads, gives}
+use Rattle.typed_steps.specs.Steps.{IsViewed, Taken, IsPlaceOf, IsActual, ActualsTaken, IsTypedStep, AreTyped}
+use Rattle.typed_runs.specs.Code.{IsNamedOwner, NamesOwner, NamesOwners}
 use Rattle.soundness.specs.Ready.{root_of}
+use Rattle.soundness.proofs.Contents.{bool_cases}
 use Rattle.soundness.proofs.Passing.{plain_type, signature_there}
+use Rattle.viewed_soundness.specs.Holds.{IsNamed}
+use Rattle.viewed_soundness.specs.Taken.{GivesPlainly}
 use Rattle.ready_laws.proofs.Actuals.{taken_stays, scalar_back}
-use Rattle.sound_files.specs.Class.{IsShownActual, IsCopiedActual, IsKeptActual, IsFitActual, AreFitActuals, AreOwnersShown, AreShownFit}
+use Rattle.sound_files.specs.Class.{IsShownActual, IsKeptActual, IsFitActual, AreFitActuals, AreOwnersShown, AreShownFit}
 use Rattle.viewed_steps.specs.Sound.{IsScalarObject, IsKindOfFormal, IsReachedBack, AreKeptPlaces, AreShownOwn}
-use Rattle.viewed_steps.specs.Ready.{IsSeen, IsCopyOf, IsValueTo, IsActualTo, AreActualsTo}
-use Rattle.view_laws.specs.Program.{PassActuals}
+use Rattle.viewed_steps.specs.Ready.{IsSeen, IsValueTo}
+use Rattle.viewed_steps.proofs.Copies.{no_cell}
+use Rattle.view_laws.specs.Program.{IsPassedTo, ArePassedTo, PassActuals}
 
 both_first : (a b : Bool) → a && b ≡ true → a ≡ true
 both_first true b e = refl
@@ -44,23 +50,37 @@ module _ (y : Typing) (whole : counts (shape_of y.table integer) ≡ true) (list
   named_place x t e place agree = absurd place
 
   -- what is shown is null, or a name of the formal's type
-  shown_seen : (x : ℕ) (e : TypedTree) → IsShownActual y x e → Taken y (object_at y x).of e → IsSeen y x e
+  shown_seen : (x : ℕ) (e : TypedTree) → IsShownActual y e → IsNamedOwner e → Has y (object_at y x).of e → IsSeen y x e
   unfolding Has
-  shown_seen x typed.Null shown taken = tt
-  shown_seen x (Name p z path u) shown (inl has) = (leads y whole listed word_law path (object_at y z).of u has.0, inl shown.0, shown.1)
-  shown_seen x (Name p z path u) shown (inr (lead, view)) = (leads y whole listed word_law path (object_at y z).of u lead, inl shown.0, shown.1)
-  shown_seen x e shown taken = absurd shown
+  shown_seen x typed.Null roots named has = tt
+  shown_seen x (Name p z path u) roots named has =
+      (leads y whole listed word_law path (object_at y z).of u has.0, matches y.table u (object_at y x).of has.1, roots z (inl refl))
+  shown_seen x e roots named has = absurd named
 
-  -- what is copied is a name of the formal's type
-  name_copied : (x : ℕ) (e : TypedTree) → IsCopiedActual y x e → Taken y (object_at y x).of e → IsCopyOf y x e
-  unfolding Has
-  name_copied x (Name p z path u) same (inl has) = (leads y whole listed word_law path (object_at y z).of u has.0, inl same)
-  name_copied x (Name p z path u) same (inr (lead, view)) = (leads y whole listed word_law path (object_at y z).of u lead, inl same)
-  name_copied x e same taken = absurd same
+  -- what is looked at is for an access type
+  viewed_access : (want : ℕ) (e : TypedTree) → IsViewed y want e → (d : ℕ) × (c : Bool) × (n : Bool) × (shape_of y.table want ≡ shape.Access d c n)
+  viewed_access want (Name p z path u) (lead, view) = (view.1, view.4, view.5, view.7)
+  viewed_access want (typed.Call p sub actuals) (t, is, view) = (view.1, view.4, view.5, view.7)
+  viewed_access want (typed.Parens e) view = viewed_access want e view
+  viewed_access want e never = absurd never
 
   module _ (own_law : OwnsByShape y.table) where
-    actual_to : (x : ℕ) (e : TypedTree) → IsKindOfFormal y x → IsFitActual y x (object_at y x).mode e → IsActual y x e → IsActualTo y x (object_at y x).mode e
-    actual_to x e kind fit actual = by_mode (object_at y x).mode refl fit actual
+    -- what is copied is a value of the formal's type
+    copied_gives : (x : ℕ) (e : TypedTree) → IsNamed y.table (object_at y x).of → is_owning y.table (object_at y x).of ≡ false → Taken y (object_at y x).of e → Gives y (object_at y x).of e
+    copied_gives x e named none (inl has) = gives y whole listed word_law e (object_at y x).of has
+    copied_gives x e named none (inr view) =
+        let access = viewed_access (object_at y x).of e view in
+        absurd (no_cell y own_law (object_at y x).of access.0 access.1 access.2 access.3 named none)
+
+    copied_value : (x : ℕ) (e : TypedTree) → IsNamed y.table (object_at y x).of → is_owning y.table (object_at y x).of ≡ false → GivesPlainly y e → Taken y (object_at y x).of e → IsValueTo y x e
+    copied_value x e named none plainly taken = elim (bool_cases (is_scalar (full y.table (object_at y x).of))) [
+      | inl plain ↦ inl (plain, taken_stays y whole listed word_law (object_at y x).of e plain taken)
+      | inr many ↦ inr (many, named, (copied_gives x e named none taken, plainly))
+    ]
+
+    actual_to : (x : ℕ) (e : TypedTree) → IsKindOfFormal y x → IsFitActual y x (object_at y x).mode e → NamesOwner y x e → IsActual y x e
+        → IsPassedTo y x (object_at y x).mode e
+    actual_to x e kind fit named actual = by_mode (object_at y x).mode refl fit actual
       where
         owns_none : IsScalarObject y x → is_owning y.table (object_at y x).of ≡ false
         owns_none plain = plain_type y own_law (object_at y x).of plain
@@ -76,16 +96,16 @@ module _ (y : Typing) (whole : counts (shape_of y.table integer) ≡ true) (list
           | inr (inr (inr (in_mode, owns, named))) ↦ elim fit [
             | inl plain ↦ inl (plain, taken_stays y whole listed word_law (object_at y x).of e plain taken)
             | inr (inl (here, shown)) ↦ absurd (no_owner here none)
-            | inr (inr (here, copy)) ↦ inr (named, name_copied x e copy taken)
+            | inr (inr (here, plainly)) ↦ copied_value x e named none plainly taken
           ]
         ]
 
-        seen : Taken y (object_at y x).of e → IsFitActual y x mode.In e → is_owning y.table (object_at y x).of ≡ true → IsSeen y x e
-        seen taken (inl plain) owns = absurd (no_owner owns (owns_none plain))
-        seen taken (inr (inl (here, shown))) owns = shown_seen x e shown taken
-        seen taken (inr (inr (none, copy))) owns = absurd (no_owner owns none)
+        seen : IsFitActual y x mode.In e → (object_at y x).mode ≡ mode.In → is_owning y.table (object_at y x).of ≡ true → IsSeen y x e
+        seen (inl plain) is owns = absurd (no_owner owns (owns_none plain))
+        seen (inr (inl (here, shown))) is owns = (let found = named is owns in shown_seen x e shown found.0 found.1)
+        seen (inr (inr (none, copy))) is owns = absurd (no_owner owns none)
 
-        copied : IsKeptActual y x e → (t : ℕ) → IsPlaceOf y t e → Agree y.table t (object_at y x).of → IsActualTo y x mode.InOut e
+        copied : IsKeptActual y x e → (t : ℕ) → IsPlaceOf y t e → Agree y.table t (object_at y x).of → IsPassedTo y x mode.InOut e
         copied kept t place agree =
             let found = named_place x t e place agree in (
               found.0,
@@ -93,22 +113,22 @@ module _ (y : Typing) (whole : counts (shape_of y.table integer) ≡ true) (list
               found.2,
               elim kept [
                 | inl plain ↦ inl (scalar_back y whole listed word_law found.0 (object_at y x).of found.2 plain)
-                | inr (inl (none, roots)) ↦ inr roots
-                | inr (inr roots) ↦ inr (λ z has. (roots z has).1)
+                | inr (inl none) ↦ inr (inl none)
+                | inr (inr roots) ↦ inr (inr (λ z has. (roots z has).1))
               ],
             )
 
-        by_mode : (m : Mode) → (object_at y x).mode ≡ m → IsFitActual y x m e → IsActual y x e → IsActualTo y x m e
-        by_mode mode.In is fit g = (value (rw is at g) fit is, seen (rw is at g) fit)
+        by_mode : (m : Mode) → (object_at y x).mode ≡ m → IsFitActual y x m e → IsActual y x e → IsPassedTo y x m e
+        by_mode mode.In is fit g = (value (rw is at g) fit is, seen fit is)
         by_mode mode.Out is fit g = (let place = rw is at g in copied fit place.0 place.1 place.2)
         by_mode mode.InOut is fit g = (let place = rw is at g in copied fit place.0 place.1 place.2)
 
     actuals_to : (formals : List ℕ) (actuals : TypedTree) → ((x : ℕ) → Holds formals x → is_formal y x ≡ true) → ((x : ℕ) → is_formal y x ≡ true → IsKindOfFormal y x)
-        → AreFitActuals y formals actuals → ActualsTaken y formals actuals → AreActualsTo y formals actuals
-    actuals_to (x ∷ formals) (More e rest) known kinds fit (one, others) =
-        (actual_to x e (kinds x (known x (inl refl))) (fit.0 (known x (inl refl))) one, actuals_to formals rest (λ z has. known z (inr has)) kinds fit.1 others)
-    actuals_to [] actuals known kinds fit taken = λ x has. absurd has
-    actuals_to (x ∷ formals) actuals known kinds fit taken = absurd taken
+        → AreFitActuals y formals actuals → NamesOwners y formals actuals → ActualsTaken y formals actuals → ArePassedTo y formals actuals
+    actuals_to (x ∷ formals) (More e rest) known kinds fit named (one, others) =
+        (actual_to x e (kinds x (known x (inl refl))) (fit.0 (known x (inl refl))) named.0 one, actuals_to formals rest (λ z has. known z (inr has)) kinds fit.1 named.1 others)
+    actuals_to [] actuals known kinds fit named taken = λ x has. absurd has
+    actuals_to (x ∷ formals) actuals known kinds fit named taken = absurd taken
 
 -- Where places are that are copied back to.
 abbrev IsKeptPlace : Typing → ℕ → TypedTree → Type 0
@@ -116,7 +136,7 @@ IsKeptPlace s x e = (goes_through_none e ≡ true) ⊎ IsReachedBack s x e
 
 kept_there : (s : Typing) (x : ℕ) (e : TypedTree) → IsKeptActual s x e → IsKeptPlace s x e
 kept_there s x e (inl plain) = inr (inl plain)
-kept_there s x e (inr (inl (none, roots))) = inl none
+kept_there s x e (inr (inl none)) = inl none
 kept_there s x e (inr (inr roots)) = inr (inr roots)
 
 kept_one : (s : Typing) (x : ℕ) (e : TypedTree) (m : Mode) → is_in m ≡ false → IsFitActual s x m e → IsKeptPlace s x e
@@ -160,12 +180,18 @@ module _ (program : FlowProgram) where
       (sub : FlowSub) → Holds program.subs sub → (p : FlowPoint) → Holds sub.points p → (n : ℕ) (actuals : TypedTree) (result : Option ℕ)
       → p.instr ≡ Call n actuals result → AreFitActuals s (sub_of program n).formals actuals
 
+  -- What owns and is passed by a formal of mode `in` is null, or what a name of its type stands for.
+  abbrev pub PassNamed : Type 0
+  PassNamed =
+      (sub : FlowSub) → Holds program.subs sub → (p : FlowPoint) → Holds sub.points p → (n : ℕ) (actuals : TypedTree) (result : Option ℕ)
+      → p.instr ≡ Call n actuals result → NamesOwners s (sub_of program n).formals actuals
+
   -- So it is of a program whose steps are typed.
   pub actuals_passed : counts (shape_of program.table integer) ≡ true → lists (shape_of program.table boolean) ≡ true
       → ((t : ℕ) → words program.table t ≡ words_of (words program.table) (shape_of program.table t)) → OwnsByShape program.table → AreTyped program
-      → ((x : ℕ) → is_formal s x ≡ true → IsKindOfFormal s x) → PassFit → PassActuals program
-  actuals_passed whole listed word_law own_law typed kinds fit sub has p there n actuals result is known =
+      → ((x : ℕ) → is_formal s x ≡ true → IsKindOfFormal s x) → PassFit → PassNamed → PassActuals program
+  actuals_passed whole listed word_law own_law typed kinds fit named sub has p there n actuals result is known =
       let call = subst (λ i. IsTypedStep (flow_typing program) sub.result i) is (typed sub has p there) in
       let same : (sub_at (flow_typing program) n).formals ≡ (sub_of program n).formals = ap (λ (z : Signature). z.formals) (signature_there program.subs n) in
-      actuals_to (flow_typing program) whole listed word_law own_law (sub_of program n).formals actuals known kinds (fit sub has p there n actuals result is)
+      actuals_to (flow_typing program) whole listed word_law own_law (sub_of program n).formals actuals known kinds (fit sub has p there n actuals result is) (named sub has p there n actuals result is)
       (subst (λ fs. ActualsTaken (flow_typing program) fs actuals) same call.0)

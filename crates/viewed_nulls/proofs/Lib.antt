@@ -3,6 +3,7 @@ pub mod Led
 pub mod Names
 pub mod Viewed
 pub mod Sources
+pub mod Fed
 -- instructions, steps, and the law
 pub mod Spared
 pub mod Actuals

@@ -9,6 +9,7 @@ use Rattle.place_names.specs.Names.{Name as PlaceName}
 use Rattle.type_definitions.specs.declared.table.Shape.TheVariants as shape
 use Rattle.type_definitions.specs.Types.{shape_of, full, is_scalar, view_of as view_of_shape}
 use Rattle.typed_tree.specs.Trees.{TypedTree, Name, NoMore, More, Call as CallIn}
+use Rattle.typed_tree.specs.Trees.{Null as TypedNull}
 use Rattle.flow_paths.specs.Objects.{Typing, object_at, is_anonymous, is_borrower, is_borrowing, is_observing, is_observer, is_variable, view_of}
 use Rattle.flow_paths.specs.Names.{waiting as waits_in, name_of, source, written}
 use Rattle.flow_paths.specs.Acts.{acts_in, index_acts, source_acts, stored_acts, declared_acts, assigned_to, observe, reborrow, target_pos as acts_target_pos}
@@ -218,13 +219,22 @@ module _ (t : Turn) (settled : IsSettled (typing t).table) (own_law : OwnsByShap
       (then_stored r x (object_at s x).of (taken_by t (object_at s x).of e at) (taken_by t (object_at s x).of e (start (twin t n))) same)
 
   -- with what a call gave
-  call_taken : (u' : ℕ) (r : Pos) (k : ℕ) (actuals : TypedTree) → is_anonymous (full s.table u') ≡ true
-      → SameTo s (taken_by t u' (CallIn r k actuals) at) (taken_by t u' (CallIn r k actuals) (start (twin t n)))
+  pub call_taken : (u' : ℕ) (r : Pos) (k : ℕ) (actuals : TypedTree) → is_anonymous (full (typing t).table u') ≡ true
+      → SameTo (typing t) (taken_by t u' (CallIn r k actuals) (record { memory = t.state.memory; waits = (start t).waits })) (taken_by t u' (CallIn r k actuals) (start (twin t n)))
   unfolding evaluate
   call_taken u' r k actuals view =
       subst (λ b. SameTo s (if b then viewed h (CallIn r k actuals) at else followed_by (value h (CallIn r k actuals) at) (checked h u'))
       (if b then viewed h (CallIn r k actuals) (start (twin t n)) else followed_by (value h (CallIn r k actuals) (start (twin t n))) (checked h u'))) (sym view)
       (refl, (agrees, refl, only))
+
+  -- null
+  pub null_taken : (u' : ℕ) → is_anonymous (full (typing t).table u') ≡ true
+      → SameTo (typing t) (taken_by t u' TypedNull (record { memory = t.state.memory; waits = (start t).waits })) (taken_by t u' TypedNull (start (twin t n)))
+  unfolding evaluate
+  null_taken u' view =
+      subst (λ b. SameTo s (if b then viewed h TypedNull at else followed_by (value h TypedNull at) (checked h u'))
+      (if b then viewed h TypedNull (start (twin t n)) else followed_by (value h TypedNull (start (twin t n))) (checked h u'))) (sym view)
+      (refl, at_start)
 
   pub call_declared_same : (x : ℕ) (r : Pos) (k : ℕ) (actuals : TypedTree) → is_anonymous (view_of (typing t) x) ≡ true
       → SameStep t (declare t x (More (CallIn r k actuals) NoMore)) (declare (twin t n) x (More (CallIn r k actuals) NoMore))

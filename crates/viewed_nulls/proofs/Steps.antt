@@ -4,6 +4,17 @@ use Rattle.std.proofs.Common.{◌≡◌, refl, sym, ap, ◌∙◌, subst, ◌⊎
 use Rattle.viewed_soundness.proofs.Names.{plain_named}
 use Rattle.viewed_steps.specs.Awaited.{AreAwaited, awaited, lasting_of, TakesScalars, TakesAlone, StoresNone}
 use Rattle.viewed_steps.proofs.Alone as alone_value
+use Rattle.viewed_steps.proofs.Within as steps_within
+use Rattle.viewed_steps.specs.Awaited.{TakesTogether}
+use Rattle.viewed_soundness.specs.Taken.{types_taken, AreScalarTypes, AreOfTypes}
+use Rattle.viewed_soundness.proofs.Hands.{first_words, words_first, first_both}
+use Rattle.viewed_soundness.proofs.Fed.{scalar_values}
+use Rattle.std.proofs.Common.{append_assoc}
+use Rattle.viewed_nulls.proofs.Fed.{fed_same}
+use Rattle.viewed_nulls.proofs.Viewed.{given_by}
+use Rattle.null_places.proofs.Laws.{GivenBy}
+use Rattle.null_places.proofs.Instructions.{then_placed}
+use Rattle.owned_ways.specs.Ways.{after}
 use Rattle.viewed_soundness.proofs.Evaluated.{gives_plainly}
 use Rattle.spark_base.specs.declared.position.Pos.{Pos}
 use Rattle.spark_base.specs.Lists.{Has}
@@ -55,6 +66,16 @@ use Rattle.viewed_steps.proofs.Standing as standing
 use Rattle.viewed_steps.proofs.Innermost as innermost
 use Rattle.viewed_steps.proofs.EachInstruction as each
 use Rattle.viewed_steps.proofs.Calling as calling
+use Rattle.viewed_steps.proofs.CallActs as acting
+use Rattle.viewed_steps.proofs.Followed as followed
+use Rattle.viewed_steps.proofs.Followed.{IsTraversing}
+use Rattle.viewed_steps.specs.Ready.{IsTraversalCall}
+use Rattle.viewed_steps.proofs.Traversing.{first_actual}
+use Rattle.viewed_steps.proofs.Called.{passes_to}
+use Rattle.flow_paths.specs.Views.{traversed_formal}
+use Rattle.flow_paths.specs.Objects.{Passing, passing, traverses}
+use Rattle.soundness.proofs.Points.{flow_at}
+use Rattle.std.proofs.Common.{map}
 use Rattle.viewed_steps.proofs.CallBegins as call_begins
 use Rattle.viewed_steps.proofs.Passed.{apart_or}
 use Rattle.place_names.specs.Reports.{Report}
@@ -71,7 +92,7 @@ use Rattle.null_places.proofs.Instructions.{SameStepBy, SameStep, twin, both_are
 use Rattle.null_places.proofs.Walks.{SameNow, SameTo, then_same, simply}
 use Rattle.null_places.proofs.Calls.{AreWhollyPassed, AreWhollyBack, call_same, finish_same}
 use Rattle.viewed_nulls.proofs.Spared.{spares_first}
-use Rattle.viewed_nulls.proofs.Actuals.{all_same}
+use Rattle.viewed_nulls.proofs.Actuals.{all_same, traversed_same}
 use Rattle.viewed_nulls.proofs.Passed.{passed_wholly, back_wholly}
 use Rattle.viewed_nulls.proofs.Viewed.{viewed_premises, gives_both, IsReadyIn, viewed_values}
 use Rattle.viewed_nulls.proofs.Instructions as own_instructions
@@ -79,7 +100,10 @@ use Rattle.viewed_steps.proofs.Views.{AreAccess, all_held}
 use Rattle.viewed_steps.proofs.Shown.{same_cells}
 use Rattle.place_names.specs.declared.act.Mode.TheVariants as mode
 use Rattle.viewed_steps.proofs.Sources.{leads_or}
-use Rattle.viewed_nulls.proofs.Sources.{call_declared_same, call_assigned_same}
+use Rattle.viewed_nulls.proofs.Sources.{call_declared_same, call_assigned_same, call_taken, null_taken, taken_same}
+use Rattle.owned_loans.proofs.Allowed.{give_clears}
+use Rattle.soundness.proofs.Contents.{bool_cases}
+use Rattle.soundness.proofs.Scalars.{acts_append}
 use Rattle.viewed_steps.proofs.Seeing.{open_to}
 
 -- whether the scope of an object ends
@@ -257,9 +281,6 @@ module _ (table : Table) (typed : TypedProgram) (effects : Effects) (input : Lis
 
       -- ---- a return
 
-      result_named : (of : ℕ) → named.sub.result ≡ Some of → IsNamed s.table of
-      result_named of result = plain_named s.table of (innermost.named_result table typed effects input ready state top below more_frames rest named p frames deep stages running awaiting of_sub at_point path views viewed_before kept scope holds placed_before above of result)
-
       holds_value : (e : TypedTree) (of : ℕ) → named.sub.result ≡ Some of
           → SameTo s (steps.taken_by main_turn of e (start main_turn)) (steps.taken_by main_turn of e (start (twin main_turn n))) → Goal (Hold (More e NoMore))
       holds_value e of result same =
@@ -273,17 +294,20 @@ module _ (table : Table) (typed : TypedProgram) (effects : Effects) (input : Lis
           (λ ws m. Goes (handed_over program input main_turn.point (record state { memory = n }) top.frame below.stage.frame rest of ws m))
           same (λ ws i j now. ((refl, now.0), now.2)))
 
-      value_same : Plain → (e : TypedTree) (of : ℕ) → p.instr ≡ Hold (More e NoMore) → named.sub.result ≡ Some of → Source s of e → TakesScalars s (Hold (More e NoMore))
+      returned_acts : (of : ℕ) (e : TypedTree) → named.sub.result ≡ Some of → is_anonymous (full s.table of) ≡ false → acts_of_main (Hold (More e NoMore)) ≡ acts (acts_in s e)
+      unfolding acts_in
+      returned_acts of e result owner =
+          ap (λ r. acts (flow.returned_acts s r (More e NoMore))) result
+          ∙ ap (λ b. acts (if b then flow.source_acts s e (λ m. act.Give m (flow.gives_variable s (Some of))) else acts_in s e ++ [])) owner
+          ∙ ap acts (append-nil (acts_in s e))
+
+      value_same : Plain → (e : TypedTree) (of : ℕ) → p.instr ≡ Hold (More e NoMore) → named.sub.result ≡ Some of → is_anonymous (full s.table of) ≡ false → Source s of e → TakesScalars s (Hold (More e NoMore))
           → ComparesIn s (Hold (More e NoMore)) → AllowsAll facts_now (acts_of_main (Hold (More e NoMore))) → AllKeep (is_fixed s) (acts_of_main (Hold (More e NoMore)))
           → SameTo s (steps.taken_by main_turn of e (start main_turn)) (steps.taken_by main_turn of e (start (twin main_turn n)))
       unfolding acts_in waits_in Compares
-      value_same plain e of is result source takes_plainly compares_there allowed keep =
-          let own_type : IsNamed s.table of = result_named of result in
-          let owner : is_anonymous (full s.table of) ≡ false = named_plain s.table of own_type in
-          let same : acts_of_main (Hold (More e NoMore)) ≡ acts (acts_in s e) =
-          ap (λ r. acts (flow.returned_acts s r (More e NoMore))) result
-          ∙ ap (λ b. acts (if b then flow.source_acts s e (λ m. act.Give m (flow.gives_variable s (Some of))) else acts_in s e ++ [])) owner
-          ∙ ap acts (append-nil (acts_in s e)) in
+      value_same plain e of is result owner source takes_plainly compares_there allowed keep =
+          let own_type : IsNamed s.table of = plain_named s.table of owner in
+          let same : acts_of_main (Hold (More e NoMore)) ≡ acts (acts_in s e) = returned_acts of e result owner in
           source_same main_turn ready.accepted.settled ready.owns asks ready_in laws facts_now so only n agrees [] of e owner own_type (given_there of e owner source)
           tt (gives_both s e NoMore takes_plainly).0
           (takes_as (taken (Hold (More e NoMore))) (waits_in e) (start main_turn).waits [] (nothing_more (waits_in e)) (takes_of plain (Hold (More e NoMore)) is))
@@ -293,15 +317,49 @@ module _ (table : Table) (typed : TypedProgram) (effects : Effects) (input : Lis
           given_there of e owner (inl view) = absurd (let no : true ≡ false = sym view.0 ∙ owner in cc)
           given_there of e owner (inr gives) = gives
 
+      -- what a traversal function returns
+      view_same : Plain → (e : TypedTree) (of : ℕ) → p.instr ≡ Hold (More e NoMore) → named.sub.result ≡ Some of → is_anonymous (full s.table of) ≡ true → Source s of e
+          → ComparesIn s (Hold (More e NoMore)) → AllowsAll facts_now (acts_of_main (Hold (More e NoMore)))
+          → SameTo s (steps.taken_by main_turn of e (start main_turn)) (steps.taken_by main_turn of e (start (twin main_turn n)))
+      unfolding waits_in Compares
+      view_same plain e of is result view source compares_there allowed =
+          elim (ready.traversing.returned top.frame.sub (running.0).entered named of_sub p (innermost.point_there_now table typed effects input ready state top below more_frames rest named p frames deep stages running awaiting of_sub at_point path views viewed_before kept scope holds placed_before above) e NoMore is of result view) [
+            | inl null ↦ subst TakenSame (sym null) (null_taken main_turn ready.accepted.settled ready.owns other alone in_formals views ready.class.parts_named facts_now so only n agrees of view)
+            | inr (q, y, steps_there, u, inl name) ↦ subst TakenSame (sym name)
+                (taken_same main_turn ready.accepted.settled ready.owns other alone in_formals views ready.class.parts_named facts_now so only n agrees [] 0 of q y u steps_there (λ m. act.Give m borrows) view (subst (Source s of) name source)
+                (takes_as (taken (Hold (More (Name q y steps_there u) NoMore))) (waits_in steps_there) (start main_turn).waits [] (nothing_more (waits_in steps_there))
+                (takes_of plain (Hold (More (Name q y steps_there u) NoMore)) (is ∙ ap (λ z. Hold (More z NoMore)) name)))
+                (subst (λ z. ComparesIn s (Hold (More z NoMore))) name compares_there).0
+                (subst (AllowsAll facts_now) (acts_append (acts_in s steps_there) (record { pos = q; act = act.Give (name_of y steps_there) borrows } ∷ []))
+                (subst (λ z. AllowsAll facts_now (acts (flow.source_acts s z (λ m. act.Give m borrows)))) name (subst (AllowsAll facts_now) acts_are allowed)))
+                (λ w called sees mine. give_clears facts_now borrows w (subst (λ z. Allows facts_now (act.Give z borrows)) (sym called) mine)))
+            | inr (q, y, steps_there, u, inr (r, k, more, call_is, gives)) ↦ subst TakenSame (sym call_is) (call_taken main_turn ready.accepted.settled ready.owns other alone in_formals views ready.class.parts_named facts_now so only n agrees of r k (More (Name q y steps_there u) more) view)
+          ]
+        where
+          TakenSame : TypedTree → Type 0
+          TakenSame z = SameTo s (steps.taken_by main_turn of z (start main_turn)) (steps.taken_by main_turn of z (start (twin main_turn n)))
+
+          borrows : Bool
+          borrows = flow.gives_variable s (Some of)
+
+          acts_are : acts_of_main (Hold (More e NoMore)) ≡ acts (flow.source_acts s e (λ m. act.Give m (flow.gives_variable s (Some of))))
+          acts_are =
+              ap (λ r. acts (flow.returned_acts s r (More e NoMore))) result
+              ∙ ap (λ b. acts (if b then flow.source_acts s e (λ m. act.Give m (flow.gives_variable s (Some of))) else acts_in s (More e NoMore))) view
+
       returns : Plain → (v : TypedTree) (r : Option ℕ) → p.instr ≡ Hold v → named.sub.result ≡ r → Returns s r v → TakesScalars s (Hold v) → ComparesIn s (Hold v)
           → AllowsAll facts_now (acts_of_main (Hold v)) → AllKeep (is_fixed s) (acts_of_main (Hold v)) → Goal (Hold v)
       returns plain v None is result none takes_plainly compares_there allowed keep =
           subst Goal (sym (ap Hold none)) (goes_same main_turn n agrees state.memory n 0 agrees only)
       returns plain v (Some of) is result (e, same, source) takes_plainly compares_there allowed keep =
+          let allowed_there = subst (λ z. AllowsAll facts_now (acts_of_main (Hold z))) same allowed in
+          let compares_here = subst (λ z. ComparesIn s (Hold z)) same compares_there in
           subst Goal (sym (ap Hold same))
-          (holds_value e of result
-          (value_same plain e of (is ∙ ap Hold same) result source (subst (λ z. TakesScalars s (Hold z)) same takes_plainly) (subst (λ z. ComparesIn s (Hold z)) same compares_there)
-          (subst (λ z. AllowsAll facts_now (acts_of_main (Hold z))) same allowed) (subst (λ z. AllKeep (is_fixed s) (acts_of_main (Hold z))) same keep)))
+          (holds_value e of result (elim (bool_cases (is_anonymous (full s.table of))) [
+            | inl view ↦ view_same plain e of (is ∙ ap Hold same) result view source compares_here allowed_there
+            | inr owner ↦ value_same plain e of (is ∙ ap Hold same) result owner source (subst (λ z. TakesScalars s (Hold z)) same takes_plainly) compares_here allowed_there
+                (subst (λ z. AllKeep (is_fixed s) (acts_of_main (Hold z))) same keep)
+          ]))
 
       goes_plainly : Plain × TakesScalars s p.instr → IsNoCall p.instr → (p.instr ≡ Finish → ⊥) → Goal p.instr
       goes_plainly (plain, takes_plainly) no_call end =
@@ -419,7 +477,106 @@ module _ (table : Table) (typed : TypedProgram) (effects : Effects) (input : Lis
             by_result : (r : Option ℕ) → p.instr ≡ Hold (More (CallIn by_itself.3 by_itself.4 by_itself.5) NoMore) → named.sub.result ≡ r
                 → Returns s r (More (CallIn by_itself.3 by_itself.4 by_itself.5) NoMore) → Goal (Hold (More (CallIn by_itself.3 by_itself.4 by_itself.5) NoMore))
             by_result None is result none = absurd (let no : ◌≡◌ {A = TypedTree} (More call NoMore) NoMore = none in cc)
-            by_result (Some of) is result fine = holds_value call of result (call_same_value of (result_named of result))
+            by_result (Some of) is result fine = holds_value call of result (elim (bool_cases (is_anonymous (full s.table of))) [
+              | inl view ↦ call_taken main_turn ready.accepted.settled ready.owns other alone in_formals views ready.class.parts_named facts_now so only n agrees of by_itself.3 by_itself.4 by_itself.5 view
+              | inr owner ↦ call_same_value of (plain_named s.table of owner)
+            ])
+
+      -- ---- a value that is made of what functions gave
+
+      module _ (no_call : IsNoCall p.instr) (end : p.instr ≡ Finish → ⊥) (together : TakesTogether s named.sub.result p) where
+        abbrev held : TypedTree
+        held = together.0
+
+        abbrev left_hands : List Waiting
+        left_hands = waiting_in (eased main_turn).state
+
+        abbrev front : List Waiting
+        front = steps_within.front table typed effects input ready state top below more_frames rest named p frames deep stages running awaiting of_sub at_point path views viewed_before kept scope holds placed_before above going together
+
+        -- scalar values may wait above those that it takes
+        held_same : (u : ℕ) → IsNamed s.table u → Source s u held → (later first : List Waiting) → front ≡ later ++ first → AreOfTypes s (types_taken s held) first
+            → Compares s held → AllowsAll facts_now (acts (acts_in s held)) → AllKeep (is_fixed s) (acts (acts_in s held))
+            → SameTo s (steps.taken_by main_turn u held (start main_turn)) (steps.taken_by main_turn u held (start (twin main_turn n)))
+        held_same u own_type (inl view) later first split fit compares_there allowed keep = absurd (let no : true ≡ false = sym view.0 ∙ named_plain s.table u own_type in cc)
+        held_same u own_type (inr gives) later first split fit compares_there allowed keep =
+            let h : Here = steps.here main_turn in
+            let words_are : (start main_turn).waits ≡ first_words first (first_words later []) = words_first front ∙ ap (λ z. first_words z []) split ∙ first_both later first [] in
+            let x : Evaluated (List machine.Word) = evaluate h AsValue held (start main_turn) in
+            let y : Evaluated (List machine.Word) = evaluate h AsValue held (start (twin main_turn n)) in
+            subst (λ b. SameTo s (if b then viewed h held (start main_turn) else followed_by x (checked h u)) (if b then viewed h held (start (twin main_turn n)) else followed_by y (checked h u)))
+            (sym (named_plain s.table u own_type))
+            (checked_same h ready.accepted.settled ready.owns asks ready_in laws u x y
+            (subst (λ ws. SameTo s (evaluate h AsValue held (record { memory = state.memory; waits = ws })) y) (sym words_are)
+            (fed_same h ready.accepted.settled state.leaks other alone in_formals index_law ready.owns views ready.class.parts_named
+            held u gives together.2 compares_there first fit later left_hands (first_words later []) state.memory facts_now
+            (subst (λ z. ready_in state.memory z facts_now) (ap (λ z. z ++ left_hands) split ∙ append_assoc later first left_hands)
+            (steps_within.ready_value table typed effects input ready state top below more_frames rest named p frames deep stages running awaiting of_sub at_point path views viewed_before kept scope holds placed_before above going together)) allowed own_type keep only
+            (start (twin main_turn n)) (agrees, sym words_are, only))))
+
+        declares_within : (y : ℕ) → p.instr ≡ Declare y (More held NoMore) → is_anonymous (view_of s y) ≡ false → Goal (Declare y (More held NoMore))
+        unfolding Compares
+        declares_within y is owner =
+            declared_by main_turn ready.accepted.settled ready.owns asks ready_in laws facts_now so only n agrees y (More held NoMore)
+            (held_same (object_at s y).of (steps_within.named_object table typed effects input ready state top below more_frames rest named p frames deep stages running awaiting of_sub at_point path views viewed_before kept scope holds placed_before above going no_call together y is owner)
+            (steps_within.source_here table typed effects input ready state top below more_frames rest named p frames deep stages running awaiting of_sub at_point path views viewed_before kept scope holds placed_before above going no_call together y is owner) [] front refl
+            (steps_within.values_here table typed effects input ready state top below more_frames rest named p frames deep stages running awaiting of_sub at_point path views viewed_before kept scope holds placed_before above going no_call together y is owner)
+            (subst (ComparesIn s) is compares).0
+            (steps_within.allowed_here table typed effects input ready state top below more_frames rest named p frames deep stages running awaiting of_sub at_point path views viewed_before kept scope holds placed_before above going no_call together y is owner)
+            (steps_within.keeps_here table typed effects input ready state top below more_frames rest named p frames deep stages running awaiting of_sub at_point path views viewed_before kept scope holds placed_before above going no_call together y is owner))
+
+        assigns_within : (r : Pos) (y : ℕ) (path_there : TypedTree) (u : ℕ) → p.instr ≡ Assign (Name r y path_there u) held → AreScalarTypes s (types_taken s path_there)
+            → is_anonymous (full s.table u) ≡ false → Goal (Assign (Name r y path_there u) held)
+        unfolding Compares
+        assigns_within r y path_there u is scalar plain_target =
+            let target : TypedTree = Name r y path_there u in
+            let own_type = steps_within.named_target table typed effects input ready state top below more_frames rest named p frames deep stages running awaiting of_sub at_point path views viewed_before kept scope holds placed_before above going no_call together r y path_there u is scalar end plain_target in
+            let leads = steps_within.leads_there table typed effects input ready state top below more_frames rest named p frames deep stages running awaiting of_sub at_point path views viewed_before kept scope holds placed_before above going no_call together r y path_there u is scalar end plain_target in
+            let source = steps_within.source_there table typed effects input ready state top below more_frames rest named p frames deep stages running awaiting of_sub at_point path views viewed_before kept scope holds placed_before above going no_call together r y path_there u is scalar end plain_target in
+            let fronts = steps_within.fronts table typed effects input ready state top below more_frames rest named p frames deep stages running awaiting of_sub at_point path views viewed_before kept scope holds placed_before above going no_call together r y path_there u is scalar end plain_target in
+            let takes = steps_within.path_takes table typed effects input ready state top below more_frames rest named p frames deep stages running awaiting of_sub at_point path views viewed_before kept scope holds placed_before above going no_call together r y path_there u is scalar end plain_target in
+            let allows = steps_within.each_allowed table typed effects input ready state top below more_frames rest named p frames deep stages running awaiting of_sub at_point path views viewed_before kept scope holds placed_before above going no_call together r y path_there u is scalar end plain_target in
+            let keep = steps_within.each_kept table typed effects input ready state top below more_frames rest named p frames deep stages running awaiting of_sub at_point path views viewed_before kept scope holds placed_before above going no_call together r y path_there u is scalar end plain_target in
+            let mid : List (List machine.Word) = first_words fronts.0 [] in
+            let facts_then : List Fact = after (acts (acts_in s held)) facts_now in
+            let placed : List machine.Word → Now → Evaluated steps.Stored =
+            (λ ws now. followed_by (place_of (steps.here main_turn) target now) (λ k now. Done (record { words = ws; place = k }) now)) in
+            stored_same main_turn ready.accepted.settled ready.owns asks ready_in laws facts_now so only n agrees target
+            (followed_by (steps.taken_by main_turn u held (start main_turn)) placed) (followed_by (steps.taken_by main_turn u held (start (twin main_turn n))) placed)
+            (then_same s (GivenBy (steps.here main_turn) ready_in mid u left_hands facts_then)
+            (steps.taken_by main_turn u held (start main_turn)) (steps.taken_by main_turn u held (start (twin main_turn n))) placed placed
+            (given_by (steps.here main_turn) ready.accepted.settled state.leaks other alone in_formals index_law ready.owns views ready.class.parts_named mid u left_hands facts_then
+            (steps.taken_by main_turn u held (start main_turn))
+            (steps_within.source_within table typed effects input ready state top below more_frames rest named p frames deep stages running awaiting of_sub at_point path views viewed_before kept scope holds placed_before above going together u own_type source fronts.0 fronts.1 fronts.2
+            (scalar_values s (types_taken s path_there) fronts.0 fronts.3 scalar) fronts.4 allows.0 keep.0))
+            (held_same u own_type source fronts.0 fronts.1 fronts.2 fronts.4 (subst (ComparesIn s) is compares).1 allows.0 keep.0)
+            (λ ws i j given now. then_placed main_turn ready.accepted.settled ready.owns asks ready_in laws facts_now so only n agrees left_hands mid [] r y u path_there leads
+            takes tt (subst (ComparesIn s) is compares).0 facts_then allows.1 ws i j given now))
+
+        same_first : (a b : TypedTree) → ◌≡◌ {A = TypedTree} (More a NoMore) (More b NoMore) → a ≡ b
+        same_first a b e = cc
+
+        returns_within : p.instr ≡ Hold (More held NoMore) → ((t : ℕ) → named.sub.result ≡ Some t → is_anonymous (full s.table t) ≡ false) → (r : Option ℕ) → named.sub.result ≡ r → Returns s r (More held NoMore)
+            → AllowsAll facts_now (acts_of_main (Hold (More held NoMore))) → AllKeep (is_fixed s) (acts_of_main (Hold (More held NoMore))) → Goal (Hold (More held NoMore))
+        unfolding Compares types_taken
+        returns_within is plain None result none allowed keep = absurd (let no : ◌≡◌ {A = TypedTree} (More held NoMore) NoMore = none in cc)
+        returns_within is plain (Some of) result (e, same, source) allowed keep =
+            let own_type : IsNamed s.table of = plain_named s.table of (plain of result) in
+            let acts_same : acts_of_main (Hold (More held NoMore)) ≡ acts (acts_in s held) = returned_acts of held result (plain of result) in
+            let fit : AreOfTypes s (types_taken s held) front = steps_within.values_fit table typed effects input ready state top below more_frames rest named p frames deep stages running awaiting of_sub at_point path views viewed_before kept scope holds placed_before above going together (Hold (More held NoMore)) is in
+            holds_value held of result
+            (held_same of own_type (subst (Source s of) (sym (same_first held e same)) source) [] front refl fit (subst (ComparesIn s) is compares).0
+            (subst (AllowsAll facts_now) acts_same allowed) (subst (AllKeep (is_fixed s)) acts_same keep))
+
+        goes_together : Goal p.instr
+        goes_together = elim together.1 [
+          | inl (y, is, owner) ↦ subst Goal (sym is) (declares_within y is owner)
+          | inr more ↦ elim more [
+            | inl (r, y, path_there, u, is, place, scalar) ↦ subst Goal (sym is) (assigns_within r y path_there u is scalar place)
+            | inr (is, plain) ↦ subst Goal (sym is) (returns_within is plain named.sub.result refl (subst (IsFine s named.sub.result) is text)
+                (subst (λ i. AllowsAll facts_now (acts_of_main i)) is (allowed_now no_call end)) (subst (λ i. AllKeep (is_fixed s) (acts_of_main i)) is keeps_there))
+          ]
+        ]
 
       -- ---- a call
 
@@ -450,10 +607,7 @@ module _ (table : Table) (typed : TypedProgram) (effects : Effects) (input : Lis
 
         quiet_there : Quiet (calling.then_now table typed effects input ready state top below more_frames rest named p frames deep stages running awaiting of_sub at_point path views viewed_before kept scope holds placed_before above k actuals result e) Given
             (all_passed (steps.here main_turn) (passings s (sub_at s k)) formals actuals (start main_turn))
-        quiet_there =
-            subst (λ z. Quiet (calling.then_now table typed effects input ready state top below more_frames rest named p frames deep stages running awaiting of_sub at_point path views viewed_before kept scope holds placed_before above k actuals result e) Given (all_passed (steps.here main_turn) z formals actuals (start main_turn)))
-            (sym (calling.ways_are table typed effects input ready state top below more_frames rest named p frames deep stages running awaiting of_sub at_point path views viewed_before kept scope holds placed_before above k actuals result e))
-            (calling.passed_quiet table typed effects input ready state top below more_frames rest named p frames deep stages running awaiting of_sub at_point path views viewed_before kept scope holds placed_before above k actuals result e)
+        quiet_there = calling.passed_quiet table typed effects input ready state top below more_frames rest named p frames deep stages running awaiting of_sub at_point path views viewed_before kept scope holds placed_before above k actuals result e
 
         no_overlap : ((r : Report) → Has (overlap_reports s (alias.passed formals actuals)) r → ⊥) ⊎ ((x : ℕ) → Has formals x → (object_at s x).mode ≡ mode.In)
         no_overlap =
@@ -463,23 +617,66 @@ module _ (table : Table) (typed : TypedProgram) (effects : Effects) (input : Lis
             (calling.called table typed effects input ready state top below more_frames rest named p frames deep stages running awaiting of_sub at_point path views viewed_before kept scope holds placed_before above k actuals result e).answers
             (λ of answers x has. ready.class.modes k of answers x has)
 
-        same_there : SameTo s (all_passed (steps.here main_turn) (passings s (sub_at s k)) formals actuals (start main_turn))
-            (all_passed (steps.here main_turn) (passings s (sub_at s k)) formals actuals (start (twin main_turn n)))
-        same_there =
-            subst (λ z. SameTo s (all_passed (steps.here main_turn) z formals actuals (start main_turn)) (all_passed (steps.here main_turn) z formals actuals (start (twin main_turn n))))
-            (sym (calling.ways_are table typed effects input ready state top below more_frames rest named p frames deep stages running awaiting of_sub at_point path views viewed_before kept scope holds placed_before above k actuals result e))
+        abbrev SameBy : List Passing → List ℕ → TypedTree → Type 0
+        SameBy how xs given = SameTo s (all_passed (steps.here main_turn) how xs given (start main_turn)) (all_passed (steps.here main_turn) how xs given (start (twin main_turn n)))
+
+        plain_same : traverses s.table (sub_of program k).result ≡ false → SameBy (passings s (sub_at s k)) formals actuals
+        plain_same none =
+            subst (λ z. SameBy z formals actuals) (sym (passes_to program k none))
             (all_same (steps.here main_turn) ready.accepted.settled state.leaks other alone in_formals index_law ready.owns views ready.class.parts_named state.memory (waiting_in easy)
             facts_now so_easy only (calling.formals_low table typed effects input ready state top below more_frames rest named p frames deep stages running awaiting of_sub at_point path views viewed_before kept scope holds placed_before above k actuals result e) (not (is_some (sub_of program k).result)) (start main_turn).waits [] facts_now [] formals actuals
             (elim no_overlap [ inl none ↦ inl (spares_first s facts_now formals actuals none) | inr plain ↦ inr plain ])
-            (calling.kinds table typed effects input ready state top below more_frames rest named p frames deep stages running awaiting of_sub at_point path views viewed_before kept scope holds placed_before above k actuals result e)
+            (calling.kinds table typed effects input ready state top below more_frames rest named p frames deep stages running awaiting of_sub at_point path views viewed_before kept scope holds placed_before above k actuals result e) (acting.unseen_plain table typed effects input ready state top below more_frames rest named p frames deep stages running awaiting of_sub at_point path views viewed_before kept scope holds placed_before above k actuals result e none)
             (calling.called table typed effects input ready state top below more_frames rest named p frames deep stages running awaiting of_sub at_point path views viewed_before kept scope holds placed_before above k actuals result e).actuals_stay
-            (open_to s (suc (length rest)) views facts_now formals actuals (calling.clear_there table typed effects input ready state top below more_frames rest named p frames deep stages running awaiting of_sub at_point path views viewed_before kept scope holds placed_before above k actuals result e)
-            (calling.lows_there table typed effects input ready state top below more_frames rest named p frames deep stages running awaiting of_sub at_point path views viewed_before kept scope holds placed_before above k actuals result e))
+            (open_to s (suc (length rest)) views facts_now formals actuals (calling.clear_there table typed effects input ready state top below more_frames rest named p frames deep stages running awaiting of_sub at_point path views viewed_before kept scope holds placed_before above k actuals result e) (calling.lows_there table typed effects input ready state top below more_frames rest named p frames deep stages running awaiting of_sub at_point path views viewed_before kept scope holds placed_before above k actuals result e))
             (calling.copied_there table typed effects input ready state top below more_frames rest named p frames deep stages running awaiting of_sub at_point path views viewed_before kept scope holds placed_before above k actuals result e)
             (takes_of plain_call (Call k actuals result) e) (subst (ComparesIn s) e compares)
-            (calling.values_allowed table typed effects input ready state top below more_frames rest named p frames deep stages running awaiting of_sub at_point path views viewed_before kept scope holds placed_before above k actuals result e)
+            (subst (λ z. AllowsAll facts_now (acts (flow.actual_values s z actuals))) (passes_to program k none) (calling.values_allowed table typed effects input ready state top below more_frames rest named p frames deep stages running awaiting of_sub at_point path views viewed_before kept scope holds placed_before above k actuals result e))
             (calling.copies_allowed table typed effects input ready state top below more_frames rest named p frames deep stages running awaiting of_sub at_point path views viewed_before kept scope holds placed_before above k actuals result e)
             (start (twin main_turn n)) (agrees, refl, only))
+
+        -- a traversal function is called
+        module _ (f : ℕ) (traversed : traversed_formal s (sub_of program k) ≡ Some f) where
+          abbrev made : IsTraversalCall s named (flow_at own named p).next k actuals
+          made = calling.made table typed effects input ready state top below more_frames rest named p frames deep stages running awaiting of_sub at_point path views viewed_before kept scope holds placed_before above k actuals result e f traversed
+
+          abbrev traversing : IsTraversing program k f
+          traversing = calling.traversing table typed effects input ready state top below more_frames rest named p frames deep stages running awaiting of_sub at_point path views viewed_before kept scope holds placed_before above k actuals result e f traversed
+
+          abbrev first_tree : TypedTree
+          first_tree = first_actual s ready.owns made.call
+
+          copies_these : AllowsAll (after (acts (flow.actual_act (passing s false f) first_tree)) facts_now) (acts (flow.actual_acts (map (passing s false) traversing.rest) (made.call).others))
+          copies_these =
+              (allows_both facts_now (acts (flow.actual_act (passing s false f) first_tree)) (acts (flow.actual_acts (map (passing s false) traversing.rest) (made.call).others))
+              (subst (AllowsAll facts_now) (acts_append (flow.actual_act (passing s false f) first_tree) (flow.actual_acts (map (passing s false) traversing.rest) (made.call).others))
+              (subst (λ z. z) (λ j. AllowsAll facts_now (acts (flow.actual_acts (map (passing s (acting.no_procedure table typed effects input ready state top below more_frames rest named p frames deep stages running awaiting of_sub at_point path views viewed_before kept scope holds placed_before above k actuals result e f traversed j)) (traversing.formals j)) (made.actuals_are j))))
+              (calling.copies_allowed table typed effects input ready state top below more_frames rest named p frames deep stages running awaiting of_sub at_point path views viewed_before kept scope holds placed_before above k actuals result e)))).1
+
+          traversal_same : SameBy (passings s (sub_at s k)) formals actuals
+          traversal_same =
+              subst (λ z. z) (λ j. SameBy (sym traversing.ways j) (sym traversing.formals j) (sym made.actuals_are j))
+              (traversed_same (steps.here main_turn) ready.accepted.settled state.leaks other alone in_formals index_law ready.owns views ready.class.parts_named state.memory (waiting_in easy)
+              facts_now so_easy only (calling.formals_low table typed effects input ready state top below more_frames rest named p frames deep stages running awaiting of_sub at_point path views viewed_before kept scope holds placed_before above k actuals result e) false (start main_turn).waits []
+              (after (acts (flow.actual_act (passing s false f) first_tree)) facts_now) f made.call traversing.rest
+              (followed.access table typed effects input ready state top older outer named p frames of_sub at_point path k actuals result e f traversed)
+              (followed.shown table typed effects input ready state top older outer named p frames of_sub at_point path k actuals result e f traversed)
+              (acting.seen_first table typed effects input ready state top below more_frames rest named p frames deep stages running awaiting of_sub at_point path views viewed_before kept scope holds placed_before above k actuals result e f traversed)
+              ((calling.opens_these table typed effects input ready state top below more_frames rest named p frames deep stages running awaiting of_sub at_point path views viewed_before kept scope holds placed_before above k actuals result e f traversed).0 (followed.given table typed effects input ready state top older outer named p frames of_sub at_point path k actuals result e f traversed))
+              (followed.modes table typed effects input ready state top older outer named p frames of_sub at_point path k actuals result e f traversed)
+              (λ x has. calling.kinds table typed effects input ready state top below more_frames rest named p frames deep stages running awaiting of_sub at_point path views viewed_before kept scope holds placed_before above k actuals result e x (subst (λ z. Has z x) (sym traversing.formals) (inr has)))
+              (acting.unseen_others table typed effects input ready state top below more_frames rest named p frames deep stages running awaiting of_sub at_point path views viewed_before kept scope holds placed_before above k actuals result e f traversed) (acting.others_stay table typed effects input ready state top below more_frames rest named p frames deep stages running awaiting of_sub at_point path views viewed_before kept scope holds placed_before above k actuals result e f traversed)
+              (calling.opens_these table typed effects input ready state top below more_frames rest named p frames deep stages running awaiting of_sub at_point path views viewed_before kept scope holds placed_before above k actuals result e f traversed).1 (calling.back_these table typed effects input ready state top below more_frames rest named p frames deep stages running awaiting of_sub at_point path views viewed_before kept scope holds placed_before above k actuals result e f traversed).1
+              (subst (λ z. Takes (waits_in z) (start main_turn).waits []) made.actuals_are (takes_of plain_call (Call k actuals result) e))
+              (subst (Compares s) made.actuals_are (subst (ComparesIn s) e compares))
+              (subst (λ z. AllowsAll facts_now (acts z)) (λ j. flow.actual_values s (traversing.ways j) (made.actuals_are j)) (calling.values_allowed table typed effects input ready state top below more_frames rest named p frames deep stages running awaiting of_sub at_point path views viewed_before kept scope holds placed_before above k actuals result e))
+              copies_these (start (twin main_turn n)) (agrees, refl, only))
+
+        same_there : SameBy (passings s (sub_at s k)) formals actuals
+        same_there = elim (acting.traverses_or table typed effects input ready state top below more_frames rest named p frames deep stages running awaiting of_sub at_point path views viewed_before kept scope holds placed_before above k actuals result e) [
+          | inl none ↦ plain_same none
+          | inr (f, traversed) ↦ traversal_same f traversed
+        ]
 
         whole_there : (passed : List Passed) → Given passed → AreWhollyPassed s (suc (suc (length rest))) formals passed state.memory
         whole_there passed given =
@@ -552,7 +749,8 @@ module _ (table : Table) (typed : TypedProgram) (effects : Effects) (input : Lis
             | inr going ↦ elim (call_or p.instr) [
               | inr no_call ↦ elim (innermost.taken_there table typed effects input ready state top below more_frames rest named p frames deep stages running awaiting of_sub at_point path views viewed_before kept scope holds placed_before above) [
                 | inl plain ↦ goes_plainly going plain no_call end
-                | inr by_itself ↦ goes_alone going no_call end by_itself
+                | inr (inl by_itself) ↦ goes_alone going no_call end by_itself
+                | inr (inr together) ↦ goes_together going no_call end together
               ]
               | inl call ↦ subst Goal (sym call.3) (calls_it going call.0 call.1 call.2 call.3)
             ]

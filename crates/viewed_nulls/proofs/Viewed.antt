@@ -241,7 +241,7 @@ module _ (h : Here) (settled : IsSettled h.typing.table) (leaks : List Leak) (ot
 
   -- ---- values
 
-  given_by : (on : List (List machine.Word)) (want : ℕ) (hands : List Waiting) (facts : List Fact) (y : Evaluated (List machine.Word))
+  pub given_by : (on : List (List machine.Word)) (want : ℕ) (hands : List Waiting) (facts : List Fact) (y : Evaluated (List machine.Word))
       → GivenOn h settled leaks [] other alone (keeps h.typing settled own_law) index_law own_law v parts_named on want hands facts y
       → GivenBy h IsReadyIn on want hands facts y
   given_by on want hands facts (Done ws n) given = given

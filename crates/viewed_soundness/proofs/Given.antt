@@ -3,10 +3,11 @@
 use Rattle.std.proofs.Common.{◌≡◌, refl, sym, ap, ◌∙◌, subst, ◌⊎◌, inl, inr, ℕ, suc, ◌<◌, Bool, true, false, List, Some, arith, if◌then◌else◌}
 use Rattle.place_names.specs.declared.fact.Fact.{Fact}
 use Rattle.flow_paths.specs.Objects.{Typing, is_package_object}
-use Rattle.owned_ways.specs.Ways.{Way, All, View, Under, Past, Named, number_of, name_of}
+use Rattle.owned_ways.specs.Ways.{OfVariable, OfRoot, Way, All, View, Under, Past, Named, base_of, number_of, name_of}
 use Rattle.owned_ways.proofs.Dropped.{named_base}
 use Rattle.owned_ways.proofs.Locations.{under_itself}
 use Rattle.soundness.specs.Seen.{IsNear, home}
+use Rattle.soundness.proofs.Around.{package_named}
 use Rattle.owned_loans.specs.Views.{on, Around, Views, expand, ExcusedBy, IsForeign, Viewed}
 use Rattle.owned_loans.proofs.Ways.{Meet, meets_front, beginnings, under_on, on_under, Lifted, lifted_way, next_of}
 use Rattle.owned_loans.proofs.Meeting.{next}
@@ -69,7 +70,7 @@ module _ (s : Typing) (frame : ℕ) (other : Around (home s frame)) (v : Views) 
     | inl own ↦ (
         let on = next (home s frame) (sees_only s) v view facts viewed.views (All u) l own named in
         gone_off s frame other v view facts viewed alone (next_of v (All u) l) z on.plain.0 on.plain.1 (subst (Meets z) (sym on.same) meets) gone)
-    | inr passed ↦ viewed.whole l.object l.way z l.has passed.foreign gone (nearer (subst (Meets z) (lifted_way v (All u) l) meets))
+    | inr passed ↦ viewed.whole l.object l.way z l.has (inr passed.given) gone (nearer (subst (Meets z) (lifted_way v (All u) l) meets))
   ]
     where
       nearer : Meets z (on l.way l.rest) → Meets z l.way
@@ -83,7 +84,7 @@ module _ (s : Typing) (frame : ℕ) (other : Around (home s frame)) (v : Views) 
   pub lent_past : (u : Way) → Named (home s frame) u → sees_only s (number_of u) ≡ false → Unlent facts u
       → (x : ℕ) (w : Way) → v.way x ≡ Some w → Past (expand v (All u)) w → ⊥
   lent_past u named plain unlent x w has past =
-      off_view (home s frame) (sees_only s) v view facts viewed.views viewed.clear (All u) x w (named, plain) (unlent_below facts u unlent) has past
+      off_view (home s frame) (sees_only s) other v view facts viewed (All u) x w (named, plain) (unlent_below facts u unlent) has past
 
   pub lent_far : (u : Way) → Named (home s frame) u → sees_only s (number_of u) ≡ false → Unlent facts u
       → (w : Way) (n : ℕ) → other.kept w n → Past (expand v (All u)) w → ⊥
@@ -93,42 +94,48 @@ module _ (s : Typing) (frame : ℕ) (other : Around (home s frame)) (v : Views) 
   pub lent_apart : (u y : Way) → Named (home s frame) u → Named (home s frame) y → sees_only s (number_of u) ≡ false → sees_only s (number_of y) ≡ false
       → Unborrowed facts u → Unborrowed facts y → (overlaps (name_of u) (name_of y) ≡ true → ⊥) → Meet (expand v (All u)) (expand v (All y)) → ⊥
   lent_apart u y named named_y plain plain_y free free_y apart meets =
-      apart_names (home s frame) (sees_only s) v view facts viewed.views viewed.clear (All u) (All y) (named, plain) (named_y, plain_y)
+      apart_names (home s frame) (sees_only s) other v view facts viewed (All u) (All y) (named, plain) (named_y, plain_y)
       (unborrowed_below facts u free) (unborrowed_below facts y free_y) (λ over. apart (over_below u y over)) meets
 
   -- nor what a name designates and another place
   pub lent_beside : (u y : Way) → Named (home s frame) u → Named (home s frame) y → sees_only s (number_of u) ≡ false → sees_only s (number_of y) ≡ false
       → Unborrowed facts u → Unborrowed facts y → (overlaps (name_of u) (name_of y) ≡ true → ⊥) → Meet (expand v (All u)) (expand v y) → ⊥
   lent_beside u y named named_y plain plain_y free free_y apart meets =
-      apart_names (home s frame) (sees_only s) v view facts viewed.views viewed.clear (All u) y (named, plain) (named_y, plain_y) (unborrowed_below facts u free) free_y
+      apart_names (home s frame) (sees_only s) other v view facts viewed (All u) y (named, plain) (named_y, plain_y) (unborrowed_below facts u free) free_y
       (λ over. apart (overlaps-sym (name_of u) (name_of y) ∙ designated_over (name_of y) u (overlaps-sym (name_of y) (name_of (All u)) ∙ over))) meets
 
--- A way of a frame that begins at none of its package objects, or one that is foreign there and begins
--- below the next frame, is foreign in the next frame.
+-- A way of a frame, or one that is foreign there and begins below the next frame.
 abbrev pub IsLow : Typing → ℕ → Way → Type 0
-IsLow s frame w =
-    (Named (home s frame) w × (is_package_object s (number_of w) ≡ false)) ⊎ ((foreign : IsForeign (home s frame) w) × (foreign.0 < suc frame) × (0 < foreign.0))
+IsLow s frame w = Named (home s frame) w ⊎ ((foreign : IsForeign (home s frame) w) × (foreign.0 < suc frame) × (0 < foreign.0))
 
-pub foreign_there : (s : Typing) (frame : ℕ) (w : Way) → IsLow s frame w → IsForeign (home s (suc frame)) w
-foreign_there s frame w (inl (named, own)) = (
-  home s frame (number_of w),
-  number_of w,
-  named_base (home s frame) w named,
-  λ e. (
-      let here : home s frame (number_of w) ≡ frame = ap (λ b. if b then 0 else frame) own in
-      let there : home s (suc frame) (number_of w) ≡ suc frame = ap (λ b. if b then 0 else suc frame) own in omega (arith, e, here, there)),
-)
-foreign_there s frame w (inr (foreign, low, some)) = (foreign.0, foreign.1, foreign.2, λ e. by_kind (is_package_object s foreign.1) refl e)
+-- A way that is foreign and begins below a frame, or one that begins at a package object.
+abbrev pub IsThere : Typing → ℕ → Way → Type 0
+IsThere s frame w =
+    ((foreign : IsForeign (home s frame) w) × (foreign.0 < frame) × (0 < foreign.0)) ⊎ (Named (home s frame) w × (is_package_object s (number_of w) ≡ true))
+
+-- it begins at a variable
+pub low_begins : (s : Typing) (frame : ℕ) (w : Way) → IsLow s frame w → (f : ℕ) × (y : ℕ) × (base_of w ≡ OfRoot (OfVariable f y))
+low_begins s frame w (inl named) = (home s frame (number_of w), number_of w, named_base (home s frame) w named)
+low_begins s frame w (inr (foreign, low, some)) = (foreign.0, foreign.1, foreign.2)
+
+-- so it is in the next frame
+pub low_there : (s : Typing) (frame : ℕ) (w : Way) → 0 < frame → IsLow s frame w → IsThere s (suc frame) w
+low_there s frame w deep (inl named) = by_kind (is_package_object s (number_of w)) refl
+  where
+    by_kind : (b : Bool) → is_package_object s (number_of w) ≡ b → IsThere s (suc frame) w
+    by_kind true shared = inr (package_named s frame (suc frame) w shared named, shared)
+    by_kind false own =
+        let here : home s frame (number_of w) ≡ frame = ap (λ b. if b then 0 else frame) own in
+        let there : home s (suc frame) (number_of w) ≡ suc frame = ap (λ b. if b then 0 else suc frame) own in inl (
+          (home s frame (number_of w), number_of w, named_base (home s frame) w named, λ e. (omega (arith, e, here, there))),
+          (omega (arith, here)),
+          (omega (arith, here, deep)),
+        )
+low_there s frame w deep (inr (foreign, low, some)) =
+    inl ((foreign.0, foreign.1, foreign.2, λ e. by_kind (is_package_object s foreign.1) refl e), low, some)
   where
     by_kind : (b : Bool) → is_package_object s foreign.1 ≡ b → foreign.0 ≡ home s (suc frame) foreign.1 → ⊥
     by_kind true shared e =
         foreign.3 (e ∙ ap (λ b. if b then 0 else suc frame) shared ∙ sym (ap (λ b. if b then 0 else frame) shared))
     by_kind false own e =
         (let there : home s (suc frame) foreign.1 ≡ suc frame = ap (λ b. if b then 0 else suc frame) own in omega (arith, low, e, there))
-
--- and it is low there again
-pub low_there : (s : Typing) (frame : ℕ) (w : Way) → 0 < frame → (low : IsLow s frame w) → ((foreign_there s frame w low).0 < suc frame) × (0 < (foreign_there s frame w low).0)
-unfolding foreign_there
-low_there s frame w deep (inl (named, own)) =
-    (let here : home s frame (number_of w) ≡ frame = ap (λ b. if b then 0 else frame) own in (omega (arith, here), omega (arith, here, deep)))
-low_there s frame w deep (inr (foreign, low, some)) = (low, some)

@@ -76,6 +76,8 @@ module _ (home : ℕ → ℕ) (observer : ℕ → Bool) (other : Around home) (v
         view_on home observer other v s t facts facts x w view (λ seen n loan. loan)
         (far_reaches s t viewed.owned same w (OfCell (v.cell x)) root.0 root.1 root.2 (reached home observer other v s facts x w view)));
     whole = viewed.whole;
+    whole_away = viewed.whole_away;
+    shown = viewed.shown;
     past = viewed.past;
     far = λ w n keeps. (let root = other.begins w n keeps in far_reaches s t viewed.owned same w (OfCell n) root.0 root.1 root.2 (viewed.far w n keeps));
     bare = λ w l p bare q c held. (let root = other.bares w l p bare in

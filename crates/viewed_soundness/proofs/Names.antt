@@ -386,7 +386,7 @@ module _ (h : Here) (settled : IsSettled h.typing.table) (hands : List Waiting) 
   view_clean x rest w has opens z past (inr o) = elim (viewed.views x w has) [
     | inl own ↦ gone_off s h.frame other v view_here facts viewed alone (v.up x) z own.named own.plain
         (subst (Meet z) (sym own.leads) (beginnings z w (way_along rest w) (past_under z (way_along rest w) past) (under_way_along rest w))) o
-    | inr passed ↦ viewed.whole x w z has passed.foreign o
+    | inr passed ↦ viewed.whole x w z has (inr passed.given) o
         (beginnings z w (way_along rest w) (past_under z (way_along rest w) past) (under_way_along rest w))
   ]
   view_clean x rest w has opens z past (inl moved) =

@@ -90,7 +90,7 @@ module _ (h : Here) (settled : IsSettled h.typing.table) (hands : List Waiting) 
       through l = elim (viewed.views l.object l.way l.has) [
         | inl own ↦ (let on = next (home s h.frame) (sees_only s) v view_here facts viewed.views u l own named in
             near (next_of v u l) on.plain.0 on.plain.1 (subst other.gone (sym on.same) gone))
-        | inr passed ↦ viewed.whole l.object l.way (expand v u) l.has passed.foreign gone
+        | inr passed ↦ viewed.whole l.object l.way (expand v u) l.has (inr passed.given) gone
             (inr (subst (Under l.way) (sym (lifted_way v u l)) (on_under l.way l.rest)))
       ]
 

@@ -18,6 +18,6 @@ module _ (s : Typing) (frame : ℕ) (other : Around (home s frame)) (v : Views) 
 
   pub gone_off : (u z : Way) → Named (home s frame) u → sees_only s (number_of u) ≡ false → Meet z (expand v u) → other.gone z → ⊥
   gone_off u z named plain meets gone = elim (stands (home s frame) (sees_only s) v view facts viewed.views u (named, plain)) [
-    | inl own ↦ alone z (near_met (expand v u) z own.0 meets) gone
-    | inr held ↦ viewed.whole held.object held.way z held.has held.passed.foreign gone (meets_front held.way (expand v u) z held.under meets)
+    | inl own ↦ alone z (near_met (expand v u) z own.named meets) gone
+    | inr held ↦ viewed.whole held.object held.way z held.has (inr held.passed.given) gone (meets_front held.way (expand v u) z held.under meets)
   ]

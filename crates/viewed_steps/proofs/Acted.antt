@@ -1,5 +1,5 @@
 -- Where what is passed for actuals is laid out, and what the acts of the call do there.
-use Rattle.std.proofs.Common.{◌≡◌, refl, ◌&&◌, sym, ap, ◌∙◌, subst, inl, inr, ℕ, Bool, true, false, List, [], ◌∷◌, ◌++◌, Option, Some, None, ◌<◌}
+use Rattle.std.proofs.Common.{◌≡◌, refl, ◌&&◌, sym, ap, ◌∙◌, subst, inl, inr, ℕ, Bool, true, false, List, [], ◌∷◌, ◌++◌, Option, Some, None}
 use Rattle.spark_base.proofs.Lists.{Has-append_left, Has-append_right}
 use Rattle.spark_base.specs.declared.position.Pos.{Pos}
 use Rattle.place_names.specs.declared.act.Act.TheVariants as act
@@ -30,8 +30,8 @@ use Rattle.soundness.proofs.Joined.{leaf_join}
 use Rattle.soundness.proofs.Steps.{no_leaf}
 use Rattle.soundness.proofs.Fixed.{matches_scalar}
 use Rattle.soundness.proofs.Scalars.{acts, acts_append, after_append, read_effect}
-use Rattle.owned_loans.specs.Views.{Around, Views, Viewed, expand, way_at, IsForeign}
-use Rattle.viewed_soundness.specs.Holds.{PartsAreNamed, Holds, sees_only, is_view, IsOwners, is_given}
+use Rattle.owned_loans.specs.Views.{Around, Views, Viewed, expand, way_at}
+use Rattle.viewed_soundness.specs.Holds.{PartsAreNamed, Holds, sees_only, is_view, IsOwners}
 use Rattle.viewed_soundness.proofs.Names.{true_false}
 use Rattle.viewed_steps.proofs.Views.{AreAccess}
 use Rattle.viewed_steps.proofs.Emptied.{out_left, taken_back}
@@ -48,6 +48,7 @@ use Rattle.owned_ways.proofs.Named.{covered_under}
 use Rattle.place_names.specs.Names.{covers}
 use Rattle.place_names.specs.declared.fact.Fact.TheVariants.{Moved}
 use Rattle.viewed_steps.proofs.Released.{ends_there}
+use Rattle.viewed_soundness.proofs.Given.{IsLow}
 
 module _ (h : Here) (settled : IsSettled h.typing.table) (hands : List Waiting) (leaks : List Leak) (m : Memory) (waits : List (List machine.Word))
     (other : Around (home h.typing h.frame)) (facts : List Fact) (v : Views)
@@ -60,7 +61,7 @@ module _ (h : Here) (settled : IsSettled h.typing.table) (hands : List Waiting) 
     (index_law : IndexLaw)
     (own_law : OwnsByShape h.typing.table)
     (parts_named : PartsAreNamed h.typing.table)
-    (formals_low : (x : ℕ) (w : Way) → v.way x ≡ Some w → is_given h.typing x ≡ true → (foreign : IsForeign (home h.typing h.frame) w) × (foreign.0 < h.frame) × (0 < foreign.0))
+    (formals_low : (x : ℕ) (w : Way) → v.way x ≡ Some w → IsLow h.typing h.frame w)
     (procedure : Bool) where
   abbrev ways_of : List ℕ → List Passing
   ways_of = called.ways_of h settled hands leaks m waits other facts v kept well holds alone live in_formals index_law own_law parts_named formals_low procedure

@@ -15,14 +15,16 @@ use Rattle.flow_paths.specs.Objects.{Typing, is_package_object}
 use Rattle.flow_paths.specs.Laid.{FlowSub, FlowProgram, NamedSub, flow_sub, typing_of, flow_typing, flow_program, flow_named}
 use Rattle.flow_paths.specs.Paths.{facts_before}
 use Rattle.flow_paths.specs.Effects.{flow_sub_at, path_points, AreEffects, written_by}
-use Rattle.machine.specs.States.{Return, State}
+use Rattle.machine.specs.States.{Return, State, sub_of}
 use Rattle.soundness.specs.Sound.{Stage, facts_of, Uses, IsNamedSub}
 use Rattle.soundness.proofs.Points.{sub_there, sub_at_number, sub_in_range}
 use Rattle.soundness.proofs.Used.{writes_used, reads_used, fact_added}
-use Rattle.viewed_steps.specs.Sound.{loan_by, withheld, ViewStage, Disturbs, IsWaiting, AreWaiting, passed_roots}
+use Rattle.viewed_steps.specs.Sound.{loan_by, withheld, ViewStage, Disturbs, IsWaiting, AreWaiting, shown_at, passed_roots, known_at}
 use Rattle.viewed_steps.proofs.Inherited.{lending_uses}
 use Rattle.viewed_steps.proofs.Uses.{writes_there, borrowing_writes, moving_writes}
+use Rattle.viewed_steps.proofs.Showing.{none_moved}
 use Rattle.viewed_steps.proofs.Withheld.{kept_cases, kept_loan}
+use Rattle.spark_base.proofs.Lists.{Has-append_cases}
 
 both_first : (a b : Bool) → a && b ≡ true → a ≡ true
 both_first true b e = refl
@@ -93,7 +95,7 @@ module _ (table : Table) (typed : TypedProgram) (effects : Effects) (are : AreEf
 
   -- none of what they lend is disturbed by the innermost one
   pub spared_there : (state : State) (callee : ℕ) (backs : List Return) (older : List ViewStage) → AreWaiting table typed effects state callee backs older → (g : ViewStage) → Has older g
-      → 0 < g.stage.depth → (l : Loan) (h : ℕ) (n : Name) → Has (facts_of program effects g.stage) (Lent l h n) → is_package_object s n.root ≡ true
+      → 0 < g.stage.depth → (l : Loan) (h : ℕ) (n : Name) → Has (known_at program effects g.stage) (Lent l h n) → is_package_object s n.root ≡ true
       → Disturbs effects l callee n.root → ⊥
   spared_there state callee backs [] waiting g has some l h n lent shared disturbs = absurd has
   spared_there state callee backs (e ∷ []) waiting g (inl same) some l h n lent shared disturbs =
@@ -102,36 +104,57 @@ module _ (table : Table) (typed : TypedProgram) (effects : Effects) (are : AreEf
       omega (arith, some, first, depths)
   spared_there state callee backs (e ∷ []) waiting g (inr never) some l h n lent shared disturbs = absurd never
   spared_there state callee backs (k ∷ (j ∷ older)) waiting g (inl same) some l h n lent shared disturbs =
-      (waiting.0).lends l h n (subst (λ (z : ViewStage). Has (facts_of program effects z.stage) (Lent l h n)) (sym same) lent) shared disturbs
+      (waiting.0).lends l h n (subst (λ (z : ViewStage). Has (known_at program effects z.stage) (Lent l h n)) (sym same) lent) shared disturbs
   spared_there state callee backs (k ∷ (j ∷ older)) waiting g (inr has) some l h n lent shared disturbs =
       spared_there state k.stage.frame.sub k.stage.frame.returns (j ∷ older) waiting.1 g has some l h n lent shared
       (disturbs_on l callee k.stage.frame.sub n.root ((waiting.0).uses n.root) ((waiting.0).writes n.root) disturbs)
 
-  -- ---- what was moved or taken
+  -- ---- what a frame keeps
 
   module _ (state : State) (callee : ℕ) (backs : List Return) (g : ViewStage) (waits : IsWaiting table typed effects state callee backs g) where
-    -- it is written
-    kept_written : (n : Name) → Has (withheld program effects g) (Moved n) → is_package_object s n.root ≡ true → Has (written_by effects g.stage.frame.sub) n.root
-    kept_written n has shared = elim (kept_cases program effects g (Moved n) has) [
-      | inl fact ↦ moved_written g.stage waits.named waits.of_sub n fact.0 shared
-      | inr (y, passed, is) ↦ (
-          let root : n.root ≡ y = ap (λ (z : Name). z.root) (moved_same n (object y) is) in
-          subst (Has (written_by effects g.stage.frame.sub)) (sym root) (waits.written y passed (ap (is_package_object s) (sym root) ∙ shared)))
+    -- what is passed is written
+    root_written : (f : Fact) (y : ℕ) → Has (passed_roots effects g) y → f ≡ Moved (object y) → is_package_object s (place f).root ≡ true
+        → Has (written_by effects g.stage.frame.sub) (place f).root
+    root_written f y passed is shared =
+        let root : (place f).root ≡ y = ap (λ z. (place z).root) is in
+        subst (Has (written_by effects g.stage.frame.sub)) (sym root) (waits.written y passed (ap (is_package_object s) (sym root) ∙ shared))
+
+    -- and so is what is known as moved or borrowed
+    known_written : (f : Fact) → Has (known_at program effects g.stage) f → loan_by f ≡ Borrowed → is_package_object s (place f).root ≡ true
+        → Has (written_by effects g.stage.frame.sub) (place f).root
+    known_written (Moved n) has borrowed shared = elim (Has-append_cases (facts_of program effects g.stage) (shown_at program g.stage) (Moved n) has) [
+      | inl fact ↦ moved_written g.stage waits.named waits.of_sub n fact shared
+      | inr shown ↦ absurd (none_moved program (sub_of program g.stage.frame.sub) g.stage.before n shown)
+    ]
+    known_written (Lent l h n) has borrowed shared = elim (Has-append_cases (facts_of program effects g.stage) (shown_at program g.stage) (Lent l h n) has) [
+      | inl fact ↦ lent_written g.stage waits.named waits.of_sub h n (subst (λ z. Has (facts_of program effects g.stage) (Lent z h n)) borrowed fact) shared
+      | inr shown ↦ (waits.shown l h n shown shared).1 borrowed
     ]
 
-    -- and not lent
-    kept_unlent : (n : Name) → Has (withheld program effects g) (Moved n) → (l : Loan) (h : ℕ) (m : Name) → Has (withheld program effects g) (Lent l h m)
-        → overlaps n m ≡ true → ⊥
-    kept_unlent n has l h m lent over =
-        let own = kept_loan program effects g l h m lent in
-        elim (kept_cases program effects g (Moved n) has) [
-          | inl fact ↦ waits.clear.moved l h n m fact.0 own.0 over
-          | inr (y, passed, is) ↦ own.1 (subst (Has (passed_roots g)) (ap (λ (z : Name). z.root) (sym (moved_same n (object y) is)) ∙ same_root n m over) passed)
-        ]
+    kept_written : (f : Fact) → Has (withheld program effects g) f → loan_by f ≡ Borrowed → is_package_object s (place f).root ≡ true
+        → Has (written_by effects g.stage.frame.sub) (place f).root
+    kept_written f has borrowed shared = elim (kept_cases program effects g f has) [
+      | inl known ↦ known_written f known.0 borrowed shared
+      | inr (y, passed, is) ↦ root_written f y passed is shared
+    ]
 
-  -- loans are those of the facts
-  loan_fact : (g : ViewStage) (l : Loan) (h : ℕ) (n : Name) → Has (withheld program effects g) (Lent l h n) → Has (facts_of program effects g.stage) (Lent l h n)
-  loan_fact g l h n has = (kept_loan program effects g l h n has).0
+    -- what is kept is used
+    kept_used : (f : Fact) → Has (withheld program effects g) f → is_package_object s (place f).root ≡ true → Uses effects g.stage.frame.sub (place f).root
+    kept_used (Moved n) has shared = inr (kept_written (Moved n) has refl shared)
+    kept_used (Lent l h n) has shared = elim (Has-append_cases (facts_of program effects g.stage) (shown_at program g.stage) (Lent l h n) (kept_loan program effects g l h n has).0) [
+      | inl fact ↦ lent_used g.stage waits.named waits.of_sub l h n fact shared
+      | inr shown ↦ (waits.shown l h n shown shared).0
+    ]
+
+    -- what is kept as borrowed isn't observed
+    kept_apart : (f : Fact) (h : ℕ) (m : Name) → Has (withheld program effects g) f → loan_by f ≡ Borrowed → Has (withheld program effects g) (Lent Observed h m)
+        → overlaps (place f) m ≡ true → ⊥
+    kept_apart f h m has borrowed seen over =
+        let own = kept_loan program effects g Observed h m seen in
+        elim (kept_cases program effects g f has) [
+          | inl known ↦ waits.apart f h m known.0 borrowed own.0 over
+          | inr (y, passed, is) ↦ own.1 (subst (Has (passed_roots effects g)) (sym (ap (λ z. (place z).root) is) ∙ same_root (place f) m over) passed)
+        ]
 
   module _ (unused : (state : State) (callee : ℕ) (backs : List Return) (older : List ViewStage) → AreWaiting table typed effects state callee backs older → (g : ViewStage) → Has older g
       → (name : Name) → Has (withheld (flow_program table typed) effects g) (Moved name)
@@ -142,71 +165,40 @@ module _ (table : Table) (typed : TypedProgram) (effects : Effects) (are : AreEf
         → Disturbs effects (loan_by f) callee (place f).root → ⊥
     kept_there state callee backs older waiting g has some (Moved n) there shared disturbs = unused state callee backs older waiting g has n there shared disturbs
     kept_there state callee backs older waiting g has some (Lent l h n) there shared disturbs =
-        spared_there state callee backs older waiting g has some l h n (loan_fact g l h n there) shared disturbs
+        spared_there state callee backs older waiting g has some l h n (kept_loan program effects g l h n there).0 shared disturbs
 
-    -- what one has moved isn't lent by another
-    pub moved_apart : (state : State) (callee : ℕ) (backs : List Return) (older : List ViewStage) → AreWaiting table typed effects state callee backs older → (g k : ViewStage) → Has older g → Has older k
-        → 0 < g.stage.depth → 0 < k.stage.depth → (n : Name) → Has (withheld program effects g) (Moved n) → is_package_object s n.root ≡ true
-        → (l : Loan) (h : ℕ) (m : Name) → Has (withheld program effects k) (Lent l h m) → overlaps n m ≡ true → ⊥
-    moved_apart state callee backs [] waiting g k has rests deep some n moved shared l h m lent over = absurd has
-    moved_apart state callee backs (e ∷ []) waiting g k (inl same) rests deep some n moved shared l h m lent over =
+    -- what one keeps as borrowed isn't observed by another
+    seen_apart : (state : State) (callee : ℕ) (backs : List Return) (older : List ViewStage) → AreWaiting table typed effects state callee backs older → (g k : ViewStage) → Has older g → Has older k
+        → 0 < g.stage.depth → 0 < k.stage.depth → (f : Fact) (h : ℕ) (m : Name) → Has (withheld program effects g) f
+        → Has (withheld program effects k) (Lent Observed h m)
+        → loan_by f ≡ Borrowed → is_package_object s (place f).root ≡ true → overlaps (place f) m ≡ true → ⊥
+    seen_apart state callee backs [] waiting g k has rests deep some f h m kept seen borrowed shared over = absurd has
+    seen_apart state callee backs (e ∷ []) waiting g k (inl same) rests deep some f h m kept seen borrowed shared over =
         let first = (waiting.0).3 in
         let depths = ap (λ (z : ViewStage). z.stage.depth) same in
         omega (arith, deep, first, depths)
-    moved_apart state callee backs (e ∷ []) waiting g k (inr never) rests deep some n moved shared l h m lent over = absurd never
-    moved_apart state callee backs (e ∷ (j ∷ older)) waiting g k (inl same) (inl also) deep some n moved shared l h m lent over =
-        kept_unlent state callee backs e waiting.0 n (subst (λ (z : ViewStage). Has (withheld program effects z) (Moved n)) (sym same) moved) l h m
-        (subst (λ (z : ViewStage). Has (withheld program effects z) (Lent l h m)) (sym also) lent) over
-    moved_apart state callee backs (e ∷ (j ∷ older)) waiting g k (inl same) (inr rests) deep some n moved shared l h m lent over =
-        let root = same_root n m over in
-        let own_fact = subst (λ (z : ViewStage). Has (withheld program effects z) (Moved n)) (sym same) moved in
-        spared_there state e.stage.frame.sub e.stage.frame.returns (j ∷ older) waiting.1 k rests some l h m (loan_fact k l h m lent) (ap (is_package_object s) (sym root) ∙ shared)
-        (written_disturbs l e.stage.frame.sub m.root
-        (subst (Has (written_by effects e.stage.frame.sub)) root (kept_written state callee backs e waiting.0 n own_fact shared)))
-    moved_apart state callee backs (e ∷ (j ∷ older)) waiting g k (inr has) (inl also) deep some n moved shared l h m lent over =
-        let root = same_root n m over in
-        let own_fact = loan_fact e l h m (subst (λ (z : ViewStage). Has (withheld program effects z) (Lent l h m)) (sym also) lent) in
-        unused state e.stage.frame.sub e.stage.frame.returns (j ∷ older) waiting.1 g has n moved shared
-        (subst (Uses effects e.stage.frame.sub) (sym root)
-        (lent_used e.stage (waiting.0).named (waiting.0).of_sub l h m own_fact (ap (is_package_object s) (sym root) ∙ shared)))
-    moved_apart state callee backs (e ∷ (j ∷ older)) waiting g k (inr has) (inr rests) deep some n moved shared l h m lent over =
-        moved_apart state e.stage.frame.sub e.stage.frame.returns (j ∷ older) waiting.1 g k has rests deep some n moved shared l h m lent over
+    seen_apart state callee backs (e ∷ []) waiting g k (inr never) rests deep some f h m kept seen borrowed shared over = absurd never
+    seen_apart state callee backs (e ∷ (j ∷ older)) waiting g k (inl same) (inl also) deep some f h m kept seen borrowed shared over =
+        kept_apart state callee backs e waiting.0 f h m (subst (λ (z : ViewStage). Has (withheld program effects z) f) (sym same) kept) borrowed
+        (subst (λ (z : ViewStage). Has (withheld program effects z) (Lent Observed h m)) (sym also) seen) over
+    seen_apart state callee backs (e ∷ (j ∷ older)) waiting g k (inl same) (inr rests) deep some f h m kept seen borrowed shared over =
+        let root = same_root (place f) m over in
+        let here = subst (λ (z : ViewStage). Has (withheld program effects z) f) (sym same) kept in
+        kept_there state e.stage.frame.sub e.stage.frame.returns (j ∷ older) waiting.1 k rests some (Lent Observed h m) seen (ap (is_package_object s) (sym root) ∙ shared)
+        (subst (Has (written_by effects e.stage.frame.sub)) root (kept_written state callee backs e waiting.0 f here borrowed shared))
+    seen_apart state callee backs (e ∷ (j ∷ older)) waiting g k (inr has) (inl also) deep some f h m kept seen borrowed shared over =
+        let root = same_root (place f) m over in
+        let here = subst (λ (z : ViewStage). Has (withheld program effects z) (Lent Observed h m)) (sym also) seen in
+        kept_there state e.stage.frame.sub e.stage.frame.returns (j ∷ older) waiting.1 g has deep f kept shared
+        (subst (λ l. Disturbs effects l e.stage.frame.sub (place f).root) (sym borrowed)
+        (subst (Uses effects e.stage.frame.sub) (sym root) (kept_used state callee backs e waiting.0 (Lent Observed h m) here (ap (is_package_object s) (sym root) ∙ shared))))
+    seen_apart state callee backs (e ∷ (j ∷ older)) waiting g k (inr has) (inr rests) deep some f h m kept seen borrowed shared over =
+        seen_apart state e.stage.frame.sub e.stage.frame.returns (j ∷ older) waiting.1 g k has rests deep some f h m kept seen borrowed shared over
 
-    -- nor is what one has borrowed observed by another
-    pub seen_apart : (state : State) (callee : ℕ) (backs : List Return) (older : List ViewStage) → AreWaiting table typed effects state callee backs older → (g k : ViewStage) → Has older g → Has older k
-        → 0 < g.stage.depth → 0 < k.stage.depth → (b : ℕ) (n : Name) → Has (facts_of program effects g.stage) (Lent Borrowed b n) → is_package_object s n.root ≡ true
-        → (h : ℕ) (m : Name) → Has (facts_of program effects k.stage) (Lent Observed h m) → overlaps n m ≡ true → ⊥
-    seen_apart state callee backs [] waiting g k has rests deep some b n lends shared h m lent over = absurd has
-    seen_apart state callee backs (e ∷ []) waiting g k (inl same) rests deep some b n lends shared h m lent over =
-        let first = (waiting.0).3 in
-        let depths = ap (λ (z : ViewStage). z.stage.depth) same in
-        omega (arith, deep, first, depths)
-    seen_apart state callee backs (e ∷ []) waiting g k (inr never) rests deep some b n lends shared h m lent over = absurd never
-    seen_apart state callee backs (e ∷ (j ∷ older)) waiting g k (inl same) (inl also) deep some b n lends shared h m lent over =
-        (waiting.0).clear.seen b h n m (subst (λ (z : ViewStage). Has (facts_of program effects z.stage) (Lent Borrowed b n)) (sym same) lends)
-        (subst (λ (z : ViewStage). Has (facts_of program effects z.stage) (Lent Observed h m)) (sym also) lent) over
-    seen_apart state callee backs (e ∷ (j ∷ older)) waiting g k (inl same) (inr rests) deep some b n lends shared h m lent over =
-        let root = same_root n m over in
-        let own_fact = subst (λ (z : ViewStage). Has (facts_of program effects z.stage) (Lent Borrowed b n)) (sym same) lends in
-        spared_there state e.stage.frame.sub e.stage.frame.returns (j ∷ older) waiting.1 k rests some Observed h m lent (ap (is_package_object s) (sym root) ∙ shared)
-        (subst (Has (written_by effects e.stage.frame.sub)) root (lent_written e.stage (waiting.0).named (waiting.0).of_sub b n own_fact shared))
-    seen_apart state callee backs (e ∷ (j ∷ older)) waiting g k (inr has) (inl also) deep some b n lends shared h m lent over =
-        let root = same_root n m over in
-        let own_fact = subst (λ (z : ViewStage). Has (facts_of program effects z.stage) (Lent Observed h m)) (sym also) lent in
-        spared_there state e.stage.frame.sub e.stage.frame.returns (j ∷ older) waiting.1 g has deep Borrowed b n lends shared
-        (subst (Uses effects e.stage.frame.sub) (sym root)
-        (lent_used e.stage (waiting.0).named (waiting.0).of_sub Observed h m own_fact (ap (is_package_object s) (sym root) ∙ shared)))
-    seen_apart state callee backs (e ∷ (j ∷ older)) waiting g k (inr has) (inr rests) deep some b n lends shared h m lent over =
-        seen_apart state e.stage.frame.sub e.stage.frame.returns (j ∷ older) waiting.1 g k has rests deep some b n lends shared h m lent over
-
-    -- what one keeps as borrowed isn't observed
     pub held_apart : (state : State) (callee : ℕ) (backs : List Return) (older : List ViewStage) → AreWaiting table typed effects state callee backs older → (g k : ViewStage) → Has older g → Has older k
         → 0 < g.stage.depth → 0 < k.stage.depth → (f o : Fact) → Has (withheld program effects g) f → Has (withheld program effects k) o
         → loan_by f ≡ Borrowed → loan_by o ≡ Observed → is_package_object s (place f).root ≡ true → overlaps (place f) (place o) ≡ true → ⊥
     held_apart state callee backs older waiting g k has rests deep some f (Moved m) kept seen borrowed observed shared over = cc
-    held_apart state callee backs older waiting g k has rests deep some (Moved n) (Lent l h m) kept seen borrowed observed shared over =
-        moved_apart state callee backs older waiting g k has rests deep some n kept shared l h m seen over
-    held_apart state callee backs older waiting g k has rests deep some (Lent c b n) (Lent l h m) kept seen borrowed observed shared over =
-        seen_apart state callee backs older waiting g k has rests deep some b n
-        (subst (λ z. Has (facts_of program effects g.stage) (Lent z b n)) borrowed (loan_fact g c b n kept)) shared h m
-        (subst (λ z. Has (facts_of program effects k.stage) (Lent z h m)) observed (loan_fact k l h m seen)) over
+    held_apart state callee backs older waiting g k has rests deep some f (Lent l h m) kept seen borrowed observed shared over =
+        seen_apart state callee backs older waiting g k has rests deep some f h m kept
+        (subst (λ z. Has (withheld program effects k) (Lent z h m)) observed seen) borrowed shared over

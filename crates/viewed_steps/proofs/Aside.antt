@@ -1,35 +1,23 @@
 -- Names of places that are passed: one of them isn't above another one that doesn't overlap it, where
 -- neither is lent. And the name of the cell that such a place is in.
-use Rattle.std.proofs.Common.{◌≡◌, refl, sym, ap, ◌∙◌, subst, inl, inr, ℕ, Bool, true, List, [], ◌∷◌, Option, Some, None}
+use Rattle.std.proofs.Common.{◌≡◌, refl, sym, ap, ◌∙◌, subst, inl, ℕ, Bool, true, List, [], ◌∷◌, Option, Some, None}
 use Rattle.place_names.specs.declared.rule.Loan.TheVariants.{Borrowed}
 use Rattle.place_names.specs.declared.fact.Fact.{Fact}
 use Rattle.place_names.specs.Names.{overlaps}
 use Rattle.owned_ways.specs.Ways.{Step, Root, OfVariable, OfHand, Loc, OfRoot, OfCell, Way, Object, Lost, Into, All, View, Reaches, Under, along, name_of}
-use Rattle.owned_ways.proofs.Named.{under_front}
 use Rattle.owned_ways.proofs.Unique.{one_location}
 use Rattle.soundness.specs.Seen.{trunk}
-use Rattle.owned_loans.specs.Views.{Views, way_at, expand, expand_root, AreClear, AreViews}
-use Rattle.owned_loans.proofs.Ways.{under_on, meet_overlaps}
-use Rattle.owned_loans.proofs.Meeting.{IsPlain, meeting}
-use Rattle.owned_loans.proofs.Safe.{Unlent, loan_of, no_both}
+use Rattle.owned_loans.specs.Views.{Around, Views, way_at, expand, expand_root, Viewed}
+use Rattle.owned_loans.proofs.Meeting.{IsPlain}
+use Rattle.owned_loans.proofs.Safe.{Unlent, apart_names}
 
-module _ (home : ℕ → ℕ) (observer : ℕ → Bool) (v : Views) (s : View) (facts : List Fact) (views : AreViews home observer v s facts)
-    (clear : AreClear observer facts) where
-  pub names_off : (t u : Way) → IsPlain home observer v s facts views t → IsPlain home observer v s facts views u → Unlent facts t → Unlent facts u
+module _ (home : ℕ → ℕ) (observer : ℕ → Bool) (other : Around home) (v : Views) (s : View) (facts : List Fact)
+    (viewed : Viewed home observer other v s facts) where
+  pub names_off : (t u : Way) → IsPlain home observer v s facts viewed.views t → IsPlain home observer v s facts viewed.views u → Unlent facts t → Unlent facts u
       → (overlaps (name_of t) (name_of u) ≡ true → ⊥) → Under (expand v t) (expand v u) → ⊥
   names_off t u plain_t plain_u unlent_t unlent_u apart under =
-      elim (meeting home observer v s facts views t u plain_t plain_u under) [
-        | inl below ↦ apart (under_front t u below)
-        | inr more ↦ elim more [
-          | inl a ↦ unlent_u Borrowed a.object (name_of (v.loan a.object)) (loan_of home observer v s facts views clear a.object a.lends)
-              (meet_overlaps (v.loan a.object) u (inl (under_on (v.loan a.object) a.name u a.loan a.begins)))
-          | inr more ↦ elim more [
-            | inl b ↦ unlent_t Borrowed b.object (name_of (v.loan b.object)) (loan_of home observer v s facts views clear b.object b.lends)
-                (meet_overlaps (v.loan b.object) t (elim b.meets [ inl z ↦ inr z | inr z ↦ inl z ]))
-            | inr c ↦ no_both home observer v s facts views clear c
-          ]
-        ]
-      ]
+      apart_names home observer other v s facts viewed t u plain_t plain_u (λ h n has over. unlent_t Borrowed h n has over)
+      (λ h n has over. unlent_u Borrowed h n has over) apart (inl under)
 
 -- The name of a cell, which a longer name goes on from to a part of it.
 pub record IsNameOfCell (v : Views) (s : View) (w : Way) (n : ℕ) : Type 0 where

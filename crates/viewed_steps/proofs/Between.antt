@@ -2,7 +2,7 @@
 use Rattle.std.proofs.Common.{◌≡◌, refl, sym, ap, ◌∙◌, subst, ◌⊎◌, inl, inr, ℕ, suc, ◌<◌, Bool, true, false, List, [], ◌∷◌, arith, if◌then◌else◌}
 use Rattle.spark_base.specs.Lists.{Has}
 use Rattle.place_names.specs.declared.fact.Fact.{Fact}
-use Rattle.place_names.specs.declared.fact.Fact.TheVariants.{Lent}
+use Rattle.place_names.specs.declared.fact.Fact.TheVariants.{Lent, Moved}
 use Rattle.place_names.specs.declared.rule.Loan.{Loan}
 use Rattle.place_names.specs.Names.{Name as PlaceName, overlaps}
 use Rattle.owned_ways.specs.Ways.{Step, OfVariable, OfHand, Loc, OfRoot, OfCell, Way, Object, Lost, Into, All, Gone, View, Reaches, IsSame, part, along, IsRooted, Under, Named, base_of, number_of, name_of, Owned, Covered, Known, Sound}
@@ -153,7 +153,7 @@ number_under home t w named_t named_w under =
 -- A way begins at a variable of a frame, or at a package object; or at a variable of a frame below that isn't that of
 -- the package objects.
 abbrev pub IsBegun : Typing → ℕ → ℕ → ℕ → Type 0
-IsBegun s depth f y = (f ≡ home s depth y) ⊎ ((0 < f) × (f < depth))
+IsBegun s depth f y = (f ≡ home s depth y) ⊎ ((0 < f) × (f < suc depth))
 
 abbrev pub Begins : Typing → ℕ → Way → Type 0
 Begins s depth to = (f : ℕ) × (y : ℕ) × (base_of to ≡ OfRoot (OfVariable f y)) × IsBegun s depth f y
@@ -230,3 +230,35 @@ near_base b (Object (OfHand h)) f x near base = cc
 near_base b (Lost n) f x near base = absurd near
 near_base b (Into w i) f x near base = near_base b w f x near base
 near_base b (All w) f x near base = near_base b w f x near base
+
+-- what is known of places that were taken holds of fewer facts
+pub fewer_taken : (s : Typing) (cells : List Lodge) (m : Memory) (depth : ℕ) (v : Views) (all facts : List Fact) (scope : List ℕ) → ((f : Fact) → Has facts f → Has all f)
+    → (returns : List Return) (ways : List Way) → AreTaken s cells m depth v all scope returns ways → AreTaken s cells m depth v facts scope returns ways
+fewer_taken s cells m depth v all facts scope part [] ways taken = taken
+fewer_taken s cells m depth v all facts scope part (r ∷ rest) [] (copied, more) = (copied, fewer_taken s cells m depth v all facts scope part rest [] more)
+fewer_taken s cells m depth v all facts scope part (r ∷ rest) (to ∷ ways) (inl (copied, more)) =
+    inl (copied, fewer_taken s cells m depth v all facts scope part rest (to ∷ ways) more)
+fewer_taken s cells m depth v all facts scope part (r ∷ rest) (to ∷ ways) (inr ((passed, bare), apart, another, more)) =
+    inr (
+      (
+        record {
+          inside = passed.inside;
+          name = passed.name;
+          called = passed.called;
+          leads = passed.leads;
+          plain = passed.plain;
+          among = passed.among;
+          fits = passed.fits;
+          formal = passed.formal;
+          owner = passed.owner;
+          many = passed.many;
+          within = passed.within;
+          unlent = λ l h n has over. passed.unlent l h n (part (Lent l h n) has) over;
+          cleared = λ n has covered. passed.cleared n (part (Moved n) has) covered;
+        },
+        bare,
+      ),
+      apart,
+      another,
+      fewer_taken s cells m depth v all facts scope part rest ways more,
+    )

@@ -1,9 +1,10 @@
 -- The acts of a call: its actuals are read, moved or lent, and what is copied back may be.
-use Rattle.std.proofs.Common.{◌≡◌, refl, sym, ap, ◌∙◌, subst, ◌⊎◌, inl, inr, ℕ, suc, ◌<◌, true, false, List, [], ◌∷◌, ◌++◌, map, take, length, arith, Option, Some, None, is_some, Bool, not, ◌||◌, ◌&&◌, eq-eqb}
+use Rattle.std.proofs.Common.{◌≡◌, refl, sym, ap, ◌∙◌, subst, ◌⊎◌, inl, inr, ℕ, suc, ◌<◌, true, false, List, [], ◌∷◌, ◌++◌, map, take, length, arith, Option, Some, None, is_some, Bool, not, ◌||◌, ◌&&◌, eq-eqb, eqb-true}
 use Rattle.std.specs.Prelude.{is_some}
 use Rattle.spark_base.specs.Lists.{Has}
 use Rattle.spark_base.proofs.Lists.{Has-append_cases, Has-append_right, Has-map_from}
 use Rattle.place_names.specs.declared.act.Act.{Act}
+use Rattle.place_names.specs.declared.act.Act.TheVariants as act
 use Rattle.place_names.specs.declared.act.Placed.{Placed}
 use Rattle.place_names.specs.declared.fact.Fact.{Fact}
 use Rattle.place_names.specs.declared.fact.Fact.TheVariants.{Moved, Lent}
@@ -14,11 +15,11 @@ use Rattle.place_names.specs.declared.rule.Loan.{Loan}
 use Rattle.place_names.specs.declared.rule.Loan.TheVariants.{Borrowed}
 use Rattle.place_names.specs.declared.act.Mode.TheVariants as mode
 use Rattle.type_definitions.specs.Types.{Table, full, is_owning}
-use Rattle.typed_tree.specs.Trees.{TypedTree, Name, More}
+use Rattle.typed_tree.specs.Trees.{TypedTree, More}
 use Rattle.typed_tree.specs.Programs.{TypedProgram}
 use Rattle.flow_paths.specs.declared.report.Effects.{Effects}
 use Rattle.flow_paths.specs.Instructions.{Instruction, Call, EndScope}
-use Rattle.flow_paths.specs.Objects.{Typing, object_at, sub_at, is_anonymous, is_package_object, view_of, traverses, passings, Passing, Signature, passing, is_observer, is_observing, is_formal}
+use Rattle.flow_paths.specs.Objects.{Typing, object_at, sub_at, is_anonymous, is_package_object, view_of, traverses, passings, Passing, Signature, passing, is_observer, is_observing, is_formal, is_named_access}
 use Rattle.place_names.specs.Reports.{Report}
 use Rattle.flow_paths.specs.Aliases.{overlap_reports, passed_reports, call_reports}
 use Rattle.flow_paths.specs.Aliases as alias
@@ -26,7 +27,7 @@ use Rattle.flow_paths.specs.Acts.{gives_variable}
 use Rattle.flow_paths.specs.Acts as flow
 use Rattle.flow_paths.specs.Points.{NamedPoint}
 use Rattle.flow_paths.specs.Laid.{FlowProgram, NamedSub, flow_sub, typing_of, flow_typing, flow_program, flow_named}
-use Rattle.flow_paths.specs.Names.{written}
+use Rattle.flow_paths.specs.Names.{Written, written}
 use Rattle.flow_paths.specs.Paths.{ControlPath, facts_before}
 use Rattle.flow_paths.specs.Effects.{path_points, globals_of, called_acts}
 use Rattle.flow_paths.specs.Scopes.{taken, scope_behind, Leads}
@@ -40,7 +41,6 @@ use Rattle.place_names.specs.declared.act.Mode.TheVariants as mode
 use Rattle.owned_ways.specs.Ways.{Step, Way, after, AllowsAll, Past}
 use Rattle.owned_ways.specs.Ways as ways
 use Rattle.soundness.specs.Seen.{is_view_formal, IsNear, content, seen, home, trunk}
-use Rattle.owned_ways.proofs.Named.{longer}
 use Rattle.soundness.specs.Typed.{Kept}
 use Rattle.soundness.specs.Sound.{Stage, facts_of, AreStages, IsRunnable, InScope, IsNamedSub, IsAtPoint, view_of as view_here}
 use Rattle.soundness.proofs.Numbers.{index_law}
@@ -51,18 +51,18 @@ use Rattle.soundness.proofs.Inherited.{global_after}
 use Rattle.soundness.proofs.Points.{flow_at}
 use Rattle.soundness.proofs.Scalars.{acts, acts_append, after_append, allows_both}
 use Rattle.soundness.proofs.Successors.{below_one, successor_there}
-use Rattle.soundness.proofs.Used.{called_are, fact_added, added_after, globals_are}
+use Rattle.soundness.proofs.Used.{called_are, added_after, globals_are}
 use Rattle.soundness.proofs.Around.{IsFar}
 use Rattle.soundness.proofs.Eased.{eased}
-use Rattle.owned_loans.specs.Views.{Around, known_gone, Views, IsForeign, Viewed}
-use Rattle.owned_loans.proofs.Allowed.{Cleared}
-use Rattle.owned_loans.proofs.Safe.{Unlent}
-use Rattle.viewed_soundness.specs.Holds.{Holds, is_view, sees_only, IsOwners, is_given, is_exclusive, lends_first, is_first, AllKeep, is_fixed}
+use Rattle.owned_loans.specs.Views.{Around, known_gone, Views, Viewed, ViewedAlone}
+use Rattle.viewed_soundness.specs.Holds.{Holds, is_view, sees_only, IsOwners, is_exclusive, AllKeep, is_fixed, is_given, lends_first, is_first}
 use Rattle.viewed_soundness.proofs.Given.{IsLow}
 use Rattle.viewed_soundness.proofs.Evaluated.{live_trunk, keep_both}
 use Rattle.viewed_steps.specs.Awaited.{temporaries_of, lasting_of, AreAwaited, AreScalar, TakesScalars, StoresNone}
-use Rattle.viewed_steps.specs.Sound.{IsCopiedBack, ArePast, HoldsAt, ArePlaced, NoneAbove, ViewStage, stages_of, GoneElsewhere, AreWaiting, IsResting, IsKindOfFormal, HasTraversals, LendsShared, AreShownOwn}
+use Rattle.viewed_steps.specs.Sound.{IsCopiedBack, IsBeyond, HoldsAt, ArePlaced, NoneAbove, ViewStage, stages_of, GoneElsewhere, AreWaiting, IsResting, IsKindOfFormal, HasTraversals}
 use Rattle.viewed_steps.specs.Ready.{IsReady, IsCalled, IsTraversalCall, IsSeen, AreActualsTo}
+use Rattle.owned_loans.proofs.Allowed.{Cleared}
+use Rattle.owned_loans.proofs.Safe.{Unlent}
 use Rattle.viewed_steps.specs.Traversals.{traversed_name}
 use Rattle.viewed_steps.proofs.Lent.{Spare, spare_both}
 use Rattle.viewed_steps.proofs.Apart.{same_root}
@@ -75,10 +75,8 @@ use Rattle.viewed_steps.proofs.Standing.{or_right}
 use Rattle.viewed_steps.proofs.Standing as standing
 use Rattle.viewed_steps.proofs.Packages as packages
 use Rattle.viewed_steps.proofs.Innermost as innermost
-use Rattle.viewed_steps.proofs.Views.{AreAccess, AreUnseen, given_cases, all_held, not_elsewhere}
-use Rattle.viewed_steps.proofs.Seeing.{AreClear, IsLowRoot, AreLowRoots}
-use Rattle.viewed_steps.proofs.Roots.{view_goes}
-use Rattle.soundness.specs.Ready.{root_of}
+use Rattle.viewed_steps.proofs.Views.{AreAccess, all_held, AreUnseen, given_cases}
+use Rattle.viewed_steps.proofs.Seeing.{AreClear}
 use Rattle.viewed_steps.proofs.Clear.{all_clear}
 use Rattle.viewed_steps.proofs.First.{way_named, first_allowed, first_keeps}
 use Rattle.viewed_steps.proofs.Followed as followed
@@ -87,6 +85,7 @@ use Rattle.viewed_steps.proofs.Lending.{named_has}
 use Rattle.viewed_steps.proofs.Traversing.{first_actual, first_reads}
 use Rattle.viewed_soundness.proofs.Names.{true_false}
 use Rattle.viewed_steps.proofs.Exclusive.{first_true, second_true, mode_in, sees_shown, AreLent, are_lent, lent_clears}
+use Rattle.viewed_steps.proofs.Globals.{shown_act}
 
 module _ (table : Table) (typed : TypedProgram) (effects : Effects) (input : List ℕ) (ready : IsReady table typed effects) where
   abbrev program : FlowProgram
@@ -114,10 +113,10 @@ module _ (table : Table) (typed : TypedProgram) (effects : Effects) (input : Lis
       (awaiting : AreAwaited table typed None (top ∷ stages_of (below ∷ more_frames)))
       (of_sub : IsNamedSub (flow_named table typed) top.frame.sub named) (at_point : IsAtPoint named.points top.frame.next p)
       (path : ControlPath (path_points program effects (sub_of program top.frame.sub)) top.before top.frame.next) (views : Views)
-      (viewed_before : Viewed (home s (suc (length rest))) (sees_only s) (known_gone (home s (suc (length rest))) (GoneElsewhere program effects (below ∷ more_frames))) views
+      (viewed_before : ViewedAlone (home s (suc (length rest))) (sees_only s) (known_gone (home s (suc (length rest))) (GoneElsewhere program effects (below ∷ more_frames))) views
       (view_here s state) (facts_of program effects top))
       (kept : Kept s state.memory (waiting_in state)) (scope : InScope s state.memory (suc (length rest)) (lasting_of s p.scope)) (holds : HoldsAt s (suc (length rest)) views state.memory p)
-      (placed_before : ArePlaced program (suc (length rest)) (facts_of program effects top) views p.scope × ArePast s (suc (length rest)) views (below ∷ more_frames)) (above : NoneAbove s (suc (length rest)) state.memory
+      (placed_before : ArePlaced program (suc (length rest)) (facts_of program effects top) views p.scope × IsBeyond program effects (suc (length rest)) views (below ∷ more_frames)) (above : NoneAbove s (suc (length rest)) state.memory
       × HasTraversals table typed (view_here s state) (record { stage = top; views = views; cells = [] } ∷ (below ∷ more_frames))) where
     abbrev outer : List Frame
     outer = below.stage.frame ∷ rest
@@ -128,7 +127,7 @@ module _ (table : Table) (typed : TypedProgram) (effects : Effects) (input : Lis
     abbrev depth : ℕ
     depth = suc (length rest)
 
-    abbrev between : (g : ViewStage) → Has (below ∷ more_frames) g → StandsBetween table typed effects unmoved_stage local state (suc (length rest)) g
+    abbrev between : (g : ViewStage) → Has (below ∷ more_frames) g → StandsBetween table typed effects unmoved_stage local state (suc (length rest)) (below ∷ more_frames) g
     between = innermost.between table typed effects input ready state top below more_frames rest named p frames deep stages running awaiting of_sub at_point path views viewed_before kept scope holds placed_before above
 
     abbrev other : Around (home s (suc (length rest)))
@@ -257,7 +256,7 @@ module _ (table : Table) (typed : TypedProgram) (effects : Effects) (input : Lis
           let ways_are : ways_there ≡ map (passing s procedure) formals = passes_to program n none in
           let copies_are : true_copies ≡ copies = ap (λ z. flow.actual_acts z actuals) ways_are in record {
             reads = subst (λ z. AreReads (flow.actual_values s z actuals)) (sym ways_are)
-                (values_are_read s ready.owns procedure formals actuals (unseen_plain none) called.actuals_stay);
+                (values_are_read s ready.owns procedure ready.class.parts_named formals actuals (unseen_plain none) called.actuals_stay);
             spare = subst (Spare s) (sym copies_are) (spare_copies s ready.owns procedure formals actuals);
             same = λ facts. ap (λ z. after (acts z) facts) copies_are;
             own = subst (λ z. AllowsAll own_facts (acts z)) copies_are;
@@ -361,7 +360,7 @@ module _ (table : Table) (typed : TypedProgram) (effects : Effects) (input : Lis
 
         traversal_acts : IsActing
         traversal_acts = record {
-          reads = subst AreReads (λ j. flow.actual_values s (sym traversing.ways j) (sym made.actuals_are j)) (first_reads s ready.owns traversing.rest made.call seen_first.0 unseen_others others_stay);
+          reads = subst AreReads (λ j. flow.actual_values s (sym traversing.ways j) (sym made.actuals_are j)) (first_reads s ready.owns ready.class.parts_named traversing.rest made.call seen_first.0 unseen_others others_stay);
           spare = subst (Spare s) (sym true_are) (spare_copies s ready.owns false traversing.rest (made.call).others);
           same = λ facts. ap (λ z. after (acts z) facts) true_are ∙ ap (after (acts others)) (sym (first_keeps s made.call facts f first_mode))
               ∙ sym (after_append (acts first_acts) (acts others) facts) ∙ ap (λ z. after z facts) (sym (acts_append first_acts others)) ∙ ap (λ z. after (acts z) facts) (sym copies_are);
@@ -447,6 +446,91 @@ module _ (table : Table) (typed : TypedProgram) (effects : Effects) (input : Lis
         | inr same ↦ subst (λ z. Has z a) (sym values_are) (Has-append_right values true_copies a (subst (λ z. Has z a) same there))
       ]
 
+      -- a formal of mode `in` of a named access type is one that owns by its type
+      view_formal_in : (x : ℕ) → is_view_formal s x ≡ true → ((object_at s x).mode ≡ mode.In) × (is_owning s.table (object_at s x).of ≡ true)
+      view_formal_in x formal = (
+        mode_in (object_at s x).mode (second_true (is_formal s x) (is_in (object_at s x).mode) (first_true (is_in_formal s x) (is_owning s.table (object_at s x).of) formal)),
+        second_true (is_in_formal s x) (is_owning s.table (object_at s x).of) formal,
+      )
+
+      -- what the first formal of a traversal function is shown belongs to no package
+      pub first_own : (f : ℕ) → traversed_formal s (sub_of program n) ≡ Some f → (b : alias.Passed) → Has (alias.passed formals actuals) b → b.formal ≡ f
+          → is_package_object s b.actual.name.root ≡ false
+      first_own f traversed b has only =
+          elim (Has-append_cases (alias.passed_as f (written (first f traversed))) (alias.passed (traversing f traversed).rest ((made f traversed).call).others) b
+          (subst (λ z. Has z b) (λ j. alias.passed ((traversing f traversed).formals j) ((made f traversed).actuals_are j)) has)) [
+            | inl here ↦ by_place here
+            | inr later ↦ absurd ((followed.differ table typed effects input ready state top older outer named p frames of_sub at_point path n actuals result e f traversed).0
+                b.formal (named_has (traversing f traversed).rest ((made f traversed).call).others b later) only)
+          ]
+        where
+          by_place : Has (alias.passed_as f (written (first f traversed))) b → is_package_object s b.actual.name.root ≡ false
+          by_place (inl same) = ap (λ (z : alias.Passed). is_package_object s z.actual.name.root) (sym same) ∙ (made f traversed).own
+          by_place (inr none) = absurd none
+
+      -- what is shown of a package object isn't shown to such a formal
+      pub plainly_shown : (b : alias.Passed) → Has (alias.passed formals actuals) b → is_given s b.formal ≡ true → is_package_object s b.actual.name.root ≡ true
+          → (is_view_formal s b.formal ≡ true) × (lends_first s b.formal (sub_at s n) ≡ false)
+      plainly_shown b has given shared = (
+        elim (given_cases s b.formal given) [
+          | inl formal ↦ formal
+          | inr anonymous ↦ absurd (not_first b.formal (ready.traversing.firsts n (called.runs).entered b.formal (named_has formals actuals b has) anonymous) refl)
+        ],
+        elim (bool_cases (lends_first s b.formal (sub_at s n))) [
+          | inr none ↦ none
+          | inl lends ↦ elim traverses_or [
+            | inl none ↦ absurd (no_borrower (sub_at s n).result (ap (λ z. traverses s.table z) (ap (λ (z : Signature). z.result) (signature_is program n)) ∙ none)
+                (first_true (gives_variable s (sub_at s n).result) (is_first b.formal (sub_at s n).formals) lends))
+            | inr (f, traversed) ↦ absurd (not_first f traversed (first_is (sub_at s n).formals b.formal f
+                (ap (λ (z : Signature). z.formals) (signature_is program n) ∙ (traversing f traversed).formals)
+                (second_true (gives_variable s (sub_at s n).result) (is_first b.formal (sub_at s n).formals) lends)))
+          ]
+        ],
+      )
+        where
+          not_first : (f : ℕ) → traversed_formal s (sub_of program n) ≡ Some f → b.formal ≡ f → ⊥
+          not_first f traversed only = true_false (is_package_object s b.actual.name.root) shared (first_own f traversed b has only)
+
+          no_borrower : (r : Option ℕ) → traverses s.table r ≡ false → gives_variable s r ≡ true → ⊥
+          no_borrower None none borrows = cc
+          no_borrower (Some t) none borrows = true_false (traverses s.table (Some t)) (ap (λ b. b || is_observing (full s.table t)) borrows) none
+
+          first_is : (xs : List ℕ) (x f : ℕ) {rest : List ℕ} → xs ≡ f ∷ rest → is_first x xs ≡ true → x ≡ f
+          first_is (y ∷ xs) x f same first_one = (let is : y ≡ f = cc in sym (eqb-true y x first_one) ∙ is)
+          first_is [] x f same first_one = cc
+
+      -- the act of what is shown is one of the call
+      pub shown_there : (b : alias.Passed) → Has (alias.passed formals actuals) b → is_view_formal s b.formal ≡ true → is_package_object s b.actual.name.root ≡ true
+          → (a : Placed) × Has (standing.acts_by table typed effects input ready state top older outer named p frames of_sub at_point s p.instr) a
+          × (a.act ≡ act.Actual b.actual.name mode.In true (procedure && is_named_access (view_of s b.formal)))
+      shown_there b has formal shared =
+          let shape = view_formal_in b.formal formal in
+          elim traverses_or [
+            | inl none ↦ (
+                let one = shown_act s procedure formals actuals b has shape.0 shape.1 in (
+                  one.0,
+                  subst (λ z. Has z one.0) (sym values_are) (Has-append_right values true_copies one.0
+                      (subst (λ z. Has (flow.actual_acts z actuals) one.0) (sym (passes_to program n none)) one.1)),
+                  one.2,
+                ))
+            | inr (f, traversed) ↦ elim (Has-append_cases (alias.passed_as f (written (first f traversed))) (alias.passed (traversing f traversed).rest ((made f traversed).call).others) b
+                (subst (λ z. Has z b) (λ j. alias.passed ((traversing f traversed).formals j) ((made f traversed).actuals_are j)) has)) [
+                  | inl here ↦ absurd (true_false (is_package_object s b.actual.name.root) shared (first_own f traversed b has (first_formal (written (first f traversed)) here)))
+                  | inr later ↦ (
+                      let one = shown_act s false (traversing f traversed).rest ((made f traversed).call).others b later shape.0 shape.1 in (
+                        one.0,
+                        subst (λ z. Has z one.0) (sym values_are) (Has-append_right values true_copies one.0
+                            (subst (λ z. Has z one.0) (sym (true_are f traversed)) one.1)),
+                        one.2 ∙ ap (λ z. act.Actual b.actual.name mode.In true (z && is_named_access (view_of s b.formal))) (sym (no_procedure f traversed)),
+                      ))
+                ]
+          ]
+        where
+          first_formal : {f : ℕ} (w : Option Written) → Has (alias.passed_as f w) b → b.formal ≡ f
+          first_formal None none = absurd none
+          first_formal (Some w) (inl same) = ap (λ (z : alias.Passed). z.formal) (sym same)
+          first_formal (Some w) (inr none) = absurd none
+
       -- the call adds no fact
       pub adds_none : (f : Fact) → Has facts_called f → Has own_facts f
       adds_none f has = elim traverses_or [
@@ -455,7 +539,7 @@ module _ (table : Table) (typed : TypedProgram) (effects : Effects) (input : Lis
           | inl was ↦ was
           | inr (a, there, new) ↦ (
               let from = Has-map_from (λ (z : Placed). z.act) (values ++ copies) a there in
-              absurd (call_adds_none s ready.owns procedure formals actuals (unseen_plain none) called.actuals_stay from.0
+              absurd (call_adds_none s ready.owns procedure ready.class.parts_named formals actuals (unseen_plain none) called.actuals_stay from.0
               (subst (λ z. Has (flow.actual_values s z actuals ++ copies) from.0) (passes_to program n none) from.1) f (subst (λ z. Has (adds z) f) (sym from.2) new)))
         ]
       ]
@@ -492,14 +576,11 @@ module _ (table : Table) (typed : TypedProgram) (effects : Effects) (input : Lis
           live_trunk (steps.here main_turn) ready.accepted.settled state.leaks [] other alone (keeps s ready.accepted.settled ready.owns) index_law
           ready.owns views ready.class.parts_named state.memory (waiting_in easy.state) ((viewed_easy plain_there.0).0).owned
 
-      -- formals of the frame see what belongs to frames below
-      pub formals_low : (x : ℕ) (w : Way) → views.way x ≡ Some w → is_given s x ≡ true → (foreign : IsForeign (home s depth) w) × (foreign.0 < depth) × (0 < foreign.0)
-      formals_low x w has formal = elim (viewed.views x w has) [
-        | inl view ↦ absurd (holds.passed x w has formal view.named)
-        | inr passed ↦ elim (holds.lies x w has) [
-          | inl named ↦ absurd (not_elsewhere (home s depth) w named passed.foreign)
-          | inr far ↦ far
-        ]
+      -- views of the frame see what it has names for, or what belongs to frames below
+      pub formals_low : (x : ℕ) (w : Way) → views.way x ≡ Some w → IsLow s depth w
+      formals_low x w has = elim (holds.lies x w has) [
+        | inl named ↦ inl named
+        | inr far ↦ inr (far.0, (let less = far.1 in omega (arith, less)), far.2)
       ]
 
       there_formals : (x : ℕ) → Has formals x → Has (sub_at s n).formals x
@@ -517,7 +598,7 @@ module _ (table : Table) (typed : TypedProgram) (effects : Effects) (input : Lis
       given_owns x unseen given = elim (given_cases s x given) [ inl formal ↦ formal | inr anonymous ↦ absurd (true_false (is_anonymous (view_of s x)) anonymous unseen) ]
 
       -- what formals of a procedure that own nothing are lent
-      lent_there : (sub_of program n).result ≡ None → AreLent s facts_now formals actuals
+      pub lent_there : (sub_of program n).result ≡ None → AreLent s facts_now formals actuals
       lent_there is =
           are_lent s facts_now formals actuals called.differ
           (apart_there program effects ready.accepted.no_reports (flow_sub own named)
@@ -633,50 +714,3 @@ module _ (table : Table) (typed : TypedProgram) (effects : Effects) (input : Lis
                   (subst (λ z. AllowsAll facts_now (acts z)) (true_are f traversed) true_allowed),
             ))
       ]
-
-      -- borrowers and observers that are shown see nothing of package objects
-      pub lows_there : AreLowRoots s depth views formals actuals
-      lows_there =
-          all_low formals actuals
-          (ready.class.shown (flow_sub own named) (standing.in_program table typed effects input ready state top older outer named p frames of_sub at_point) main_turn.point
-          (standing.in_sub table typed effects input ready state top older outer named p frames of_sub at_point) n actuals result e)
-        where
-          Shared : Type 0
-          Shared = LendsShared s (flow_sub own named)
-
-          shared_way : (x : ℕ) (k : Way) → views.way x ≡ Some k → ways.Named (home s depth) k → is_package_object s (ways.number_of k) ≡ true → Shared
-          shared_way x k has at_home is_shared =
-              let goes = view_goes (home s depth) (sees_only s) views (view_here s state) (facts_of program effects top) viewed_before.views x k has at_home in
-              let lent = (goes.1).2 in
-              let from = fact_added program effects ready.accepted.effects_are (flow_sub own named) top.before (Lent goes.0 (goes.1).0 (ways.name_of (goes.1).1))
-              (subst (λ fs. Has fs (Lent goes.0 (goes.1).0 (ways.name_of (goes.1).1)))
-              (standing.facts_are table typed effects input ready state top older outer named p frames of_sub at_point path) lent) in (
-                from.0,
-                from.2,
-                from.1,
-                from.3,
-                goes.0,
-                (goes.1).0,
-                ways.name_of (goes.1).1,
-                from.4,
-                ap (is_package_object s) (sym (longer (goes.1).1 k (goes.1).4).root) ∙ is_shared,
-              )
-
-          low_way : (x : ℕ) (k : Way) → views.way x ≡ Some k → (Shared → ⊥) → IsLow s depth k
-          low_way x k has own_alone = elim (holds.lies x k has) [
-            | inr far ↦ inr (far.0, (let less = far.1 in omega (arith, less)), far.2)
-            | inl at_home ↦ inl (at_home, by_kind (is_package_object s (ways.number_of k)) refl at_home)
-          ]
-            where
-              by_kind : (b : Bool) → is_package_object s (ways.number_of k) ≡ b → ways.Named (home s depth) k → is_package_object s (ways.number_of k) ≡ false
-              by_kind false is at_home = is
-              by_kind true is at_home = absurd (own_alone (shared_way x k has at_home is))
-
-          one_low : (a : TypedTree) → ((y : ℕ) → Has (root_of a) y → is_anonymous (view_of s y) ≡ true → Shared → ⊥) → IsLowRoot s depth views a
-          one_low (Name q y path u) own_alone = λ k has anonymous. low_way y k has (own_alone y (inl refl) anonymous)
-          one_low a own_alone = tt
-
-          all_low : (xs : List ℕ) (es : TypedTree) → AreShownOwn s Shared xs es → AreLowRoots s depth views xs es
-          all_low [] es shown = tt
-          all_low (x ∷ xs) (More a rest) shown = ((λ formal. one_low a (shown.0 formal)), all_low xs rest shown.1)
-          all_low (x ∷ xs) es shown = tt

@@ -1,13 +1,14 @@
 -- The state after a call: the caller waits, and what is called begins.
 use Rattle.flow_paths.specs.Views.{sub_acts}
 use Rattle.viewed_steps.specs.Traversals.{SeesFirst}
+use Rattle.owned_ways.proofs.Dropped.{named_base}
 use Rattle.viewed_steps.proofs.Begun.{begins_traversal, no_returns, taker_takes}
 use Rattle.viewed_steps.proofs.CallActs as acting
 use Rattle.viewed_steps.proofs.Followed as followed
 use Rattle.viewed_steps.proofs.Traversed.{none_given, empty_given, named_given}
 use Rattle.typed_tree.specs.declared.object.ObjectKind.{ObjectKind}
 use Rattle.typed_tree.specs.declared.object.ObjectKind.TheVariants as object_kind
-use Rattle.spark_base.proofs.Lists.{Has-append_left}
+use Rattle.spark_base.proofs.Lists.{Has-append_left, Has-append_cases}
 use Rattle.std.proofs.Common.{◌≡◌, refl, sym, ap, ◌∙◌, subst, ◌⊎◌, inl, inr, ℕ, suc, ◌<◌, true, false, List, [], ◌∷◌, ◌++◌, take, drop, length, get_or, arith, Option, Some, None, Bool, ◌||◌, flat_map}
 use Rattle.spark_base.specs.Lists.{Has}
 use Rattle.place_names.specs.declared.fact.Fact.{Fact}
@@ -49,24 +50,24 @@ use Rattle.soundness.proofs.Lasting.{keeps}
 use Rattle.soundness.proofs.Passing.{entered, TakesAll, signature_is}
 use Rattle.soundness.proofs.Points.{path_there}
 use Rattle.soundness.proofs.Used.{called_used}
-use Rattle.soundness.proofs.Around.{IsFar}
+use Rattle.soundness.proofs.Around.{IsFar, package_named}
 use Rattle.soundness.proofs.Waits.{led_waits}
 use Rattle.soundness.proofs.Eased.{eased}
-use Rattle.owned_loans.specs.Views.{expand, Around, known_gone, Views, IsMovedBy, ExcusedBy, AreClear as FactsAreClear, IsForeign, AreViews, Viewed}
+use Rattle.owned_loans.specs.Views.{expand, Around, known_gone, Views, IsMovedBy, ExcusedBy, AreClear as FactsAreClear, AreViews, Viewed, ViewedAlone, IsOuter, AreShared}
 use Rattle.owned_loans.proofs.Ways.{under_on, Meet, meets_front, flip}
 use Rattle.owned_loans.proofs.Moves.{expand_under, view_on, reached}
 use Rattle.viewed_soundness.proofs.Names.{true_false, given_view}
 use Rattle.viewed_soundness.specs.Holds.{Holds, is_view, sees_only, IsOwners, is_given}
-use Rattle.viewed_soundness.proofs.Given.{IsLow, foreign_there, low_there}
+use Rattle.viewed_soundness.proofs.Given.{IsLow, low_there, low_begins}
 use Rattle.viewed_steps.specs.Awaited.{temporaries_of, lasting_of, awaited, WaitsAt, AreAwaited, AreScalar, TakesScalars}
 use Rattle.viewed_steps.proofs.Waited.{within_lasting, Shares, plain_unheld}
-use Rattle.viewed_steps.specs.Sound.{IsCopiedBack, ArePast, AreUnmet, HoldsAt, ArePlaced, NoneAbove, ViewStage, stages_of, GoneElsewhere, Disturbs, IsWaiting, AreWaiting, calls_one, LeadsAlong, IsResting, IsKindOfFormal, AreReturned, withheld, KeptBy, IsWayOf, IsBareOf, HasTraversals, NoneGiven, IsTraversal, passed_roots}
+use Rattle.viewed_steps.specs.Sound.{IsCopiedBack, IsBeyond, AreUnmet, HoldsAt, ArePlaced, NoneAbove, ViewStage, stages_of, GoneElsewhere, Disturbs, IsWaiting, AreWaiting, calls_one, LeadsAlong, IsResting, IsKindOfFormal, AreReturned, withheld, KeptBy, IsWayOf, IsBareOf, HasTraversals, NoneGiven, IsTraversal, passed_roots, lent_to, shown_at, shown_one, known_at, LentBy}
 use Rattle.viewed_steps.specs.Ready.{IsReady, IsCalled}
 use Rattle.viewed_steps.specs.Taken.{TakenBy, AreTaken, AreCarried, Lodge}
 use Rattle.viewed_steps.proofs.Apart.{moved_same}
-use Rattle.viewed_steps.proofs.Waiting.{StandsBetween, kept_low, beside_them, handed, elsewhere_excused, bare_still}
+use Rattle.viewed_steps.proofs.Waiting.{StandsBetween, kept_low, beside_them, handed, bare_still, none_moved}
 use Rattle.viewed_steps.proofs.Onward.{all_on}
-use Rattle.viewed_steps.proofs.Between.{OwnersStand}
+use Rattle.viewed_steps.proofs.Between.{OwnersStand, fewer_taken, same_variable}
 use Rattle.viewed_steps.proofs.Outside.{kept_clear, IsFree}
 use Rattle.flow_paths.specs.Effects.{written_by}
 use Rattle.viewed_steps.proofs.LaidOut.{AreLaidOut}
@@ -80,13 +81,21 @@ use Rattle.viewed_steps.proofs.Uses.{called_writes}
 use Rattle.viewed_steps.proofs.Standing as standing
 use Rattle.viewed_steps.proofs.Packages as packages
 use Rattle.viewed_steps.proofs.Innermost as innermost
-use Rattle.viewed_steps.proofs.Views.{AreAccess, AreFar, kind_given, given_type}
+use Rattle.viewed_steps.proofs.Views.{AreAccess, AreFar, kind_given, given_type, not_elsewhere}
 use Rattle.viewed_steps.proofs.Shown.{same_cells}
 use Rattle.viewed_steps.proofs.Exclusive.{AreLent, IsFrom, from_past, from_far, from_apart, from_place}
 use Rattle.viewed_steps.proofs.Opening.{opened_first, opened_rooted, Opens, all_opened, low_of, opened_from, opened_views, opened_whole, opened_lies, opened_held, opened_placed}
 use Rattle.viewed_steps.proofs.Calling as calling
 use Rattle.viewed_steps.proofs.Bared.{taken_bare}
 use Rattle.viewed_steps.proofs.Withheld.{kept_cases}
+use Rattle.viewed_steps.proofs.Handed.{elsewhere_excused}
+use Rattle.viewed_steps.proofs.Showing.{IsShownOf, none_moved as none_shown}
+use Rattle.std.specs.Prelude.{flat_map}
+use Rattle.place_names.specs.declared.rule.Loan.TheVariants.{Observed}
+use Rattle.viewed_steps.proofs.CallShows as shows
+use Rattle.viewed_steps.proofs.Seeing.{named_written}
+use Rattle.viewed_steps.proofs.Lending.{actual_named}
+use Rattle.viewed_steps.proofs.Stilled.{still}
 
 module _ (table : Table) (typed : TypedProgram) (effects : Effects) (input : List ℕ) (ready : IsReady table typed effects) where
   abbrev program : FlowProgram
@@ -118,10 +127,10 @@ module _ (table : Table) (typed : TypedProgram) (effects : Effects) (input : Lis
       (awaiting : AreAwaited table typed None (top ∷ stages_of (below ∷ more_frames)))
       (of_sub : IsNamedSub (flow_named table typed) top.frame.sub named) (at_point : IsAtPoint named.points top.frame.next p)
       (path : ControlPath (path_points program effects (sub_of program top.frame.sub)) top.before top.frame.next) (views : Views)
-      (viewed_before : Viewed (home s (suc (length rest))) (sees_only s) (known_gone (home s (suc (length rest))) (GoneElsewhere program effects (below ∷ more_frames))) views
+      (viewed_before : ViewedAlone (home s (suc (length rest))) (sees_only s) (known_gone (home s (suc (length rest))) (GoneElsewhere program effects (below ∷ more_frames))) views
       (view_here s state) (facts_of program effects top))
       (kept : Kept s state.memory (waiting_in state)) (scope : InScope s state.memory (suc (length rest)) (lasting_of s p.scope)) (holds : HoldsAt s (suc (length rest)) views state.memory p)
-      (placed_before : ArePlaced program (suc (length rest)) (facts_of program effects top) views p.scope × ArePast s (suc (length rest)) views (below ∷ more_frames)) (above : NoneAbove s (suc (length rest)) state.memory
+      (placed_before : ArePlaced program (suc (length rest)) (facts_of program effects top) views p.scope × IsBeyond program effects (suc (length rest)) views (below ∷ more_frames)) (above : NoneAbove s (suc (length rest)) state.memory
       × HasTraversals table typed (view_here s state) (record { stage = top; views = views; cells = [] } ∷ (below ∷ more_frames))) where
     abbrev outer : List Frame
     outer = below.stage.frame ∷ rest
@@ -132,7 +141,7 @@ module _ (table : Table) (typed : TypedProgram) (effects : Effects) (input : Lis
     abbrev depth : ℕ
     depth = suc (length rest)
 
-    abbrev between : (g : ViewStage) → Has (below ∷ more_frames) g → StandsBetween table typed effects unmoved_stage local state (suc (length rest)) g
+    abbrev between : (g : ViewStage) → Has (below ∷ more_frames) g → StandsBetween table typed effects unmoved_stage local state (suc (length rest)) (below ∷ more_frames) g
     between = innermost.between table typed effects input ready state top below more_frames rest named p frames deep stages running awaiting of_sub at_point path views viewed_before kept scope holds placed_before above
 
     abbrev other : Around (home s (suc (length rest)))
@@ -219,7 +228,7 @@ module _ (table : Table) (typed : TypedProgram) (effects : Effects) (input : Lis
           → (content s state.memory (waiting_in easy.state) (trunk l)).owns ≡ true
       live_now = calling.live_now table typed effects input ready state top below more_frames rest named p frames deep stages running awaiting of_sub at_point path views viewed_before kept scope holds placed_before above n actuals result e
 
-      abbrev formals_low : (x : ℕ) (w : Way) → views.way x ≡ Some w → is_given s x ≡ true → (foreign : IsForeign (home s depth) w) × (foreign.0 < depth) × (0 < foreign.0)
+      abbrev formals_low : (x : ℕ) (w : Way) → views.way x ≡ Some w → IsLow s depth w
       formals_low = calling.formals_low table typed effects input ready state top below more_frames rest named p frames deep stages running awaiting of_sub at_point path views viewed_before kept scope holds placed_before above n actuals result e
 
       abbrev by_callee : (((x : ℕ) → Has formals x → (object_at s x).mode ≡ mode.In) × ((x : ℕ) → Has formals x → IsCopiedBack s x → ⊥)
@@ -282,6 +291,9 @@ module _ (table : Table) (typed : TypedProgram) (effects : Effects) (input : Lis
       abbrev next_there : List ℕ
       next_there = calling.next_there table typed effects input ready state top below more_frames rest named p frames deep stages running awaiting of_sub at_point path views viewed_before kept scope holds placed_before above n actuals result e
 
+      abbrev facts_all : List Fact
+      facts_all = calling.facts_all table typed effects input ready state top below more_frames rest named p frames deep stages running awaiting of_sub at_point path views viewed_before kept scope holds placed_before above n actuals result e
+
       module _ (passed : List Passed) (given : Given passed) where
         abbrev other_all : Around (home s depth)
         other_all = calling.other_all table typed effects input ready state top below more_frames rest named p frames deep stages running awaiting of_sub at_point path views viewed_before kept scope holds placed_before above n actuals result e passed given
@@ -298,20 +310,26 @@ module _ (table : Table) (typed : TypedProgram) (effects : Effects) (input : Lis
         abbrev cells : List Lodge
         cells = calling.cells table typed effects input ready state top below more_frames rest named p frames deep stages running awaiting of_sub at_point path views viewed_before kept scope holds placed_before above n actuals result e passed given
 
-        abbrev all_passed_ways : (ways_taken : List Way) × ArePassedOn s state.memory cells depth views facts_called next_there formals passed ways_taken outs
-            × ((k : Way) → Has ways_taken k → IsNamedBy s depth views facts_called formals actuals k)
+        abbrev all_passed_ways : (ways_taken : List Way) × ArePassedOn s state.memory cells depth views facts_all next_there formals passed ways_taken outs
+            × ((k : Way) → Has ways_taken k → IsNamedBy s depth views facts_all formals actuals k)
         all_passed_ways = calling.all_passed_ways table typed effects input ready state top below more_frames rest named p frames deep stages running awaiting of_sub at_point path views viewed_before kept scope holds placed_before above n actuals result e passed given
 
         abbrev ways_taken : List Way
         ways_taken = calling.ways_taken table typed effects input ready state top below more_frames rest named p frames deep stages running awaiting of_sub at_point path views viewed_before kept scope holds placed_before above n actuals result e passed given
 
-        abbrev well_before : Viewed (home s depth) (sees_only s) other_all views (view_here s easy.state) own_facts
+        abbrev well_before : Viewed (home s depth) (sees_only s) other_all views (view_here s easy.state) facts_now
         well_before = calling.well_before table typed effects input ready state top below more_frames rest named p frames deep stages running awaiting of_sub at_point path views viewed_before kept scope holds placed_before above n actuals result e passed given
+
+        abbrev around_names : Around (home s depth)
+        around_names = calling.around_names table typed effects input ready state top below more_frames rest named p frames deep stages running awaiting of_sub at_point path views viewed_before kept scope holds placed_before above n actuals result e passed given
+
+        abbrev names_all : Viewed (home s depth) (sees_only s) around_names views (still (view_here s easy.state)) facts_all
+        names_all = calling.names_all table typed effects input ready state top below more_frames rest named p frames deep stages running awaiting of_sub at_point path views viewed_before kept scope holds placed_before above n actuals result e passed given
 
         abbrev views_called : AreViews (home s depth) (sees_only s) views (view_here s easy.state) facts_called
         views_called = calling.views_called table typed effects input ready state top below more_frames rest named p frames deep stages running awaiting of_sub at_point path views viewed_before kept scope holds placed_before above n actuals result e passed given
 
-        abbrev named_cell : (c : Lodge) → Has cells c → IsCellNamed s depth facts_called views view_now formals actuals passed c
+        abbrev named_cell : (c : Lodge) → Has cells c → IsCellNamed s depth facts_all views view_now formals actuals passed c
         named_cell = calling.named_cell table typed effects input ready state top below more_frames rest named p frames deep stages running awaiting of_sub at_point path views viewed_before kept scope holds placed_before above n actuals result e passed given
 
         abbrev cell_root : (c : Lodge) (has : Has cells c) → ways.number_of c.name ≡ ways.number_of (named_cell c has).whole
@@ -329,7 +347,7 @@ module _ (table : Table) (typed : TypedProgram) (effects : Effects) (input : Lis
         abbrev free_to : (to : Way) → Has ways_taken to → IsFree table typed effects unmoved_stage local state depth older between to
         free_to = calling.free_to table typed effects input ready state top below more_frames rest named p frames deep stages running awaiting of_sub at_point path views viewed_before kept scope holds placed_before above n actuals result e passed given
 
-        abbrev open_there : IsOpen (IsMovedBy (home s depth) views facts_called) (GoneElsewhere program effects older) ways_taken
+        abbrev open_there : IsOpen (IsMovedBy (home s depth) views facts_all) (GoneElsewhere program effects older) ways_taken
         open_there = calling.open_there table typed effects input ready state top below more_frames rest named p frames deep stages running awaiting of_sub at_point path views viewed_before kept scope holds placed_before above n actuals result e passed given
 
         abbrev blank_formals : AreBlank s depth state.memory formals
@@ -347,17 +365,17 @@ module _ (table : Table) (typed : TypedProgram) (effects : Effects) (input : Lis
         leaks_same : leaks_then ≡ state.leaks ++ flat_map (λ (leaks : List Leak). leaks) checks_there
         leaks_same = ap (λ z. state.leaks ++ z) (sym (found_there s ready.accepted.settled depth views view_now main_turn.point.pos state.memory formals actuals passed laid))
 
-        pub at_first : AtFirst s ready.accepted.settled ready.owns in_formals (waiting_in easy.state) depth views far_views holds.only facts_called next_there cells cell_begins state.memory
+        pub at_first : AtFirst s ready.accepted.settled ready.owns in_formals (waiting_in easy.state) depth views far_views holds.only facts_all next_there cells cell_begins state.memory
         at_first = record { typed = (viewed_easy plain_there.0).1; leaks = state.leaks; owned = well_before.owned; there = λ c has. (named_cell c has).reaches }
 
-        enters : Enter s ready.accepted.settled ready.owns in_formals (waiting_in easy.state) depth views far_views holds.only facts_called next_there cells cell_begins (GoneElsewhere program effects older) state.leaks leaks_then formals passed ways_taken
+        enters : Enter s ready.accepted.settled ready.owns in_formals (waiting_in easy.state) depth views far_views holds.only facts_all next_there cells cell_begins (GoneElsewhere program effects older) state.leaks leaks_then formals passed ways_taken
             state.memory with_all
         enters =
-            all_declared s ready.accepted.settled ready.owns in_formals (waiting_in easy.state) depth views far_views holds.only facts_called next_there cells cell_begins (GoneElsewhere program effects older) state.leaks formals passed ways_taken outs
+            all_declared s ready.accepted.settled ready.owns in_formals (waiting_in easy.state) depth views far_views holds.only facts_all next_there cells cell_begins (GoneElsewhere program effects older) state.leaks formals passed ways_taken outs
             state.memory state.memory all_passed_ways.1 open_there at_first (viewed_easy plain_there.0).1
-            (λ c has. ((named_cell c has).reaches, cell_aside c has)) (calling.stands_called table typed effects input ready state top below more_frames rest named p frames deep stages running awaiting of_sub at_point path views viewed_before kept scope holds placed_before above n actuals result e passed given) blank_formals (λ o has. ((λ f y q some is k. refl), (λ c q k there is. refl))) (same_cells state.memory state.memory refl)
+            (λ c has. ((named_cell c has).reaches, cell_aside c has)) (calling.stands_all table typed effects input ready state top below more_frames rest named p frames deep stages running awaiting of_sub at_point path views viewed_before kept scope holds placed_before above n actuals result e passed given) blank_formals (λ o has. ((λ f y q some is k. refl), (λ c q k there is. refl))) (same_cells state.memory state.memory refl)
 
-        abbrev declared_there : AreDeclared s ready.accepted.settled ready.owns in_formals (waiting_in easy.state) depth views far_views holds.only facts_called next_there cells cell_begins formals passed ways_taken state.leaks leaks_then
+        abbrev declared_there : AreDeclared s ready.accepted.settled ready.owns in_formals (waiting_in easy.state) depth views far_views holds.only facts_all next_there cells cell_begins formals passed ways_taken state.leaks leaks_then
             state.memory with_all
         declared_there = enters.0
 
@@ -373,10 +391,10 @@ module _ (table : Table) (typed : TypedProgram) (effects : Effects) (input : Lis
         abbrev waits_there : ViewStage
         waits_there = calling.waits_there table typed effects input ready state top below more_frames rest named p frames deep stages running awaiting of_sub at_point path views viewed_before kept scope holds placed_before above n actuals result e passed given
 
-        abbrev root_written : (y : ℕ) → Has (passed_roots waits_there) y → is_package_object s y ≡ true → Has (written_by effects top.frame.sub) y
+        abbrev root_written : (y : ℕ) → Has (passed_roots effects waits_there) y → is_package_object s y ≡ true → Has (written_by effects top.frame.sub) y
         root_written = calling.root_written table typed effects input ready state top below more_frames rest named p frames deep stages running awaiting of_sub at_point path views viewed_before kept scope holds placed_before above n actuals result e passed given
 
-        abbrev root_unused : (y : ℕ) → Has (passed_roots waits_there) y → is_package_object s y ≡ true → Uses effects n y → ⊥
+        abbrev root_unused : (y : ℕ) → Has (passed_roots effects waits_there) y → is_package_object s y ≡ true → Uses effects n y → ⊥
         root_unused = calling.root_unused table typed effects input ready state top below more_frames rest named p frames deep stages running awaiting of_sub at_point path views viewed_before kept scope holds placed_before above n actuals result e passed given
 
         frames_there : after_call.frames ≡ frame_at_start n (returns_of formals passed) ∷ (waits_stage.frame ∷ outer)
@@ -392,8 +410,8 @@ module _ (table : Table) (typed : TypedProgram) (effects : Effects) (input : Lis
         view_called : called_view ≡ view_here s after_call
         view_called = (λ j. seen s with_all (sym hands_there j) (leaks_same j))
 
-        stands_then : OwnersStand (home s depth) views facts_called (λ w. GoneElsewhere program effects older w ⊎ TakenBy all_passed_ways.0 w) (view_here s after_call)
-        stands_then = subst (OwnersStand (home s depth) views facts_called (λ w. GoneElsewhere program effects older w ⊎ TakenBy all_passed_ways.0 w)) view_called enters.1
+        stands_then : OwnersStand (home s depth) views facts_all (λ w. GoneElsewhere program effects older w ⊎ TakenBy all_passed_ways.0 w) (view_here s after_call)
+        stands_then = subst (OwnersStand (home s depth) views facts_all (λ w. GoneElsewhere program effects older w ⊎ TakenBy all_passed_ways.0 w)) view_called enters.1
 
         -- its views see what they saw
         views_then : AreViews (home s depth) (sees_only s) views (view_here s after_call) facts_called
@@ -404,12 +422,22 @@ module _ (table : Table) (typed : TypedProgram) (effects : Effects) (input : Lis
             (declared_there.stays w base.0 base.1 base.2 base.3 (calling.off_taken table typed effects input ready state top below more_frames rest named p frames deep stages running awaiting of_sub at_point path views viewed_before kept scope holds placed_before above n actuals result e passed given x w has)
             (views.cell x) (reached (home s depth) (sees_only s) other_all views (view_here s easy.state) facts_called x w (views_called x w has))))
 
+        abbrev all_called : (f : Fact) → Has facts_called f → Has facts_all f
+        all_called = calling.all_called table typed effects input ready state top below more_frames rest named p frames deep stages running awaiting of_sub at_point path views viewed_before kept scope holds placed_before above n actuals result e
+
+        -- what is moved there is moved by the frame
+        moved_called : (w : Way) → IsMovedBy (home s depth) views facts_all w → IsMovedBy (home s depth) views facts_called w
+        moved_called w (u, moved, leads) = elim (calling.splits_all table typed effects input ready state top below more_frames rest named p frames deep stages running awaiting of_sub at_point path views viewed_before kept scope holds placed_before above n actuals result e (Moved (ways.name_of u)) moved.1) [
+          | inl mine ↦ (u, (moved.0, mine), leads)
+          | inr there ↦ absurd (none_moved table typed effects unmoved_stage local state depth older between (ways.name_of u) there)
+        ]
+
         held_called : (f x : ℕ) (q : List Step) (k : ℕ) → (f ≡ suc depth → ⊥) → word_in s.table (content s with_all [] (ways.OfRoot (ways.OfVariable f x))) q ≡ ways.Held k
             → word_in s.table (content s state.memory [] (ways.OfRoot (ways.OfVariable f x))) q ≡ ways.Held k
         held_called f x q k off held = elim (declared_there.held f x q k held) [ inl before ↦ before | inr mine ↦ absurd (off mine.0) ]
 
         not_up : (x : ℕ) → home s depth x ≡ suc depth → ⊥
-        not_up = not_above s ready.accepted.settled ready.owns in_formals (waiting_in easy.state) state.leaks depth views far_views holds.only facts_called next_there cells
+        not_up = not_above s ready.accepted.settled ready.owns in_formals (waiting_in easy.state) state.leaks depth views far_views holds.only facts_all next_there cells
 
         -- the variables of its views stay
         word_still : (x : ℕ) → is_view s x ≡ true
@@ -422,20 +450,23 @@ module _ (table : Table) (typed : TypedProgram) (effects : Effects) (input : Lis
         -- what is moved or taken of package objects isn't used
         kept_unused : (name : PlaceName) → Has (withheld program effects waits_there) (Moved name) → is_package_object s name.root ≡ true → Uses effects n name.root → ⊥
         kept_unused name has shared uses = elim (kept_cases program effects waits_there (Moved name) has) [
-          | inl fact ↦ spared_then name (subst (λ z. Has z (Moved name)) facts_there fact.0) shared uses
+          | inl known ↦ elim (Has-append_cases (facts_of program effects waits_stage) (shown_at program waits_stage) (Moved name) known.0) [
+            | inl fact ↦ spared_then name (subst (λ z. Has z (Moved name)) facts_there fact) shared uses
+            | inr shown ↦ absurd (none_shown program (sub_of program top.frame.sub) (top.frame.next ∷ top.before) name shown)
+          ]
           | inr (y, passed, is) ↦ (
               let root : name.root ≡ y = ap (λ (z : PlaceName). z.root) (moved_same name (object y) is) in
               root_unused y passed (ap (is_package_object s) (sym root) ∙ shared) (subst (Uses effects n) root uses))
         ]
 
-        taken_then : AreTaken s cells with_all depth views facts_called next_there (returns_of formals passed) ways_taken
+        taken_then : AreTaken s cells with_all depth views facts_all next_there (returns_of formals passed) ways_taken
         taken_then = enters.2
 
         -- no number stands in what is taken
         bare_there : (w : Way) (l : ways.Loc) (q : List Step) → IsBareOf s waits_there w l q → (r : List Step) (k : ℕ)
             → word_in s.table (content s with_all [] l) (r ++ q) ≡ ways.Held k → ⊥
         bare_there w l q (taken, top) r k held =
-            taken_bare s cells with_all depth views facts_called next_there (view_here s easy.state) (λ c has. (named_cell c has).reaches) (returns_of formals passed) ways_taken taken_then w l
+            taken_bare s cells with_all depth views facts_all next_there (view_here s easy.state) (λ c has. (named_cell c has).reaches) (returns_of formals passed) ways_taken taken_then w l
             (elim top [
               | inl (c, has, way, is) ↦ (
                 subst (λ z. ways.Reaches (view_here s easy.state) w z) is (subst (λ z. ways.Reaches (view_here s easy.state) z (ways.OfCell c.cell)) way (named_cell c has).reaches),
@@ -443,6 +474,16 @@ module _ (table : Table) (typed : TypedProgram) (effects : Effects) (input : Lis
               )
               | inr (y, also, way, is) ↦ (subst (λ z. ways.Reaches (view_here s easy.state) z l) way (sym is), ap steps_in (sym is))
             ]) q taken r k held
+
+        -- what is shown
+        shown_here : (f : Fact) → Has (shown_at program waits_stage) f → IsShownOf s (lent_to result) (alias.passed formals actuals) f
+        shown_here f has = shows.shown_of table typed effects input ready state top below more_frames rest named p frames deep stages running awaiting of_sub at_point path views viewed_before kept scope holds placed_before above n actuals result e f (subst (λ z. Has z f) (shows.shown_is table typed effects input ready state top below more_frames rest named p frames deep stages running awaiting of_sub at_point path views viewed_before kept scope holds placed_before above n actuals result e all_passed_ways.0) has)
+
+        known_is : known_at program effects waits_stage ≡ facts_called ++ flat_map (shown_one s (lent_to result)) (alias.passed formals actuals)
+        known_is = λ j. facts_there j ++ shows.shown_is table typed effects input ready state top below more_frames rest named p frames deep stages running awaiting of_sub at_point path views viewed_before kept scope holds placed_before above n actuals result e all_passed_ways.0 j
+
+        same_loan : {l k : Loan} {h b : ℕ} {m q : PlaceName} → Lent l h m ≡ Lent k b q → (l ≡ k) × (m ≡ q)
+        same_loan is = (cc, cc)
 
         is_waiting : IsWaiting table typed effects after_call n (returns_of formals passed) waits_there
         is_waiting = record {
@@ -460,9 +501,29 @@ module _ (table : Table) (typed : TypedProgram) (effects : Effects) (input : Lis
             | inl less ↦ absurd (omega (arith, less, deep))
             | inr mine ↦ mine.1
           ];
-          lends = lends_there;
+          lends = λ l k name has shared disturbs. elim (Has-append_cases (facts_of program effects waits_stage) (shown_at program waits_stage) (Lent l k name) has) [
+            | inl fact ↦ lends_there l k name fact shared disturbs
+            | inr shown ↦ (
+                let b = shown_here (Lent l k name) shown in
+                let is = same_loan b.is in
+                shows.shown_spared table typed effects input ready state top below more_frames rest named p frames deep stages running awaiting of_sub at_point path views viewed_before kept scope holds placed_before above n actuals result e b.passed b.has b.formal b.shared
+                (subst (λ z. Disturbs effects z n (b.passed).actual.name.root) is.0 (subst (λ (z : PlaceName). Disturbs effects l n z.root) is.1 disturbs)))
+          ];
+          shown = λ l k name shown shared. (let b = shown_here (Lent l k name) shown in
+              let is = same_loan b.is in
+              let used = shows.shown_used table typed effects input ready state top below more_frames rest named p frames deep stages running awaiting of_sub at_point path views viewed_before kept scope holds placed_before above n actuals result e b.passed b.has b.formal b.shared in (
+                subst (λ (z : PlaceName). Uses effects top.frame.sub z.root) (sym is.1) used.0,
+                λ borrowed. subst (λ (z : PlaceName). Has (written_by effects top.frame.sub) z.root) (sym is.1) (used.1 (sym is.0 ∙ borrowed)),
+              ));
+          apart = λ f k name has borrowed seen over. shows.shown_apart table typed effects input ready state top below more_frames rest named p frames deep stages running awaiting of_sub at_point path views viewed_before kept scope holds placed_before above n actuals result e (calling.clear_there table typed effects input ready state top below more_frames rest named p frames deep stages running awaiting of_sub at_point path views viewed_before kept scope holds placed_before above n actuals result e) (calling.clear_called table typed effects input ready state top below more_frames rest named p frames deep stages running awaiting of_sub at_point path views viewed_before kept scope holds placed_before above n actuals result e passed given) f k name
+              (subst (λ z. Has z f) known_is has) borrowed (subst (λ z. Has z (Lent Observed k name)) known_is seen) over;
           unmoved = λ name has shared uses. kept_unused name has shared uses;
           written = root_written;
+          off = calling.off_taken table typed effects input ready state top below more_frames rest named p frames deep stages running awaiting of_sub at_point path views viewed_before kept scope holds placed_before above n actuals result e passed given;
+          goes = λ to has y base shared.
+              subst (λ d. Has (written_by effects top.frame.sub) y
+              ⊎ ((x : ℕ) × (w : Way) × (views.way x ≡ Some w) × (ways.Named (home s d) (views.up x) → ⊥) × (sees_only s x ≡ false) × ways.Under w to)) (sym deep)
+              (calling.goes_to table typed effects input ready state top below more_frames rest named p frames deep stages running awaiting of_sub at_point path views viewed_before kept scope holds placed_before above n actuals result e passed given to has y base shared);
           uses = λ x uses. called_used program effects ready.accepted.effects_are top.frame.sub (flow_sub own named) sub_at_all sub_less n callee_less
               main_turn.point (standing.in_sub table typed effects input ready state top older outer named p frames of_sub at_point) actuals result e x uses;
           writes = λ x written. called_writes program effects ready.accepted.effects_are top.frame.sub (flow_sub own named) sub_at_all sub_less n callee_less
@@ -491,7 +552,8 @@ module _ (table : Table) (typed : TypedProgram) (effects : Effects) (input : Lis
           };
           bare = bare_there;
           taken = subst (λ z. AreTaken s cells with_all top.depth views z next_there (returns_of formals passed) all_passed_ways.0) (sym facts_there)
-              (subst (λ d. AreTaken s cells with_all d views facts_called next_there (returns_of formals passed) all_passed_ways.0) (sym deep) enters.2);
+              (subst (λ d. AreTaken s cells with_all d views facts_called next_there (returns_of formals passed) all_passed_ways.0) (sym deep)
+              (fewer_taken s cells with_all depth views facts_all facts_called next_there all_called (returns_of formals passed) all_passed_ways.0 enters.2));
         }
 
         others_wait : AreWaiting table typed effects after_call top.frame.sub top.frame.returns older
@@ -520,11 +582,11 @@ module _ (table : Table) (typed : TypedProgram) (effects : Effects) (input : Lis
         known_called w l rooted r gone = elim (stands_then.known w l rooted r gone) [
           | inr (inl (g, has, what)) ↦ (g, inr has, what)
           | inr (inr taken_there) ↦ (waits_there, inl refl, inr taken_there)
-          | inl moved ↦ (
+          | inl moved_all ↦ (
             waits_there,
             inl refl,
             inl (subst (λ d. IsMovedBy (home s d) views (facts_of program effects waits_stage) w) (sym deep)
-                (subst (λ z. IsMovedBy (home s depth) views z w) (sym facts_there) moved)),
+                (subst (λ z. IsMovedBy (home s depth) views z w) (sym facts_there) (moved_called w moved_all))),
           )
         ]
 
@@ -533,13 +595,13 @@ module _ (table : Table) (typed : TypedProgram) (effects : Effects) (input : Lis
           λ x has. all_returned s ready.accepted.settled depth views view_now ready.owns state.memory formals actuals passed laid called.actuals_stay kinds x
               (subst (λ z. Has z x) (ap (λ (z : Signature). z.formals) (signature_is program n)) has),
           λ r has. called.formals r.formal
-              (formals_of_returns s ready.accepted.settled ready.owns in_formals (waiting_in easy.state) depth views far_views holds.only facts_called next_there cells cell_begins formals passed r has),
+              (formals_of_returns s ready.accepted.settled ready.owns in_formals (waiting_in easy.state) depth views far_views holds.only facts_all next_there cells cell_begins formals passed r has),
         )
 
         -- nothing that is gone meets what its views see of others
         viewed_before_whole : AreUnmet program effects waits_there older
         viewed_before_whole =
-            subst (λ d. (x : ℕ) (w z : Way) → views.way x ≡ Some w → IsForeign (home s d) w → GoneElsewhere program effects older z → ways.Under z w ⊎ ways.Under w z → ⊥)
+            subst (λ d. (x : ℕ) (w z : Way) → views.way x ≡ Some w → IsOuter (home s d) views x w → GoneElsewhere program effects older z → ways.Under z w ⊎ ways.Under w z → ⊥)
             (sym deep) viewed_before.whole
 
         -- ---- the views of what is called
@@ -564,11 +626,8 @@ module _ (table : Table) (typed : TypedProgram) (effects : Effects) (input : Lis
             low_of (steps.here main_turn) ready.accepted.settled (waiting_in easy.state) state.leaks state.memory [] other facts_now views (viewed_easy plain_there.0).1
             (viewed_easy plain_there.0).0 holds_now alone live_now in_formals index_law ready.owns ready.class.parts_named formals_low procedure formals actuals passed callee_views opened.1
 
-        own_now : (f : Fact) → Has own_facts f → Has facts_now f
-        own_now f has = Has-append_left own_facts handed_on f has
-
-        abbrev loans_more : (l : Loan) (h : ℕ) (m : PlaceName) → Has own_facts (Lent l h m) → Has facts_called (Lent l h m)
-        loans_more = calling.loans_more table typed effects input ready state top below more_frames rest named p frames deep stages running awaiting of_sub at_point path views viewed_before kept scope holds placed_before above n actuals result e passed given
+        abbrev less_now : (f : Fact) → Has facts_all f → Has facts_now f
+        less_now = calling.less_now table typed effects input ready state top below more_frames rest named p frames deep stages running awaiting of_sub at_point path views viewed_before kept scope holds placed_before above n actuals result e passed given
 
         -- no place that is taken meets what they see
         meets_taken : (y : ℕ) (w : Way) → callee_views.way y ≡ Some w → (to : Way) → Has ways_taken to → Meet w to → ⊥
@@ -576,8 +635,8 @@ module _ (table : Table) (typed : TypedProgram) (effects : Effects) (input : Lis
             let by = all_passed_ways.2 to taken in
             elim by_callee [
               | inl modes ↦ modes.1 by.by.formal (passed_formal formals actuals by.by by.among) by.back
-              | inr lent ↦ from_place s depth views facts_now (alias.passed formals actuals) y w (from_there lent y w has) other_all (view_here s easy.state) own_facts well_before own_now
-                  by.by by.among by.back by.name by.called by.named by.plain (λ l h m there over. by.unlent l h m (loans_more l h m there) over) (subst (Meet w) (sym by.means) meets)
+              | inr lent ↦ from_place s depth views facts_now (alias.passed formals actuals) y w (from_there lent y w has) around_names (still (view_here s easy.state)) facts_all names_all less_now
+                  by.by by.among by.back by.name by.called by.named by.plain by.unlent (subst (Meet w) (sym by.means) meets)
             ]
 
         -- nor one that another one of them sees, if it changes that
@@ -592,7 +651,8 @@ module _ (table : Table) (typed : TypedProgram) (effects : Effects) (input : Lis
             ]
 
         -- none of the frames around goes past what it changes
-        callee_past : ArePast s (suc depth) callee_views (waits_there ∷ older)
+        callee_past : (x : ℕ) (w : Way) → callee_views.way x ≡ Some w → (ways.Named (home s (suc depth)) (callee_views.up x) → ⊥) → sees_only s x ≡ false → (k : Way) (m : ℕ)
+            → KeptBy (waits_there ∷ older) k m → Past w k → ⊥
         callee_past x w has named plain k m keeps past =
             let found = opened.1.way x w has in
             elim by_callee [
@@ -609,20 +669,26 @@ module _ (table : Table) (typed : TypedProgram) (effects : Effects) (input : Lis
                   let cell = named_cell c there in
                   let below : ways.Under c.way (expand views cell.whole) =
                   subst (λ z. ways.Under z (expand views cell.whole)) cell.leads (expand_under views c.name cell.whole (λ r is. absurd (cell.deep r is)) cell.begins) in
-                  from_place s depth views facts_now (alias.passed formals actuals) x w from other_all (view_here s easy.state) own_facts well_before own_now
-                  cell.by cell.among cell.back cell.whole cell.called cell.named cell.plain (λ l h z there over. cell.unlent l h z (loans_more l h z there) over)
+                  from_place s depth views facts_now (alias.passed formals actuals) x w from around_names (still (view_here s easy.state)) facts_all names_all less_now
+                  cell.by cell.among cell.back cell.whole cell.called cell.named cell.plain cell.unlent
                   (inl (under_on w c.way (expand views cell.whole) (past_under w c.way (subst (Past w) (sym is) past)) below)))
             ]
+
+        -- it begins at no variable of its frame
+        low_frame : (w : Way) (f y : ℕ) → ways.base_of w ≡ ways.OfRoot (ways.OfVariable f y) → IsLow s depth w → f ≡ suc depth → ⊥
+        low_frame w f y base (inl at_home) same =
+            not_up (ways.number_of w) ((same_variable (home s depth (ways.number_of w)) (ways.number_of w) f y (sym (named_base (home s depth) w at_home) ∙ base)).0 ∙ same)
+        low_frame w f y base (inr (foreign, low, some)) same =
+            (let frames_are = (same_variable foreign.0 foreign.1 f y (sym foreign.2 ∙ base)).0 in omega (arith, low, frames_are, same))
 
         -- its way reaches what it reached
         reach_called : (y : ℕ) (w : Way) (k : ℕ) → callee_views.way y ≡ Some w → ways.Reaches (seen s state.memory (waiting_in easy.state) state.leaks) w (ways.OfCell k)
             → ways.Reaches (view_here s after_call) w (ways.OfCell k)
         reach_called y w k has reach =
             let low = low_called y w has in
-            let foreign = foreign_there s depth w low in
-            let below = low_there s depth w (omega (arith)) low in
+            let begin = low_begins s depth w low in
             subst (λ z. ways.Reaches z w (ways.OfCell k)) view_called
-            (declared_there.stays w foreign.0 foreign.1 foreign.2 (λ same. (let less = below.0 in omega (arith, less, same)))
+            (declared_there.stays w begin.0 begin.1 begin.2 (low_frame w begin.0 begin.1 begin.2 low)
             (λ to taken past. meets_taken y w has to taken (inr (past_under to w past))) k reach)
 
         -- what is gone for the caller and the frames around it is excused by its facts before the call, or is taken
@@ -652,6 +718,25 @@ module _ (table : Table) (typed : TypedProgram) (effects : Effects) (input : Lis
               (meets_front to z w (subst (ways.Under to) (sym is) (under_along to to steps_on (under_itself to))) (flip z w meets))
         ]
 
+        -- what its views see that begins at package objects is kept by the frames around
+        callee_shared : AreShared (home s (suc depth)) (sees_only s) (LentBy program effects (waits_there ∷ older)) callee_views
+        callee_shared x w has given_up named_there =
+            let found = opened.1.way x w has in
+            let sees = (found.2).1 in
+            let actual = named_written (steps.here main_turn) ready.accepted.settled (waiting_in easy.state) state.leaks state.memory [] other facts_now views (viewed_easy plain_there.0).1
+            (viewed_easy plain_there.0).0 holds_now alone live_now index_law ready.owns ready.class.parts_named formals_low (found.2).0 sees.from sees.called in
+            let of = actual_named formals actuals x (found.2).0 actual.0 found.4 actual.1 in
+            elim (low_there s depth w (omega (arith)) (low_called x w has)) [
+              | inl far ↦ absurd (not_elsewhere (home s (suc depth)) w named_there far.0)
+              | inr (at_home, shared_root) ↦ shows.shared_at table typed effects input ready state top below more_frames rest named p frames deep stages running awaiting of_sub at_point path views viewed_before kept scope holds placed_before above n actuals result e passed given
+                  (record { formal = x; actual = actual.0 }) of found.0 sees.from sees.from_named actual.2 sees.lifted
+                  (λ changes. elim by_callee [
+                    | inl modes ↦ absurd (true_false (sees_only s x) (modes.2 x found.1 found.0) changes)
+                    | inr lent ↦ ap (λ (z : PlaceName). sees_only s z.root) (sym actual.2) ∙ (lent x found.1 found.0 actual.0 of).plain
+                  ])
+                  w (sym found.3 ∙ sees.leads) (package_named s (suc depth) depth w shared_root named_there) shared_root
+            ]
+
         -- no result waits in the frame below, since a call comes after no return
         none_below : NoneGiven s below
         none_below = elim (above.1).0.1 [
@@ -672,7 +757,7 @@ module _ (table : Table) (typed : TypedProgram) (effects : Effects) (input : Lis
             running = (
               called.runs,
               returned_there,
-              (is_waiting, others_wait, viewed_before_whole, subst (λ d. ArePast s d views older) (sym deep) placed_before.1),
+              (is_waiting, others_wait, viewed_before_whole, subst (λ d. IsBeyond program effects d views older) (sym deep) placed_before.1),
             );
             awaited = (
               packages.first_waits table typed effects input ready (suc depth) n (returns_of formals passed) called.runs.named called.runs.stands called.runs.point
@@ -693,11 +778,7 @@ module _ (table : Table) (typed : TypedProgram) (effects : Effects) (input : Lis
               views = opened_views (steps.here main_turn) ready.accepted.settled (waiting_in easy.state) state.leaks state.memory [] other facts_now views (viewed_easy plain_there.0).1
                   (viewed_easy plain_there.0).0 holds_now alone live_now in_formals index_law ready.owns ready.class.parts_named formals_low procedure formals actuals passed callee_views opened.1
                   (view_here s after_call) (facts_of program effects called_stage) callee_apart reach_called;
-              whole = λ x w z has foreign gone meets. callee_whole x w z has gone meets;
-              past = λ x w has named sees_not k m none. absurd none;
-              lends = λ l k none. absurd none;
-              far = λ w k none. absurd none;
-              bare = λ w k q none. absurd none;
+              whole = λ x w z has outer gone meets. callee_whole x w z has gone meets;
             };
             kept = subst (Kept s with_all) (sym hands_there) declared_there.typed;
             named = called.runs.named;
@@ -726,7 +807,7 @@ module _ (table : Table) (typed : TypedProgram) (effects : Effects) (input : Lis
               own = λ x w has sees_not given_not. absurd (true_false (is_given s x) (opened.1.way x w has).0 given_not);
             };
             placed = callee_placed;
-            past = callee_past;
+            past = (callee_past, callee_shared);
             none_above = λ f x k less view at. elim (declared_there.views f x view) [
               | inl same ↦ above.0 f x k (omega (arith, less)) view (sym same ∙ at)
               | inr shown ↦ (let up = shown.0 in omega (arith, less, up))
@@ -779,7 +860,7 @@ module _ (table : Table) (typed : TypedProgram) (effects : Effects) (input : Lis
             callee_placed =
                 opened_placed (steps.here main_turn) ready.accepted.settled (waiting_in easy.state) state.leaks state.memory [] other facts_now views (viewed_easy plain_there.0).1
                 (viewed_easy plain_there.0).0 holds_now alone live_now in_formals index_law ready.owns ready.class.parts_named formals_low procedure formals actuals passed callee_views opened.1
-                program (facts_of program effects called_stage) called.runs.point.scope refl
+                (omega (arith)) program (facts_of program effects called_stage) called.runs.point.scope refl
                 (λ y has given. called.begins y has (given_type s y given))
 
       pub calls_it : Along (turn main_turn (Call n actuals result))

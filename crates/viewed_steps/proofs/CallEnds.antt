@@ -42,13 +42,13 @@ use Rattle.soundness.proofs.Typings.{package_same, formal_same}
 use Rattle.soundness.proofs.Around.{same_or_not}
 use Rattle.owned_ways.proofs.Locations.{under_itself, under_along}
 use Rattle.soundness.proofs.Returning.{returned_kept, left_same, left_held, returns_lead, ends_lead, left_waits, ended_owned, Backs}
-use Rattle.owned_loans.specs.Views.{known_gone, Views, IsMovedBy, Viewed, ExcusedBy, AreViews, expand}
+use Rattle.owned_loans.specs.Views.{known_gone, Views, IsMovedBy, ExcusedBy, AreViews, expand, ViewedAlone}
 use Rattle.owned_loans.proofs.Moves.{view_on, reached}
 use Rattle.owned_loans.proofs.Ended.{stands_itself}
 use Rattle.viewed_soundness.proofs.Names.{neither, true_false}
 use Rattle.viewed_steps.specs.Awaited.{AreFor, AreValues, temporaries_of, lasting_of, awaited, AreAwaited}
 use Rattle.viewed_steps.proofs.Waited.{others_only, lasting_within}
-use Rattle.viewed_steps.specs.Sound.{loan_by, ArePast, HoldsAt, ArePlaced, NoneAbove, ViewStage, stages_of, GoneElsewhere, IsWaiting, AreWaiting, ends_one, LeadsAlong, IsResting, HasTraversals, NoneGiven, AreTraversals}
+use Rattle.viewed_steps.specs.Sound.{loan_by, IsBeyond, HoldsAt, ArePlaced, NoneAbove, ViewStage, stages_of, GoneElsewhere, IsWaiting, AreWaiting, ends_one, LeadsAlong, IsResting, HasTraversals, NoneGiven, AreTraversals}
 use Rattle.viewed_steps.specs.Ready.{IsReady}
 use Rattle.viewed_steps.proofs.Waiting.{StandsBetween, all_between, handed, gone_low, kept_low, far, theirs, bare_still, some_frames, unused_there, BareElsewhere, bare_reached}
 use Rattle.viewed_steps.proofs.Onward.{all_on}
@@ -70,9 +70,9 @@ use Rattle.viewed_steps.proofs.Backed.{AwayBy, IsBack, all_given_back, StandsAwa
 use Rattle.viewed_steps.proofs.Whole.{leaves_whole}
 use Rattle.viewed_steps.proofs.Views.{AreAccess, AreFar, lies_far}
 use Rattle.soundness.proofs.Lasting.{keeps}
-use Rattle.viewed_steps.proofs.Withheld.{taken_passed}
-use Rattle.owned_loans.proofs.Safe.{off_view, Unlent}
 use Rattle.owned_loans.proofs.Meeting.{stands}
+use Rattle.viewed_steps.proofs.Roots.{FromGiven}
+use Rattle.owned_loans.proofs.Safe.{Unlent}
 
 smaller : (f b low : ℕ) → f < suc b → (f ≡ low → ⊥) → low ≡ b → f < low
 smaller f b low less ne is =
@@ -110,10 +110,10 @@ module _ (table : Table) (typed : TypedProgram) (effects : Effects) (input : Lis
       (awaiting : AreAwaited table typed None (top ∷ stages_of (below ∷ more_frames)))
       (of_sub : IsNamedSub (flow_named table typed) top.frame.sub named) (at_point : IsAtPoint named.points top.frame.next p)
       (path : ControlPath (path_points program effects (sub_of program top.frame.sub)) top.before top.frame.next) (views : Views)
-      (viewed_before : Viewed (home s (suc (length rest))) (sees_only s) (known_gone (home s (suc (length rest))) (GoneElsewhere program effects (below ∷ more_frames))) views
+      (viewed_before : ViewedAlone (home s (suc (length rest))) (sees_only s) (known_gone (home s (suc (length rest))) (GoneElsewhere program effects (below ∷ more_frames))) views
       (view_here s state) (facts_of program effects top))
       (kept : Kept s state.memory (waiting_in state)) (scope : InScope s state.memory (suc (length rest)) (lasting_of s p.scope)) (holds : HoldsAt s (suc (length rest)) views state.memory p)
-      (placed_before : ArePlaced program (suc (length rest)) (facts_of program effects top) views p.scope × ArePast s (suc (length rest)) views (below ∷ more_frames)) (above : NoneAbove s (suc (length rest)) state.memory
+      (placed_before : ArePlaced program (suc (length rest)) (facts_of program effects top) views p.scope × IsBeyond program effects (suc (length rest)) views (below ∷ more_frames)) (above : NoneAbove s (suc (length rest)) state.memory
       × HasTraversals table typed (view_here s state) (record { stage = top; views = views; cells = [] } ∷ (below ∷ more_frames))) where
     abbrev outer : List Frame
     outer = below.stage.frame ∷ rest
@@ -124,7 +124,7 @@ module _ (table : Table) (typed : TypedProgram) (effects : Effects) (input : Lis
     abbrev depth : ℕ
     depth = suc (length rest)
 
-    abbrev between : (g : ViewStage) → Has (below ∷ more_frames) g → StandsBetween table typed effects unmoved_stage local state (suc (length rest)) g
+    abbrev between : (g : ViewStage) → Has (below ∷ more_frames) g → StandsBetween table typed effects unmoved_stage local state (suc (length rest)) (below ∷ more_frames) g
     between = innermost.between table typed effects input ready state top below more_frames rest named p frames deep stages running awaiting of_sub at_point path views viewed_before kept scope holds placed_before above
 
     abbrev waits_here : AreValues s top.frame.waits p.scope
@@ -148,7 +148,7 @@ module _ (table : Table) (typed : TypedProgram) (effects : Effects) (input : Lis
     abbrev acts_of_main : Instruction → List Act
     acts_of_main i = standing.acts_here table typed effects input ready state top older outer named p frames of_sub at_point i
 
-    abbrev viewed_own : Viewed (home s depth) (sees_only s) (known_gone (home s depth) (GoneElsewhere program effects older)) views (view_here s state) own_facts
+    abbrev viewed_own : ViewedAlone (home s depth) (sees_only s) (known_gone (home s depth) (GoneElsewhere program effects older)) views (view_here s state) own_facts
     viewed_own = innermost.viewed_own table typed effects input ready state top below more_frames rest named p frames deep stages running awaiting of_sub at_point path views viewed_before kept scope holds placed_before above
 
     abbrev placed : ArePlaced program (suc (length rest)) facts_now views p.scope
@@ -255,11 +255,14 @@ module _ (table : Table) (typed : TypedProgram) (effects : Effects) (input : Lis
 
     module _ (h : ViewStage) (others : List ViewStage) (stages_there : AreStages (stages_of (below ∷ (h ∷ others))) (below.stage.frame ∷ rest))
         (waiting : AreWaiting table typed effects state top.frame.sub top.frame.returns (below ∷ (h ∷ others)))
-        (well : Viewed (home s depth) (sees_only s) (known_gone (home s depth) (GoneElsewhere program effects (below ∷ (h ∷ others)))) views (view_here s state) own_facts)
+        (well : ViewedAlone (home s depth) (sees_only s) (known_gone (home s depth) (GoneElsewhere program effects (below ∷ (h ∷ others)))) views (view_here s state) own_facts)
         (still_awaited : AreAwaited table typed (awaited (sub_of program top.frame.sub) top.before) (stages_of (below ∷ (h ∷ others))))
         (is : p.instr ≡ Finish) where
       abbrev pub low : ℕ
       low = below.stage.depth
+
+      package_owns : (x : ℕ) → is_package_object s x ≡ true → sees_only s x ≡ false
+      package_owns = innermost.package_owns table typed effects input ready state top below more_frames rest named p frames deep stages running awaiting of_sub at_point path views viewed_before kept scope holds placed_before above
 
       low_is : below.stage.depth ≡ length rest
       low_is = stages_there.1
@@ -270,7 +273,7 @@ module _ (table : Table) (typed : TypedProgram) (effects : Effects) (input : Lis
       abbrev pub their_facts : List Fact
       their_facts = facts_of program effects below.stage
 
-      between_low : (g : ViewStage) → Has (h ∷ others) g → StandsBetween table typed effects unmoved_stage local state below.stage.depth g
+      pub between_low : (g : ViewStage) → Has (h ∷ others) g → StandsBetween table typed effects unmoved_stage local state below.stage.depth (h ∷ others) g
       between_low g has =
           all_between table typed effects unmoved_stage local state below.stage.frame.sub below.stage.depth below.stage.frame.returns (h ∷ others) rest stages_there.2
           (let same_depth = low_is in omega (arith, same_depth)) waiting.1 g has
@@ -281,20 +284,23 @@ module _ (table : Table) (typed : TypedProgram) (effects : Effects) (input : Lis
       moved_low w (u, moved, leads) =
           elim (stands (home s below.stage.depth) (sees_only s) below.views (view_here s state) their_facts waits.views u (moved.0, waits.clear.owned (ways.name_of u) moved.1)) [
             | inl own ↦ (
-                let named_there : ways.Named (home s below.stage.depth) w = subst (ways.Named (home s below.stage.depth)) leads own.0 in (
+                let named_there : ways.Named (home s below.stage.depth) w = subst (ways.Named (home s below.stage.depth)) leads own.named in (
                   home s below.stage.depth (number_of w),
                   number_of w,
                   named_base (home s below.stage.depth) w named_there,
                   home_low s below.stage.depth (number_of w),
                 ))
             | inr held ↦ (
-                let foreign = held.passed.foreign in
-                let low = lies_far s below.stage.depth below.views waits.holds.lies held.object held.way held.has foreign in (
-                  foreign.0,
-                  foreign.1,
-                  ap ways.base_of (sym leads) ∙ base_under held.way (expand below.views u) held.under ∙ foreign.2,
-                  omega (arith, low),
-                ))
+                let front = ap ways.base_of (sym leads) ∙ base_under held.way (expand below.views u) held.under in
+                elim (waits.holds.lies held.object held.way held.has) [
+                  | inl named ↦ (
+                    home s below.stage.depth (number_of held.way),
+                    number_of held.way,
+                    front ∙ named_base (home s below.stage.depth) held.way named,
+                    home_low s below.stage.depth (number_of held.way),
+                  )
+                  | inr (foreign, low, some) ↦ (foreign.0, foreign.1, front ∙ foreign.2, omega (arith, low))
+                ])
           ]
 
       -- what concerns the frame below
@@ -393,13 +399,6 @@ module _ (table : Table) (typed : TypedProgram) (effects : Effects) (input : Lis
       taken_named : (to : Way) → Has below.stage.returns to → (name : Way) × ways.Named (home s below.stage.depth) name × (sees_only s (number_of name) ≡ false)
           × (expand below.views name ≡ to) × Unlent their_facts name
       taken_named to has = taken_name s below.cells state.memory below.stage.depth below.views their_facts (lasting_of s waits.point.scope) top.frame.returns below.stage.returns waits.taken to has
-
-      -- it doesn't go before what its views see
-      off_taken : (x : ℕ) (w : Way) → below.views.way x ≡ Some w → (to : Way) → Has below.stage.returns to → ways.Past to w → ⊥
-      off_taken x w has to taken past =
-          let by = taken_named to taken in
-          off_view (home s below.stage.depth) (sees_only s) below.views (view_here s state) their_facts waits.views waits.clear by.0 x w (by.1, by.2) by.4 has
-          (subst (λ z. ways.Past z w) (sym by.3) past)
 
       -- the ways of its views begin in no frame above
       low_view : (x : ℕ) (w : Way) → below.views.way x ≡ Some w → (g : ℕ) × (y : ℕ) × (ways.base_of w ≡ OfRoot (OfVariable g y)) × (g ≡ suc below.stage.depth → ⊥)
@@ -511,10 +510,10 @@ module _ (table : Table) (typed : TypedProgram) (effects : Effects) (input : Lis
             let base = low_view x w has in
             view_on (home s low) (sees_only s) (known_gone (home s low) (λ z. ⊥)) below.views (view_here s state) mid_view
             (facts_of program effects below.stage) (facts_of program effects below.stage) x w (waits.views x w has) (λ b n loan. loan)
-            (on.stays w base.0 base.1 base.2 base.3 (off_taken x w has) (below.views.cell x)
+            (on.stays w base.0 base.1 base.2 base.3 (waits.off x w has) (below.views.cell x)
             (reached (home s low) (sees_only s) (known_gone (home s low) (λ z. ⊥)) below.views (view_here s state) (facts_of program effects below.stage) x w (waits.views x w has)))
 
-        viewed_left : Viewed (home s low) (sees_only s) (known_gone (home s low) (GoneElsewhere program effects (h ∷ others))) below.views left_view
+        viewed_left : ViewedAlone (home s low) (sees_only s) (known_gone (home s low) (GoneElsewhere program effects (h ∷ others))) below.views left_view
             (facts_of program effects below.stage)
         viewed_left = record {
           owned = owned_left s mid depth (waiting_in state) state.leaks nothing_mid on.stand.owned;
@@ -527,10 +526,6 @@ module _ (table : Table) (typed : TypedProgram) (effects : Effects) (input : Lis
               (reach_left s mid depth (waiting_in state) state.leaks nothing_mid w (ways.OfCell (below.views.cell x))
               (reached (home s low) (sees_only s) (known_gone (home s low) (λ z. ⊥)) below.views mid_view (facts_of program effects below.stage) x w (views_mid x w has)));
           whole = λ x w z has foreign gone meets. waiting.2 x w z has foreign gone meets;
-          past = λ x w has given plain k n none. absurd none;
-          lends = λ l n none. absurd none;
-          far = λ w n none. absurd none;
-          bare = λ w n p none. absurd none;
         }
 
         holds_there : HoldsAt s low below.views left_memory waits.point
@@ -572,24 +567,34 @@ module _ (table : Table) (typed : TypedProgram) (effects : Effects) (input : Lis
               gone_cells = λ n q out gone. left_there.1 n q ∙ on.carried.gone_cells n q out gone;
             }
 
-        -- the others keep nothing of a package object where what was taken begins
+        abbrev Given_to : Way → Type 0
+        Given_to to = FromGiven (home s below.stage.depth) (sees_only s) below.views (view_here s state) their_facts waits.views to
+
+        -- the others keep nothing of a package object where what was taken begins, or it was lent to the frame
         spared_to : (to : Way) → Has below.stage.returns to → (y : ℕ) → ways.base_of to ≡ OfRoot (OfVariable (home s below.stage.depth y) y)
-            → IsSpared table typed effects unmoved_stage local state below.stage.depth (h ∷ others) between_low y
-        spared_to to has y base l name lent root =
-            let (g, there, some, f, keeps, shared, kind, name_is) = lent in
-            let shared_root : is_package_object s y ≡ true = ap (is_package_object s) (sym root) ∙ shared in
-            let written = waits.written y (taken_passed below to y has (base ∙ ap (λ b. OfRoot (OfVariable (if b then 0 else below.stage.depth) y)) shared_root)) shared_root in
-            kept_there table typed effects ready.accepted.effects_are (unused_there table typed effects unmoved_stage local) state below.stage.frame.sub below.stage.frame.returns
-            (h ∷ others) waiting.1 g there some f keeps (ap (λ (z : PlaceName). is_package_object s z.root) name_is ∙ shared)
-            (written_disturbs table typed effects ready.accepted.effects_are (loan_by f) below.stage.frame.sub (place f).root
-            (subst (Has (written_by effects below.stage.frame.sub)) (sym root ∙ ap (λ (z : PlaceName). z.root) (sym name_is)) written))
+            → IsSpared table typed effects unmoved_stage local state below.stage.depth (h ∷ others) between_low y ⊎ Given_to to
+        spared_to to has y base = elim (bool_cases (is_package_object s y)) [
+          | inr mine ↦ inl (λ l name lent root. true_false (is_package_object s y) (ap (is_package_object s) (sym root) ∙ lent.5) mine)
+          | inl shared ↦ elim (waits.goes to has y (base ∙ ap (λ b. OfRoot (OfVariable (if b then 0 else below.stage.depth) y)) shared) shared) [
+            | inr given ↦ inr given
+            | inl written ↦ inl (λ l name lent root. (
+                let (g, there, some, f, keeps, shared_root, kind, name_is) = lent in
+                kept_there table typed effects ready.accepted.effects_are (unused_there table typed effects unmoved_stage local) state below.stage.frame.sub below.stage.frame.returns
+                (h ∷ others) waiting.1 g there some f keeps (ap (λ (z : PlaceName). is_package_object s z.root) name_is ∙ shared_root)
+                (written_disturbs table typed effects ready.accepted.effects_are (loan_by f) below.stage.frame.sub (place f).root
+                (subst (Has (written_by effects below.stage.frame.sub)) (sym root ∙ ap (λ (z : PlaceName). z.root) (sym name_is)) written))))
+          ]
+        ]
 
         free_to : (to : Way) → Has below.stage.returns to → IsFree table typed effects unmoved_stage local state below.stage.depth (h ∷ others) between_low to
         free_to to has =
             let by = taken_named to has in
             subst (IsFree table typed effects unmoved_stage local state below.stage.depth (h ∷ others) between_low) by.3
-            (free_name table typed effects unmoved_stage local state below.stage.depth (h ∷ others) between_low below.views (view_here s state) their_facts waits.views waiting.3 waiting.2 by.0 by.1 by.2
-            (λ y base. spared_to to has y (ap ways.base_of (sym by.3) ∙ base)))
+            (free_name table typed effects unmoved_stage local state below.stage.depth (h ∷ others) between_low below.views (view_here s state) their_facts waits.views (waiting.3).0 waiting.2 by.0 by.1 by.2
+            (λ y base. elim (spared_to to has y (ap ways.base_of (sym by.3) ∙ base)) [
+              | inl none ↦ inl none
+              | inr given ↦ inr (subst Given_to (sym by.3) given)
+            ]))
 
         -- what is bare elsewhere in a cell isn't given back to
         bare_aside : (w : ways.Way) (n : ℕ) (q r : List Step) → BareElsewhere table typed effects unmoved_stage local (h ∷ others) w (ways.OfCell n) q
@@ -642,7 +647,7 @@ module _ (table : Table) (typed : TypedProgram) (effects : Effects) (input : Lis
             running = (waits.runs, waits.plain, others_left);
             awaited = subst (λ n. AreAwaited table typed n (stages_of (below ∷ (h ∷ others)))) (returned_then is) still_awaited;
             path = waits.path;
-            viewed = subst (λ z. Viewed (home s low) (sees_only s) (known_gone (home s low) (GoneElsewhere program effects (h ∷ others))) below.views z
+            viewed = subst (λ z. ViewedAlone (home s low) (sees_only s) (known_gone (home s low) (GoneElsewhere program effects (h ∷ others))) below.views z
                 (facts_of program effects below.stage)) view_left viewed_left;
             kept = subst (Kept s left_memory) (sym hands_left)
                 (returned_kept s mid depth (waiting_in state) state.leaks nothing_mid on.typed);
@@ -686,7 +691,7 @@ module _ (table : Table) (typed : TypedProgram) (effects : Effects) (input : Lis
       where
         by_rest : (r : List Frame) (m : List ViewStage) → rest ≡ r → more_frames ≡ m → AreStages (stages_of (below ∷ m)) (below.stage.frame ∷ r)
             → AreWaiting table typed effects state top.frame.sub top.frame.returns (below ∷ m)
-            → Viewed (home s depth) (sees_only s) (known_gone (home s depth) (GoneElsewhere program effects (below ∷ m))) views (view_here s state) own_facts
+            → ViewedAlone (home s depth) (sees_only s) (known_gone (home s depth) (GoneElsewhere program effects (below ∷ m))) views (view_here s state) own_facts
             → AreAwaited table typed (awaited (sub_of program top.frame.sub) top.before) (stages_of (below ∷ m)) → Along (turn main_turn Finish)
         by_rest [] [] same_rest same_more stages_there waiting well still =
             ends_lead main_turn Along (λ m. m ≡ state.memory)

@@ -1,6 +1,6 @@
 -- Calls: what the actuals are, and how they are passed. Each is a value of one word, a scalar place in a
 -- variable, or another place in a variable of the caller.
-use Rattle.std.proofs.Common.{◌≡◌, refl, ◌&&◌, ◌||◌, not, is_some, sym, ap, ◌∙◌, subst, ◌⊎◌, inl, inr, ℕ, Bool, true, false, List, [], ◌∷◌, ◌++◌, map, Option, Some, if◌then◌else◌, ◌<◌}
+use Rattle.std.proofs.Common.{◌≡◌, refl, ◌&&◌, ◌||◌, not, is_some, sym, ap, ◌∙◌, subst, ◌⊎◌, inl, inr, ℕ, Bool, true, false, List, [], ◌∷◌, ◌++◌, map, Option, Some, if◌then◌else◌}
 use Rattle.spark_base.specs.Lists.{Has}
 use Rattle.spark_base.proofs.Lists.{Has-append_cases}
 use Rattle.place_names.specs.declared.act.Act.TheVariants as act
@@ -12,9 +12,9 @@ use Rattle.type_definitions.specs.Types.{full, is_scalar, is_owning}
 use Rattle.typed_tree.specs.Trees.{TypedTree, Number, Literal, Text, Name, Component as IntoComponent, Designated, Element, Call, EndOfFile, Parens, Image, Unary, Binary, Short, IsNull, Aggregate, Alike, New, NoMore, More}
 use Rattle.typed_tree.specs.Trees as typed
 use Rattle.flow_paths.specs.Objects.{Typing, object_at, sub_at, is_anonymous, is_named_access, view_of, traverses, first_traversed, Passing, ByValue, passing, passing_by, passings}
-use Rattle.flow_paths.specs.Names.{written, is_empty, waiting as waits_in, name_of}
+use Rattle.flow_paths.specs.Names.{written, is_empty, waiting as waits_in}
 use Rattle.flow_paths.specs.Laid.{FlowProgram, flow_typing}
-use Rattle.flow_paths.specs.Acts.{placed, used, acts_in, index_acts, actual_act, actual_acts, actual_values}
+use Rattle.flow_paths.specs.Acts.{acts_in, index_acts, actual_act, actual_acts, actual_values}
 use Rattle.machine.specs.Words.{access_offsets, fits_type}
 use Rattle.machine.specs.Words as machine
 use Rattle.machine.specs.Memory.{Memory, Place, words_of}
@@ -34,19 +34,21 @@ use Rattle.soundness.proofs.Scalars.{acts, acts_append, allows_both}
 use Rattle.soundness.proofs.Stays.{One, Quiet, quiet_then, quiet_from}
 use Rattle.soundness.proofs.Taking.{Takes}
 use Rattle.soundness.proofs.Passing.{IsRead, AreReads, AddNone, IsValue, TakesAll, plain_type, reads_keep, read_adds_none, signature_is}
-use Rattle.owned_loans.specs.Views.{Around, Views, Viewed, IsForeign}
+use Rattle.owned_loans.specs.Views.{Around, Views, Viewed}
 use Rattle.viewed_soundness.specs.Holds.{IsNamed, IsAccess, PartsAreNamed, Holds, sees_only, IsOwners, is_given}
 use Rattle.viewed_soundness.proofs.Names.{true_false, both_no, plain_named}
 use Rattle.viewed_soundness.proofs.Evaluated.{matches_named}
 use Rattle.viewed_steps.specs.Sound.{IsScalarObject}
 use Rattle.viewed_steps.specs.Ready.{is_shown_type, IsOwnPlace, IsSeen, IsActualTo, AreActualsTo, IsCopyOf}
 use Rattle.viewed_steps.proofs.Views.{AreAccess, AreUnseen}
-use Rattle.viewed_steps.proofs.Seeing.{IsSeenAs, IsOpenTo, AreOpenTo, seen_given}
+use Rattle.viewed_steps.proofs.Seeing.{IsSeenAs, IsClear, AreClear, seen_given}
 use Rattle.viewed_steps.proofs.LaidOut.{IsOwnPut, IsOpenActual, AreOpenActuals, IsHousedPut}
 use Rattle.viewed_steps.proofs.Entered.{IsFit}
 use Rattle.viewed_steps.proofs.Lent.{ends, Spare, spare_both, spare_naming}
-use Rattle.viewed_steps.proofs.Reading.{no_reads, one_read, both_reads, naming_adds, unowned_read, index_reads, reads_in}
+use Rattle.viewed_steps.proofs.Copies.{copies_read}
+use Rattle.viewed_steps.proofs.Reading.{no_reads, both_reads, naming_adds, index_reads, reads_in}
 use Rattle.viewed_steps.proofs.Puts as puts
+use Rattle.viewed_soundness.proofs.Given.{IsLow}
 
 module _ (s : Typing) (own_law : OwnsByShape s.table) (procedure : Bool) where
   abbrev pub way_to : ℕ → Passing
@@ -76,19 +78,12 @@ module _ (s : Typing) (own_law : OwnsByShape s.table) (procedure : Bool) where
   seen_reads x (Name p y path u) seen = index_reads s own_law (Name p y path u) u (seen.0, refl)
   seen_reads x e seen = absurd seen
 
-  copy_reads : (x : ℕ) (e : TypedTree) → owning_of x ≡ false → IsCopyOf s x e → AreReads (acts_in s e)
-  unfolding acts_in
-  copy_reads x (Name p y path u) plain (leads, fits) =
-      both_reads (acts_in s path) (placed p (used s (name_of y path) u) ∷ []) (index_reads s own_law (Name p y path u) u (leads, refl))
-      (one_read (placed p (used s (name_of y path) u)) (name_of y path, inl (unowned_read s own_law (name_of y path) u (object_at s x).of fits plain)))
-  copy_reads x e plain never = absurd never
-
-  pub head_of_reads : (x : ℕ) (m : Mode) (owning : Bool) (e : TypedTree) → owning_of x ≡ owning → is_anonymous (view_of s x) ≡ false → IsActualTo s x m e → AreReads (head_of m owning e)
-  head_of_reads x mode.In false e is unseen stays =
-      elim (stays.0 (both_no (owning_of x) (is_anonymous (view_of s x)) is unseen)) [ inl plain ↦ reads_in s own_law e plain.1 | inr copy ↦ copy_reads x e is copy.1 ]
-  head_of_reads x mode.In true e is unseen stays = seen_reads x e (stays.1 (ap (λ b. b || is_anonymous (view_of s x)) is))
-  head_of_reads x mode.Out owning e is unseen place = index_reads s own_law e place.0 place.1
-  head_of_reads x mode.InOut owning e is unseen place = index_reads s own_law e place.0 place.1
+  pub head_of_reads : PartsAreNamed s.table → (x : ℕ) (m : Mode) (owning : Bool) (e : TypedTree) → owning_of x ≡ owning → is_anonymous (view_of s x) ≡ false → IsActualTo s x m e → AreReads (head_of m owning e)
+  head_of_reads parts_named x mode.In false e is unseen stays =
+      elim (stays.0 (both_no (owning_of x) (is_anonymous (view_of s x)) is unseen)) [ inl plain ↦ reads_in s own_law e plain.1 | inr copy ↦ copies_read s own_law parts_named e (object_at s x).of copy.2.0 is copy.1 copy.2.1 ]
+  head_of_reads parts_named x mode.In true e is unseen stays = seen_reads x e (stays.1 (ap (λ b. b || is_anonymous (view_of s x)) is))
+  head_of_reads parts_named x mode.Out owning e is unseen place = index_reads s own_law e place.0 place.1
+  head_of_reads parts_named x mode.InOut owning e is unseen place = index_reads s own_law e place.0 place.1
 
   none_of : (m : Mode) (owning access : Bool) (ways : List Passing) (actuals : TypedTree) → is_empty actuals ≡ true
       → AreReads (actual_values s (passing_by m owning access ∷ ways) actuals)
@@ -101,13 +96,13 @@ module _ (s : Typing) (own_law : OwnsByShape s.table) (procedure : Bool) where
   none_of mode.InOut owning access ways (More e rest) none = cc
   none_of mode.InOut owning access ways actuals none = λ p has. absurd has
 
-  pub values_are_read : (formals : List ℕ) (actuals : TypedTree) → AreUnseen s formals → AreActualsTo s formals actuals → AreReads (actual_values s (map way_to formals) actuals)
-  values_are_read [] actuals unseen stay = λ p has. absurd has
-  values_are_read (x ∷ formals) (More e rest) unseen stay =
+  pub values_are_read : PartsAreNamed s.table → (formals : List ℕ) (actuals : TypedTree) → AreUnseen s formals → AreActualsTo s formals actuals → AreReads (actual_values s (map way_to formals) actuals)
+  values_are_read parts_named [] actuals unseen stay = λ p has. absurd has
+  values_are_read parts_named (x ∷ formals) (More e rest) unseen stay =
       subst AreReads (sym (head_values_are x e (map way_to formals) rest))
       (both_reads (head_of (object_at s x).mode (owning_of x) e) (actual_values s (map way_to formals) rest)
-      (head_of_reads x (object_at s x).mode (owning_of x) e refl (unseen x (inl refl)) stay.0) (values_are_read formals rest (λ y has. unseen y (inr has)) stay.1))
-  values_are_read (x ∷ formals) actuals unseen stay =
+      (head_of_reads parts_named x (object_at s x).mode (owning_of x) e refl (unseen x (inl refl)) stay.0) (values_are_read parts_named formals rest (λ y has. unseen y (inr has)) stay.1))
+  values_are_read parts_named (x ∷ formals) actuals unseen stay =
       none_of (object_at s x).mode (owning_of x) (procedure && is_named_access (view_of s x)) (map way_to formals) actuals refl
 
   -- those of places that are copied back to add no fact, and end no scope
@@ -126,11 +121,11 @@ module _ (s : Typing) (own_law : OwnsByShape s.table) (procedure : Bool) where
       ]
   copies_add (x ∷ formals) actuals p has f new = has
 
-  pub call_adds_none : (formals : List ℕ) (actuals : TypedTree) → AreUnseen s formals → AreActualsTo s formals actuals
+  pub call_adds_none : PartsAreNamed s.table → (formals : List ℕ) (actuals : TypedTree) → AreUnseen s formals → AreActualsTo s formals actuals
       → AddNone (actual_values s (map way_to formals) actuals ++ actual_acts (map way_to formals) actuals)
-  call_adds_none formals actuals unseen stay p has f new =
+  call_adds_none parts_named formals actuals unseen stay p has f new =
       elim (Has-append_cases (actual_values s (map way_to formals) actuals) (actual_acts (map way_to formals) actuals) p has) [
-        | inl l ↦ read_adds_none p (values_are_read formals actuals unseen stay p l) f new
+        | inl l ↦ read_adds_none p (values_are_read parts_named formals actuals unseen stay p l) f new
         | inr r ↦ copies_add formals actuals p r f new
       ]
 
@@ -183,7 +178,7 @@ module _ (h : Here) (settled : IsSettled h.typing.table) (hands : List Waiting) 
     (index_law : IndexLaw)
     (own_law : OwnsByShape h.typing.table)
     (parts_named : PartsAreNamed h.typing.table)
-    (formals_low : (x : ℕ) (w : Way) → v.way x ≡ Some w → is_given h.typing x ≡ true → (foreign : IsForeign (home h.typing h.frame) w) × (foreign.0 < h.frame) × (0 < foreign.0))
+    (formals_low : (x : ℕ) (w : Way) → v.way x ≡ Some w → IsLow h.typing h.frame w)
     (procedure : Bool) where
   abbrev at : List (List machine.Word) → Now
   at = puts.at h settled hands leaks m waits other facts v kept well holds alone live in_formals index_law own_law parts_named formals_low procedure
@@ -204,8 +199,8 @@ module _ (h : Here) (settled : IsSettled h.typing.table) (hands : List Waiting) 
   abbrev IsCopied : ℕ → Passed → Type 0
   IsCopied = puts.IsCopied h settled hands leaks m waits other facts v kept well holds alone live in_formals index_law own_law parts_named formals_low procedure
 
-  abbrev copy_given : (before on : List (List machine.Word)) (x : ℕ) (e : TypedTree) → is_owning h.typing.table (object_at h.typing x).of ≡ false → IsCopyOf h.typing x e → Takes (waits_in e) before on
-      → AllowsAll facts (acts (acts_in h.typing e)) → Quiet (at on) (IsCopied x) (passed h ByValue x e (at before))
+  abbrev copy_given : (before on : List (List machine.Word)) (x : ℕ) (e : TypedTree) → is_owning h.typing.table (object_at h.typing x).of ≡ false → IsNamed h.typing.table (object_at h.typing x).of
+      → IsCopyOf h.typing x e → Takes (waits_in e) before on → AllowsAll facts (acts (acts_in h.typing e)) → Quiet (at on) (IsCopied x) (passed h ByValue x e (at before))
   copy_given = puts.copy_given h settled hands leaks m waits other facts v kept well holds alone live in_formals index_law own_law parts_named formals_low procedure
 
   abbrev IsPut : TypedTree → Place → Type 0
@@ -276,7 +271,7 @@ module _ (h : Here) (settled : IsSettled h.typing.table) (hands : List Waiting) 
 
   pub shown_given : (before on : List (List machine.Word)) (x : ℕ) (e : TypedTree) → IsAccess h.typing x → is_shown_type h.typing x ≡ true → IsSeen h.typing x e
       → Takes (waits_in e) before on → AllowsAll facts (acts (index_acts h.typing e))
-      → IsOpenTo h.typing h.frame v facts e
+      → IsClear h.typing facts e
       → Quiet (at on) (λ a. IsGiven x mode.In e a) (followed_by (viewed h e (at before)) value_passed)
   shown_given before on x e access shown seen takes allowed clears =
       quiet_then (at on) (λ ws. IsSeenAs h settled hands leaks m waits other facts v kept well holds alone live index_law own_law parts_named formals_low x e ws)
@@ -328,14 +323,14 @@ module _ (h : Here) (settled : IsSettled h.typing.table) (hands : List Waiting) 
 
   pub one_given : (before on : List (List machine.Word)) (mode_of : Mode) (owning access : Bool) (x : ℕ) (e : TypedTree) → (object_at h.typing x).mode ≡ mode_of
       → is_owning h.typing.table (object_at h.typing x).of ≡ owning → is_anonymous (view_of h.typing x) ≡ false → IsKind x → IsActualTo h.typing x mode_of e
-      → (is_given h.typing x ≡ true → IsOpenTo h.typing h.frame v facts e)
+      → (is_given h.typing x ≡ true → IsClear h.typing facts e)
       → IsCopiedName x mode_of e → Takes (waits_in e) before on
       → AllowsAll facts (acts (head_of h.typing own_law procedure mode_of owning e)) → Quiet (at on) (λ a. IsGiven x mode_of e a) (passed h (passing_by mode_of owning access) x e (at before))
   one_given before on mode.In false access x e is fits unseen kind actual clears copied takes allowed =
       let plain_type_there = both_no (is_owning h.typing.table (object_at h.typing x).of) (is_anonymous (view_of h.typing x)) fits unseen in
       elim (actual.0 plain_type_there) [
         | inl (plain, stays) ↦ value_is on x e plain_type_there plain (passed h ByValue x e (at before)) (value_given before on x e stays takes allowed)
-        | inr (named, copy) ↦ copy_is on x e plain_type_there (passed h ByValue x e (at before)) (copy_given before on x e fits copy takes allowed)
+        | inr (many, named, copy) ↦ copy_is on x e plain_type_there (passed h ByValue x e (at before)) (copy_given before on x e fits named copy takes allowed)
       ]
   one_given before on mode.In true access x e is fits unseen kind actual clears copied takes allowed = elim kind [
     | inl plain ↦ absurd (true_false (is_owning h.typing.table (object_at h.typing x).of) fits (plain_type h.typing own_law (object_at h.typing x).of plain))
@@ -354,7 +349,7 @@ module _ (h : Here) (settled : IsSettled h.typing.table) (hands : List Waiting) 
       from_given before on x e (back_given before on x e unseen actual (copied refl) takes allowed)
 
   pub all_given : (before on : List (List machine.Word)) (formals : List ℕ) (actuals : TypedTree) → ((x : ℕ) → Has formals x → IsKind x) → AreUnseen h.typing formals → AreActualsTo h.typing formals actuals
-      → AreOpenTo h.typing h.frame v facts formals actuals → AreOpenActuals h.typing h.frame facts formals actuals → TakesAll formals actuals before on
+      → AreClear h.typing facts formals actuals → AreOpenActuals h.typing h.frame facts formals actuals → TakesAll formals actuals before on
       → AllowsAll facts (acts (actual_values h.typing (ways_of formals) actuals))
       → Quiet (at on) (λ passed. AreGiven formals actuals passed) (all_passed h (ways_of formals) formals actuals (at before))
   all_given before on [] actuals kinds unseen stay clears copied takes allowed = ((ap at takes), refl)
@@ -367,7 +362,7 @@ module _ (h : Here) (settled : IsSettled h.typing.table) (hands : List Waiting) 
       let each = allows_both facts (acts (head_of h.typing own_law procedure mode_of owning e)) (acts (actual_values h.typing (ways_of formals) rest))
       (subst (AllowsAll facts) (acts_append (head_of h.typing own_law procedure mode_of owning e) (actual_values h.typing (ways_of formals) rest)) both) in
       let same : after (acts (head_of h.typing own_law procedure mode_of owning e)) facts ≡ facts =
-      reads_keep (head_of h.typing own_law procedure mode_of owning e) (head_of_reads h.typing own_law procedure x mode_of owning e refl (unseen x (inl refl)) stay.0) facts in
+      reads_keep (head_of h.typing own_law procedure mode_of owning e) (head_of_reads h.typing own_law procedure parts_named x mode_of owning e refl (unseen x (inl refl)) stay.0) facts in
       quiet_from (at mid) (at on) (λ a. IsGiven x mode_of e a) (λ passed. AreGiven (x ∷ formals) (More e rest) passed) refl (passed h (way_to h.typing own_law procedure x) x e (at before))
       (λ a now. followed_by (all_passed h (ways_of formals) formals rest now) (λ more now. Done (a ∷ more) now))
       (one_given before mid mode_of owning (procedure && is_named_access (view_of h.typing x)) x e refl refl (unseen x (inl refl)) kind stay.0 clears.0 copied.0 takes each.0)

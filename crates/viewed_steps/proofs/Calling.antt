@@ -43,7 +43,7 @@ use Rattle.owned_ways.proofs.Locations.{reaches_along, named_along as rooted_alo
 use Rattle.soundness.specs.Seen.{IsNear, content, seen, home, trunk, word_in}
 use Rattle.owned_ways.proofs.Named.{longer}
 use Rattle.owned_ways.proofs.Dropped.{named_base}
-use Rattle.soundness.proofs.Contents.{word_root}
+use Rattle.soundness.proofs.Contents.{word_root, bool_cases}
 use Rattle.soundness.specs.Typed.{Kept}
 use Rattle.soundness.specs.Sound.{Stage, facts_of, AreStages, Uses, IsRunnable, InScope, IsNamedSub, IsAtPoint, view_of as view_here}
 use Rattle.soundness.proofs.Stays.{Quiet}
@@ -51,31 +51,31 @@ use Rattle.soundness.proofs.Numbers.{index_law}
 use Rattle.soundness.proofs.Passing.{TakesAll, takes_each}
 use Rattle.soundness.proofs.Scalars.{acts}
 use Rattle.soundness.proofs.Points.{flow_at, sub_in_range, one_named, one_point}
-use Rattle.soundness.proofs.Inherited.{AreGlobal, global_after, global_allowed, global_apart}
+use Rattle.soundness.proofs.Inherited.{after_splits, AreGlobal, global_after, global_allowed, global_apart, Splits}
 use Rattle.soundness.proofs.Used.{used_global, globals_are}
 use Rattle.soundness.proofs.Around.{IsFar}
 use Rattle.soundness.proofs.Taking.{Takes}
 use Rattle.soundness.proofs.Eased.{eased}
 use Rattle.soundness.proofs.Scoped.{Inside}
-use Rattle.owned_loans.specs.Views.{expand, Around, known_gone, Views, IsForeign, Viewed, AreViews, AreClear as FactsAreClear, IsMovedBy, on}
-use Rattle.owned_loans.proofs.Ways.{under_on, lifts, lifted_root, lifted_way, on_named, base_on}
+use Rattle.owned_loans.specs.Views.{expand, Around, known_gone, Views, Viewed, AreViews, AreClear as FactsAreClear, IsMovedBy, on, ViewedAlone}
+use Rattle.owned_loans.proofs.Ways.{under_on, lifts, lifted_root, lifted_way, on_named, base_on, on_under}
 use Rattle.owned_loans.proofs.Meeting.{stands, stands_base}
-use Rattle.owned_loans.proofs.Moves.{expand_under, view_on, own_loan, reached, view_rooted}
+use Rattle.owned_loans.proofs.Moves.{expand_under, view_on, own_loan, reached, view_rooted, lends_on}
 use Rattle.owned_loans.proofs.Meeting.{stands}
 use Rattle.viewed_soundness.proofs.Names.{true_false}
 use Rattle.viewed_soundness.specs.Holds.{Holds, is_view, sees_only, is_given, IsOwners}
 use Rattle.soundness.specs.Ready.{IsSupplied, Fills}
 use Rattle.viewed_steps.specs.Awaited.{AreValuesBut, temporaries_of, lasting_of, awaited, WaitsAt, AreAwaited, AreScalar, FillsTyped, TakesScalars}
 use Rattle.viewed_steps.proofs.Waited.{late_scope, within_lasting, lasting_more, Shares}
-use Rattle.viewed_steps.specs.Sound.{IsCopiedBack, ArePast, HoldsAt, ArePlaced, NoneAbove, ViewStage, stages_of, GoneElsewhere, Disturbs, AreWaiting, IsResting, IsKindOfFormal, IsScalarObject, HasTraversals, passed_roots}
+use Rattle.viewed_steps.specs.Sound.{IsCopiedBack, IsBeyond, HoldsAt, ArePlaced, NoneAbove, ViewStage, stages_of, GoneElsewhere, Disturbs, AreWaiting, IsResting, IsKindOfFormal, IsScalarObject, HasTraversals, passed_roots}
 use Rattle.viewed_steps.specs.Ready.{IsReady, roots_passed, IsCalled, IsTraversalCall}
 use Rattle.viewed_steps.proofs.Followed.{IsTraversing}
 use Rattle.viewed_steps.specs.Taken.{Lodge, IsPassedOn}
 use Rattle.viewed_steps.proofs.Lent.{Spare, loans_stay}
 use Rattle.viewed_steps.proofs.Placed.{within_on, lasts_more, scope_on, placed_on}
 use Rattle.viewed_steps.proofs.Waiting.{StandsBetween, gone_low, beside_them, handed}
-use Rattle.viewed_steps.proofs.Between.{more_gone, base_along, base_under, same_variable, not_named, number_based, Begins, OwnersStand, owners_stand}
-use Rattle.viewed_steps.proofs.Called.{AreGiven, all_given, passes_to}
+use Rattle.viewed_steps.proofs.Between.{base_along, base_under, same_variable, not_named, number_based, Begins, OwnersStand}
+use Rattle.viewed_steps.proofs.Called.{AreGiven, all_given, passes_to, spare_copies}
 use Rattle.viewed_steps.proofs.Acted.{all_laid_out, all_acted}
 use Rattle.viewed_steps.proofs.Outside.{IsSpared, gone_clear, IsFree, free_name}
 use Rattle.viewed_steps.proofs.Globals.{copied_act, passed_unused}
@@ -93,7 +93,7 @@ use Rattle.viewed_steps.proofs.Standing as standing
 use Rattle.viewed_steps.proofs.Packages as packages
 use Rattle.viewed_steps.proofs.Innermost as innermost
 use Rattle.viewed_steps.proofs.Views.{AreAccess, AreFar, lies_far, base_named}
-use Rattle.viewed_steps.proofs.Seeing.{AreClear, AreLowRoots, AreOpenTo, open_to}
+use Rattle.viewed_steps.proofs.Seeing.{AreClear}
 use Rattle.viewed_steps.proofs.Lending.{named_has}
 use Rattle.viewed_steps.proofs.Followed as followed
 use Rattle.viewed_steps.proofs.Traversing.{all_traversed}
@@ -101,10 +101,15 @@ use Rattle.viewed_steps.proofs.Exclusive.{AreLent}
 use Rattle.owned_ways.proofs.Unique.{one_way}
 use Rattle.viewed_steps.proofs.Bared.{not_before}
 use Rattle.viewed_steps.proofs.CallActs as acting
+use Rattle.viewed_soundness.proofs.Given.{IsLow}
 use Rattle.viewed_steps.proofs.Withheld.{passed_from}
 use Rattle.viewed_steps.proofs.Emptied.{fewer_clear}
-use Rattle.viewed_steps.proofs.Roots.{borrower_goes}
+use Rattle.viewed_steps.proofs.Roots.{borrower_from, FromGiven}
 use Rattle.owned_loans.proofs.Safe.{off_view}
+use Rattle.viewed_steps.proofs.Handed.{gone_lent, with_gone, without_loans}
+use Rattle.viewed_steps.proofs.Inherited.{after_more}
+use Rattle.spark_base.proofs.Lists.{Has-append_left, Has-append_right}
+use Rattle.viewed_steps.proofs.Stilled.{still, lent_only, still_viewed}
 
 module _ (table : Table) (typed : TypedProgram) (effects : Effects) (input : List ℕ) (ready : IsReady table typed effects) where
   abbrev program : FlowProgram
@@ -132,10 +137,10 @@ module _ (table : Table) (typed : TypedProgram) (effects : Effects) (input : Lis
       (awaiting : AreAwaited table typed None (top ∷ stages_of (below ∷ more_frames)))
       (of_sub : IsNamedSub (flow_named table typed) top.frame.sub named) (at_point : IsAtPoint named.points top.frame.next p)
       (path : ControlPath (path_points program effects (sub_of program top.frame.sub)) top.before top.frame.next) (views : Views)
-      (viewed_before : Viewed (home s (suc (length rest))) (sees_only s) (known_gone (home s (suc (length rest))) (GoneElsewhere program effects (below ∷ more_frames))) views
+      (viewed_before : ViewedAlone (home s (suc (length rest))) (sees_only s) (known_gone (home s (suc (length rest))) (GoneElsewhere program effects (below ∷ more_frames))) views
       (view_here s state) (facts_of program effects top))
       (kept : Kept s state.memory (waiting_in state)) (scope : InScope s state.memory (suc (length rest)) (lasting_of s p.scope)) (holds : HoldsAt s (suc (length rest)) views state.memory p)
-      (placed_before : ArePlaced program (suc (length rest)) (facts_of program effects top) views p.scope × ArePast s (suc (length rest)) views (below ∷ more_frames)) (above : NoneAbove s (suc (length rest)) state.memory
+      (placed_before : ArePlaced program (suc (length rest)) (facts_of program effects top) views p.scope × IsBeyond program effects (suc (length rest)) views (below ∷ more_frames)) (above : NoneAbove s (suc (length rest)) state.memory
       × HasTraversals table typed (view_here s state) (record { stage = top; views = views; cells = [] } ∷ (below ∷ more_frames))) where
     abbrev outer : List Frame
     outer = below.stage.frame ∷ rest
@@ -146,7 +151,7 @@ module _ (table : Table) (typed : TypedProgram) (effects : Effects) (input : Lis
     abbrev depth : ℕ
     depth = suc (length rest)
 
-    abbrev between : (g : ViewStage) → Has (below ∷ more_frames) g → StandsBetween table typed effects unmoved_stage local state (suc (length rest)) g
+    abbrev between : (g : ViewStage) → Has (below ∷ more_frames) g → StandsBetween table typed effects unmoved_stage local state (suc (length rest)) (below ∷ more_frames) g
     between = innermost.between table typed effects input ready state top below more_frames rest named p frames deep stages running awaiting of_sub at_point path views viewed_before kept scope holds placed_before above
 
     abbrev other : Around (home s (suc (length rest)))
@@ -169,7 +174,7 @@ module _ (table : Table) (typed : TypedProgram) (effects : Effects) (input : Lis
 
     abbrev apart_from_them : (done : List Act) (v : Views) (view : ways.View) → ((x : ℕ) (w : Way) → v.way x ≡ Some w → is_view s x ≡ true)
         → Viewed (home s depth) (sees_only s) other v view (after done facts_now)
-        → Viewed (home s depth) (sees_only s) (known_gone (home s depth) (GoneElsewhere program effects older)) v view (after done own_facts)
+        → ViewedAlone (home s depth) (sees_only s) (known_gone (home s depth) (GoneElsewhere program effects older)) v view (after done own_facts)
     apart_from_them = innermost.apart_from_them table typed effects input ready state top below more_frames rest named p frames deep stages running awaiting of_sub at_point path views viewed_before kept scope holds placed_before above
 
     abbrev placed_own : ArePlaced program (suc (length rest)) own_facts views p.scope
@@ -275,7 +280,7 @@ module _ (table : Table) (typed : TypedProgram) (effects : Effects) (input : Lis
           → (content s state.memory (waiting_in easy.state) (trunk l)).owns ≡ true
       live_now = acting.live_now table typed effects input ready state top below more_frames rest named p frames deep stages running awaiting of_sub at_point path views viewed_before kept scope holds placed_before above n actuals result e
 
-      abbrev pub formals_low : (x : ℕ) (w : Way) → views.way x ≡ Some w → is_given s x ≡ true → (foreign : IsForeign (home s depth) w) × (foreign.0 < depth) × (0 < foreign.0)
+      abbrev pub formals_low : (x : ℕ) (w : Way) → views.way x ≡ Some w → IsLow s depth w
       formals_low = acting.formals_low table typed effects input ready state top below more_frames rest named p frames deep stages running awaiting of_sub at_point path views viewed_before kept scope holds placed_before above n actuals result e
 
       abbrev pub by_callee : (((x : ℕ) → Has formals x → (object_at s x).mode ≡ mode.In) × ((x : ℕ) → Has formals x → IsCopiedBack s x → ⊥)
@@ -285,9 +290,6 @@ module _ (table : Table) (typed : TypedProgram) (effects : Effects) (input : Lis
 
       abbrev pub clear_there : AreClear s facts_now formals actuals
       clear_there = acting.clear_there table typed effects input ready state top below more_frames rest named p frames deep stages running awaiting of_sub at_point path views viewed_before kept scope holds placed_before above n actuals result e
-
-      abbrev pub lows_there : AreLowRoots s depth views formals actuals
-      lows_there = acting.lows_there table typed effects input ready state top below more_frames rest named p frames deep stages running awaiting of_sub at_point path views viewed_before kept scope holds placed_before above n actuals result e
 
       abbrev pub Given : List Passed → Type 0
       Given passed =
@@ -300,9 +302,6 @@ module _ (table : Table) (typed : TypedProgram) (effects : Effects) (input : Lis
 
       abbrev pub then_now : Now
       then_now = record { memory = state.memory; waits = taken_there.0 }
-
-      opens_there : AreOpenTo s depth views facts_now formals actuals
-      opens_there = open_to s depth views facts_now formals actuals clear_there lows_there
 
       -- in the call of a traversal function
       module _ (f : ℕ) (traversed : traversed_formal s (sub_of program n) ≡ Some f) where
@@ -318,10 +317,10 @@ module _ (table : Table) (typed : TypedProgram) (effects : Effects) (input : Lis
         abbrev no_procedure : procedure ≡ false
         no_procedure = acting.no_procedure table typed effects input ready state top below more_frames rest named p frames deep stages running awaiting of_sub at_point path views viewed_before kept scope holds placed_before above n actuals result e f traversed
 
-        opens_these : AreOpenTo s depth views facts_now (f ∷ traversing.rest) (More first (made.call).others)
-        opens_these = subst (λ z. AreOpenTo s depth views facts_now z (More first (made.call).others)) traversing.formals (subst (AreOpenTo s depth views facts_now formals) made.actuals_are opens_there)
+        pub opens_these : AreClear s facts_now (f ∷ traversing.rest) (More first (made.call).others)
+        opens_these = subst (λ z. AreClear s facts_now z (More first (made.call).others)) traversing.formals (subst (AreClear s facts_now formals) made.actuals_are clear_there)
 
-        back_these : AreOpenActuals s depth facts_now (f ∷ traversing.rest) (More first (made.call).others)
+        pub back_these : AreOpenActuals s depth facts_now (f ∷ traversing.rest) (More first (made.call).others)
         back_these = subst (λ z. AreOpenActuals s depth facts_now z (More first (made.call).others)) traversing.formals (subst (AreOpenActuals s depth facts_now formals) made.actuals_are copied_there)
 
         takes_these : TakesAll (f ∷ traversing.rest) (More first (made.call).others) given_words taken_there.0
@@ -347,7 +346,7 @@ module _ (table : Table) (typed : TypedProgram) (effects : Effects) (input : Lis
         | inr (f, traversed) ↦ traversal_quiet f traversed
         | inl none ↦ subst (λ z. Quiet then_now Given (all_passed (steps.here main_turn) z formals actuals (start main_turn))) (sym (passes_to program n none))
             (all_given (steps.here main_turn) ready.accepted.settled (waiting_in easy.state) state.leaks state.memory [] other facts_now views (viewed_easy plain_there.0).1 (viewed_easy plain_there.0).0 holds_now alone live_now in_formals
-            index_law ready.owns ready.class.parts_named formals_low procedure given_words taken_there.0 formals actuals kinds (acting.unseen_plain table typed effects input ready state top below more_frames rest named p frames deep stages running awaiting of_sub at_point path views viewed_before kept scope holds placed_before above n actuals result e none) called.actuals_stay opens_there copied_there taken_there.1
+            index_law ready.owns ready.class.parts_named formals_low procedure given_words taken_there.0 formals actuals kinds (acting.unseen_plain table typed effects input ready state top below more_frames rest named p frames deep stages running awaiting of_sub at_point path views viewed_before kept scope holds placed_before above n actuals result e none) called.actuals_stay clear_there copied_there taken_there.1
             (subst (λ z. AllowsAll facts_now (acts (flow.actual_values s z actuals))) (passes_to program n none) values_allowed))
       ]
 
@@ -458,9 +457,29 @@ module _ (table : Table) (typed : TypedProgram) (effects : Effects) (input : Lis
 
       -- the state is sound with views under the facts after the acts, and so it is beside the others
 
+      -- the facts after the acts with what frames around hand on
+      abbrev pub facts_all : List Fact
+      facts_all = after (acts copies) facts_now
+
+      pub all_called : (f : Fact) → Has facts_called f → Has facts_all f
+      all_called f has =
+          after_more (acts copies) own_facts facts_now (λ g own. Has-append_left own_facts handed_on g own) f (subst (λ z. Has z f) copies_leave has)
+
+      pub splits_all : Splits facts_all facts_called handed_on
+      splits_all f has = elim (after_splits (acts copies) facts_now own_facts handed_on (innermost.from_both table typed effects input ready state top below more_frames rest named p frames deep stages running awaiting of_sub at_point path views viewed_before kept scope holds placed_before above) f has) [
+        | inl own ↦ inl (subst (λ z. Has z f) (sym copies_leave) own)
+        | inr there ↦ inr there
+      ]
+
+      pub without_called : (around : Around (home s depth)) (view : ways.View) → Viewed (home s depth) (sees_only s) around views view facts_all
+          → ViewedAlone (home s depth) (sees_only s) around views view facts_called
+      without_called around view well =
+          without_loans table typed effects unmoved_stage local state depth older between around views view facts_all facts_called
+          (λ x w has. local x (holds.only x w has)) (innermost.package_owns table typed effects input ready state top below more_frames rest named p frames deep stages running awaiting of_sub at_point path views viewed_before kept scope holds placed_before above) all_called splits_all well
+
       module _ (passed : List Passed) (given : Given passed) where
         abbrev pub other_all : Around (home s depth)
-        other_all = known_gone (home s depth) (GoneElsewhere program effects older)
+        other_all = gone_lent table typed effects unmoved_stage local state depth older between
 
         pub far_views : AreFar (home s depth) views depth
         far_views = lies_far s depth views holds.lies
@@ -476,8 +495,27 @@ module _ (table : Table) (typed : TypedProgram) (effects : Effects) (input : Lis
         abbrev pub cells : List Lodge
         cells = cells_of s state.memory depth views view_now formals actuals passed (given_laid passed given)
 
-        pub well_before : Viewed (home s depth) (sees_only s) other_all views (view_here s easy.state) own_facts
-        well_before = apart_from_them [] views (view_here s easy.state) holds.only (viewed_easy plain_there.0).0
+        pub well_before : Viewed (home s depth) (sees_only s) other_all views (view_here s easy.state) facts_now
+        well_before = with_gone table typed effects unmoved_stage local state depth older between views (view_here s easy.state) facts_now (viewed_easy plain_there.0).0
+
+        -- no view begins at a variable of what is called
+        begins_low : (o : ℕ) (w : Way) → views.way o ≡ Some w → (f y : ℕ) → ways.base_of w ≡ ways.OfRoot (ways.OfVariable f y) → f ≡ suc depth → ⊥
+        begins_low o w has f y begins above_it = elim (holds.lies o w has) [
+          | inl at_home ↦ (let same = (same_variable (home s depth (ways.number_of w)) (ways.number_of w) f y (sym (named_base (home s depth) w at_home) ∙ begins)).0 in
+              not_above s ready.accepted.settled ready.owns in_formals (waiting_in easy.state) state.leaks depth views far_views holds.only facts_all next_there cells (ways.number_of w) (same ∙ above_it))
+          | inr (foreign, low, some) ↦ (let same = (same_variable foreign.0 foreign.1 f y (sym foreign.2 ∙ begins)).0 in omega (arith, low, same, above_it))
+        ]
+
+        -- the acts add none
+        pub less_now : (f : Fact) → Has facts_all f → Has facts_now f
+        less_now f has = elim (splits_all f has) [
+          | inl mine ↦ Has-append_left own_facts handed_on f (acting.adds_none table typed effects input ready state top below more_frames rest named p frames deep stages running awaiting of_sub at_point path views viewed_before kept scope holds placed_before above n actuals result e f mine)
+          | inr there ↦ Has-append_right own_facts handed_on f there
+        ]
+
+        -- loans stay through the acts
+        loan_all : (l : Loan) (h : ℕ) (m : PlaceName) → Has facts_now (Lent l h m) → Has facts_all (Lent l h m)
+        loan_all l h m has = loans_stay s copies (spare_copies s ready.owns procedure formals actuals) facts_now l h m has
 
         -- what is taken
         no_overlap : ((r : Report) → Has (overlap_reports s (alias.passed formals actuals)) r → ⊥) ⊎ ((x : ℕ) → Has formals x → IsCopiedBack s x → IsScalarObject s x)
@@ -499,53 +537,80 @@ module _ (table : Table) (typed : TypedProgram) (effects : Effects) (input : Lis
             (ready.valued.passed named (standing.named_in table typed effects input ready state top older outer named p frames of_sub at_point) p
             (standing.point_in_named table typed effects input ready state top older outer named p frames of_sub at_point) n actuals result e y has)
 
-        -- its facts after the acts, with its views
-        pub called_less : (f : Fact) → Has facts_called f → Has own_facts f
+        -- what the frame knows after the acts, with its views
+        alone_before : ViewedAlone (home s depth) (sees_only s) (known_gone (home s depth) (GoneElsewhere program effects older)) views (view_here s easy.state) own_facts
+        alone_before = apart_from_them [] views (view_here s easy.state) holds.only (viewed_easy plain_there.0).0
+
+        called_less : (f : Fact) → Has facts_called f → Has own_facts f
         called_less f has = acting.adds_none table typed effects input ready state top below more_frames rest named p frames deep stages running awaiting of_sub at_point path views viewed_before kept scope holds placed_before above n actuals result e f has
 
         pub clear_called : FactsAreClear (sees_only s) facts_called
-        clear_called = fewer_clear (sees_only s) own_facts facts_called called_less well_before.clear
+        clear_called = fewer_clear (sees_only s) own_facts facts_called called_less alone_before.clear
 
-        pub loans_more : (l : Loan) (h : ℕ) (m : PlaceName) → Has own_facts (Lent l h m) → Has facts_called (Lent l h m)
+        loans_more : (l : Loan) (h : ℕ) (m : PlaceName) → Has own_facts (Lent l h m) → Has facts_called (Lent l h m)
         loans_more l h m has = loans_stay s (values ++ copies) spare_call own_facts l h m has
 
         pub views_called : AreViews (home s depth) (sees_only s) views (view_here s easy.state) facts_called
         views_called x w has =
-            view_on (home s depth) (sees_only s) other_all views (view_here s easy.state) (view_here s easy.state) own_facts facts_called x w (well_before.views x w has)
+            view_on (home s depth) (sees_only s) other_all views (view_here s easy.state) (view_here s easy.state) own_facts facts_called x w (alone_before.views x w has)
             (λ b m loan. own_loan (sees_only s) own_facts facts_called loans_more b x m loan)
-            (reached (home s depth) (sees_only s) other_all views (view_here s easy.state) own_facts x w (well_before.views x w has))
+            (reached (home s depth) (sees_only s) other_all views (view_here s easy.state) own_facts x w (alone_before.views x w has))
 
-        pub all_passed_ways : (ways_taken : List Way) × ArePassedOn s state.memory cells depth views facts_called next_there formals passed ways_taken outs
-            × ((k : Way) → Has ways_taken k → IsNamedBy s depth views facts_called formals actuals k)
+        -- so it is with what frames around hand on
+        pub clear_all : FactsAreClear (sees_only s) facts_all
+        clear_all = fewer_clear (sees_only s) facts_now facts_all less_now well_before.clear
+
+        pub views_all : AreViews (home s depth) (sees_only s) views (view_here s easy.state) facts_all
+        views_all x w has =
+            view_on (home s depth) (sees_only s) other_all views (view_here s easy.state) (view_here s easy.state) facts_now facts_all x w (well_before.views x w has)
+            (λ b m loan. own_loan (sees_only s) facts_now facts_all loan_all b x m loan)
+            (reached (home s depth) (sees_only s) other_all views (view_here s easy.state) facts_now x w (well_before.views x w has))
+
+        -- names are compared where nothing is gone
+        abbrev pub around_names : Around (home s depth)
+        around_names = lent_only (home s depth) other_all.lent
+
+        pub names_all : Viewed (home s depth) (sees_only s) around_names views (still (view_here s easy.state)) facts_all
+        names_all =
+            still_viewed (home s depth) (sees_only s) other_all.lent views (view_here s easy.state) facts_all well_before.owned well_before.covered clear_all views_all well_before.shown
+            (λ l m lent. lends_on (sees_only s) views facts_now facts_all loan_all l m (well_before.lends l m lent))
+
+        pub all_passed_ways : (ways_taken : List Way) × ArePassedOn s state.memory cells depth views facts_all next_there formals passed ways_taken outs
+            × ((k : Way) → Has ways_taken k → IsNamedBy s depth views facts_all formals actuals k)
         all_passed_ways =
-            all_passed_on s ready.owns ready.accepted.settled state.memory cells depth views holds.only view_now facts_called views_called clear_called next_there procedure formals actuals passed
-            own_facts laid kinds
+            all_passed_on s ready.owns ready.accepted.settled state.memory cells depth views holds.only view_now facts_all around_names (still (view_here s easy.state)) names_all next_there procedure formals actuals passed
+            facts_now laid kinds
             called.local called.differ
-            within_next no_overlap copies_leave copies_own (λ c has. has)
+            within_next no_overlap refl copies_allowed (λ c has. has)
 
         abbrev pub ways_taken : List Way
         ways_taken = all_passed_ways.0
 
         -- they begin at variables of the frame, or of package objects, or of frames below
         pub begun : (to : Way) → Has ways_taken to → Begins s depth to
-        begun to has = passed_base s state.memory cells depth views facts_called next_there formals passed ways_taken outs all_passed_ways.1 to has
+        begun to has = passed_base s state.memory cells depth views facts_all next_there formals passed ways_taken outs all_passed_ways.1 to has
 
         abbrev outs_gone : Way → Type 0
         outs_gone w = GoneElsewhere program effects older w ⊎ IsUnderOne outs w
 
         -- under the facts after the acts, what is to be emptied may be gone
-        pub stands_called : OwnersStand (home s depth) views facts_called outs_gone (view_here s easy.state)
-        stands_called =
-            subst (λ z. OwnersStand (home s depth) views z outs_gone (view_here s easy.state))
-            (sym copies_leave)
-            (all_acted (steps.here main_turn) ready.accepted.settled (waiting_in easy.state) state.leaks state.memory [] other facts_now views (viewed_easy plain_there.0).1 (viewed_easy plain_there.0).0 holds_now alone live_now in_formals
-            index_law ready.owns ready.class.parts_named formals_low procedure outs_gone formals actuals passed own_facts given (λ w under. inr under)
-            (more_gone (home s depth) views own_facts (GoneElsewhere program effects older) outs_gone (view_here s easy.state) (λ w gone. inl gone)
-            (owners_stand (home s depth) (sees_only s) views (GoneElsewhere program effects older) (view_here s easy.state) own_facts well_before)))
+        pub stands_all : OwnersStand (home s depth) views facts_all outs_gone (view_here s easy.state)
+        stands_all =
+            all_acted (steps.here main_turn) ready.accepted.settled (waiting_in easy.state) state.leaks state.memory [] other facts_now views (viewed_easy plain_there.0).1 (viewed_easy plain_there.0).0 holds_now alone live_now in_formals
+            index_law ready.owns ready.class.parts_named formals_low procedure outs_gone formals actuals passed facts_now given (λ w under. inr under)
+            (record {
+              owned = well_before.owned;
+              covered = well_before.covered;
+              known = λ w l rooted r gone. elim (well_before.known w l rooted r gone) [
+                | inl (inl moved) ↦ inl moved
+                | inl (inr none) ↦ absurd none
+                | inr there ↦ inr (inl there)
+              ];
+            })
 
         -- the names of those cells
-        pub named_cell : (c : Lodge) → Has cells c → IsCellNamed s depth facts_called views view_now formals actuals passed c
-        named_cell c has = cells_named s ready.accepted.settled ready.owns state.memory depth facts_called procedure views view_now formals actuals passed own_facts laid copies_leave copies_own c has
+        pub named_cell : (c : Lodge) → Has cells c → IsCellNamed s depth facts_all views view_now formals actuals passed c
+        named_cell c has = cells_named s ready.accepted.settled ready.owns state.memory depth facts_all procedure views view_now formals actuals passed facts_now laid refl copies_allowed c has
 
         pub cell_root : (c : Lodge) (has : Has cells c) → ways.number_of c.name ≡ ways.number_of (named_cell c has).whole
         cell_root c has = sym (longer c.name (named_cell c has).whole (named_cell c has).begins).root
@@ -559,26 +624,26 @@ module _ (table : Table) (typed : TypedProgram) (effects : Effects) (input : Lis
         -- their ways begin at variables of the frame, or of package objects
         pub cell_begins : (c : Lodge) → Has cells c → (g : ℕ) × (y : ℕ) × (ways.base_of c.way ≡ ways.OfRoot (ways.OfVariable g y)) × (g ≡ suc depth → ⊥)
         cell_begins c has =
-            elim (stands (home s depth) (sees_only s) views (view_here s easy.state) facts_called views_called c.name (cell_plain c has)) [
+            elim (stands (home s depth) (sees_only s) views (view_here s easy.state) facts_all views_all c.name (cell_plain c has)) [
               | inl own ↦ (
-                  let named_there : ways.Named (home s depth) c.way = subst (ways.Named (home s depth)) (named_cell c has).leads own.0 in (
+                  let named_there : ways.Named (home s depth) c.way = subst (ways.Named (home s depth)) (named_cell c has).leads own.named in (
                     home s depth (ways.number_of c.way),
                     ways.number_of c.way,
                     named_base (home s depth) c.way named_there,
-                    not_above s ready.accepted.settled ready.owns in_formals (waiting_in easy.state) state.leaks depth views far_views holds.only facts_called next_there cells (ways.number_of c.way),
+                    not_above s ready.accepted.settled ready.owns in_formals (waiting_in easy.state) state.leaks depth views far_views holds.only facts_all next_there cells (ways.number_of c.way),
                   ))
               | inr held_there ↦ (
-                  let foreign = held_there.passed.foreign in (
-                    foreign.0,
-                    foreign.1,
-                    ap ways.base_of (sym (named_cell c has).leads) ∙ base_under held_there.way (expand views c.name) held_there.under ∙ foreign.2,
-                    (λ same. (let low = far_views held_there.object held_there.way held_there.has foreign in omega (arith, low, same))),
+                  let (f, y, begins) = held_there.passed.begins in (
+                    f,
+                    y,
+                    ap ways.base_of (sym (named_cell c has).leads) ∙ base_under held_there.way (expand views c.name) held_there.under ∙ begins,
+                    begins_low held_there.object held_there.way held_there.has f y begins,
                   ))
             ]
 
         -- one of another place
         housed_aside : (c : Lodge) (has : Has cells c) (k : Place) → k.base ≡ memory.OfCell c.cell
-            → (u : Way) × Has ways_taken u × IsPassedOn s cells depth views facts_called next_there (named_cell c has).by.formal k u → (to : Way) → Has ways_taken to → ways.Past to c.way → ⊥
+            → (u : Way) × Has ways_taken u × IsPassedOn s cells depth views facts_all next_there (named_cell c has).by.formal k u → (to : Way) → Has ways_taken to → ways.Past to c.way → ⊥
         housed_aside c has k base (u, has_u, one) to taken past = elim (one.inside).stands [
           | inl variable ↦ (let never : memory.OfVariable (one.inside).frame (one.inside).object ≡ memory.OfCell c.cell = sym variable.2 ∙ base in cc)
           | inr cell ↦ (
@@ -590,7 +655,7 @@ module _ (table : Table) (typed : TypedProgram) (effects : Effects) (input : Lis
               let trunk_is : c.way ≡ (one.inside).trunk = one_way view well_before.owned c.way (one.inside).trunk (ways.OfCell c.cell) (named_cell c has).reaches reach in
               let goes_on : u ≡ ways.along c.way (one.inside).steps = (one.inside).way ∙ ap (λ z. ways.along z (one.inside).steps) (sym trunk_is) in
               let below : ways.Under c.way u = subst (ways.Under c.way) (sym goes_on) (under_along c.way c.way (one.inside).steps (under_itself c.way)) in
-              elim (passed_pair s state.memory cells depth views facts_called next_there formals passed ways_taken outs all_passed_ways.1 to u taken has_u) [
+              elim (passed_pair s state.memory cells depth views facts_all next_there formals passed ways_taken outs all_passed_ways.1 to u taken has_u) [
                 | inl same ↦ not_before c.way (one.inside).steps (subst (λ z. ways.Past z c.way) (same ∙ goes_on) past)
                 | inr apart ↦ apart.0 (under_on to c.way u (past_under to c.way past) below)
               ])
@@ -606,7 +671,7 @@ module _ (table : Table) (typed : TypedProgram) (effects : Effects) (input : Lis
             let cell = named_cell c has in
             let below : ways.Under c.way (expand views cell.whole) =
             subst (λ z. ways.Under z (expand views cell.whole)) cell.leads (expand_under views c.name cell.whole (λ r is. absurd (cell.deep r is)) cell.begins) in
-            names_off (home s depth) (sees_only s) views (view_here s easy.state) facts_called views_called clear_called by.name cell.whole
+            names_off (home s depth) (sees_only s) around_names views (still (view_here s easy.state)) facts_all names_all by.name cell.whole
             (by.named, by.plain) (cell.named, cell.plain) by.unlent cell.unlent
             (λ over. taken_apart to taken c has scalar over)
             (under_on (expand views by.name) c.way (expand views cell.whole) (subst (λ z. ways.Under z c.way) (sym by.means) (past_under to c.way past)) below)
@@ -627,7 +692,7 @@ module _ (table : Table) (typed : TypedProgram) (effects : Effects) (input : Lis
         pub cell_aside : (c : Lodge) → Has cells c → (to : Way) → Has ways_taken to → ways.Past to c.way → ⊥
         cell_aside c has to taken past = elim (named_cell c has).sort [
           | inl scalar ↦ scalar_aside c has scalar to taken past
-          | inr (k, base, from, many) ↦ housed_aside c has k base (from_taken s state.memory cells depth views facts_called next_there formals passed ways_taken outs all_passed_ways.1
+          | inr (k, base, from, many) ↦ housed_aside c has k base (from_taken s state.memory cells depth views facts_all next_there formals passed ways_taken outs all_passed_ways.1
               (named_cell c has).by.formal k from many) to taken past
         ]
 
@@ -644,9 +709,12 @@ module _ (table : Table) (typed : TypedProgram) (effects : Effects) (input : Lis
         abbrev pub waits_there : ViewStage
         waits_there = record { stage = waits_with all_passed_ways.0; views = views; cells = cells }
 
-        -- a package object where a way of them begins is passed by its name, or borrowed
+        abbrev Given_to : Way → Type 0
+        Given_to to = FromGiven (home s depth) (sees_only s) views (view_here s easy.state) facts_called views_called to
+
+        -- a package object where a way of them begins is passed by its name, or borrowed; or it was lent to the frame
         first_named : (to : Way) (has : Has ways_taken to) (y : ℕ) → ways.base_of to ≡ ways.OfRoot (ways.OfVariable 0 y) → is_package_object s y ≡ true
-            → ((all_passed_ways.2 to has).by.actual.name.root ≡ y) ⊎ ((h : ℕ) × (name : PlaceName) × Has facts_called (Lent Borrowed h name) × (name.root ≡ y))
+            → ((all_passed_ways.2 to has).by.actual.name.root ≡ y) ⊎ (((h : ℕ) × (name : PlaceName) × Has facts_called (Lent Borrowed h name) × (name.root ≡ y)) ⊎ Given_to to)
         first_named to has y base shared =
             let by = all_passed_ways.2 to has in
             let first : 0 ≡ home s depth y = ap (λ b. if b then 0 else depth) (sym shared) in
@@ -660,25 +728,36 @@ module _ (table : Table) (typed : TypedProgram) (effects : Effects) (input : Lis
                   let goes_there : to ≡ on lift.way lift.rest = sym by.means ∙ lifted_way views by.name lift in
                   let whole : ways.Named (home s depth) to = base_named (home s depth) to y own in
                   let front : ways.Named (home s depth) lift.way = on_named (home s depth) lift.way lift.rest (subst (ways.Named (home s depth)) goes_there whole) in
-                  let goes = borrower_goes (home s depth) (sees_only s) views (view_here s easy.state) facts_called views_called lift.object lift.way
-                  (ap (sees_only s) (sym (lifted_root views by.name lift)) ∙ by.plain) lift.has front in
-                  inr (
-                    goes.0,
-                    ways.name_of goes.1,
-                    goes.2,
-                    sym (longer goes.1 lift.way goes.4).root
-                        ∙ number_based (home s depth) lift.way y front (sym (base_on lift.way lift.rest) ∙ ap ways.base_of (sym goes_there) ∙ own),
-                  ))
+                  inr (elim (borrower_from (home s depth) (sees_only s) views (view_here s easy.state) facts_called views_called lift.object lift.way
+                  (ap (sees_only s) (sym (lifted_root views by.name lift)) ∙ by.plain) lift.has) [
+                    | inl goes ↦ inl (
+                      goes.0,
+                      ways.name_of goes.1,
+                      goes.2,
+                      sym (longer goes.1 lift.way goes.4).root
+                          ∙ number_based (home s depth) lift.way y front (sym (base_on lift.way lift.rest) ∙ ap ways.base_of (sym goes_there) ∙ own),
+                    )
+                    | inr (x, u, is, given, sees, under) ↦ inr (
+                      x,
+                      u,
+                      is,
+                      given,
+                      sees,
+                      subst (ways.Under u) (sym goes_there) (under_on u lift.way (on lift.way lift.rest) under (on_under lift.way lift.rest)),
+                    )
+                  ]))
             ]
 
-        written_to : (to : Way) → Has ways_taken to → (y : ℕ) → ways.base_of to ≡ ways.OfRoot (ways.OfVariable 0 y) → is_package_object s y ≡ true → Has (written_by effects top.frame.sub) y
-        written_to to has y base shared =
+        pub goes_to : (to : Way) → Has ways_taken to → (y : ℕ) → ways.base_of to ≡ ways.OfRoot (ways.OfVariable 0 y) → is_package_object s y ≡ true
+            → Has (written_by effects top.frame.sub) y ⊎ Given_to to
+        goes_to to has y base shared =
             let by = all_passed_ways.2 to has in
             elim (first_named to has y base shared) [
-              | inl root ↦ subst (Has (written_by effects top.frame.sub)) root (act_of_passed by.by by.among by.back (ap (is_package_object s) root ∙ shared))
-              | inr (h, name, lent, root) ↦ subst (Has (written_by effects top.frame.sub)) root
+              | inl root ↦ inl (subst (Has (written_by effects top.frame.sub)) root (act_of_passed by.by by.among by.back (ap (is_package_object s) root ∙ shared)))
+              | inr (inr given) ↦ inr given
+              | inr (inl (h, name, lent, root)) ↦ inl (subst (Has (written_by effects top.frame.sub)) root
                   (innermost.borrowed_writes table typed effects input ready state top below more_frames rest named p frames deep stages running awaiting of_sub at_point path views viewed_before kept scope holds placed_before above
-                  h name (called_less (Lent Borrowed h name) lent) (ap (is_package_object s) root ∙ shared))
+                  h name (called_less (Lent Borrowed h name) lent) (ap (is_package_object s) root ∙ shared)))
             ]
 
         cell_named_root : (c : Lodge) (has : Has cells c) → (named_cell c has).by.actual.name.root ≡ ways.number_of c.name
@@ -704,25 +783,40 @@ module _ (table : Table) (typed : TypedProgram) (effects : Effects) (input : Lis
             let cell = named_cell c has in
             unused_passed cell.by cell.among cell.back (ap (is_package_object s) (cell_named_root c has) ∙ shared) (subst (Uses effects n) (sym (cell_named_root c has)) uses)
 
-        unused_to : (to : Way) → Has ways_taken to → (y : ℕ) → ways.base_of to ≡ ways.OfRoot (ways.OfVariable 0 y) → is_package_object s y ≡ true → Uses effects n y → ⊥
-        unused_to to has y base shared uses =
+        -- what was lent to the frame it doesn't write
+        lent_unwritten : (to : Way) (y : ℕ) → ways.base_of to ≡ ways.OfRoot (ways.OfVariable 0 y) → is_package_object s y ≡ true → Given_to to
+            → Has (written_by effects top.frame.sub) y → ⊥
+        lent_unwritten to y base shared (x, u, is, given, sees, under) written =
+            let first : 0 ≡ home s depth y = ap (λ b. if b then 0 else depth) (sym shared) in
+            let based : ways.base_of u ≡ ways.OfRoot (ways.OfVariable (home s depth y) y) =
+            sym (base_under u to under) ∙ base ∙ ap (λ f. ways.OfRoot (ways.OfVariable f y)) first in
+            let (l, (k, at, under_k, lent), changed) = (placed_before.1).1 x u is given (base_named (home s depth) u y based) in
+            let number : ways.number_of k ≡ y = number_based (home s depth) k y at (sym (base_under k u under_k) ∙ based) in
+            innermost.spared_here table typed effects input ready state top below more_frames rest named p frames deep stages running awaiting of_sub at_point path views viewed_before kept scope holds placed_before above
+            l (ways.name_of k) lent (written_disturbs table typed effects ready.accepted.effects_are l top.frame.sub (ways.number_of k)
+            (subst (Has (written_by effects top.frame.sub)) (sym number) written))
+
+        unused_to : (to : Way) → Has ways_taken to → (y : ℕ) → ways.base_of to ≡ ways.OfRoot (ways.OfVariable 0 y) → is_package_object s y ≡ true
+            → Has (written_by effects top.frame.sub) y → Uses effects n y → ⊥
+        unused_to to has y base shared written uses =
             let by = all_passed_ways.2 to has in
             elim (first_named to has y base shared) [
               | inl root ↦ unused_passed by.by by.among by.back (ap (is_package_object s) root ∙ shared) (subst (Uses effects n) (sym root) uses)
-              | inr (h, name, lent, root) ↦ lends_there Borrowed h name (subst (λ z. Has z (Lent Borrowed h name)) (sym facts_there) lent) (ap (is_package_object s) root ∙ shared)
+              | inr (inr given) ↦ lent_unwritten to y base shared given written
+              | inr (inl (h, name, lent, root)) ↦ lends_there Borrowed h name (subst (λ z. Has z (Lent Borrowed h name)) (sym facts_there) lent) (ap (is_package_object s) root ∙ shared)
                   (subst (Uses effects n) (sym root) uses)
             ]
 
         -- so it is with each object of which a part is passed
-        pub root_written : (y : ℕ) → Has (passed_roots waits_there) y → is_package_object s y ≡ true → Has (written_by effects top.frame.sub) y
-        root_written y passed shared = elim (passed_from waits_there y passed) [
-          | inl (to, has, base) ↦ written_to to has y base shared
+        pub root_written : (y : ℕ) → Has (passed_roots effects waits_there) y → is_package_object s y ≡ true → Has (written_by effects top.frame.sub) y
+        root_written y passed shared = elim (passed_from effects waits_there y passed) [
+          | inl (to, has, base, written) ↦ written
           | inr (c, has, is) ↦ subst (Has (written_by effects top.frame.sub)) is (written_cell c has (ap (is_package_object s) is ∙ shared))
         ]
 
-        pub root_unused : (y : ℕ) → Has (passed_roots waits_there) y → is_package_object s y ≡ true → Uses effects n y → ⊥
-        root_unused y passed shared uses = elim (passed_from waits_there y passed) [
-          | inl (to, has, base) ↦ unused_to to has y base shared uses
+        pub root_unused : (y : ℕ) → Has (passed_roots effects waits_there) y → is_package_object s y ≡ true → Uses effects n y → ⊥
+        root_unused y passed shared uses = elim (passed_from effects waits_there y passed) [
+          | inl (to, has, base, written) ↦ unused_to to has y base shared written uses
           | inr (c, has, is) ↦ unused_cell c has (ap (is_package_object s) is ∙ shared) (subst (Uses effects n) (sym is) uses)
         ]
 
@@ -730,7 +824,7 @@ module _ (table : Table) (typed : TypedProgram) (effects : Effects) (input : Lis
         pub off_taken : (x : ℕ) (w : Way) → views.way x ≡ Some w → (to : Way) → Has ways_taken to → ways.Past to w → ⊥
         off_taken x w has to taken past =
             let by = all_passed_ways.2 to taken in
-            off_view (home s depth) (sees_only s) views (view_here s easy.state) facts_called views_called clear_called by.name x w (by.named, by.plain) by.unlent has
+            off_view (home s depth) (sees_only s) around_names views (still (view_here s easy.state)) facts_all names_all by.name x w (by.named, by.plain) by.unlent has
             (subst (λ z. ways.Past z w) (sym by.means) past)
 
         -- the ways of views don't begin at formals of the callee
@@ -743,7 +837,7 @@ module _ (table : Table) (typed : TypedProgram) (effects : Effects) (input : Lis
               λ up. elim root.3 [
                 | inl named_there ↦ (
                     let same = same_variable (home s depth (ways.number_of w)) (ways.number_of w) root.0 root.1 (sym (named_base (home s depth) w named_there) ∙ root.2) in
-                    not_above s ready.accepted.settled ready.owns in_formals (waiting_in easy.state) state.leaks depth views far_views holds.only facts_called next_there cells (ways.number_of w)
+                    not_above s ready.accepted.settled ready.owns in_formals (waiting_in easy.state) state.leaks depth views far_views holds.only facts_all next_there cells (ways.number_of w)
                     (same.0 ∙ up))
                 | inr foreign ↦ (
                     let same = (same_variable foreign.0 foreign.1 root.0 root.1 (sym foreign.2 ∙ root.2)).0 in
@@ -751,31 +845,42 @@ module _ (table : Table) (typed : TypedProgram) (effects : Effects) (input : Lis
               ],
             )
 
-        -- the frames around keep nothing of it
-        spared_to : (to : Way) → Has ways_taken to → (y : ℕ) → ways.base_of to ≡ ways.OfRoot (ways.OfVariable (home s depth y) y)
-            → IsSpared table typed effects unmoved_stage local state depth older between y
-        spared_to to has y base l name lent root =
-            let shared : is_package_object s y ≡ true = ap (is_package_object s) (sym root) ∙ lent.5 in
-            let written = written_to to has y (base ∙ ap (λ b. ways.OfRoot (ways.OfVariable (if b then 0 else depth) y)) shared) shared in
+        -- the frames around keep nothing of what the frame writes
+        written_spared : (y : ℕ) → Has (written_by effects top.frame.sub) y → IsSpared table typed effects unmoved_stage local state depth older between y
+        written_spared y written l name lent root =
             innermost.spared_here table typed effects input ready state top below more_frames rest named p frames deep stages running awaiting of_sub at_point path views viewed_before kept scope holds placed_before above
             l name lent (written_disturbs table typed effects ready.accepted.effects_are l top.frame.sub name.root
             (subst (Has (written_by effects top.frame.sub)) (sym root) written))
+
+        -- so it is with what is taken, or it is behind what was lent to the frame
+        spared_to : (to : Way) → Has ways_taken to → (y : ℕ) → ways.base_of to ≡ ways.OfRoot (ways.OfVariable (home s depth y) y)
+            → IsSpared table typed effects unmoved_stage local state depth older between y ⊎ Given_to to
+        spared_to to has y base = elim (bool_cases (is_package_object s y)) [
+          | inr mine ↦ inl (λ l name lent root. true_false (is_package_object s y) (ap (is_package_object s) (sym root) ∙ lent.5) mine)
+          | inl shared ↦ elim (goes_to to has y (base ∙ ap (λ b. ways.OfRoot (ways.OfVariable (if b then 0 else depth) y)) shared) shared) [
+            | inl written ↦ inl (written_spared y written)
+            | inr given ↦ inr given
+          ]
+        ]
 
         pub free_to : (to : Way) → Has ways_taken to → IsFree table typed effects unmoved_stage local state depth older between to
         free_to to has =
             let by = all_passed_ways.2 to has in
             subst (IsFree table typed effects unmoved_stage local state depth older between) by.means
-            (free_name table typed effects unmoved_stage local state depth older between views (view_here s easy.state) facts_called views_called placed_before.1
-            (λ x w z there foreign gone meets. well_before.whole x w z there foreign gone meets) by.name by.named by.plain
-            (λ y base. spared_to to has y (ap ways.base_of (sym by.means) ∙ base)))
+            (free_name table typed effects unmoved_stage local state depth older between views (view_here s easy.state) facts_called views_called (placed_before.1).0
+            (λ x w z there outer gone meets. well_before.whole x w z there outer gone meets) by.name by.named by.plain
+            (λ y base. elim (spared_to to has y (ap ways.base_of (sym by.means) ∙ base)) [
+              | inl none ↦ inl none
+              | inr given ↦ inr (subst Given_to (sym by.means) given)
+            ]))
 
-        pub open_there : IsOpen (IsMovedBy (home s depth) views facts_called) (GoneElsewhere program effects older) ways_taken
+        pub open_there : IsOpen (IsMovedBy (home s depth) views facts_all) (GoneElsewhere program effects older) ways_taken
         open_there = record {
           free = λ k w under o. elim o [
             | inr gone ↦ (let root = gone_low table typed effects unmoved_stage local state depth older between w gone in
                 hand_base (sym (base_under (ways.Object (ways.OfHand k)) w under) ∙ root.2))
             | inl (u, moved, leads) ↦ (
-                let root = stands_base (home s depth) (sees_only s) views (view_here s easy.state) facts_called views_called u (moved.0, clear_called.owned (ways.name_of u) moved.1) in
+                let root = stands_base (home s depth) (sees_only s) views (view_here s easy.state) facts_all views_all u (moved.0, clear_all.owned (ways.name_of u) moved.1) in
                 hand_base (sym (base_under (ways.Object (ways.OfHand k)) w under) ∙ ap ways.base_of (sym leads) ∙ root.2))
           ];
           whole = λ to has w under gone. gone_clear table typed effects unmoved_stage local state depth older between to (free_to to has) w gone (inl under);
@@ -806,15 +911,13 @@ module _ (table : Table) (typed : TypedProgram) (effects : Effects) (input : Lis
                       let frames_same = (same_variable there.0 there.1 (suc depth) x (sym there.2 ∙ base_along (ways.Object root) q)).0 in
                       let less = there.3 in omega (arith, frames_same, less))
                   | inl (inr none) ↦ absurd none
-                  | inl (inl (u, moved, leads)) ↦ elim (stands (home s depth) (sees_only s) views (view_here s easy.state) own_facts well_before.views u
+                  | inl (inl (u, moved, leads)) ↦ elim (stands (home s depth) (sees_only s) views (view_here s easy.state) facts_now well_before.views u
                       (moved.0, well_before.clear.owned (ways.name_of u) moved.1)) [
                         | inl own ↦ not_named (home s depth) (suc depth) x
-                            (not_above s ready.accepted.settled ready.owns in_formals (waiting_in easy.state) state.leaks depth views far_views holds.only facts_called next_there cells) w
-                            (subst (ways.Named (home s depth)) leads own.0) (base_along (ways.Object root) q)
+                            (not_above s ready.accepted.settled ready.owns in_formals (waiting_in easy.state) state.leaks depth views far_views holds.only facts_all next_there cells) w
+                            (subst (ways.Named (home s depth)) leads own.named) (base_along (ways.Object root) q)
                         | inr held_there ↦ (
-                            let foreign = held_there.passed.foreign in
-                            let low = far_views held_there.object held_there.way held_there.has foreign in
-                            let at = sym foreign.2 ∙ sym (base_under held_there.way (expand views u) held_there.under) ∙ ap ways.base_of leads ∙ base_along (ways.Object root) q in
-                            let frames_same = (same_variable foreign.0 foreign.1 (suc depth) x at).0 in omega (arith, low, frames_same))
+                            let at = sym (base_under held_there.way (expand views u) held_there.under) ∙ ap ways.base_of leads ∙ base_along (ways.Object root) q in
+                            begins_low held_there.object held_there.way held_there.has (suc depth) x at refl)
                       ]
                 ])

@@ -45,7 +45,7 @@ use Rattle.soundness.proofs.Numbers.{index_law}
 use Rattle.soundness.proofs.Scalars.{acts}
 use Rattle.soundness.proofs.Taking.{Takes, takes_as, takes_zero, no_takes, nothing_more}
 use Rattle.owned_loans.specs.Views.{Around, Views, expand, ExcusedBy, Viewed, IsForeign}
-use Rattle.owned_loans.proofs.Ways.{lifts, lifted_way, root_on, base_on}
+use Rattle.owned_loans.proofs.Ways.{lifts, lifted_way, root_on, base_on, home_or_foreign}
 use Rattle.owned_loans.proofs.Moves.{as_sound, all_known, view_on, view_rooted, reached}
 use Rattle.owned_loans.proofs.Meeting.{stands}
 use Rattle.viewed_soundness.specs.Taken.{GivesPlainly}
@@ -170,6 +170,8 @@ module _ (s : Typing) (settled : IsSettled s.table) (home : ℕ → ℕ) (observ
             view_on home observer other v a b facts facts y w view (λ seen n loan. loan)
             (stays y w has (view_rooted home observer other v a facts viewed.views y w has).3 (reached home observer other v a facts y w view)));
         whole = viewed.whole;
+        whole_away = viewed.whole_away;
+        shown = viewed.shown;
         past = viewed.past;
         far = λ w n keeps. (let root = other.begins w n keeps in
             far_off a b f x root.0 root.1 (λ l off. word_off s m (got ∷ rest) rest leaks f x got.words l off) w (OfCell n) root.2
@@ -281,12 +283,17 @@ module _ (t : Turn) (settled : IsSettled (typing t).table) (own_law : OwnsByShap
       let root : number_of (expand v u) ≡ x = ap number_of leads ∙ number_part (Object (OfVariable depth x)) p in
       let at : base_of (expand v u) ≡ OfRoot (OfVariable depth x) = ap base_of leads ∙ along_base (Object (OfVariable depth x)) p in
       elim (stands (home s depth) (sees_only s) v z facts viewed.views u (moved.0, viewed.clear.owned (ways.name_of u) moved.1)) [
-        | inr held ↦ (
-            let foreign = held.passed.foreign in
-            (free.0 held.object held.way held.has).0 foreign
-            (base_frame foreign.0 foreign.1 depth x (sym foreign.2 ∙ sym (longer held.way (expand v u) held.under).base ∙ at)))
+        | inr held ↦ elim (home_or_foreign (home s depth) held.way held.passed.begins) [
+          | inr foreign ↦ (free.0 held.object held.way held.has).0 foreign
+              (base_frame foreign.0 foreign.1 depth x (sym foreign.2 ∙ sym (longer held.way (expand v u) held.under).base ∙ at))
+          | inl at_home ↦ (
+              let below = longer held.way (expand v u) held.under in
+              let named : Named (home s depth) (along (Object (OfVariable depth x)) p) =
+              same_named (home s depth) (along (Object (OfVariable depth x)) p) held.way (ap base_of (sym leads) ∙ below.base) at_home in
+              (free.0 held.object held.way held.has).1 at_home (sym (in_home (home s depth) depth x p named)) (sym below.root ∙ root))
+        ]
         | inl own ↦ (
-            let named : Named (home s depth) (along (Object (OfVariable depth x)) p) = subst (Named (home s depth)) leads own.0 in
+            let named : Named (home s depth) (along (Object (OfVariable depth x)) p) = subst (Named (home s depth)) leads own.named in
             elim (stands_root v u) [
               | inl e ↦ unmoved (ways.name_of u) moved.1 (sym e ∙ root) (in_home (home s depth) depth x p named)
               | inr (y, k, has, e, base) ↦ (free.0 y k has).1

@@ -5,7 +5,7 @@ use Rattle.place_names.specs.declared.act.Act.TheVariants as act
 use Rattle.place_names.specs.declared.fact.Fact.{Fact}
 use Rattle.place_names.specs.declared.fact.Fact.TheVariants.{Lent}
 use Rattle.place_names.specs.declared.rule.Loan.{Loan}
-use Rattle.place_names.specs.declared.rule.Loan.TheVariants.{Observed}
+use Rattle.place_names.specs.declared.rule.Loan.TheVariants.{Observed, Borrowed}
 use Rattle.place_names.specs.Names.{Name as PlaceName}
 use Rattle.place_names.specs.Facts.{effect}
 use Rattle.flow_paths.specs.Instructions.{EndScope}
@@ -27,7 +27,7 @@ use Rattle.soundness.specs.Sound as sound
 use Rattle.soundness.proofs.Defaults.{none_default}
 use Rattle.soundness.proofs.Keeping.{cell_has}
 use Rattle.soundness.proofs.Memories.{removed_same, removed_other}
-use Rattle.owned_loans.specs.Views.{Around, Views, Viewed, Unused, with_view}
+use Rattle.owned_loans.specs.Views.{Around, Views, Viewed, Unused, with_view, IsThrough}
 use Rattle.owned_loans.proofs.Safe.{root_before}
 use Rattle.owned_loans.proofs.Taken.{becomes_with, given_up}
 use Rattle.viewed_soundness.specs.Holds.{PartsAreNamed, is_view, sees_only, is_given}
@@ -36,8 +36,8 @@ use Rattle.viewed_soundness.proofs.Outcomes.{LeavesOthers, Is_left, scope_left, 
 use Rattle.viewed_steps.specs.Sound.{Lasts, IsFading, HoldsAt, ArePlaced}
 use Rattle.viewed_steps.proofs.Faded.{without, had_way, has_way, no_way, faded}
 use Rattle.viewed_steps.proofs.Placed.{lasts_on, within_on}
-use Rattle.owned_loans.proofs.Meeting.{named_view}
 use Rattle.viewed_steps.proofs.Views.{view_ends}
+use Rattle.owned_ways.proofs.Named.{longer}
 
 -- an object that isn't a borrower or observer has no anonymous type, if those that have one are
 -- variables
@@ -127,10 +127,6 @@ module _ (t : Turn) (settled : IsSettled (typing t).table) (own_law : OwnsByShap
     | inl own ↦ own.older e
     | inr passed ↦ absurd (passed.given named)
   ]
-
-  -- a view whose way is of the frame was taken from an object of the frame
-  up_named : (x : ℕ) (w : Way) → v.way x ≡ Some w → Named Home w → Named Home (v.up x)
-  up_named x w has named = (named_view Home (sees_only s) v (sound.view_of s t.state) facts viewed.views x w has named).named
 
   -- nothing that another view goes by is the object
   other_root : (x : ℕ) → is_within x p.scope ≡ true → (x ≡ y → ⊥) → fades x ≡ false → (r : ℕ) → Lasts t.program p.scope r x
@@ -225,12 +221,19 @@ module _ (t : Turn) (settled : IsSettled (typing t).table) (own_law : OwnsByShap
 
   -- the root of a way isn't the object, and no loan that is gone by is its
   root_left : (x : ℕ) (w : Way) → views_left.way x ≡ Some w → Named Home w → number_of w ≡ y → ⊥
-  root_left x w has named =
+  root_left x w has named is =
       let old = leaves.1.was x w has in
       let place = placed x w old.2 in
-      other_root x place.within old.0 old.1 (number_of w) (place.root named)
-      (λ e. root_before Home (sees_only s) v (sound.view_of s t.state) facts viewed.views viewed.clear x w old.2 e named)
-      (λ formal. holds.passed x w old.2 formal (up_named x w old.2 named))
+      let through : (l : Loan) → IsThrough Home other.lent l w → ⊥ = λ l (k, at_home, under, lent). unlent l (name_of k) lent (sym (longer k w under).root ∙ is) in
+      elim (viewed.views x w old.2) [
+        | inr passed ↦ (let (l, lent, changed) = viewed.shown x w old.2 passed.given named in through l lent)
+        | inl view ↦ other_root x place.within old.0 old.1 (number_of w) (place.root named)
+            (λ e. elim (root_before Home (sees_only s) other v (sound.view_of s t.state) facts viewed x w old.2 e named) [
+              | inl less ↦ less
+              | inr lent ↦ absurd (through Borrowed lent)
+            ])
+            (λ formal. holds.passed x w old.2 formal view.named) is
+      ]
 
   holder_left : (x : ℕ) (w : Way) → views_left.way x ≡ Some w → Named Home (v.up x) → sees_only s x ≡ true
       → (h : ℕ) × Has after_end (Lent Observed h (name_of (views_left.loan x))) × Lasts t.program p.scope h x × (h ≡ y → ⊥)

@@ -73,13 +73,15 @@ module _ (home : ℕ → ℕ) (observer : ℕ → Bool) (other : Around home) (v
             reaches = view.reaches;
           })
           | inr passed ↦ inr (record {
-            foreign = passed.foreign;
+            begins = passed.begins;
             given = passed.given;
             alone = λ plain y u there. passed.alone plain y u (had_way v fades y u there).1;
             reaches = passed.reaches;
           })
         ]);
-    whole = λ x w z has foreign gone meets. viewed.whole x w z (had_way v fades x w has).1 foreign gone meets;
+    whole = λ x w z has outer gone meets. viewed.whole x w z (had_way v fades x w has).1 outer gone meets;
+    whole_away = λ x w z has given away meets. viewed.whole_away x w z (had_way v fades x w has).1 given away meets;
+    shown = λ x w has given named. viewed.shown x w (had_way v fades x w has).1 given named;
     past = λ x w has. viewed.past x w (had_way v fades x w has).1;
     lends = λ l n lent. (let old = viewed.lends l n lent in record {
       has = old.has;

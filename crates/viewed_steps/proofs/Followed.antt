@@ -159,7 +159,7 @@ module _ (table : Table) (typed : TypedProgram) (effects : Effects) (input : Lis
   call_keeps : after (acts (values ++ copies)) own_facts ≡ own_facts
   call_keeps =
       (λ i. after (acts (actual_values s (ways_are.ways i) (made.actuals_are i) ++ actual_acts (ways_are.ways i) (made.actuals_are i))) own_facts)
-      ∙ traversal_keeps s ready.owns f ways_are.rest made.call seen_first.0 unseen others_stay modes own_facts
+      ∙ traversal_keeps s ready.owns ready.class.parts_named f ways_are.rest made.call seen_first.0 unseen others_stay modes own_facts
 
   -- the call changes no fact
   pub facts_stay : facts_before (standing.points table typed effects input ready state top older outer named p frames of_sub at_point) (top.frame.next ∷ top.before) ≡ own_facts

@@ -57,12 +57,12 @@ use Rattle.soundness.proofs.Scoped.{Inside}
 use Rattle.soundness.proofs.Around.{IsFar}
 use Rattle.soundness.proofs.Waited.{FillsNone}
 use Rattle.soundness.proofs.Eased.{eased}
-use Rattle.owned_loans.specs.Views.{Around, known_gone, Views, Viewed, Go}
+use Rattle.owned_loans.specs.Views.{Around, known_gone, Views, Viewed, Go, ViewedAlone}
 use Rattle.viewed_soundness.specs.Holds.{is_view, sees_only}
 use Rattle.viewed_soundness.proofs.Outcomes.{Leads_on, IsGood}
 use Rattle.viewed_steps.specs.Awaited.{AreValues, lasting_of, AreAwaited, TakesAlone, TakesTogether, AreScalar, TakesScalars, temporaries_of}
 use Rattle.viewed_steps.proofs.Waited.{Shares}
-use Rattle.viewed_steps.specs.Sound.{ArePast, IsResting, HoldsAt, ArePlaced, NoneAbove, ViewStage, stages_of, GoneElsewhere, AreWaiting, IsStoredAt, LeadsAlong, HasTraversals, IsGivenBelow}
+use Rattle.viewed_steps.specs.Sound.{IsBeyond, IsResting, HoldsAt, ArePlaced, NoneAbove, ViewStage, stages_of, GoneElsewhere, AreWaiting, IsStoredAt, LeadsAlong, HasTraversals, IsGivenBelow}
 use Rattle.viewed_steps.specs.Ready.{IsReady, AreOrderly}
 use Rattle.viewed_steps.proofs.Lent.{Spare}
 use Rattle.viewed_steps.proofs.Placed.{MayBe}
@@ -114,10 +114,10 @@ module _ (table : Table) (typed : TypedProgram) (effects : Effects) (input : Lis
       (awaiting : AreAwaited table typed None (top ∷ stages_of (below ∷ more_frames)))
       (of_sub : IsNamedSub (flow_named table typed) top.frame.sub named) (at_point : IsAtPoint named.points top.frame.next p)
       (path : ControlPath (path_points program effects (sub_of program top.frame.sub)) top.before top.frame.next) (views : Views)
-      (viewed_before : Viewed (home s (suc (length rest))) (sees_only s) (known_gone (home s (suc (length rest))) (GoneElsewhere program effects (below ∷ more_frames))) views
+      (viewed_before : ViewedAlone (home s (suc (length rest))) (sees_only s) (known_gone (home s (suc (length rest))) (GoneElsewhere program effects (below ∷ more_frames))) views
       (view_here s state) (facts_of program effects top))
       (kept : Kept s state.memory (waiting_in state)) (scope : InScope s state.memory (suc (length rest)) (lasting_of s p.scope)) (holds : HoldsAt s (suc (length rest)) views state.memory p)
-      (placed_before : ArePlaced program (suc (length rest)) (facts_of program effects top) views p.scope × ArePast s (suc (length rest)) views (below ∷ more_frames)) (above : NoneAbove s (suc (length rest)) state.memory
+      (placed_before : ArePlaced program (suc (length rest)) (facts_of program effects top) views p.scope × IsBeyond program effects (suc (length rest)) views (below ∷ more_frames)) (above : NoneAbove s (suc (length rest)) state.memory
       × HasTraversals table typed (view_here s state) (record { stage = top; views = views; cells = [] } ∷ (below ∷ more_frames))) where
     abbrev outer : List Frame
     outer = below.stage.frame ∷ rest
@@ -128,7 +128,7 @@ module _ (table : Table) (typed : TypedProgram) (effects : Effects) (input : Lis
     abbrev depth : ℕ
     depth = suc (length rest)
 
-    abbrev between : (g : ViewStage) → Has (below ∷ more_frames) g → StandsBetween table typed effects unmoved_stage local state (suc (length rest)) g
+    abbrev between : (g : ViewStage) → Has (below ∷ more_frames) g → StandsBetween table typed effects unmoved_stage local state (suc (length rest)) (below ∷ more_frames) g
     between = innermost.between table typed effects input ready state top below more_frames rest named p frames deep stages running awaiting of_sub at_point path views viewed_before kept scope holds placed_before above
 
     abbrev other : Around (home s (suc (length rest)))
@@ -345,6 +345,18 @@ module _ (table : Table) (typed : TypedProgram) (effects : Effects) (input : Lis
             subst Along (sym (hold_is program input main_turn.point state top.frame below.stage.frame rest e last of sub_result))
             (then_gives (steps.taken_by main_turn of e (start main_turn)) quiet)
 
+      -- It changes no facts and nothing in memory.
+      abbrev pub GivesQuietly : Type 0
+      GivesQuietly =
+          IsGood easy ready.accepted.settled ready.owns other alone views ready.class.parts_named may refl refl views facts_now easy.state
+          × (after (acts_of_main p.instr) facts_now ≡ facts_now)
+          × Quiet (record { memory = state.memory; waits = [] }) (λ ws. (z : machine.Word) × (ws ≡ z ∷ []) × IsGivenBack z) (steps.taken_by main_turn of e (start main_turn))
+
+      quietly : IsGood easy ready.accepted.settled ready.owns other alone views ready.class.parts_named may refl refl views facts_now easy.state
+          → after (acts_of_main p.instr) facts_now ≡ facts_now
+          → Quiet (record { memory = state.memory; waits = [] }) (λ ws. (z : machine.Word) × (ws ≡ z ∷ []) × IsGivenBack z) (steps.taken_by main_turn of e (start main_turn)) → GivesQuietly
+      quietly good same quiet = (good, same, quiet)
+
       -- ---- the value
 
       -- giving changes no facts
@@ -398,7 +410,7 @@ module _ (table : Table) (typed : TypedProgram) (effects : Effects) (input : Lis
       allowed_there = results.allowed_then table typed effects input ready state top below more_frames rest named p frames deep stages running awaiting of_sub at_point path views viewed_before kept scope holds placed_before above e last is of result source alone_there
 
       -- a name
-      by_name : Plain × TakesScalars s p.instr → (q : Pos) (y : ℕ) (steps_there : TypedTree) (u : ℕ) → e ≡ Name q y steps_there u → Along (steps.hold main_turn (More e last))
+      by_name : Plain × TakesScalars s p.instr → (q : Pos) (y : ℕ) (steps_there : TypedTree) (u : ℕ) → e ≡ Name q y steps_there u → GivesQuietly
       unfolding waits_in
       by_name plain q y steps_there u name =
           let good = each.good table typed effects input ready state top below more_frames rest named p frames deep stages running awaiting of_sub at_point path views viewed_before kept scope holds placed_before above going_then no_call_then plain.0 in
@@ -410,7 +422,7 @@ module _ (table : Table) (typed : TypedProgram) (effects : Effects) (input : Lis
           acts_there ∙ ap (λ z. acts (flow.source_acts s z (λ m. act.Give m (flow.gives_variable s (Some of))))) name
           ∙ ap (λ b. acts (if b then flow.source_acts s (Name q y steps_there u) (λ m. act.Give m (flow.gives_variable s (Some of))) else acts_in s (More (Name q y steps_there u) NoMore))) (sym view) in
           let allowed_name = subst (AllowsAll facts_now) acts_name allowed_there in
-          view_step good
+          quietly good
           (ap (λ z. after z facts_now) acts_name
           ∙ changes_nothing easy ready.accepted.settled ready.owns other alone views ready.class.parts_named may refl refl given_words q of y u steps_there view looks takes facts_now good allowed_name
           ∙ give_same (name_of y steps_there) (flow.gives_variable s (Some of)) facts_now)
@@ -427,11 +439,11 @@ module _ (table : Table) (typed : TypedProgram) (effects : Effects) (input : Lis
           quiet_on (Traps how n) into never = never
 
       -- null
-      by_null : Plain × TakesScalars s p.instr → e ≡ TypedNull → Along (steps.hold main_turn (More e last))
+      by_null : Plain × TakesScalars s p.instr → e ≡ TypedNull → GivesQuietly
       unfolding waits_in evaluate
       by_null plain null =
           let good = each.good table typed effects input ready state top below more_frames rest named p frames deep stages running awaiting of_sub at_point path views viewed_before kept scope holds placed_before above going_then no_call_then plain.0 in
-          view_step good (ap (λ z. after z facts_now) (acts_there ∙ ap (λ z. acts (flow.source_acts s z (λ m. act.Give m (flow.gives_variable s (Some of))))) null))
+          quietly good (ap (λ z. after z facts_now) (acts_there ∙ ap (λ z. acts (flow.source_acts s z (λ m. act.Give m (flow.gives_variable s (Some of))))) null))
           (subst (λ z. Quiet (record { memory = state.memory; waits = [] }) (λ ws. (w : machine.Word) × (ws ≡ w ∷ []) × IsGivenBack w) (steps.taken_by main_turn of z (start main_turn))) (sym null)
           (subst (Quiet (record { memory = state.memory; waits = [] }) (λ ws. (w : machine.Word) × (ws ≡ w ∷ []) × IsGivenBack w)) (sym (null_taken (start main_turn)))
           (nothing_left plain.0, (machine.Null, refl, no_cell))))
@@ -455,7 +467,7 @@ module _ (table : Table) (typed : TypedProgram) (effects : Effects) (input : Lis
 
       -- what another one gave
       by_call : TakesAlone s p → (q : Pos) (y : ℕ) (steps_there : TypedTree) (u : ℕ) (r : Pos) (n : ℕ) (more : TypedTree) → e ≡ CallIn r n (More (Name q y steps_there u) more)
-          → GivesView s n of → Along (steps.hold main_turn (More e last))
+          → GivesView s n of → GivesQuietly
       unfolding evaluate
       by_call alone_taken q y steps_there u r n more call gives = elim alone_taken.8 [
         | inl (x, other_instr) ↦ (let never : Hold (More e last) ≡ Declare x (More (CallIn alone_taken.3 alone_taken.4 alone_taken.5) NoMore) = sym is ∙ other_instr in cc)
@@ -477,7 +489,7 @@ module _ (table : Table) (typed : TypedProgram) (effects : Effects) (input : Lis
               ∙ (let call_there : TypedTree = CallIn a b actuals in ap (λ ws. run.viewed (steps.here main_turn) call_there (record { memory = now.memory; waits = ws })) words_there)
 
           by_held : AreSame (CallIn alone_taken.3 alone_taken.4 alone_taken.5) (CallIn r n (More (Name q y steps_there u) more)) → AreSame (CallIn alone_taken.3 alone_taken.4 alone_taken.5) e
-              → Along (steps.hold main_turn (More e last))
+              → GivesQuietly
           by_held call_is held_is =
               let good = taking.good_there table typed effects input ready state top below more_frames rest named p frames deep stages running awaiting of_sub at_point path views viewed_before kept scope holds placed_before above going_then no_call_then alone_taken given_here of n q r steps_there u more y call_is gives in
               let coming = taking.coming table typed effects input ready state top below more_frames rest named p frames deep stages running awaiting of_sub at_point path views viewed_before kept scope holds placed_before above going_then no_call_then alone_taken given_here of n q r steps_there u more y call_is gives in
@@ -485,7 +497,7 @@ module _ (table : Table) (typed : TypedProgram) (effects : Effects) (input : Lis
               let words_there = taking.words_there table typed effects input ready state top below more_frames rest named p frames deep stages running awaiting of_sub at_point path views viewed_before kept scope holds placed_before above going_then no_call_then alone_taken given_here of n q r steps_there u more y call_is gives in
               let root = taking.root_same table typed effects input ready state top below more_frames rest named p frames deep stages running awaiting of_sub at_point path views viewed_before kept scope holds placed_before above going_then no_call_then alone_taken given_here of n q r steps_there u more y call_is gives in
               let c = taking.call_there table typed effects input ready state top below more_frames rest named p frames deep stages running awaiting of_sub at_point path views viewed_before kept scope holds placed_before above going_then no_call_then alone_taken given_here of n q r steps_there u more y call_is gives in
-              view_step good
+              quietly good
               (ap (λ z. after z facts_now) (acts_there ∙ ap (λ z. acts (flow.source_acts s z (λ m. act.Give m (flow.gives_variable s (Some of))))) call)
               ∙ give_same (name_of y steps_there) (flow.gives_variable s (Some of)) facts_now)
               (subst (Quiet (record { memory = state.memory; waits = [] }) (λ ws. (w : machine.Word) × (ws ≡ w ∷ []) × IsGivenBack w))
@@ -526,8 +538,8 @@ module _ (table : Table) (typed : TypedProgram) (effects : Effects) (input : Lis
           let of_call : GivesPlainly s (CallIn r n actuals) = subst (GivesPlainly s) call held.0 in
           view_scalar (shape_of s.table gives.result) gives.anonymous (of_call gives.result gives.result_is)
 
-      pub view_returned : Along (steps.hold main_turn (More e last))
-      view_returned = elim (ready.traversing.returned top.frame.sub (running.0).entered named of_sub p (innermost.point_there_now table typed effects input ready state top below more_frames rest named p frames deep stages running awaiting of_sub at_point path views viewed_before kept scope holds placed_before above) e last is of result view) [
+      pub returns_quietly : GivesQuietly
+      returns_quietly = elim (ready.traversing.returned top.frame.sub (running.0).entered named of_sub p (innermost.point_there_now table typed effects input ready state top below more_frames rest named p frames deep stages running awaiting of_sub at_point path views viewed_before kept scope holds placed_before above) e last is of result view) [
         | inl null ↦ elim (innermost.taken_there table typed effects input ready state top below more_frames rest named p frames deep stages running awaiting of_sub at_point path views viewed_before kept scope holds placed_before above) [
           | inl plain ↦ by_null plain null
           | inr (inr within) ↦ absurd (not_together within)
@@ -544,6 +556,9 @@ module _ (table : Table) (typed : TypedProgram) (effects : Effects) (input : Lis
           | inr (inl alone_taken) ↦ by_call alone_taken q y steps_there u r n more call gives
         ]
       ]
+
+      pub view_returned : Along (steps.hold main_turn (More e last))
+      view_returned = view_step returns_quietly.0 returns_quietly.1 returns_quietly.2
 
     pub return_step : (e last : TypedTree) → p.instr ≡ Hold (More e last) → Along (turn main_turn (Hold (More e last)))
     return_step e last is = by_result named.sub.result refl (subst (IsFine s named.sub.result) is (standing.fine table typed effects input ready state top older outer named p frames of_sub at_point))

@@ -12,7 +12,7 @@ use Rattle.type_definitions.specs.Types.{is_owning}
 use Rattle.typed_tree.specs.Trees.{TypedTree, More}
 use Rattle.flow_paths.specs.declared.report.Effects.{Effects}
 use Rattle.flow_paths.specs.Instructions.{Call}
-use Rattle.flow_paths.specs.Objects.{Typing, Signature, object_at, sub_at, is_package_object, is_named_access, is_variable_access, view_of, passing, passing_by}
+use Rattle.flow_paths.specs.Objects.{Typing, Signature, object_at, sub_at, is_package_object, is_named_access, is_variable_access, view_of, passing, passing_by, Place}
 use Rattle.flow_paths.specs.Names.{Written, written}
 use Rattle.flow_paths.specs.Acts.{naming, actual_act, actual_acts}
 use Rattle.flow_paths.specs.Effects.{is_in, read_by, written_by, act_writes}
@@ -49,9 +49,9 @@ module _ (program : FlowProgram) (effects : Effects) where
       by_mode mode.InOut is = refl
 
   -- what the callee uses is reported
-  used_report : (n : ℕ) (b : alias.Passed) → IsCopiedBack s b.formal → is_package_object s b.actual.name.root ≡ true → Uses effects n b.actual.name.root
+  used_report : (n : ℕ) (b : alias.Passed) → not (alias.is_immutable s b.formal) ≡ true → is_package_object s b.actual.name.root ≡ true → Uses effects n b.actual.name.root
       → Has (global_reports s effects n b) (text_report b.actual.pos A2 b.actual.name)
-  used_report n b back shared uses =
+  used_report n b mutable shared uses =
       let g : ℕ = b.actual.name.root in
       let used : is_in g (read_by effects n) || is_in g (written_by effects n) ≡ true =
       either_of (is_in g (read_by effects n)) (is_in g (written_by effects n)) (elim uses [
@@ -60,9 +60,32 @@ module _ (program : FlowProgram) (effects : Effects) where
       ]) in
       let meets : meets_global s (is_in g (read_by effects n)) (is_in g (written_by effects n)) b.formal ≡ true =
       either_of ((is_in g (read_by effects n) || is_in g (written_by effects n)) && not (alias.is_immutable s b.formal)) _
-      (inl ((λ j. used j && not_immutable b.formal back j))) in
+      (inl ((λ j. used j && mutable j))) in
       subst (λ z. Has (if z then text_report b.actual.pos A2 b.actual.name ∷ [] else []) (text_report b.actual.pos A2 b.actual.name))
       (sym (λ j. shared j && meets j)) (inl refl)
+
+  -- Nor one that is shown to a formal of a procedure that changes it.
+  pub changed_unused : AreReports program effects [] → (sub : FlowSub) → Has program.subs sub → (p : FlowPoint) → Has sub.points p
+      → (n : ℕ) (actuals : TypedTree) (result : Option ℕ) → p.instr ≡ Call n actuals result → is_some (sub_of program n).result ≡ is_some result
+      → (sub_of program n).result ≡ None
+      → (b : alias.Passed) → Has (alias.passed (sub_of program n).formals actuals) b → not (alias.is_immutable s b.formal) ≡ true
+      → is_package_object s b.actual.name.root ≡ true → Uses effects n b.actual.name.root → ⊥
+  changed_unused none sub in_program p in_sub n actuals result e answers given b has mutable shared uses =
+      no_call_reports program effects none sub in_program p in_sub (text_report b.actual.pos A2 b.actual.name)
+      (subst (λ i. Has (call_reports s effects i) (text_report b.actual.pos A2 b.actual.name)) (sym e)
+      (subst (λ z. Has z (text_report b.actual.pos A2 b.actual.name)) (sym (reports_are result (sym answers ∙ ap is_some given)))
+      (subst (λ (z : Signature). Has (if is_some z.result then [] else passed_reports s effects n (alias.passed z.formals actuals)) (text_report b.actual.pos A2 b.actual.name))
+      (sym (signature_is program n))
+      (subst (λ z. Has (if is_some z then [] else passed_reports s effects n (alias.passed (sub_of program n).formals actuals)) (text_report b.actual.pos A2 b.actual.name)) (sym given)
+      (Has-append_right (overlap_reports s (alias.passed (sub_of program n).formals actuals))
+      (flat_map (global_reports s effects n) (alias.passed (sub_of program n).formals actuals)) (text_report b.actual.pos A2 b.actual.name)
+      (flat_has (global_reports s effects n) (alias.passed (sub_of program n).formals actuals) b (text_report b.actual.pos A2 b.actual.name) has
+      (used_report n b mutable shared uses)))))))
+    where
+      reports_are : (o : Option ℕ) → is_some o ≡ false → call_reports s effects (Call n actuals o)
+          ≡ (if is_some (sub_at s n).result then [] else passed_reports s effects n (alias.passed (sub_at s n).formals actuals))
+      reports_are None no_result = refl
+      reports_are (Some of) no_result = cc
 
   -- The callee uses no package object that is passed to be copied back to.
   pub passed_unused : AreReports program effects [] → (sub : FlowSub) → Has program.subs sub → (p : FlowPoint) → Has sub.points p
@@ -72,26 +95,11 @@ module _ (program : FlowProgram) (effects : Effects) where
       → Uses effects n b.actual.name.root → ⊥
   passed_unused none sub in_program p in_sub n actuals result e answers modes b has back shared uses = by_result (sub_of program n).result refl
     where
-      reports_are : (o : Option ℕ) → is_some o ≡ false → call_reports s effects (Call n actuals o)
-          ≡ (if is_some (sub_at s n).result then [] else passed_reports s effects n (alias.passed (sub_at s n).formals actuals))
-      reports_are None no_result = refl
-      reports_are (Some of) no_result = cc
-
       by_result : (o : Option ℕ) → (sub_of program n).result ≡ o → ⊥
       by_result (Some of) given =
           back (modes of (ap (λ (z : Signature). z.result) (signature_is program n) ∙ given) b.formal
           (subst (λ z. Has z b.formal) (sym (ap (λ (z : Signature). z.formals) (signature_is program n))) (passed_formal (sub_of program n).formals actuals b has)))
-      by_result None given =
-          no_call_reports program effects none sub in_program p in_sub (text_report b.actual.pos A2 b.actual.name)
-          (subst (λ i. Has (call_reports s effects i) (text_report b.actual.pos A2 b.actual.name)) (sym e)
-          (subst (λ z. Has z (text_report b.actual.pos A2 b.actual.name)) (sym (reports_are result (sym answers ∙ ap is_some given)))
-          (subst (λ (z : Signature). Has (if is_some z.result then [] else passed_reports s effects n (alias.passed z.formals actuals)) (text_report b.actual.pos A2 b.actual.name))
-          (sym (signature_is program n))
-          (subst (λ z. Has (if is_some z then [] else passed_reports s effects n (alias.passed (sub_of program n).formals actuals)) (text_report b.actual.pos A2 b.actual.name)) (sym given)
-          (Has-append_right (overlap_reports s (alias.passed (sub_of program n).formals actuals))
-          (flat_map (global_reports s effects n) (alias.passed (sub_of program n).formals actuals)) (text_report b.actual.pos A2 b.actual.name)
-          (flat_has (global_reports s effects n) (alias.passed (sub_of program n).formals actuals) b (text_report b.actual.pos A2 b.actual.name) has
-          (used_report n b back shared uses)))))))
+      by_result None given = changed_unused none sub in_program p in_sub n actuals result e answers given b has (not_immutable b.formal back) shared uses
 
 -- ---- the act of such an actual
 
@@ -126,6 +134,44 @@ module _ (s : Typing) (procedure : Bool) where
           subst (λ (z : alias.Passed). (a : Placed) × Has (actual_act (passing s procedure x) e) a × (act_writes z.actual.name.root a.act ≡ true)) same
           (placed_by w (object_at s x).mode (is_owning s.table (object_at s x).of) (procedure && is_named_access (view_of s x))
           (λ in_mode. back (ap (λ z. (object_at s z).mode) (sym formal) ∙ in_mode)) at)
+
+  -- ---- that of one that is shown
+
+  shown_act_one : (x : ℕ) (e : TypedTree) (b : alias.Passed) → Has (alias.passed_as x (written e)) b → (object_at s b.formal).mode ≡ mode.In
+      → is_owning s.table (object_at s b.formal).of ≡ true
+      → (a : Placed) × Has (actual_act (passing s procedure x) e) a × (a.act ≡ act.Actual b.actual.name mode.In true (procedure && is_named_access (view_of s b.formal)))
+  shown_act_one x e b has of_in owning = by_written (written e) refl has
+    where
+      by_written : (o : Option Written) → written e ≡ o → Has (alias.passed_as x o) b
+          → (a : Placed) × Has (actual_act (passing s procedure x) e) a × (a.act ≡ act.Actual b.actual.name mode.In true (procedure && is_named_access (view_of s b.formal)))
+      by_written None at none = absurd none
+      by_written (Some w) at (inr never) = absurd never
+      by_written (Some w) at (inl same) =
+          let formal : x ≡ b.formal = ap (λ (z : alias.Passed). z.formal) same in
+          let access : Bool = procedure && is_named_access (view_of s b.formal) in
+          let how : passing s procedure x ≡ Place mode.In true access =
+          ap (passing s procedure) formal ∙ (λ j. passing_by (of_in j) (owning j) access) in (
+            record { pos = w.pos; act = act.Actual w.name mode.In true access },
+            subst (λ z. Has (actual_act z e) (record { pos = w.pos; act = act.Actual w.name mode.In true access })) (sym how)
+                (subst (λ z. Has (naming z (λ k. act.Actual k mode.In true access)) (record { pos = w.pos; act = act.Actual w.name mode.In true access })) (sym at) (inl refl)),
+            ap (λ (z : alias.Passed). act.Actual z.actual.name mode.In true access) same,
+          )
+
+  pub shown_act : (formals : List ℕ) (actuals : TypedTree) (b : alias.Passed) → Has (alias.passed formals actuals) b → (object_at s b.formal).mode ≡ mode.In
+      → is_owning s.table (object_at s b.formal).of ≡ true
+      → (a : Placed) × Has (actual_acts (map (passing s procedure) formals) actuals) a
+      × (a.act ≡ act.Actual b.actual.name mode.In true (procedure && is_named_access (view_of s b.formal)))
+  shown_act (x ∷ formals) (More e rest) b has of_in owning =
+      elim (Has-append_cases (alias.passed_as x (written e)) (alias.passed formals rest) b has) [
+        | inl mine ↦ (
+            let one = shown_act_one x e b mine of_in owning in
+            (one.0, Has-append_left (actual_act (passing s procedure x) e) (actual_acts (map (passing s procedure) formals) rest) one.0 one.1, one.2))
+        | inr later ↦ (
+            let one = shown_act formals rest b later of_in owning in
+            (one.0, Has-append_right (actual_act (passing s procedure x) e) (actual_acts (map (passing s procedure) formals) rest) one.0 one.1, one.2))
+      ]
+  shown_act [] actuals b has of_in owning = absurd has
+  shown_act (x ∷ formals) actuals b has of_in owning = absurd has
 
   pub copied_act : (formals : List ℕ) (actuals : TypedTree) (b : alias.Passed) → Has (alias.passed formals actuals) b → IsCopiedBack s b.formal
       → (a : Placed) × Has (actual_acts (map (passing s procedure) formals) actuals) a × (act_writes b.actual.name.root a.act ≡ true)

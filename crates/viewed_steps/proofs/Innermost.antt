@@ -57,16 +57,16 @@ use Rattle.soundness.proofs.Taking.{Takes}
 use Rattle.soundness.proofs.Waited.{within_left, FillsNone}
 use Rattle.soundness.proofs.Eased.{eased, takes_all}
 use Rattle.soundness.proofs.Raised.{raised_owned}
-use Rattle.owned_loans.specs.Views.{Around, known_gone, Views, Viewed}
+use Rattle.owned_loans.specs.Views.{Around, known_gone, Views, Viewed, ViewedAlone}
 use Rattle.viewed_soundness.proofs.Names.{true_false, given_view}
 use Rattle.viewed_steps.specs.Awaited.{AreFor, AreValues, temporaries_of, is_held, lasting_of, awaited, AreAwaited, AreScalar, TakesScalars, StoresNone, IsTaken}
 use Rattle.viewed_steps.proofs.Waited.{plain_unheld, ended_held, lasting_within, within_lasting, lasting_more, brought_temporaries, Shares, shares, scalar_values}
-use Rattle.viewed_steps.specs.Sound.{ArePast, HoldsAt, ArePlaced, NoneAbove, Lasts, ViewStage, stages_of, GoneElsewhere, Disturbs, AreWaiting, LeadsOn, IsResting, HasTraversals}
+use Rattle.viewed_steps.specs.Sound.{IsBeyond, HoldsAt, ArePlaced, NoneAbove, Lasts, ViewStage, stages_of, GoneElsewhere, Disturbs, AreWaiting, LeadsOn, IsResting, HasTraversals}
 use Rattle.viewed_steps.specs.Ready.{AreOrderly, IsReady, AreNamedIn}
 use Rattle.viewed_steps.proofs.Lent.{ends, Spare, spare_has}
 use Rattle.viewed_steps.proofs.Inherited.{after_more, lending_uses, apart_borrowed, apart_seen}
 use Rattle.viewed_steps.proofs.Beside.{OthersKept, faint_held}
-use Rattle.viewed_steps.proofs.Waiting.{StandsBetween, all_between, AreTheirs, LentElsewhere, unused_there, beside_them, handed, handed_lent, none_moved, lent_handed, AreApart, with_them, without_them, theirs}
+use Rattle.viewed_steps.proofs.Waiting.{StandsBetween, all_between, AreTheirs, LentElsewhere, unused_there, beside_them, handed, handed_lent, none_moved, lent_handed, theirs}
 use Rattle.viewed_steps.proofs.Onward.{all_on}
 use Rattle.viewed_steps.proofs.Uses.{writes_there, borrowing_writes, moving_writes}
 use Rattle.viewed_steps.proofs.Apart.{kept_there, held_apart, written_disturbs}
@@ -76,6 +76,7 @@ use Rattle.viewed_steps.proofs.Standing as standing
 use Rattle.viewed_steps.proofs.Packages as packages
 use Rattle.viewed_steps.proofs.Views.{anonymous_view, view_ends}
 use Rattle.viewed_soundness.proofs.Names.{borrower_sees}
+use Rattle.viewed_steps.proofs.Handed.{AreApart, with_them, without_them}
 
 unless : (b : Bool) → (b ≡ true → ⊥) → b ≡ false
 unless true e = absurd (e refl)
@@ -123,10 +124,10 @@ module _ (table : Table) (typed : TypedProgram) (effects : Effects) (input : Lis
       (awaiting : AreAwaited table typed None (top ∷ stages_of (below ∷ more_frames)))
       (of_sub : IsNamedSub (flow_named table typed) top.frame.sub named) (at_point : IsAtPoint named.points top.frame.next p)
       (path : ControlPath (path_points program effects (sub_of program top.frame.sub)) top.before top.frame.next) (views : Views)
-      (viewed_before : Viewed (home s (suc (length rest))) (sees_only s) (known_gone (home s (suc (length rest))) (GoneElsewhere program effects (below ∷ more_frames))) views
+      (viewed_before : ViewedAlone (home s (suc (length rest))) (sees_only s) (known_gone (home s (suc (length rest))) (GoneElsewhere program effects (below ∷ more_frames))) views
       (view_here s state) (facts_of program effects top))
       (kept : Kept s state.memory (waiting_in state)) (scope : InScope s state.memory (suc (length rest)) (lasting_of s p.scope)) (holds : HoldsAt s (suc (length rest)) views state.memory p)
-      (placed_before : ArePlaced program (suc (length rest)) (facts_of program effects top) views p.scope × ArePast s (suc (length rest)) views (below ∷ more_frames)) (above : NoneAbove s (suc (length rest)) state.memory
+      (placed_before : ArePlaced program (suc (length rest)) (facts_of program effects top) views p.scope × IsBeyond program effects (suc (length rest)) views (below ∷ more_frames)) (above : NoneAbove s (suc (length rest)) state.memory
       × HasTraversals table typed (view_here s state) (record { stage = top; views = views; cells = [] } ∷ (below ∷ more_frames))) where
     abbrev pub outer : List Frame
     outer = below.stage.frame ∷ rest
@@ -137,7 +138,7 @@ module _ (table : Table) (typed : TypedProgram) (effects : Effects) (input : Lis
     abbrev pub depth : ℕ
     depth = suc (length rest)
 
-    pub between : (g : ViewStage) → Has (below ∷ more_frames) g → StandsBetween table typed effects unmoved_stage local state (suc (length rest)) g
+    pub between : (g : ViewStage) → Has (below ∷ more_frames) g → StandsBetween table typed effects unmoved_stage local state (suc (length rest)) (below ∷ more_frames) g
     between g has = all_between table typed effects unmoved_stage local state top.frame.sub (suc (length rest)) top.frame.returns (below ∷ more_frames) (below.stage.frame ∷ rest) stages (omega arith) running.2 g has
 
     -- what concerns it of them, with their facts on package objects beside its own
@@ -165,8 +166,8 @@ module _ (table : Table) (typed : TypedProgram) (effects : Effects) (input : Lis
     abbrev pub acts_of_main : Instruction → List Act
     acts_of_main i = standing.acts_here table typed effects input ready state top older outer named p frames of_sub at_point i
 
-    pub viewed_own : Viewed (home s depth) (sees_only s) (known_gone (home s depth) (GoneElsewhere program effects older)) views (view_here s state) own_facts
-    viewed_own = subst (Viewed (home s depth) (sees_only s) (known_gone (home s depth) (GoneElsewhere program effects older)) views (view_here s state)) (standing.facts_are table typed effects input ready state top older outer named p frames of_sub at_point path) viewed_before
+    pub viewed_own : ViewedAlone (home s depth) (sees_only s) (known_gone (home s depth) (GoneElsewhere program effects older)) views (view_here s state) own_facts
+    viewed_own = subst (ViewedAlone (home s depth) (sees_only s) (known_gone (home s depth) (GoneElsewhere program effects older)) views (view_here s state)) (standing.facts_are table typed effects input ready state top older outer named p frames of_sub at_point path) viewed_before
 
     -- ---- which package objects it uses
 
@@ -294,7 +295,7 @@ module _ (table : Table) (typed : TypedProgram) (effects : Effects) (input : Lis
     -- and without them
     pub apart_from_them : (done : List Act) (v : Views) (view : ways.View) → ((x : ℕ) (w : Way) → v.way x ≡ Some w → is_view s x ≡ true)
         → Viewed (home s depth) (sees_only s) other v view (after done facts_now)
-        → Viewed (home s depth) (sees_only s) (known_gone (home s depth) (GoneElsewhere program effects older)) v view (after done own_facts)
+        → ViewedAlone (home s depth) (sees_only s) (known_gone (home s depth) (GoneElsewhere program effects older)) v view (after done own_facts)
     apart_from_them done v view only well =
         without_them table typed effects unmoved_stage local state depth older between v view (after done facts_now) (after done own_facts)
         (λ x w has. local x (only x w has)) package_owns (after_more done own_facts facts_now (λ f has. Has-append_left own_facts handed_on f has))
@@ -407,7 +408,7 @@ module _ (table : Table) (typed : TypedProgram) (effects : Effects) (input : Lis
     viewed_easy plain = eased_viewed main_turn ready.accepted.settled (home s depth) (sees_only s) other views facts_now frames (plain_values plain) viewed kept
 
     pub taken_there : IsTaken s named.sub.result p
-    taken_there = ready.valued.takes named named_there p point_there_now
+    taken_there = ready.valued.takes top.frame.sub (running.0).entered named of_sub p point_there_now
 
     -- and so it is, where a call alone isn't taken
     pub plain_here : StoresNone p.instr → Plain × TakesScalars s p.instr

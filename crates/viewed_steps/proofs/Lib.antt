@@ -25,6 +25,7 @@ pub mod Left
 pub mod Between
 pub mod Lodged
 pub mod Aside
+pub mod Stilled
 pub mod Opened
 pub mod Emptied
 pub mod Vacated
@@ -45,12 +46,17 @@ pub mod Seeing
 pub mod Clear
 pub mod First
 pub mod Reading
+pub mod Copies
 pub mod Puts
 pub mod Called
 pub mod Acted
 -- the views of what is called
 pub mod Exclusive
 pub mod Opening
+-- what a call shows
+pub mod Showing
+pub mod Handed
+pub mod Written
 pub mod Backed
 pub mod Whole
 pub mod Passed
@@ -82,6 +88,7 @@ pub mod Followed
 pub mod Begun
 pub mod CallActs
 pub mod Calling
+pub mod CallShows
 pub mod CallBegins
 pub mod Stepping
 pub mod Main

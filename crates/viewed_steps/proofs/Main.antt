@@ -27,7 +27,7 @@ use Rattle.soundness.proofs.Keeping.{cell_has}
 use Rattle.soundness.proofs.Owners.{well_owned}
 use Rattle.soundness.proofs.Beginning.{empty_sound, empty_kept, empty_scope}
 use Rattle.soundness.proofs.Points.{sub_there}
-use Rattle.owned_loans.specs.Views.{known_gone, Views, Viewed}
+use Rattle.owned_loans.specs.Views.{known_gone, Views, ViewedAlone}
 use Rattle.viewed_steps.specs.Sound.{ViewStage, GoneElsewhere, IsSound, LeadsOn}
 use Rattle.viewed_steps.specs.Ready.{IsReady}
 use Rattle.viewed_steps.proofs.Packages.{stage, first_point, first_waits, main_awaits, main_runs}
@@ -43,7 +43,7 @@ none_some : (w : Way) → None ≡ Some w → ⊥
 none_some w e = cc
 
 module _ (s : Typing) where
-  empty_viewed : (at_home : ℕ → ℕ) (other : Way → Type 0) → Viewed at_home (sees_only s) (known_gone at_home other) no_views (seen s empty_memory [] []) []
+  empty_viewed : (at_home : ℕ → ℕ) (other : Way → Type 0) → ViewedAlone at_home (sees_only s) (known_gone at_home other) no_views (seen s empty_memory [] []) []
   empty_viewed at_home other =
       let sound = empty_sound s at_home other [] in
       record {
@@ -58,10 +58,6 @@ module _ (s : Typing) where
         };
         views = λ x w has. absurd (none_some w has);
         whole = λ x w z has. absurd (none_some w has);
-        past = λ x w has. absurd (none_some w has);
-        lends = λ l n lent. absurd lent;
-        far = λ w n none. absurd none;
-        bare = λ w n p none. absurd none;
       }
 
   empty_word : (f x n : ℕ) → (get_or (variable_slots s f x empty_memory.variables) 0 no_slot).word ≡ machine.Cell n → ⊥
@@ -117,7 +113,7 @@ module _ (table : Table) (typed : TypedProgram) (effects : Effects) (input : Lis
         own = λ x w has. absurd (none_some w has);
       };
       placed = λ x w has. absurd (none_some w has);
-      past = λ x w has. absurd (none_some w has);
+      past = ((λ x w has. absurd (none_some w has)), (λ x w has. absurd (none_some w has)));
       none_above = λ f x n less view e. empty_word s f x n e;
       traversals = (none_given table typed (view_here s (started (frame_at_start 0 [] ∷ []))) first_frame (empty_given table typed first_frame refl), tt);
     },
@@ -161,7 +157,7 @@ module _ (table : Table) (typed : TypedProgram) (effects : Effects) (input : Lis
         own = λ x w has. absurd (none_some w has);
       };
       placed = λ x w has. absurd (none_some w has);
-      past = λ x w has. absurd (none_some w has);
+      past = ((λ x w has. absurd (none_some w has)), (λ x w has. absurd (none_some w has)));
       none_above = λ f x n less view e. empty_word s f x n e;
       traversals = (
         begins_given table typed (view_here s (started (frame_at_start ready.main [] ∷ (frame_at_start 0 [] ∷ [])))) (record { stage = stage_of ready.main 1; views = no_views; cells = [] })

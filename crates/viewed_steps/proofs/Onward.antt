@@ -53,7 +53,11 @@ module _ (table : Table) (typed : TypedProgram) (effects : Effects)
       scope = λ x p c held. waits.scope x p c (still g.stage.depth x p c some less held);
       lends = waits.lends;
       unmoved = waits.unmoved;
+      shown = waits.shown;
+      apart = waits.apart;
       written = waits.written;
+      goes = waits.goes;
+      off = waits.off;
       uses = waits.uses;
       writes = waits.writes;
       clear = waits.clear;

@@ -19,16 +19,16 @@ use Rattle.machine.specs.Owners.{is_in}
 use Rattle.machine.specs.Evaluate.{Here}
 use Rattle.machine.specs.Calls.{Passed, Value, From, To}
 use Rattle.machine.specs.States.{Waiting, Leak}
-use Rattle.owned_ways.specs.Ways.{Loc, OfCell, Way, Lost, View, Reaches, Under, Named}
+use Rattle.owned_ways.specs.Ways.{Loc, OfCell, Way, Lost, View, Reaches, Under, Named, number_of}
 use Rattle.owned_ways.specs.Ways as ways
 use Rattle.owned_ways.proofs.Locations.{under_itself}
 use Rattle.part_offsets.specs.Parts.{IsSettled}
 use Rattle.soundness.specs.Seen.{IsNear, content, trunk, seen, home}
 use Rattle.soundness.specs.Typed.{OwnsByShape, Kept}
 use Rattle.typed_laws.specs.Needed.{IndexLaw}
-use Rattle.owned_loans.specs.Views.{Around, Views, IsForeign, AreViews, ExcusedBy, Viewed, with_view}
+use Rattle.owned_loans.specs.Views.{Around, Views, AreViews, ExcusedBy, Viewed, with_view}
 use Rattle.viewed_soundness.specs.Holds.{PartsAreNamed, is_view, sees_only, IsOwners, Holds, is_given}
-use Rattle.viewed_soundness.proofs.Given.{IsLow, foreign_there, low_there}
+use Rattle.viewed_soundness.proofs.Given.{IsLow, low_begins, low_there}
 use Rattle.viewed_soundness.proofs.Names.{true_false}
 use Rattle.viewed_steps.specs.Sound.{Lies, ArePlaced, NoneAbove}
 use Rattle.viewed_steps.specs.Awaited.{is_held, IsTakenBy}
@@ -74,7 +74,7 @@ module _ (h : Here) (settled : IsSettled h.typing.table) (hands : List Waiting) 
     (index_law : IndexLaw)
     (own_law : OwnsByShape h.typing.table)
     (parts_named : PartsAreNamed h.typing.table)
-    (formals_low : (x : ℕ) (w : Way) → v.way x ≡ Some w → is_given h.typing x ≡ true → (foreign : IsForeign (home h.typing h.frame) w) × (foreign.0 < h.frame) × (0 < foreign.0))
+    (formals_low : (x : ℕ) (w : Way) → v.way x ≡ Some w → IsLow h.typing h.frame w)
     (procedure : Bool) where
   abbrev s : Typing
   s = h.typing
@@ -240,7 +240,7 @@ module _ (h : Here) (settled : IsSettled h.typing.table) (hands : List Waiting) 
     opened_views view at_first apart on y w has =
         let found = opened.way y w has in
         inr (record {
-          foreign = foreign_there s h.frame w (low_of y w has);
+          begins = low_begins s h.frame w (low_of y w has);
           given = λ named. subst (Named Next) (opened.ups y) named;
           alone = λ plain x u there differs given meets. apart y x w u has there differs plain meets;
           reaches = on y w (t.cell y) has (subst (λ z. Reaches (seen s m hands leaks) z (OfCell (t.cell y))) found.3 ((found.2).1).reaches);
@@ -270,7 +270,7 @@ module _ (h : Here) (settled : IsSettled h.typing.table) (hands : List Waiting) 
         ((found.2).1).whole z (excused z away) (subst (λ q. Under z q ⊎ Under q z) (sym found.3) meets)
 
     pub opened_lies : 0 < h.frame → (y : ℕ) (w : Way) → t.way y ≡ Some w → Lies h.typing (suc h.frame) w
-    opened_lies deep y w has = (let low = low_there s h.frame w deep (low_of y w has) in inr (foreign_there s h.frame w (low_of y w has), low.0, low.1))
+    opened_lies deep y w has = elim (low_there s h.frame w deep (low_of y w has)) [ inl far ↦ inr far | inr home ↦ inl home.0 ]
 
     pub opened_held : (n : Memory) → NoneAbove h.typing h.frame m → ((x : ℕ) → is_view h.typing x ≡ true → is_package_object h.typing x ≡ false)
         → ((g y : ℕ) → is_view h.typing y ≡ true → ((get_or (variable_slots h.typing g y n.variables) 0 no_slot).word ≡ (get_or (variable_slots h.typing g y m.variables) 0 no_slot).word)
@@ -299,15 +299,18 @@ module _ (h : Here) (settled : IsSettled h.typing.table) (hands : List Waiting) 
         by_kind object_kind.Formal is = refl
         by_kind k is = cc
 
-    pub opened_placed : (program : FlowProgram) (at_first : List Fact) (scope : List ℕ) → flow_typing program ≡ h.typing → ((y : ℕ) → Has formals y → is_given h.typing y ≡ true → is_within y scope ≡ true)
+    pub opened_placed : 0 < h.frame → (program : FlowProgram) (at_first : List Fact) (scope : List ℕ) → flow_typing program ≡ h.typing → ((y : ℕ) → Has formals y → is_given h.typing y ≡ true → is_within y scope ≡ true)
         → ArePlaced program (suc h.frame) at_first t scope
-    opened_placed program at_first scope same within y w has =
+    opened_placed deep program at_first scope same within y w has =
         let found = opened.way y w has in
         record {
           within = within y found.1 found.0;
           plain = ap (λ z. is_held z y) same ∙ formal_unheld y found.0;
           up = λ named. absurd (subst (Named (home (flow_typing program) next)) (opened.ups y) named);
-          root = λ named. absurd (not_elsewhere Next w (subst (λ z. Named (home z next) w) same named) (foreign_there s h.frame w (low_of y w has)));
+          root = λ named. elim (low_there s h.frame w deep (low_of y w has)) [
+            | inl far ↦ absurd (not_elsewhere Next w (subst (λ z. Named (home z next) w) same named) far.0)
+            | inr shared ↦ inl (ap (λ z. is_package_object z (number_of w)) same ∙ shared.1)
+          ];
           holder = λ named sees. absurd (subst (Named (home (flow_typing program) next)) (opened.ups y) named);
         }
 

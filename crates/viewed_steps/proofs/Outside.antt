@@ -25,15 +25,16 @@ use Rattle.viewed_steps.proofs.Waiting.{StandsBetween, LentElsewhere, KeptElsewh
 use Rattle.owned_ways.proofs.Locations.{past_under}
 use Rattle.owned_loans.proofs.Others.{under_past}
 use Rattle.owned_loans.proofs.Ways.{under_on, beginnings}
-use Rattle.owned_loans.specs.Views.{Views, expand, AreViews, IsForeign}
+use Rattle.owned_loans.specs.Views.{Views, expand, AreViews, IsOuter}
 use Rattle.owned_loans.proofs.Meeting.{stands}
 use Rattle.place_names.specs.declared.fact.Fact.{Fact}
+use Rattle.viewed_steps.proofs.Roots.{FromGiven}
 
 module _ (table : Table) (typed : TypedProgram) (effects : Effects)
     (unmoved : (e : Stage) → e.frame.sub ≡ 0 → (name : Name) → Has (facts_of (flow_program table typed) effects e) (Moved name) → ⊥)
     (local : (x : ℕ) → is_view (flow_typing (flow_program table typed)) x ≡ true
     → is_package_object (flow_typing (flow_program table typed)) x ≡ false) (state : State) (depth : ℕ) (older : List ViewStage)
-    (between : (g : ViewStage) → Has older g → StandsBetween table typed effects unmoved local state depth g) where
+    (between : (g : ViewStage) → Has older g → StandsBetween table typed effects unmoved local state depth older g) where
   abbrev program : FlowProgram
   program = flow_program table typed
 
@@ -102,15 +103,20 @@ module _ (table : Table) (typed : TypedProgram) (effects : Effects)
   -- a name of the frame stands for such a way
   pub free_name : (views : Views) (view : View) (facts : List Fact) (are : AreViews (home s depth) (sees_only s) views view facts)
       → ((x : ℕ) (w : Way) → views.way x ≡ Some w → (Named (home s depth) (views.up x) → ⊥) → sees_only s x ≡ false → (k : Way) (n : ℕ) → KeptBy older k n → Past w k → ⊥)
-      → ((x : ℕ) (w z : Way) → views.way x ≡ Some w → IsForeign (home s depth) w → GoneElsewhere program effects older z → Under z w ⊎ Under w z → ⊥)
+      → ((x : ℕ) (w z : Way) → views.way x ≡ Some w → IsOuter (home s depth) views x w → GoneElsewhere program effects older z → Under z w ⊎ Under w z → ⊥)
       → (name : Way) → Named (home s depth) name → sees_only s (number_of name) ≡ false
-      → ((y : ℕ) → base_of (expand views name) ≡ OfRoot (OfVariable (home s depth y) y) → IsSpared y) → IsFree (expand views name)
+      → ((y : ℕ) → base_of (expand views name) ≡ OfRoot (OfVariable (home s depth y) y) → IsSpared y ⊎ FromGiven (home s depth) (sees_only s) views view facts are (expand views name)) → IsFree (expand views name)
   free_name views view facts are past unmet name named plain spared = elim (stands (home s depth) (sees_only s) views view facts are name (named, plain)) [
-    | inl own ↦ (let base = named_base (home s depth) (expand views name) own.0 in inl (number_of (expand views name), base, spared (number_of (expand views name)) base))
+    | inl own ↦ (
+        let base = named_base (home s depth) (expand views name) own.named in
+        elim (spared (number_of (expand views name)) base) [
+          | inl none ↦ inl (number_of (expand views name), base, none)
+          | inr (x, w, has, given, sees, under) ↦ inr (record { way = w; under = under; past = past x w has given sees; unmet = λ z gone meets. unmet x w z has (inr given) gone meets })
+        ])
     | inr held ↦ inr (record {
       way = held.way;
       under = held.under;
       past = past held.object held.way held.has held.passed.given held.plain;
-      unmet = λ z gone meets. unmet held.object held.way z held.has held.passed.foreign gone meets;
+      unmet = λ z gone meets. unmet held.object held.way z held.has (inr held.passed.given) gone meets;
     })
   ]

@@ -46,7 +46,7 @@ use Rattle.soundness.proofs.Used.{path_acts}
 use Rattle.soundness.proofs.Following.{Each, Declares, declare_on}
 use Rattle.soundness.proofs.Waits.{no_waits, drop_none}
 use Rattle.soundness.proofs.Successors.{not_true, successor_cases, unmoved_after}
-use Rattle.owned_loans.specs.Views.{Around, known_gone, Views, Viewed, IsForeign}
+use Rattle.owned_loans.specs.Views.{Around, known_gone, Views, Viewed, IsForeign, ViewedAlone}
 use Rattle.viewed_soundness.specs.Holds.{AllKeep, is_view, sees_only, is_fixed}
 use Rattle.viewed_soundness.proofs.Names.{plain_named, true_false}
 use Rattle.viewed_soundness.proofs.Outcomes.{IsGood, Turned, Leads_on}
@@ -59,6 +59,7 @@ use Rattle.viewed_steps.proofs.Ended.{none_some}
 use Rattle.viewed_steps.proofs.Standing.{or_right}
 use Rattle.viewed_steps.proofs.Standing as standing
 use Rattle.viewed_steps.proofs.Views.{AreAccess, all_held}
+use Rattle.owned_loans.proofs.Alone.{viewed_alone, alone_viewed}
 
 module _ (table : Table) (typed : TypedProgram) (effects : Effects) (input : List ℕ) (ready : IsReady table typed effects) where
   abbrev program : FlowProgram
@@ -186,7 +187,7 @@ module _ (table : Table) (typed : TypedProgram) (effects : Effects) (input : Lis
   -- the main procedure begins, over the frame of the package objects
   module _ (below : ViewStage) (first : IsFirst below) (deep : below.stage.depth ≡ 0) (state : State) (views : Views) (none : HasNone views)
       (begins_main : state.frames ≡ frame_at_start ready.main [] ∷ (below.stage.frame ∷ [])) (facts_there : List Fact)
-      (viewed : Viewed (home s 0) (sees_only s) (known_gone (home s 0) (GoneElsewhere program effects [])) views (view_here s state) facts_there)
+      (viewed : ViewedAlone (home s 0) (sees_only s) (known_gone (home s 0) (GoneElsewhere program effects [])) views (view_here s state) facts_there)
       (unmoved : (name : PlaceName) → Has facts_there (Moved name) → ⊥) (kept : Kept s state.memory (waiting_in state))
       (scope : (f x : ℕ) (q : List Step) (n : ℕ) → word_in s.table (content s state.memory [] (OfRoot (OfVariable f x))) q ≡ Held n → f < 1)
       (above : NoneAbove s 0 state.memory) where
@@ -223,10 +224,6 @@ module _ (table : Table) (typed : TypedProgram) (effects : Effects) (input : Lis
         };
         views = λ x w has. no_views views none x w has;
         whole = λ x w z has. no_views views none x w has;
-        past = λ x w has. no_views views none x w has;
-        lends = λ l n lent. absurd lent;
-        far = λ w n keeps. absurd keeps;
-        bare = λ w n p none. absurd none;
       };
       kept = kept;
       named = ready.main_there.named;
@@ -244,7 +241,7 @@ module _ (table : Table) (typed : TypedProgram) (effects : Effects) (input : Lis
         own = λ x w has. no_views views none x w has;
       };
       placed = λ x w has. no_views views none x w has;
-      past = λ x w has. no_views views none x w has;
+      past = ((λ x w has. no_views views none x w has), (λ x w has. no_views views none x w has));
       none_above = λ f x n less view e. above f x n (omega (arith, less)) view e;
       traversals = (
         begins_given table typed (view_here s state) (record { stage = stage ready.main 1; views = views; cells = [] }) below refl (first.1).0,
@@ -261,7 +258,7 @@ module _ (table : Table) (typed : TypedProgram) (effects : Effects) (input : Lis
       (running : (top.frame.sub ≡ 0) × IsPlain top × ((x : ℕ) → views.way x ≡ None) × (top.depth ≡ 0)) (above : NoneAbove s 0 state.memory)
       (of_sub : IsNamedSub (flow_named table typed) top.frame.sub named) (at_point : IsAtPoint named.points top.frame.next p)
       (path : ControlPath (path_points program effects (sub_of program top.frame.sub)) top.before top.frame.next)
-      (viewed_before : Viewed (home s 0) (sees_only s) (known_gone (home s 0) (GoneElsewhere program effects [])) views (view_here s state) (facts_of program effects top))
+      (viewed_before : ViewedAlone (home s 0) (sees_only s) (known_gone (home s 0) (GoneElsewhere program effects [])) views (view_here s state) (facts_of program effects top))
       (kept : Kept s state.memory (waiting_in state)) (scope : InScope s state.memory 0 (lasting_of s p.scope)) (holds : HoldsAt s 0 views state.memory p) where
     -- where it leads, and how the frames come from those before
     abbrev Along : Outcome → Type 0
@@ -285,8 +282,10 @@ module _ (table : Table) (typed : TypedProgram) (effects : Effects) (input : Lis
     abbrev acts_first : Instruction → List Act
     acts_first i = standing.acts_here table typed effects input ready state top [] [] named p frames of_sub at_point i
 
-    viewed_first : Viewed (home s 0) (sees_only s) (known_gone (home s 0) (GoneElsewhere program effects [])) views (view_here s state) facts_first
-    viewed_first = subst (Viewed (home s 0) (sees_only s) (known_gone (home s 0) (GoneElsewhere program effects [])) views (view_here s state)) (standing.facts_are table typed effects input ready state top [] [] named p frames of_sub at_point path) viewed_before
+    viewed_first : Viewed (home s 0) (sees_only s) nowhere views (view_here s state) facts_first
+    viewed_first =
+        alone_viewed (home s 0) (sees_only s) views (view_here s state) facts_first (GoneElsewhere program effects []) (λ x w has. none_some w (sym (running.2 x) ∙ has))
+        (subst (ViewedAlone (home s 0) (sees_only s) (known_gone (home s 0) (GoneElsewhere program effects [])) views (view_here s state)) (standing.facts_are table typed effects input ready state top [] [] named p frames of_sub at_point path) viewed_before)
 
     in_packages : Has (sub_of program 0).points first_turn.point
     in_packages =
@@ -401,7 +400,8 @@ module _ (table : Table) (typed : TypedProgram) (effects : Effects) (input : Lis
                 standing.goes_to_next table typed effects input ready state top [] [] named p frames of_sub at_point path (calls_plain x v e) after_step [] top.frame.loops found.0 found.2 q.0 q.1
                 (on.frames ∙ ap (led first_turn (record top.frame { waits = [] })) found.1) deep tt turned_views
                 (running.0, (refl, running.1.1, running.1.2), none_now, deep, refl) (refl, refl)
-                (subst (Viewed (home s 0) (sees_only s) nowhere turned_views (view_here s after_step)) facts_on_e well.viewed) well.kept
+                (viewed_alone (home s 0) (sees_only s) turned_views (view_here s after_step) (after (acts_first p.instr) facts_first) nowhere
+                (subst (Viewed (home s 0) (sees_only s) nowhere turned_views (view_here s after_step)) facts_on_e well.viewed)) well.kept
                 (scope_on s ready.owns after_step.memory 0 (scope_behind p) (q.0).scope (subst (λ z. InScope s after_step.memory 0 (lasting_of s z)) (sym scope_first) on.inside) lead)
                 (record {
                   held = λ y n lasts view at. well.holds.held y n view at;
@@ -413,7 +413,7 @@ module _ (table : Table) (typed : TypedProgram) (effects : Effects) (input : Lis
                   passed = λ y w has. no_views turned_views none_now y w has;
                   own = λ y w has. no_views turned_views none_now y w has;
                 })
-                ((λ y w has. no_views turned_views none_now y w has), (λ y w has. no_views turned_views none_now y w has)) (
+                ((λ y w has. no_views turned_views none_now y w has), ((λ y w has. no_views turned_views none_now y w has), (λ y w has. no_views turned_views none_now y w has))) (
                   nones,
                   (
                     none_given table typed (view_here s after_step) (record { stage = standing.at_next table typed effects input ready state top [] [] named p frames of_sub at_point path [] top.frame.loops found.0; views = turned_views; cells = [] })
@@ -431,7 +431,8 @@ module _ (table : Table) (typed : TypedProgram) (effects : Effects) (input : Lis
                 let same_facts : after (acts_first p.instr) facts_first ≡ facts_of program effects below =
                 sym (standing.facts_on table typed effects input ready state top [] [] named p frames of_sub at_point path (calls_plain x v e))
                 ∙ ap (λ (z : FlowSub). facts_before (path_points program effects z) (top.frame.next ∷ top.before)) (sym (standing.sub_is table typed effects input ready state top [] [] named p frames of_sub at_point)) in (
-                  main_begun (record { stage = below; views = turned_views; cells = [] }) (running.0, (refl, running.1.1, refl), none_now, refl, refl) refl after_step turned_views none_now main_frames (after (acts_first (Declare x v)) facts_first) well.viewed
+                  main_begun (record { stage = below; views = turned_views; cells = [] }) (running.0, (refl, running.1.1, refl), none_now, refl, refl) refl after_step turned_views none_now main_frames (after (acts_first (Declare x v)) facts_first)
+                      (viewed_alone (home s 0) (sees_only s) turned_views (view_here s after_step) (after (acts_first (Declare x v)) facts_first) nowhere well.viewed)
                       (λ name has. unmoved_stage below running.0 name (subst (λ z. Has z (Moved name)) (facts_on_e ∙ same_facts) has)) well.kept
                       (λ f y q n held. elim (on.inside f y q n held) [
                         | inl less ↦ absurd (omega (arith, less))

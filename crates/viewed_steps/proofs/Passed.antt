@@ -55,7 +55,7 @@ use Rattle.soundness.proofs.Freeing.{plain_parts}
 use Rattle.soundness.proofs.Passing.{Enters, formals_there, entered, signature_is, plain_type}
 use Rattle.soundness.proofs.Scalars.{acts, acts_append, after_append, allows_both}
 use Rattle.soundness.proofs.Stays.{Quiet}
-use Rattle.owned_loans.specs.Views.{Views, expand, AreViews, AreClear}
+use Rattle.owned_loans.specs.Views.{Views, expand, Around, Viewed}
 use Rattle.owned_loans.proofs.Clear.{refused}
 use Rattle.owned_loans.proofs.Allowed.{either_right}
 use Rattle.owned_loans.proofs.Safe.{Unlent, Unmoved, clean_below}
@@ -274,7 +274,7 @@ after_less (a ∷ more) none facts f has =
 
 module _ (s : Typing) (own_law : OwnsByShape s.table) (settled : IsSettled s.table) (m : Memory) (cells : List Lodge) (depth : ℕ) (v : Views)
     (only : (x : ℕ) (w : Way) → v.way x ≡ Some w → is_view s x ≡ true) (view : ways.View) (facts : List Fact)
-    (views : AreViews (home s depth) (sees_only s) v view facts) (clear : AreClear (sees_only s) facts) (scope : List ℕ) (procedure : Bool) where
+    (other : Around (home s depth)) (stilled : ways.View) (viewed : Viewed (home s depth) (sees_only s) other v stilled facts) (scope : List ℕ) (procedure : Bool) where
   abbrev copies_of : List ℕ → TypedTree → List Placed
   copies_of formals actuals = actual_acts (map (passing s procedure) formals) actuals
 
@@ -308,9 +308,9 @@ module _ (s : Typing) (own_law : OwnsByShape s.table) (settled : IsSettled s.tab
       let apart : overlaps (ways.name_of name) (ways.name_of b.name) ≡ true → ⊥ =
       (λ over. first_apart s x e m formals actuals in_out is none b.by b.among b.back
       (subst (λ z. overlaps z b.by.actual.name ≡ true) (sym called) (subst (λ z. overlaps (ways.name_of name) z ≡ true) (sym b.called) over))) in (
-        λ under. names_off (home s depth) (sees_only s) v view facts views clear name b.name (named, plain) (b.named, b.plain) unlent b.unlent apart
+        λ under. names_off (home s depth) (sees_only s) other v stilled facts viewed name b.name (named, plain) (b.named, b.plain) unlent b.unlent apart
             (subst (Under (expand v name)) (sym b.means) under),
-        λ under. names_off (home s depth) (sees_only s) v view facts views clear b.name name (b.named, b.plain) (named, plain) b.unlent unlent
+        λ under. names_off (home s depth) (sees_only s) other v stilled facts viewed b.name name (b.named, b.plain) (named, plain) b.unlent unlent
             (λ over. apart (overlaps-sym (ways.name_of name) (ways.name_of b.name) ∙ over)) (subst (λ z. Under z (expand v name)) (sym b.means) under),
       )
 
@@ -493,7 +493,7 @@ module _ (s : Typing) (own_law : OwnsByShape s.table) (settled : IsSettled s.tab
       (λ by_name free. (
         inl (
           refl,
-          (λ w under moved. clean_below (home s depth) (sees_only s) v view facts views clear own.name w (own.named, own.plain) (λ h n has over. free Borrowed h n has over)
+          (λ w under moved. clean_below (home s depth) (sees_only s) other v stilled facts viewed own.name w (own.named, own.plain) (λ h n has over. free Borrowed h n has over)
               (λ n has over. passed_unmoved known own.name owning access by_name n (less (Moved n) has) over) (subst (λ z. Under z w) (sym own.means) under) moved),
           refl,
         ),

@@ -1,14 +1,13 @@
 -- What an actual comes to: a value, or a place, in a variable or in a cell.
-use Rattle.std.proofs.Common.{◌≡◌, refl, sym, ap, ◌∙◌, subst, ◌⊎◌, inl, inr, ℕ, append-nil, Bool, true, false, List, [], ◌∷◌, Some, if◌then◌else◌, arith, ◌<◌, ◌++◌}
+use Rattle.std.proofs.Common.{◌≡◌, refl, sym, ap, ◌∙◌, subst, ◌⊎◌, inl, inr, ℕ, append-nil, Bool, true, false, List, [], ◌∷◌, Some, if◌then◌else◌, arith, ◌++◌}
 use Rattle.spark_base.specs.declared.position.Pos.{Pos}
-use Rattle.place_names.specs.declared.act.Act.TheVariants as act
 use Rattle.place_names.specs.declared.fact.Fact.{Fact}
-use Rattle.type_definitions.specs.Types.{shape_of, full, is_scalar, is_owning, words}
+use Rattle.type_definitions.specs.Types.{shape_of, full, is_scalar, is_owning}
 use Rattle.typed_tree.specs.Trees.{TypedTree, Name}
 use Rattle.typed_tree.specs.Trees as typed
 use Rattle.flow_paths.specs.Objects.{object_at, is_anonymous, view_of, ByValue, Typing}
 use Rattle.flow_paths.specs.Names.{waiting as waits_in, name_of, selectors}
-use Rattle.flow_paths.specs.Acts.{placed, used, acts_in, index_acts}
+use Rattle.flow_paths.specs.Acts.{acts_in, index_acts}
 use Rattle.machine.specs.Words.{access_offsets, fits_type, component_type}
 use Rattle.machine.specs.Words as machine
 use Rattle.machine.specs.Memory.{Slot, Memory, Base, Place, fresh, no_slot, variable_slots, slots_at, slots_of, words_of, gone_at, with_slots, stored, moved_out, declared}
@@ -24,23 +23,22 @@ use Rattle.owned_ways.proofs.Unique.{one_location}
 use Rattle.owned_ways.proofs.Dropped.{named_base}
 use Rattle.owned_loans.proofs.Ways.{lifts, lifted_way}
 use Rattle.part_offsets.specs.Parts.{type_in, offset_in, has_part, IsSettled}
-use Rattle.soundness.specs.Seen.{IsNear, content, trunk, steps_in, seen, home, is_view_formal, in_hand}
-use Rattle.soundness.specs.Typed.{Matches, OwnsByShape, Kept, Spot, IsFixed, loc_of, Points}
+use Rattle.soundness.specs.Seen.{IsNear, content, trunk, steps_in, seen, home, is_view_formal}
+use Rattle.soundness.specs.Typed.{Matches, OwnsByShape, Kept, Spot, IsFixed, loc_of}
 use Rattle.soundness.specs.Sound.{goes_through_none}
 use Rattle.typed_laws.specs.Needed.{Stays, IndexLaw, IsPlace as IsPlaceOf, Leads}
 use Rattle.soundness.proofs.Joined.{steps_part}
-use Rattle.soundness.proofs.Steps.{matches_words, taken_slots, room}
 use Rattle.soundness.proofs.Fixed.{plain_word}
-use Rattle.soundness.proofs.Scalars.{acts, acts_append, allows_both, number_along, named_along}
+use Rattle.soundness.proofs.Scalars.{acts, number_along, named_along}
 use Rattle.soundness.proofs.Stays.{One, Quiet, quiet_then}
 use Rattle.soundness.proofs.Taking.{Takes}
 use Rattle.soundness.proofs.Walks.{way_along, Walked}
 use Rattle.viewed_soundness.proofs.Walks.{walk}
 use Rattle.soundness.proofs.Passing.{IsValue}
-use Rattle.owned_loans.specs.Views.{Around, Views, expand, ExcusedBy, Viewed, IsForeign, Go, Part, Down, on}
+use Rattle.owned_loans.specs.Views.{Around, Views, expand, ExcusedBy, Viewed, Go, Part, Down, on}
 use Rattle.owned_loans.proofs.Moves.{IsPlace, expand_along, reached}
 use Rattle.owned_loans.proofs.Meeting.{stands_base, stands}
-use Rattle.viewed_soundness.specs.Holds.{IsNamed, PartsAreNamed, Holds, sees_only, IsOwners, is_given}
+use Rattle.viewed_soundness.specs.Holds.{IsNamed, PartsAreNamed, Holds, sees_only, IsOwners}
 use Rattle.viewed_soundness.proofs.Names.{Starts, true_false, no_parts_in, is_place}
 use Rattle.viewed_soundness.proofs.Stays.{Goes as GoesAlong, taking, steps_taking, name_quiet}
 use Rattle.viewed_steps.specs.Taken.{Lodge}
@@ -54,15 +52,14 @@ use Rattle.viewed_steps.proofs.Aside.{cell_name}
 use Rattle.viewed_steps.proofs.Direct.{IsDirect, steps_direct, past_none, direct_leads, direct_itself, IsIn, walked_in, both_quiet, direct_part, part_reached}
 use Rattle.viewed_steps.proofs.LaidOut.{IsOwnPut, IsPlainAt, IsOpenActual, IsHousedPut}
 use Rattle.viewed_steps.proofs.Entered.{IsFit}
-use Rattle.soundness.proofs.Keeping.{top_points, retyped_points, scalar}
-use Rattle.soundness.proofs.Lasting.{keeps}
-use Rattle.owned_loans.proofs.Allowed.{read_open}
-use Rattle.std.proofs.lemmas.List.{length-map}
-use Rattle.viewed_steps.proofs.Reading.{unowned, unowned_read}
+use Rattle.soundness.proofs.Keeping.{top_points, scalar}
 use Rattle.place_names.specs.declared.selector.Sel.{Sel}
 use Rattle.place_names.specs.declared.selector.Sel.TheVariants.{Field, Elem, Deref}
 use Rattle.place_names.specs.Names.{Name as PlaceName}
 use Rattle.owned_ways.proofs.Named.{longer}
+use Rattle.viewed_steps.proofs.Copies.{copy_quiet}
+use Rattle.viewed_soundness.proofs.Outcomes.{named_plain}
+use Rattle.viewed_soundness.proofs.Given.{IsLow}
 
 -- ---- names that go through access values
 
@@ -102,7 +99,7 @@ module _ (h : Here) (settled : IsSettled h.typing.table) (hands : List Waiting) 
     (index_law : IndexLaw)
     (own_law : OwnsByShape h.typing.table)
     (parts_named : PartsAreNamed h.typing.table)
-    (formals_low : (x : ℕ) (w : Way) → v.way x ≡ Some w → is_given h.typing x ≡ true → (foreign : IsForeign (home h.typing h.frame) w) × (foreign.0 < h.frame) × (0 < foreign.0))
+    (formals_low : (x : ℕ) (w : Way) → v.way x ≡ Some w → IsLow h.typing h.frame w)
     (procedure : Bool) where
   abbrev pub at : List (List machine.Word) → Now
   at ws = record { memory = m; waits = ws }
@@ -142,68 +139,29 @@ module _ (h : Here) (settled : IsSettled h.typing.table) (hands : List Waiting) 
         top_points h.typing settled m waiting hands (scalar h.typing settled m waiting hands plain kept).points,
       )
 
-  -- and so does a copy of what a place has
-  held_fit : (on : List (List machine.Word)) (u : Use) (w : Way) (t x : ℕ) → is_owning h.typing.table t ≡ false → Matches h.typing.table t (object_at h.typing x).of → (y : Evaluated Place)
-      → Walked h.typing settled hands leaks m on w t y → Quiet (at on) (IsFit h.typing m (object_at h.typing x).of) (followed_by y (held_or_taken h u))
-  held_fit on u w t x none fits (Done k n) (l, same, spot, reaches, of) = by_use u
-    where
-      fit : IsFit h.typing m (object_at h.typing x).of (words_of h.typing m k)
-      fit = (
-        length-map (slots_of h.typing m k) (λ (z : Slot). z.word)
-            ∙ (taken_slots h.typing settled m k (room h.typing settled m hands kept k l spot)).0
-            ∙ ap (words h.typing.table) of ∙ matches_words h.typing.table settled t (object_at h.typing x).of fits,
-        retyped_points h.typing settled m t (object_at h.typing x).of (words_of h.typing m k) fits
-            (subst (λ z. Points h.typing m (in_hand (record { of = z; words = words_of h.typing m k }))) of
-            (top_points h.typing settled m (record { of = k.of; words = words_of h.typing m k }) hands ((keeps h.typing settled own_law).copied m hands k l spot kept).points)),
-      )
-
-      by_use : (u : Use) → Quiet (at on) (IsFit h.typing m (object_at h.typing x).of) (held_or_taken h u k n)
-      by_use AsView = (same, subst (λ (z : Now). IsFit h.typing m (object_at h.typing x).of (words_of h.typing z.memory k)) (sym same) fit)
-      by_use AsValue = (
-        ap (λ b. if b then record n { memory = moved_out h.typing k n.memory } else n) (ap (is_owning h.typing.table) of ∙ none) ∙ same,
-        subst (λ (z : Now). IsFit h.typing m (object_at h.typing x).of (words_of h.typing z.memory k)) (sym same) fit,
-      )
-  held_fit on u w t x none fits (Raises e n) is = is
-  held_fit on u w t x none fits (Traps e n) never = absurd never
-
-  copy_evaluated : (before on : List (List machine.Word)) (u : Use) (x : ℕ) (e : TypedTree) → is_owning h.typing.table (object_at h.typing x).of ≡ false → IsCopyOf h.typing x e
-      → Takes (waits_in e) before on → AllowsAll facts (acts (acts_in h.typing e)) → Quiet (at on) (IsFit h.typing m (object_at h.typing x).of) (evaluate h u e (at before))
-  unfolding evaluate waits_in acts_in
-  copy_evaluated before on u x (Name p y path t) plain (leads, fits) takes allowed =
-      let owns = unowned h.typing own_law t (object_at h.typing x).of fits plain in
-      let is : used h.typing (name_of y path) t ≡ act.Read (name_of y path) = unowned_read h.typing own_law (name_of y path) t (object_at h.typing x).of fits plain in
-      let each = allows_both facts (acts (acts_in h.typing path)) (used h.typing (name_of y path) t ∷ [])
-      (subst (AllowsAll facts) (acts_append (acts_in h.typing path) (placed p (used h.typing (name_of y path) t) ∷ [])) allowed) in
-      let inner = steps_taking h settled hands leaks m waits other facts v kept well holds alone live index_law own_law parts_named (object_at h.typing y).of t path leads before on takes each.0 in
-      let reads : Allows facts (act.Read (name_of y path)) = subst (Allows facts) is ((subst (λ z. AllowsAll z (used h.typing (name_of y path) t ∷ [])) inner.1 each.1).0) in
-      quiet_then (at on) (λ way. GoesAlong h.typing.table (object_at h.typing y).of t path way) (IsFit h.typing m (object_at h.typing x).of) (steps_of h path (at before))
-      (λ way now. followed_by (walked h.typing way (variable_place h y) now) (held_or_taken h u)) inner.0
-      (λ way goes. held_fit on u (expand v (way_along way (Object (OfVariable (home h.typing h.frame y) y)))) t x owns fits
-      (walked h.typing way (variable_place h y) (at on))
-      (name_quiet h settled hands leaks m on other facts v kept well holds alone live index_law own_law parts_named y path t way goes
-      (λ w named called. read_open facts w (subst (λ z. Allows facts (act.Read z)) (sym called) reads))))
-  copy_evaluated before on u x e plain never takes allowed = absurd never
-
   -- what is passed is such a copy
   abbrev pub IsCopied : ℕ → Passed → Type 0
   IsCopied x (Value ws) = IsFit h.typing m (object_at h.typing x).of ws
   IsCopied x a = ⊥
 
-  pub copy_given : (before on : List (List machine.Word)) (x : ℕ) (e : TypedTree) → is_owning h.typing.table (object_at h.typing x).of ≡ false → IsCopyOf h.typing x e → Takes (waits_in e) before on
-      → AllowsAll facts (acts (acts_in h.typing e)) → Quiet (at on) (IsCopied x) (passed h ByValue x e (at before))
-  copy_given before on x e plain copy takes allowed =
+  pub copy_given : (before on : List (List machine.Word)) (x : ℕ) (e : TypedTree) → is_owning h.typing.table (object_at h.typing x).of ≡ false → IsNamed h.typing.table (object_at h.typing x).of
+      → IsCopyOf h.typing x e → Takes (waits_in e) before on → AllowsAll facts (acts (acts_in h.typing e)) → Quiet (at on) (IsCopied x) (passed h ByValue x e (at before))
+  copy_given before on x e plain named copy takes allowed =
       quiet_then (at on) Fits (IsCopied x) (if is_anonymous (view_of h.typing x) then viewed h e (at before) else value h e (at before))
       (λ ws now. followed_by (checked h (type_of h x) ws now) value_passed)
-      (by_kind (is_anonymous (view_of h.typing x)))
+      (by_kind (is_anonymous (view_of h.typing x)) (named_plain h.typing.table (object_at h.typing x).of named))
       (λ ws fit. quiet_then (at on) Fits (IsCopied x) (checked h (type_of h x) ws (at on)) value_passed (checked_quiet on Fits (type_of h x) ws fit)
       (λ us fits. (refl, fits)))
     where
       Fits : List machine.Word → Type 0
       Fits = IsFit h.typing m (object_at h.typing x).of
 
-      by_kind : (b : Bool) → Quiet (at on) Fits (if b then viewed h e (at before) else value h e (at before))
-      by_kind true = copy_evaluated before on AsView x e plain copy takes allowed
-      by_kind false = copy_evaluated before on AsValue x e plain copy takes allowed
+      -- its type has a name, so it is taken
+      by_kind : (b : Bool) → b ≡ false → Quiet (at on) Fits (if b then viewed h e (at before) else value h e (at before))
+      by_kind true e = cc
+      by_kind false same =
+          (copy_quiet h settled hands leaks m waits other facts v kept well holds alone live index_law own_law parts_named e (object_at h.typing x).of copy.0 plain named copy.1
+          before on takes allowed).0
 
   -- ---- places
 
@@ -465,16 +423,19 @@ module _ (h : Here) (settled : IsSettled h.typing.table) (hands : List Waiting) 
   begun_there : (w : Way) → Named (home h.typing h.frame) w → sees_only h.typing (ways.number_of w) ≡ false
       → (f : ℕ) × (y : ℕ) × (ways.base_of (expand v w) ≡ OfRoot (OfVariable f y)) × IsBegun h.typing h.frame f y
   begun_there w named plain = elim (stands (home h.typing h.frame) (sees_only h.typing) v (seen h.typing m hands leaks) facts well.views w (named, plain)) [
-    | inl own ↦ (home h.typing h.frame (ways.number_of (expand v w)), ways.number_of (expand v w), named_base (home h.typing h.frame) (expand v w) own.0, inl refl)
+    | inl own ↦ (home h.typing h.frame (ways.number_of (expand v w)), ways.number_of (expand v w), named_base (home h.typing h.frame) (expand v w) own.named, inl refl)
     | inr held ↦ (
-        let low = formals_low held.object held.way held.has (is_given_there held.object held.way held.has held.plain held.passed.given (is_given h.typing held.object) refl) in
-        (low.0.0, low.0.1, (longer held.way (expand v w) held.under).base ∙ low.0.2, inr (low.2, low.1)))
+        let front = (longer held.way (expand v w) held.under).base in
+        elim (formals_low held.object held.way held.has) [
+          | inl named_there ↦ (
+            home h.typing h.frame (ways.number_of held.way),
+            ways.number_of held.way,
+            front ∙ named_base (home h.typing h.frame) held.way named_there,
+            inl refl,
+          )
+          | inr low ↦ (low.0.0, low.0.1, front ∙ low.0.2, inr (low.2, low.1))
+        ])
   ]
-    where
-      is_given_there : (z : ℕ) (q : Way) → v.way z ≡ Some q → sees_only h.typing z ≡ false → (Named (home h.typing h.frame) (v.up z) → ⊥) → (b : Bool) → is_given h.typing z ≡ b
-          → is_given h.typing z ≡ true
-      is_given_there z q has sees given true is = is
-      is_given_there z q has sees given false is = absurd (given (holds.own z q has sees is))
 
   -- a name that goes through access values
   housed_walked : (on : List (List machine.Word)) (p : Pos) (x y u : ℕ) (path : TypedTree) (w : Way) → IsNamed h.typing.table u → Matches h.typing.table u (object_at h.typing x).of

@@ -6,10 +6,7 @@ use Rattle.place_names.specs.declared.act.Act.{Act}
 use Rattle.place_names.specs.declared.act.Act.TheVariants as act
 use Rattle.place_names.specs.declared.fact.Fact.{Fact}
 use Rattle.place_names.specs.declared.fact.Fact.TheVariants.{Moved}
-use Rattle.place_names.specs.declared.rule.Loan.TheVariants.{Borrowed}
-use Rattle.place_names.specs.declared.rule.Rule.TheVariants.{O14}
-use Rattle.place_names.specs.Names.{leads_to, covers}
-use Rattle.place_names.specs.Rules.{breaks_O14}
+use Rattle.place_names.specs.Names.{covers}
 use Rattle.place_names.specs.Facts.{effect}
 use Rattle.type_definitions.specs.declared.table.Shape.TheVariants as shape
 use Rattle.type_definitions.specs.Types.{Table, shape_of, words, words_of as words_of_shape, view_of as view_of_shape}
@@ -30,8 +27,8 @@ use Rattle.machine.specs.Owners.{waiting_in}
 use Rattle.owned_ways.specs.Ways.{OfVariable, Loc, OfCell, Inside, Way, Object, Lost, Into, All, Empty, Gone, Held, View, Reaches, Below, IsRooted, Under, Named, IsMoved, Allows, part, after, AllowsAll, number_of}
 use Rattle.owned_ways.specs.Ways as ways
 use Rattle.owned_ways.proofs.Locations.{under_itself, depth as depth_of}
-use Rattle.owned_ways.proofs.Named.{under_leads, covered_under}
-use Rattle.owned_ways.proofs.Assigned.{either_left, kept_fact, is_false}
+use Rattle.owned_ways.proofs.Named.{covered_under}
+use Rattle.owned_ways.proofs.Assigned.{kept_fact, is_false}
 use Rattle.part_offsets.specs.Parts.{type_in, offset_in, has_part, owns_one, is_leaf, IsSettled}
 use Rattle.part_offsets.proofs.Ranges.{leaf_end, leaf_part}
 use Rattle.soundness.specs.Seen.{IsNear, is_view_formal, Content, content, trunk, steps_in, owner_at, owner_word, seen, home}
@@ -53,12 +50,9 @@ use Rattle.soundness.proofs.Numbers.{index_law}
 use Rattle.soundness.proofs.Lasting.{keeps, stored_kept, freed_kept}
 use Rattle.owned_ways.proofs.Unique.{one_way, one_location}
 use Rattle.owned_loans.specs.Views.{Around, Views, expand, ExcusedBy, IsAway, Viewed}
-use Rattle.owned_loans.proofs.Ways.{meet_overlaps, under_on}
-use Rattle.owned_loans.proofs.Meeting.{meeting}
-use Rattle.owned_loans.proofs.Clear.{refused, clear_same}
-use Rattle.owned_loans.proofs.Safe.{loan_of}
-use Rattle.owned_loans.proofs.Allowed.{loan_kept, free_open, free_unlent}
-use Rattle.owned_loans.proofs.Others.{below_through}
+use Rattle.owned_loans.proofs.Clear.{clear_same}
+use Rattle.owned_loans.proofs.Allowed.{loan_kept, free_open, free_whole}
+use Rattle.owned_loans.proofs.Others.{itself_away}
 use Rattle.owned_loans.proofs.Moves.{IsPlace, view_on, own_loan, lends_on, expand_under, reached}
 use Rattle.owned_loans.proofs.Freed as view
 use Rattle.viewed_soundness.specs.Holds.{IsNamed, PartsAreNamed, Holds, sees_only, is_fixed, IsOwners}
@@ -91,28 +85,7 @@ module _ (home : ℕ → ℕ) (observer : ℕ → Bool) (other : Around home) (v
     (viewed : Viewed home observer other v s facts) where
   -- what is freed wasn't moved
   pub free_clean : (k : Way) → Named home k → observer (number_of k) ≡ false → Allows facts (act.Free (ways.name_of k)) → IsAway home v other facts (expand v k) → ⊥
-  free_clean k named plain allowed (inr away) =
-      let t = other.through (expand v k) away in
-      below_through home observer other v s facts viewed t.0 t.1 t.3 k (expand v k) (named, plain) (λ h n. free_unlent facts k allowed Borrowed h n) t.2
-      (under_itself (expand v k))
-  free_clean k named plain allowed (inl (u, moved, same)) =
-      elim (meeting home observer v s facts viewed.views u k (moved.0, viewed.clear.owned (ways.name_of u) moved.1) (named, plain)
-      (subst (Under (expand v u)) same (under_itself (expand v u)))) [
-        | inl under ↦ refused (breaks_O14 (ways.name_of k) (Moved (ways.name_of u))) O14 (ways.name_of k) (Moved (ways.name_of u))
-            (either_left (leads_to (ways.name_of u) (ways.name_of k)) false (under_leads u k under)) (allowed (Moved (ways.name_of u)) moved.1)
-        | inr more ↦ elim more [
-          | inl a ↦ free_unlent facts k allowed Borrowed a.object (ways.name_of (v.loan a.object))
-              (loan_of home observer v s facts viewed.views viewed.clear a.object a.lends)
-              (meet_overlaps (v.loan a.object) k (inl (under_on (v.loan a.object) a.name k a.loan a.begins)))
-          | inr more ↦ elim more [
-            | inl b ↦ viewed.clear.moved Borrowed b.object (ways.name_of u) (ways.name_of (v.loan b.object)) moved.1
-                (loan_of home observer v s facts viewed.views viewed.clear b.object b.lends) (meet_overlaps u (v.loan b.object) b.meets)
-            | inr c ↦ viewed.clear.lent c.one c.two (ways.name_of (v.loan c.one)) (ways.name_of (v.loan c.two))
-                (loan_of home observer v s facts viewed.views viewed.clear c.one c.lends) (loan_of home observer v s facts viewed.views viewed.clear c.two c.lent) c.differ
-                (meet_overlaps (v.loan c.one) (v.loan c.two) c.meets)
-          ]
-        ]
-      ]
+  free_clean k named plain allowed away = itself_away home observer other v s facts viewed k (named, plain) (free_whole facts k allowed) away
 
   -- a release of null frees nothing
   pub nothing_freed : (k : Way) (at : Loc) → Named home k → IsPlace v k → Reaches s (expand v k) at → ((p : List ways.Step) → s.word (part at p) ≡ Empty)
@@ -142,6 +115,8 @@ module _ (home : ℕ → ℕ) (observer : ℕ → Bool) (other : Around home) (v
         views = λ x w has. (let own = viewed.views x w has in
             view_on home observer other v s s facts (effect a facts) x w own (λ seen n. own_loan observer facts (effect a facts) (loan_kept a facts (λ l h z. refl)) seen x n) (reached home observer other v s facts x w own));
         whole = viewed.whole;
+        whole_away = viewed.whole_away;
+        shown = viewed.shown;
         past = viewed.past;
         lends = λ l n lent. lends_on observer v facts (effect a facts) (loan_kept a facts (λ l h z. refl)) l n (viewed.lends l n lent);
         far = viewed.far;
@@ -176,6 +151,8 @@ module _ (home : ℕ → ℕ) (observer : ℕ → Bool) (other : Around home) (v
         views = λ x w has. (let own = viewed.views x w has in
             view_on home observer other v s s facts (effect a facts) x w own (λ seen n. own_loan observer facts (effect a facts) (loan_kept a facts (λ l h z. refl)) seen x n) (reached home observer other v s facts x w own));
         whole = viewed.whole;
+        whole_away = viewed.whole_away;
+        shown = viewed.shown;
         past = viewed.past;
         lends = λ l n lent. lends_on observer v facts (effect a facts) (loan_kept a facts (λ l h z. refl)) l n (viewed.lends l n lent);
         far = viewed.far;

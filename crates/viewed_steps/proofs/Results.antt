@@ -51,12 +51,12 @@ use Rattle.soundness.proofs.Taking.{Takes, takes_as, nothing_more}
 use Rattle.soundness.proofs.Waited.{FillsNone}
 use Rattle.soundness.proofs.Eased.{eased, waits_same}
 use Rattle.soundness.proofs.Successors.{below_one}
-use Rattle.owned_loans.specs.Views.{Around, known_gone, Views, Viewed}
+use Rattle.owned_loans.specs.Views.{Around, known_gone, Views, Viewed, ViewedAlone, IsShared}
 use Rattle.viewed_soundness.specs.Holds.{IsNamed, AllKeep, is_view, sees_only, is_fixed}
 use Rattle.viewed_soundness.proofs.Outcomes.{IsGood, Leads_on}
 use Rattle.viewed_steps.specs.Awaited.{AreFor, AreValues, AreValuesBut, temporaries_of, lasting_of, awaited, AreAwaited, AreScalar, FillsTyped, TakesScalars, StoresNone, TakesAlone, TakesTogether}
 use Rattle.viewed_steps.proofs.Waited.{temporary_first, lasting_more, Shares}
-use Rattle.viewed_steps.specs.Sound.{IsWayOf, ArePast, HoldsAt, ArePlaced, NoneAbove, ViewStage, stages_of, GoneElsewhere, AreWaiting, IsStoredAt, returns_one, LeadsAlong, IsResting, HasTraversals, NoneGiven, IsGivenBelow}
+use Rattle.viewed_steps.specs.Sound.{IsWayOf, IsBeyond, HoldsAt, ArePlaced, NoneAbove, ViewStage, stages_of, GoneElsewhere, AreWaiting, IsStoredAt, returns_one, LeadsAlong, IsResting, HasTraversals, NoneGiven, IsGivenBelow, LentBy, KeptBy, withheld, loan_by}
 use Rattle.viewed_steps.specs.Taken.{TakenBy}
 use Rattle.viewed_steps.specs.Ready.{IsReady}
 use Rattle.viewed_steps.proofs.Lent.{Spare, loans_stay}
@@ -99,6 +99,8 @@ use Rattle.viewed_steps.proofs.Operands.{left_operand_on, right_operand_on}
 use Rattle.viewed_steps.proofs.EachInstruction as each
 use Rattle.viewed_steps.proofs.Turned as turned
 use Rattle.viewed_steps.proofs.Views.{AreAccess}
+use Rattle.place_names.specs.Facts.{place}
+use Rattle.place_names.specs.declared.rule.Loan.{Loan}
 
 none_some : (n : ℕ) → None ≡ Some n → ⊥
 none_some n e = cc
@@ -129,10 +131,10 @@ module _ (table : Table) (typed : TypedProgram) (effects : Effects) (input : Lis
       (awaiting : AreAwaited table typed None (top ∷ stages_of (below ∷ more_frames)))
       (of_sub : IsNamedSub (flow_named table typed) top.frame.sub named) (at_point : IsAtPoint named.points top.frame.next p)
       (path : ControlPath (path_points program effects (sub_of program top.frame.sub)) top.before top.frame.next) (views : Views)
-      (viewed_before : Viewed (home s (suc (length rest))) (sees_only s) (known_gone (home s (suc (length rest))) (GoneElsewhere program effects (below ∷ more_frames))) views
+      (viewed_before : ViewedAlone (home s (suc (length rest))) (sees_only s) (known_gone (home s (suc (length rest))) (GoneElsewhere program effects (below ∷ more_frames))) views
       (view_here s state) (facts_of program effects top))
       (kept : Kept s state.memory (waiting_in state)) (scope : InScope s state.memory (suc (length rest)) (lasting_of s p.scope)) (holds : HoldsAt s (suc (length rest)) views state.memory p)
-      (placed_before : ArePlaced program (suc (length rest)) (facts_of program effects top) views p.scope × ArePast s (suc (length rest)) views (below ∷ more_frames)) (above : NoneAbove s (suc (length rest)) state.memory
+      (placed_before : ArePlaced program (suc (length rest)) (facts_of program effects top) views p.scope × IsBeyond program effects (suc (length rest)) views (below ∷ more_frames)) (above : NoneAbove s (suc (length rest)) state.memory
       × HasTraversals table typed (view_here s state) (record { stage = top; views = views; cells = [] } ∷ (below ∷ more_frames))) where
     abbrev outer : List Frame
     outer = below.stage.frame ∷ rest
@@ -143,7 +145,7 @@ module _ (table : Table) (typed : TypedProgram) (effects : Effects) (input : Lis
     abbrev depth : ℕ
     depth = suc (length rest)
 
-    abbrev between : (g : ViewStage) → Has (below ∷ more_frames) g → StandsBetween table typed effects unmoved_stage local state (suc (length rest)) g
+    abbrev between : (g : ViewStage) → Has (below ∷ more_frames) g → StandsBetween table typed effects unmoved_stage local state (suc (length rest)) (below ∷ more_frames) g
     between = innermost.between table typed effects input ready state top below more_frames rest named p frames deep stages running awaiting of_sub at_point path views viewed_before kept scope holds placed_before above
 
     abbrev other : Around (home s (suc (length rest)))
@@ -176,7 +178,7 @@ module _ (table : Table) (typed : TypedProgram) (effects : Effects) (input : Lis
 
     abbrev apart_from_them : (done : List Act) (v : Views) (view : ways.View) → ((x : ℕ) (w : Way) → v.way x ≡ Some w → is_view s x ≡ true)
         → Viewed (home s depth) (sees_only s) other v view (after done facts_now)
-        → Viewed (home s depth) (sees_only s) (known_gone (home s depth) (GoneElsewhere program effects older)) v view (after done own_facts)
+        → ViewedAlone (home s depth) (sees_only s) (known_gone (home s depth) (GoneElsewhere program effects older)) v view (after done own_facts)
     apart_from_them = innermost.apart_from_them table typed effects input ready state top below more_frames rest named p frames deep stages running awaiting of_sub at_point path views viewed_before kept scope holds placed_before above
 
     abbrev placed_by : (some all : List Fact) (v : Views) (scope_there : List ℕ) → ((h : ℕ) (m : PlaceName) → sees_only s h ≡ true → Has some (Lent Observed h m) → Has all (Lent Observed h m))
@@ -531,7 +533,11 @@ module _ (table : Table) (typed : TypedProgram) (effects : Effects) (input : Lis
               lends = was.lends;
               writes = was.writes;
               unmoved = was.unmoved;
+              shown = was.shown;
+              apart = was.apart;
               written = was.written;
+              goes = was.goes;
+              off = was.off;
               uses = was.uses;
               clear = was.clear;
               views = was.views;
@@ -551,13 +557,31 @@ module _ (table : Table) (typed : TypedProgram) (effects : Effects) (input : Lis
             waits.3,
           )
 
-      past_with : (v : Waiting) → ArePast s depth views (below ∷ more_frames) → ArePast s depth views (below_with v ∷ more_frames)
-      past_with v past x w has given sees k n (g, inr there, way) goes = past x w has given sees k n (g, inr there, way) goes
-      past_with v past x w has given sees k n (g, inl same, way) goes =
-          past x w has given sees k n (below, inl refl, way_from way) goes
+      past_with : (v : Waiting) → IsBeyond program effects depth views (below ∷ more_frames) → IsBeyond program effects depth views (below_with v ∷ more_frames)
+      past_with v past = (λ x w has given sees k n kept goes. past_one x w has given sees k n kept goes, λ x w has given named_there. shared_one (sees_only s x) w (past.1 x w has given named_there))
         where
-          way_from : IsWayOf g k n → IsWayOf below k n
-          way_from way = subst (λ (z : ViewStage). IsWayOf z k n → IsWayOf below k n) same (λ there. there) way
+          way_from : (g : ViewStage) (k : Way) (n : ℕ) → below_with v ≡ g → IsWayOf g k n → IsWayOf below k n
+          way_from g k n same way = subst (λ (z : ViewStage). IsWayOf z k n → IsWayOf below k n) same (λ there. there) way
+
+          past_one : (x : ℕ) (w : Way) → views.way x ≡ Some w → (ways.Named (home s depth) (views.up x) → ⊥) → sees_only s x ≡ false → (k : Way) (n : ℕ)
+              → KeptBy (below_with v ∷ more_frames) k n → ways.Past w k → ⊥
+          past_one x w has given sees k n (g, inr there, way) goes = past.0 x w has given sees k n (g, inr there, way) goes
+          past_one x w has given sees k n (g, inl same, way) goes = past.0 x w has given sees k n (below, inl refl, way_from g k n same way) goes
+
+          lent_with : (l : Loan) (name : PlaceName) → LentBy program effects (below ∷ more_frames) l name → LentBy program effects (below_with v ∷ more_frames) l name
+          lent_with l name lent = elim lent.1 [
+            | inr there ↦ (lent.0, inr there, lent.2, lent.3, lent.4, lent.5, lent.6, lent.7)
+            | inl same ↦ (
+                let there =
+                subst (λ (z : ViewStage). (0 < z.stage.depth) × (f : Fact) × Has (withheld program effects z) f × (is_package_object s name.root ≡ true) × (loan_by f ≡ l) × (place f ≡ name)) (sym same)
+                (lent.2, lent.3, lent.4, lent.5, lent.6, lent.7) in
+                (below_with v, inl refl, there.0, there.1, there.2, there.3, there.4, there.5)
+                )
+          ]
+
+          shared_one : (sees : Bool) (w : Way) → IsShared (home s depth) (LentBy program effects (below ∷ more_frames)) sees w
+              → IsShared (home s depth) (LentBy program effects (below_with v ∷ more_frames)) sees w
+          shared_one sees w (l, through, changed) = (l, (through.0, through.1, through.2, lent_with l (ways.name_of through.0) through.3), changed)
 
       elsewhere_from : (v : Waiting) (w : Way) → GoneElsewhere program effects (below_with v ∷ more_frames) w → GoneElsewhere program effects (below ∷ more_frames) w
       elsewhere_from v w (g, inr has, what) = (g, inr has, what)
@@ -646,9 +670,9 @@ module _ (table : Table) (typed : TypedProgram) (effects : Effects) (input : Lis
               path = subst (λ (z : FlowSub). ControlPath (path_points program effects z) (top.frame.next ∷ top.before) next_number)
                   (sym (standing.sub_is table typed effects input ready state top older outer named p frames of_sub at_point))
                   (goes_on top.before top.frame.next next_number (standing.path_here table typed effects input ready state top older outer named p frames of_sub at_point path) step_on);
-              viewed = subst (λ z. Viewed (home s top.depth) (sees_only s) (known_gone (home s top.depth) (GoneElsewhere program effects (below_with v ∷ more_frames))) views z (facts_of program effects top_then)) view_same
-                  (subst (λ d. Viewed (home s d) (sees_only s) (known_gone (home s d) (GoneElsewhere program effects (below_with v ∷ more_frames))) views view (facts_of program effects top_then)) (sym deep)
-                  (subst (Viewed (home s depth) (sees_only s) (known_gone (home s depth) (GoneElsewhere program effects (below_with v ∷ more_frames))) views view) (sym facts_there)
+              viewed = subst (λ z. ViewedAlone (home s top.depth) (sees_only s) (known_gone (home s top.depth) (GoneElsewhere program effects (below_with v ∷ more_frames))) views z (facts_of program effects top_then)) view_same
+                  (subst (λ d. ViewedAlone (home s d) (sees_only s) (known_gone (home s d) (GoneElsewhere program effects (below_with v ∷ more_frames))) views view (facts_of program effects top_then)) (sym deep)
+                  (subst (ViewedAlone (home s depth) (sees_only s) (known_gone (home s depth) (GoneElsewhere program effects (below_with v ∷ more_frames))) views view) (sym facts_there)
                   (record {
                     owned = well.owned;
                     covered = well.covered;
@@ -656,10 +680,6 @@ module _ (table : Table) (typed : TypedProgram) (effects : Effects) (input : Lis
                     clear = well.clear;
                     views = well.views;
                     whole = λ x w z has foreign gone meets. well.whole x w z has foreign (elsewhere_from v z gone) meets;
-                    past = λ x w has given plain k n none. absurd none;
-                    lends = well.lends;
-                    far = λ w n none. absurd none;
-                    bare = λ w n p none. absurd none;
                   })));
               kept = subst (Kept s m) (sym (hands_then ws m)) kept_then;
               named = named;
@@ -679,7 +699,7 @@ module _ (table : Table) (typed : TypedProgram) (effects : Effects) (input : Lis
               });
               placed = subst (λ d. ArePlaced program d (facts_of program effects top_then) views (found.0).scope) (sym deep) (subst (λ z. ArePlaced program depth z views (found.0).scope) (sym facts_there)
                   (placed_by (after (acts_of_main p.instr) facts_now) facts_then views (found.0).scope (own_loans (acts_of_main p.instr)) placed_next));
-              past = subst (λ d. ArePast s d views (below_with v ∷ more_frames)) (sym deep) (past_with v placed_before.1);
+              past = subst (λ d. IsBeyond program effects d views (below_with v ∷ more_frames)) (sym deep) (past_with v placed_before.1);
               none_above = subst (λ d. NoneAbove s d m) (sym deep) (still_above m stay);
               traversals = (
                 (

@@ -48,11 +48,11 @@ use Rattle.soundness.proofs.Onward.{GoesOn, end_scope_follows}
 use Rattle.soundness.proofs.Waited.{FillsNone}
 use Rattle.soundness.proofs.Waits.{drop_none}
 use Rattle.soundness.proofs.Successors.{below_one, successor_there}
-use Rattle.owned_loans.specs.Views.{Around, known_gone, Views, Viewed}
+use Rattle.owned_loans.specs.Views.{Around, known_gone, Views, Viewed, ViewedAlone}
 use Rattle.viewed_soundness.proofs.Outcomes.{Is_left}
 use Rattle.viewed_steps.specs.Awaited.{AreValues, lasting_of, awaited, AreAwaited}
 use Rattle.viewed_steps.proofs.Waited.{plain_unheld, last_lasting, lasting_last}
-use Rattle.viewed_steps.specs.Sound.{ArePast, HoldsAt, ArePlaced, NoneAbove, ViewStage, stages_of, GoneElsewhere, AreWaiting, AreLeft, leaves_scope, LeadsAlong, IsResting, HasTraversals}
+use Rattle.viewed_steps.specs.Sound.{IsBeyond, HoldsAt, ArePlaced, NoneAbove, ViewStage, stages_of, GoneElsewhere, AreWaiting, AreLeft, leaves_scope, LeadsAlong, IsResting, HasTraversals}
 use Rattle.viewed_steps.specs.Ready.{AreOrderly, IsReady}
 use Rattle.viewed_steps.proofs.Inherited.{lent_end}
 use Rattle.viewed_steps.proofs.Placed.{scope_on}
@@ -87,10 +87,10 @@ module _ (table : Table) (typed : TypedProgram) (effects : Effects) (input : Lis
       (awaiting : AreAwaited table typed None (top ∷ stages_of (below ∷ more_frames)))
       (of_sub : IsNamedSub (flow_named table typed) top.frame.sub named) (at_point : IsAtPoint named.points top.frame.next p)
       (path : ControlPath (path_points program effects (sub_of program top.frame.sub)) top.before top.frame.next) (views : Views)
-      (viewed_before : Viewed (home s (suc (length rest))) (sees_only s) (known_gone (home s (suc (length rest))) (GoneElsewhere program effects (below ∷ more_frames))) views
+      (viewed_before : ViewedAlone (home s (suc (length rest))) (sees_only s) (known_gone (home s (suc (length rest))) (GoneElsewhere program effects (below ∷ more_frames))) views
       (view_here s state) (facts_of program effects top))
       (kept : Kept s state.memory (waiting_in state)) (scope : InScope s state.memory (suc (length rest)) (lasting_of s p.scope)) (holds : HoldsAt s (suc (length rest)) views state.memory p)
-      (placed_before : ArePlaced program (suc (length rest)) (facts_of program effects top) views p.scope × ArePast s (suc (length rest)) views (below ∷ more_frames)) (above : NoneAbove s (suc (length rest)) state.memory
+      (placed_before : ArePlaced program (suc (length rest)) (facts_of program effects top) views p.scope × IsBeyond program effects (suc (length rest)) views (below ∷ more_frames)) (above : NoneAbove s (suc (length rest)) state.memory
       × HasTraversals table typed (view_here s state) (record { stage = top; views = views; cells = [] } ∷ (below ∷ more_frames))) where
     abbrev outer : List Frame
     outer = below.stage.frame ∷ rest
@@ -101,7 +101,7 @@ module _ (table : Table) (typed : TypedProgram) (effects : Effects) (input : Lis
     abbrev depth : ℕ
     depth = suc (length rest)
 
-    abbrev between : (g : ViewStage) → Has (below ∷ more_frames) g → StandsBetween table typed effects unmoved_stage local state (suc (length rest)) g
+    abbrev between : (g : ViewStage) → Has (below ∷ more_frames) g → StandsBetween table typed effects unmoved_stage local state (suc (length rest)) (below ∷ more_frames) g
     between = innermost.between table typed effects input ready state top below more_frames rest named p frames deep stages running awaiting of_sub at_point path views viewed_before kept scope holds placed_before above
 
     abbrev other : Around (home s (suc (length rest)))
@@ -148,7 +148,7 @@ module _ (table : Table) (typed : TypedProgram) (effects : Effects) (input : Lis
 
     abbrev apart_from_them : (done : List Act) (v : Views) (view : ways.View) → ((x : ℕ) (w : Way) → v.way x ≡ Some w → is_view s x ≡ true)
         → Viewed (home s depth) (sees_only s) other v view (after done facts_now)
-        → Viewed (home s depth) (sees_only s) (known_gone (home s depth) (GoneElsewhere program effects older)) v view (after done own_facts)
+        → ViewedAlone (home s depth) (sees_only s) (known_gone (home s depth) (GoneElsewhere program effects older)) v view (after done own_facts)
     apart_from_them = innermost.apart_from_them table typed effects input ready state top below more_frames rest named p frames deep stages running awaiting of_sub at_point path views viewed_before kept scope holds placed_before above
 
     abbrev placed_by : (some all : List Fact) (v : Views) (scope_there : List ℕ) → ((h : ℕ) (m : PlaceName) → sees_only s h ≡ true → Has some (Lent Observed h m) → Has all (Lent Observed h m))
@@ -356,7 +356,7 @@ module _ (table : Table) (typed : TypedProgram) (effects : Effects) (input : Lis
                 p at_next_point.0 y is (home_frame y not_shared) not_shared (orderly.over y is) (ready_there (EndScope y) is) (orderly.variables y (inr is)) (λ x within off. orderly.ended y x is within off)
                 (λ x within sees region. orderly.followed y x is at_next_point.0 (next_point.0, next_point.2, at_next_point.1) within sees region)
                 lead facts_now end_allowed.0 viewed kept holds placed (not_lent y not_shared)))),
-            still_viewed.past,
+            (still_viewed.past, still_viewed.shown),
           ) (still_above after_step.memory stay, traversals_left after_step memory on.waits on.loops on.are) views
           (leaves_scope y is (refl, refl, refl) were_left refl)
 

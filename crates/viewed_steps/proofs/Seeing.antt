@@ -1,6 +1,6 @@
 -- What is passed for a formal that owns nothing: null, or the number of a cell that a way of the caller leads
 -- to. Nothing that is gone meets that way, and it is foreign in what is called.
-use Rattle.std.proofs.Common.{◌≡◌, refl, sym, ap, ◌∙◌, subst, ◌⊎◌, inl, inr, ℕ, ◌<◌, Bool, true, false, List, [], ◌∷◌, Option, Some, None, arith, ◌||◌, ◌&&◌}
+use Rattle.std.proofs.Common.{◌≡◌, refl, sym, ap, ◌∙◌, subst, ◌⊎◌, inl, inr, ℕ, Bool, true, false, List, [], ◌∷◌, Option, Some, None}
 use Rattle.spark_base.specs.declared.position.Pos.{Pos}
 use Rattle.place_names.specs.declared.fact.Fact.{Fact}
 use Rattle.place_names.specs.Names.{Name as PlaceName}
@@ -8,7 +8,7 @@ use Rattle.type_definitions.specs.declared.table.Shape.TheVariants as shape
 use Rattle.type_definitions.specs.Types.{shape_of, is_scalar, view_of as view_of_shape}
 use Rattle.typed_tree.specs.Trees.{TypedTree, Number, Literal, Text, Name, Component as IntoComponent, Designated, Element, Call, EndOfFile, Parens, Image, Unary, Binary, Short, IsNull, Aggregate, Alike, New, NoMore, More}
 use Rattle.typed_tree.specs.Trees as typed
-use Rattle.flow_paths.specs.Objects.{Typing, object_at, is_anonymous, is_package_object, view_of}
+use Rattle.flow_paths.specs.Objects.{Typing, object_at, is_anonymous, view_of}
 use Rattle.flow_paths.specs.Names.{Written, written, waiting as waits_in, name_of}
 use Rattle.flow_paths.specs.Acts.{index_acts}
 use Rattle.machine.specs.Words as machine
@@ -24,21 +24,18 @@ use Rattle.typed_laws.specs.Needed.{IndexLaw, Matches}
 use Rattle.soundness.proofs.Scalars.{acts}
 use Rattle.soundness.proofs.Stays.{Quiet}
 use Rattle.soundness.proofs.Taking.{Takes, takes_zero}
-use Rattle.owned_loans.specs.Views.{Around, Views, expand, ExcusedBy, IsForeign, Viewed}
+use Rattle.owned_loans.specs.Views.{Around, Views, expand, ExcusedBy, Viewed}
 use Rattle.owned_loans.proofs.Allowed.{Cleared}
 use Rattle.owned_loans.proofs.Ended.{stands_itself}
 use Rattle.owned_loans.specs.Views.{on}
-use Rattle.owned_ways.proofs.Named.{longer}
-use Rattle.owned_loans.proofs.Ways.{on_under, Lifted, lifted_way, base_on, named_on}
+use Rattle.owned_loans.proofs.Ways.{Lifted, lifted_way, base_on, named_on}
 use Rattle.viewed_soundness.specs.Holds.{PartsAreNamed, is_view, sees_only, IsOwners, Holds, IsAccess, is_given}
 use Rattle.viewed_soundness.proofs.Given.{IsLow, lent_whole, seen_whole}
 use Rattle.viewed_soundness.proofs.Names.{true_false, neither, plain_sees, stands_owners}
 use Rattle.viewed_soundness.proofs.Sources.{Shows, source_on}
+use Rattle.viewed_steps.specs.Ready.{IsSeen, IsAccessAs}
 use Rattle.viewed_soundness.proofs.Lends.{matches_on}
-use Rattle.viewed_steps.specs.Ready.{IsSeen, IsShowable, IsAccessAs}
 use Rattle.viewed_steps.proofs.Entered.{IsTyped}
-use Rattle.viewed_steps.proofs.Views.{view_cases}
-use Rattle.machine.specs.Owners.{is_in_formal}
 
 -- Nothing of a name was moved or is borrowed, unless it is looked at through an observer or a formal.
 abbrev pub IsClear : Typing → List Fact → TypedTree → Type 0
@@ -50,30 +47,6 @@ abbrev pub AreClear : Typing → List Fact → List ℕ → TypedTree → Type 0
 AreClear s facts (x ∷ formals) (More e rest) = (is_given s x ≡ true → IsClear s facts e) × AreClear s facts formals rest
 AreClear s facts formals actuals = Unit {0}
 
--- What an actual is rooted in, if it is a borrower or observer, sees nothing of a package object.
-abbrev pub IsLowRoot : Typing → ℕ → Views → TypedTree → Type 0
-IsLowRoot s frame v (Name p y path u) = (k : Way) → v.way y ≡ Some k → is_anonymous (view_of s y) ≡ true → IsLow s frame k
-IsLowRoot s frame v e = Unit {0}
-
-abbrev pub AreLowRoots : Typing → ℕ → Views → List ℕ → TypedTree → Type 0
-AreLowRoots s frame v (x ∷ formals) (More e rest) = (is_given s x ≡ true → IsLowRoot s frame v e) × AreLowRoots s frame v formals rest
-AreLowRoots s frame v formals actuals = Unit {0}
-
--- Both of them.
-abbrev pub IsOpenTo : Typing → ℕ → Views → List Fact → TypedTree → Type 0
-IsOpenTo s frame v facts e = IsClear s facts e × IsLowRoot s frame v e
-
-abbrev pub AreOpenTo : Typing → ℕ → Views → List Fact → List ℕ → TypedTree → Type 0
-AreOpenTo s frame v facts (x ∷ formals) (More e rest) = (is_given s x ≡ true → IsOpenTo s frame v facts e) × AreOpenTo s frame v facts formals rest
-AreOpenTo s frame v facts formals actuals = Unit {0}
-
-pub open_to : (s : Typing) (frame : ℕ) (v : Views) (facts : List Fact) (formals : List ℕ) (actuals : TypedTree) → AreClear s facts formals actuals
-    → AreLowRoots s frame v formals actuals → AreOpenTo s frame v facts formals actuals
-open_to s frame v facts [] actuals clear low = tt
-open_to s frame v facts (x ∷ formals) (More e rest) clear low =
-    ((λ formal. (clear.0 formal, low.0 formal)), open_to s frame v facts formals rest clear.1 low.1)
-open_to s frame v facts (x ∷ formals) actuals clear low = tt
-
 module _ (h : Here) (settled : IsSettled h.typing.table) (hands : List Waiting) (leaks : List Leak) (m : Memory) (waits : List (List machine.Word))
     (other : Around (home h.typing h.frame)) (facts : List Fact) (v : Views)
     (kept : Kept h.typing m hands)
@@ -84,7 +57,7 @@ module _ (h : Here) (settled : IsSettled h.typing.table) (hands : List Waiting) 
     (index_law : IndexLaw)
     (own_law : OwnsByShape h.typing.table)
     (parts_named : PartsAreNamed h.typing.table)
-    (formals_low : (x : ℕ) (w : Way) → v.way x ≡ Some w → is_given h.typing x ≡ true → (foreign : IsForeign (home h.typing h.frame) w) × (foreign.0 < h.frame) × (0 < foreign.0)) where
+    (formals_low : (x : ℕ) (w : Way) → v.way x ≡ Some w → IsLow h.typing h.frame w) where
   abbrev s : Typing
   s = h.typing
 
@@ -124,10 +97,9 @@ module _ (h : Here) (settled : IsSettled h.typing.table) (hands : List Waiting) 
   IsSeenAs x e ws = (z : machine.Word) × (ws ≡ z ∷ []) × IsTyped h.typing m x z × ((n : ℕ) → z ≡ machine.Cell n → Sees e n)
 
   -- the rest is about a name that shows a cell
-  module _ (e : TypedTree) (y : ℕ) (showable : IsShowable h.typing y) (w : Way) (called : IsCalledBy e w) (named : Named (home h.typing h.frame) w) (root : number_of w ≡ y)
+  module _ (e : TypedTree) (y : ℕ) (w : Way) (called : IsCalledBy e w) (named : Named (home h.typing h.frame) w) (root : number_of w ≡ y)
       (clears : sees_only h.typing y ≡ false → Cleared facts w) (n : ℕ) (reaches : Reaches (seen h.typing m hands leaks) (expand v (All w)) (OfCell n))
-      (lifted : is_view h.typing y ≡ true → (l : Lifted v (All w)) × (l.object ≡ y))
-      (lows : (k : Way) → v.way y ≡ Some k → is_anonymous (view_of h.typing y) ≡ true → IsLow h.typing h.frame k) where
+      (lifted : is_view h.typing y ≡ true → (l : Lifted v (All w)) × (l.object ≡ y)) where
     no_way : is_view h.typing y ≡ false → v.way y ≡ None
     no_way owner = by_way (v.way y) refl
       where
@@ -148,7 +120,7 @@ module _ (h : Here) (settled : IsSettled h.typing.table) (hands : List Waiting) 
           lifted = λ view. absurd (true_false (is_view s y) (ap (is_view s) (sym root) ∙ view) owner);
           owners = stands_owners s h.frame v m (All w) holds named (inl (ap (is_view_formal s) root ∙ (neither (is_anonymous (view_of s y)) (is_view_formal s y) owner).1));
           reaches = reaches;
-          low = inl (subst (Named Home) (sym itself) named, ap (λ z. is_package_object s (number_of z)) itself ∙ ap (is_package_object s) root ∙ showable);
+          low = inl (subst (Named Home) (sym itself) named);
           whole = lent_whole s h.frame other v (seen s m hands leaks) facts well alone w named plain (clears (sym (ap (sees_only s) root) ∙ plain));
         }
 
@@ -162,10 +134,7 @@ module _ (h : Here) (settled : IsSettled h.typing.table) (hands : List Waiting) 
       lifted = λ also. ((lifted view).0, (lifted view).1 ∙ sym root);
       owners = stands_owners s h.frame v m (All w) holds named (inr (lifted view).0);
       reaches = reaches;
-      low = low_on (elim (view_cases s y view) [
-        | inl anonymous ↦ lows (lifted view).0.way has anonymous
-        | inr formal ↦ (let far = formals_low y (lifted view).0.way has (ap (λ b. b || (is_in_formal h.typing y && is_anonymous (view_of h.typing y))) formal) in inr (far.0, (let less = far.1 in omega (arith, less)), far.2))
-      ]);
+      low = low_on (formals_low y (lifted view).0.way has);
       whole = by_sees (sees_only s y) refl;
     }
       where
@@ -173,10 +142,8 @@ module _ (h : Here) (settled : IsSettled h.typing.table) (hands : List Waiting) 
         has = subst (λ z. v.way z ≡ Some (lifted view).0.way) (lifted view).1 (lifted view).0.has
 
         low_on : IsLow s h.frame (lifted view).0.way → IsLow s h.frame (expand v (All w))
-        low_on (inl (at_home, own)) = inl (
-          subst (Named Home) (sym (lifted_way v (All w) (lifted view).0)) (named_on Home (lifted view).0.way (lifted view).0.rest at_home),
-          ap (λ z. is_package_object s (number_of z)) (lifted_way v (All w) (lifted view).0) ∙ ap (is_package_object s) ((longer (lifted view).0.way (on (lifted view).0.way (lifted view).0.rest) (on_under (lifted view).0.way (lifted view).0.rest)).root) ∙ own,
-        )
+        low_on (inl at_home) =
+            inl (subst (Named Home) (sym (lifted_way v (All w) (lifted view).0)) (named_on Home (lifted view).0.way (lifted view).0.rest at_home))
         low_on (inr (foreign, less, some)) = inr (
           (foreign.0, foreign.1, ap base_of (lifted_way v (All w) (lifted view).0) ∙ base_on (lifted view).0.way (lifted view).0.rest ∙ foreign.2, foreign.3),
           less,
@@ -207,23 +174,23 @@ module _ (h : Here) (settled : IsSettled h.typing.table) (hands : List Waiting) 
   abbrev Designates : ℕ → ℕ → Type 0
   Designates x d = (k : ℕ) × (e : Bool) × (o : Bool) × (shape_of s.table (object_at s x).of ≡ shape.Access k e o) × Matches s.table d k
 
-  from_source : (on : List (List machine.Word)) (p : Pos) (x y d u : ℕ) (path : TypedTree) → IsShowable s y → Designates x d
+  from_source : (on : List (List machine.Word)) (p : Pos) (x y d u : ℕ) (path : TypedTree) → Designates x d
       → ((w : Way) → ways.name_of w ≡ name_of y path → sees_only s y ≡ false → Cleared facts w)
-      → ((k : Way) → v.way y ≡ Some k → is_anonymous (view_of s y) ≡ true → IsLow s h.frame k) → (e : Evaluated (List machine.Word))
+      → (e : Evaluated (List machine.Word))
       → Quiet (at on) (λ ws. (w : Way) × Named Home w × (ways.name_of w ≡ name_of y path)
       × Shows h settled hands leaks m waits other facts v kept well holds alone live index_law own_law parts_named y d w ws) e
       → Quiet (at on) (IsSeenAs x (Name p y path u)) e
-  from_source on p x y d u path showable (k, c, n, is, designates) clears lows (Done ws now) (same, (w, named, called, shows)) = (
+  from_source on p x y d u path (k, c, n, is, designates) clears (Done ws now) (same, (w, named, called, shows)) = (
     same,
     (
       shows.word,
       shows.is,
       (λ d' c' n' j shape_is e. subst (λ z. IsCell s m z j) (same_designated k d' c n c' n' (sym is ∙ shape_is)) (cell_as d k j designates (shows.typed j e))),
-      λ j e. sees_it (Name p y path u) y showable w called named (ap (λ (z : PlaceName). z.root) called) (λ plain. clears w called plain) j (shows.designated j e) (λ view. shows.lifted view j e) lows,
+      λ j e. sees_it (Name p y path u) y w called named (ap (λ (z : PlaceName). z.root) called) (λ plain. clears w called plain) j (shows.designated j e) (λ view. shows.lifted view j e),
     ),
   )
-  from_source on p x y d u path showable designates clears lows (Raises e now) same = same
-  from_source on p x y d u path showable designates clears lows (Traps e now) none = none
+  from_source on p x y d u path designates clears (Raises e now) same = same
+  from_source on p x y d u path designates clears (Traps e now) none = none
 
   source_access : (x u : ℕ) → IsAccess h.typing x → IsAccessAs h.typing u (object_at h.typing x).of → (d : ℕ) × (c : Bool) × (n : Bool) × (shape_of s.table u ≡ shape.Access d c n) × Designates x d
   source_access x u (k, e, o, is) (inl (inl same)) = (k, e, o, same ∙ is, (k, e, o, is, inl refl))
@@ -235,13 +202,13 @@ module _ (h : Here) (settled : IsSettled h.typing.table) (hands : List Waiting) 
 
   -- what is passed for such a formal
   pub seen_given : (before on : List (List machine.Word)) (x : ℕ) (e : TypedTree) → IsAccess h.typing x → IsSeen h.typing x e → Takes (waits_in e) before on
-      → AllowsAll facts (acts (index_acts h.typing e)) → IsOpenTo h.typing h.frame v facts e → Quiet (at on) (IsSeenAs x e) (viewed h e (at before))
+      → AllowsAll facts (acts (index_acts h.typing e)) → IsClear h.typing facts e → Quiet (at on) (IsSeenAs x e) (viewed h e (at before))
   unfolding evaluate waits_in
   seen_given before on x typed.Null access seen_there takes allowed clears =
       (at_same takes, (machine.Null, refl, (λ d c n k is e. cc), λ n e. cc))
-  seen_given before on x (Name p y path u) access (leads, fits, showable) takes allowed (clear, low) =
+  seen_given before on x (Name p y path u) access (leads, fits) takes allowed clear =
       let of = source_access x u access fits in
-      from_source on p x y of.0 u path showable of.4 clear low (evaluate h AsView (Name p y path u) (at before))
+      from_source on p x y of.0 u path of.4 clear (evaluate h AsView (Name p y path u) (at before))
       (source_on h settled hands leaks m waits other facts v kept well holds alone live index_law own_law parts_named before on p y u of.0 of.1 of.2 path
       leads of.3 takes allowed clear)
   seen_given before on x e access never takes allowed clears = absurd never

@@ -38,11 +38,11 @@ use Rattle.soundness.proofs.Typings.{Agree, flow_agrees, instruction_same}
 use Rattle.soundness.proofs.Scalars.{acts}
 use Rattle.soundness.proofs.Paths.{accepted_point, facts_next}
 use Rattle.soundness.proofs.Points.{flow_at, named_has, point_has, sub_there, sub_has, point_there, point_in, path_there, IsLaid, next_there, one_named, one_point}
-use Rattle.owned_loans.specs.Views.{known_gone, Views, Viewed}
+use Rattle.owned_loans.specs.Views.{known_gone, Views, ViewedAlone}
 use Rattle.viewed_soundness.specs.Holds.{is_view, IsAccess, AllKeep, sees_only, is_fixed}
 use Rattle.viewed_steps.specs.Awaited.{AreFor, AreValues, temporaries_of, lasting_of, WaitsAt, AreAwaited}
 use Rattle.viewed_steps.proofs.Waited.{leads_temporaries}
-use Rattle.viewed_steps.specs.Sound.{ArePast, HoldsAt, ArePlaced, NoneAbove, ViewStage, stages_of, GoneElsewhere, IsRunning, Follows, LeadsAlong, HasTraversals}
+use Rattle.viewed_steps.specs.Sound.{IsBeyond, HoldsAt, ArePlaced, NoneAbove, ViewStage, stages_of, GoneElsewhere, IsRunning, Follows, LeadsAlong, HasTraversals}
 use Rattle.viewed_steps.specs.Ready.{IsReady}
 use Rattle.viewed_steps.proofs.Views.{AreAccess, view_cases}
 
@@ -293,10 +293,10 @@ module _ (table : Table) (typed : TypedProgram) (effects : Effects) (input : Lis
           → top.depth ≡ length outer → AreStages (stages_of older) outer → (views : Views)
           → IsRunning table typed effects after_step (record { stage = at_next waits loops n; views = views; cells = [] }) older
           → AreAwaited table typed None (at_next waits loops n ∷ stages_of older)
-          → Viewed (home s (length outer)) (sees_only s) (known_gone (home s (length outer)) (GoneElsewhere program effects older)) views (view_here s after_step) (after (acts_here p.instr) facts)
+          → ViewedAlone (home s (length outer)) (sees_only s) (known_gone (home s (length outer)) (GoneElsewhere program effects older)) views (view_here s after_step) (after (acts_here p.instr) facts)
           → Kept s after_step.memory (waiting_in after_step) → InScope s after_step.memory (length outer) (lasting_of s q.scope)
           → HoldsAt s (length outer) views after_step.memory q
-          → ArePlaced program (length outer) (after (acts_here p.instr) facts) views q.scope × ArePast s (length outer) views older
+          → ArePlaced program (length outer) (after (acts_here p.instr) facts) views q.scope × IsBeyond program effects (length outer) views older
           → NoneAbove s (length outer) after_step.memory × HasTraversals table typed (view_here s after_step) (record { stage = at_next waits loops n; views = views; cells = [] } ∷ older) → (before : Views)
           → Follows program effects p.instr state.memory (record { stage = top; views = before; cells = [] }) older after_step.memory (record { stage = at_next waits loops n; views = views; cells = [] }) older
           → LeadsAlong table typed effects p.instr state.memory (record { stage = top; views = before; cells = [] }) older (Goes after_step)
@@ -314,8 +314,8 @@ module _ (table : Table) (typed : TypedProgram) (effects : Effects) (input : Lis
               awaited = awaited;
               path = subst (λ (z : FlowSub). ControlPath (path_points program effects z) (top.frame.next ∷ top.before) n) (sym sub_is)
                   (goes_on top.before top.frame.next n path_here step_on);
-              viewed = subst (λ d. Viewed (home s d) (sees_only s) (known_gone (home s d) (GoneElsewhere program effects older)) views (view_here s after_step) (facts_of program effects (at_next waits loops n))) (sym deep)
-                  (subst (Viewed (home s (length outer)) (sees_only s) (known_gone (home s (length outer)) (GoneElsewhere program effects older)) views (view_here s after_step)) (sym facts_there) viewed);
+              viewed = subst (λ d. ViewedAlone (home s d) (sees_only s) (known_gone (home s d) (GoneElsewhere program effects older)) views (view_here s after_step) (facts_of program effects (at_next waits loops n))) (sym deep)
+                  (subst (ViewedAlone (home s (length outer)) (sees_only s) (known_gone (home s (length outer)) (GoneElsewhere program effects older)) views (view_here s after_step)) (sym facts_there) viewed);
               kept = kept;
               named = named;
               of_sub = of_sub;
@@ -325,7 +325,7 @@ module _ (table : Table) (typed : TypedProgram) (effects : Effects) (input : Lis
               holds = subst (λ d. HoldsAt s d views after_step.memory q) (sym deep) holds;
               placed = subst (λ d. ArePlaced program d (facts_of program effects (at_next waits loops n)) views q.scope) (sym deep)
                   (subst (λ z. ArePlaced program (length outer) z views q.scope) (sym facts_there) placed.0);
-              past = subst (λ d. ArePast s d views older) (sym deep) placed.1;
+              past = subst (λ d. IsBeyond program effects d views older) (sym deep) placed.1;
               none_above = subst (λ d. NoneAbove s d after_step.memory) (sym deep) above.0;
               traversals = above.1;
             },

@@ -20,9 +20,9 @@ use Rattle.soundness.specs.Seen.{home}
 use Rattle.soundness.specs.Typed.{Kept}
 use Rattle.soundness.specs.Sound.{Stage, facts_of, AreStages, IsRunnable, returns_value, InScope, IsNamedSub, IsAtPoint, view_of as view_here, IsNoCall}
 use Rattle.soundness.proofs.Waited.{FillsNone}
-use Rattle.owned_loans.specs.Views.{known_gone, Views, Viewed}
+use Rattle.owned_loans.specs.Views.{known_gone, Views, ViewedAlone}
 use Rattle.viewed_steps.specs.Awaited.{lasting_of, AreAwaited, IsTaken}
-use Rattle.viewed_steps.specs.Sound.{ArePast, HoldsAt, ArePlaced, NoneAbove, ViewStage, stages_of, GoneElsewhere, AreWaiting, IsRunning, LeadsAlong, StepsLeadAlong, LeadsOn, StepsLeadOn, IsResting, HasTraversals}
+use Rattle.viewed_steps.specs.Sound.{IsBeyond, HoldsAt, ArePlaced, NoneAbove, ViewStage, stages_of, GoneElsewhere, AreWaiting, IsRunning, LeadsAlong, StepsLeadAlong, LeadsOn, StepsLeadOn, IsResting, HasTraversals}
 use Rattle.viewed_steps.specs.Ready.{IsReady}
 use Rattle.viewed_steps.proofs.Beside.{IsOther}
 use Rattle.viewed_steps.proofs.Standing as standing
@@ -51,10 +51,10 @@ module _ (table : Table) (typed : TypedProgram) (effects : Effects) (input : Lis
       (awaiting : AreAwaited table typed None (top ∷ stages_of (below ∷ more_frames)))
       (of_sub : IsNamedSub (flow_named table typed) top.frame.sub named) (at_point : IsAtPoint named.points top.frame.next p)
       (path : ControlPath (path_points program effects (sub_of program top.frame.sub)) top.before top.frame.next) (views : Views)
-      (viewed_before : Viewed (home s (suc (length rest))) (sees_only s) (known_gone (home s (suc (length rest))) (GoneElsewhere program effects (below ∷ more_frames))) views
+      (viewed_before : ViewedAlone (home s (suc (length rest))) (sees_only s) (known_gone (home s (suc (length rest))) (GoneElsewhere program effects (below ∷ more_frames))) views
       (view_here s state) (facts_of program effects top))
       (kept : Kept s state.memory (waiting_in state)) (scope : InScope s state.memory (suc (length rest)) (lasting_of s p.scope)) (holds : HoldsAt s (suc (length rest)) views state.memory p)
-      (placed_before : ArePlaced program (suc (length rest)) (facts_of program effects top) views p.scope × ArePast s (suc (length rest)) views (below ∷ more_frames)) (above : NoneAbove s (suc (length rest)) state.memory
+      (placed_before : ArePlaced program (suc (length rest)) (facts_of program effects top) views p.scope × IsBeyond program effects (suc (length rest)) views (below ∷ more_frames)) (above : NoneAbove s (suc (length rest)) state.memory
       × HasTraversals table typed (view_here s state) (record { stage = top; views = views; cells = [] } ∷ (below ∷ more_frames))) where
     abbrev outer : List Frame
     outer = below.stage.frame ∷ rest
@@ -106,22 +106,22 @@ module _ (table : Table) (typed : TypedProgram) (effects : Effects) (input : Lis
   by_stages : (state : State) (top : Stage) (views : Views) (older : List ViewStage) (fs : List Frame) → state.frames ≡ fs → AreStages (top ∷ stages_of older) fs
       → IsRunning table typed effects state (record { stage = top; views = views; cells = [] }) older → AreAwaited table typed None (top ∷ stages_of older)
       → ControlPath (path_points program effects (sub_of program top.frame.sub)) top.before top.frame.next
-      → Viewed (home s top.depth) (sees_only s) (known_gone (home s top.depth) (GoneElsewhere program effects older)) views (view_here s state) (facts_of program effects top)
+      → ViewedAlone (home s top.depth) (sees_only s) (known_gone (home s top.depth) (GoneElsewhere program effects older)) views (view_here s state) (facts_of program effects top)
       → Kept s state.memory (waiting_in state)
       → (named : NamedSub) → IsNamedSub (flow_named table typed) top.frame.sub named → (p : NamedPoint) → IsAtPoint named.points top.frame.next p
       → InScope s state.memory top.depth (lasting_of s p.scope) → HoldsAt s top.depth views state.memory p
-      → ArePlaced program top.depth (facts_of program effects top) views p.scope × ArePast s top.depth views older
+      → ArePlaced program top.depth (facts_of program effects top) views p.scope × IsBeyond program effects top.depth views older
       → NoneAbove s top.depth state.memory × HasTraversals table typed (view_here s state) (record { stage = top; views = views; cells = [] } ∷ older)
       → LeadsAlong table typed effects p.instr state.memory (record { stage = top; views = views; cells = [] }) older (step program input state)
   by_stages state top views [] (f ∷ []) is (frame, deep, none) running awaiting path seen_well kept named of_sub p at_point scope holds there above =
       packages.package_step table typed effects input ready state top named p (is ∙ ap (λ z. z ∷ []) (sym frame)) deep views (running.0, running.1, running.2, running.3) (subst (λ d. NoneAbove s d state.memory) deep above.0) of_sub at_point path
-      (subst (λ d. Viewed (home s d) (sees_only s) (known_gone (home s d) (GoneElsewhere program effects [])) views (view_here s state) (facts_of program effects top)) deep seen_well) kept
+      (subst (λ d. ViewedAlone (home s d) (sees_only s) (known_gone (home s d) (GoneElsewhere program effects [])) views (view_here s state) (facts_of program effects top)) deep seen_well) kept
       (subst (λ d. InScope s state.memory d (lasting_of s p.scope)) deep scope) (subst (λ d. HoldsAt s d views state.memory p) deep holds)
   by_stages state top views (below ∷ more) (f ∷ (g ∷ rest)) is (frame, deep, (around_frame, deeper, others)) running awaiting path seen_well kept named of_sub p at_point scope holds there above =
       main_step state top below more rest named p (is ∙ (λ j. sym frame j ∷ (sym around_frame j ∷ rest))) deep (refl, deeper, others) running awaiting of_sub at_point path views
-      (subst (λ d. Viewed (home s d) (sees_only s) (known_gone (home s d) (GoneElsewhere program effects (below ∷ more))) views (view_here s state) (facts_of program effects top)) deep seen_well) kept
+      (subst (λ d. ViewedAlone (home s d) (sees_only s) (known_gone (home s d) (GoneElsewhere program effects (below ∷ more))) views (view_here s state) (facts_of program effects top)) deep seen_well) kept
       (subst (λ d. InScope s state.memory d (lasting_of s p.scope)) deep scope) (subst (λ d. HoldsAt s d views state.memory p) deep holds)
-      (subst (λ d. ArePlaced program d (facts_of program effects top) views p.scope × ArePast s d views (below ∷ more)) deep there)
+      (subst (λ d. ArePlaced program d (facts_of program effects top) views p.scope × IsBeyond program effects d views (below ∷ more)) deep there)
       (subst (λ d. NoneAbove s d state.memory) deep above.0, above.1)
   by_stages state top views [] [] is stages running awaiting path seen_well kept named of_sub p at_point scope holds there above = absurd stages
   by_stages state top views [] (f ∷ (g ∷ others)) is stages running awaiting path seen_well kept named of_sub p at_point scope holds there above = absurd stages.2

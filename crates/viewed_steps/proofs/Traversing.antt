@@ -1,5 +1,5 @@
 -- The call of a traversal function changes no fact; and its first formal is shown what the first actual designates.
-use Rattle.std.proofs.Common.{◌≡◌, refl, sym, ap, ◌∙◌, subst, inl, inr, ℕ, ◌<◌, Bool, true, false, List, [], ◌∷◌, ◌++◌, map, Some, ◌&&◌}
+use Rattle.std.proofs.Common.{◌≡◌, refl, sym, ap, ◌∙◌, subst, inl, inr, ℕ, Bool, true, false, List, [], ◌∷◌, ◌++◌, map, Some, ◌&&◌}
 use Rattle.spark_base.specs.Lists.{Has}
 use Rattle.place_names.specs.declared.act.Mode.{Mode}
 use Rattle.place_names.specs.declared.act.Mode.TheVariants as mode
@@ -22,8 +22,8 @@ use Rattle.typed_laws.specs.Needed.{Leads, IndexLaw}
 use Rattle.soundness.proofs.Passing.{AreReads, reads_keep, TakesAll}
 use Rattle.soundness.proofs.Scalars.{acts, acts_append, after_append, allows_both}
 use Rattle.soundness.proofs.Stays.{Quiet, quiet_then, quiet_from}
-use Rattle.owned_loans.specs.Views.{Around, Views, IsForeign, Viewed}
-use Rattle.viewed_soundness.specs.Holds.{PartsAreNamed, sees_only, IsAccess, IsOwners, Holds, is_given}
+use Rattle.owned_loans.specs.Views.{Around, Views, Viewed}
+use Rattle.viewed_soundness.specs.Holds.{PartsAreNamed, sees_only, IsAccess, IsOwners, Holds}
 use Rattle.viewed_steps.specs.Ready.{is_shown_type, IsSeen, AreActualsTo}
 use Rattle.viewed_steps.specs.Sound.{IsKindOfFormal}
 use Rattle.viewed_steps.specs.Traversals.{TraversalCall}
@@ -31,8 +31,9 @@ use Rattle.viewed_steps.proofs.Called.{values_are_read, IsGiven, AreGiven, shown
 use Rattle.viewed_steps.proofs.Clear.{head_keeps}
 use Rattle.viewed_steps.proofs.LaidOut.{AreOpenActuals}
 use Rattle.viewed_steps.proofs.Reading.{index_reads, both_reads}
-use Rattle.viewed_steps.proofs.Seeing.{IsOpenTo, AreOpenTo}
+use Rattle.viewed_steps.proofs.Seeing.{IsClear, AreClear}
 use Rattle.viewed_steps.proofs.Views.{AreAccess, AreUnseen}
+use Rattle.viewed_soundness.proofs.Given.{IsLow}
 
 module _ (s : Typing) (own_law : OwnsByShape s.table) where
   abbrev pub ways_to : List ℕ → List Passing
@@ -55,21 +56,21 @@ module _ (s : Typing) (own_law : OwnsByShape s.table) where
       ∙ copies_keep formals rest (λ y has. modes y (inr has)) facts
   copies_keep (x ∷ formals) actuals modes facts = refl
 
-  pub first_reads : (formals : List ℕ) (c : TraversalCall) → Leads s (object_at s c.root).of c.path c.of → AreUnseen s formals → AreActualsTo s formals c.others
+  pub first_reads : PartsAreNamed s.table → (formals : List ℕ) (c : TraversalCall) → Leads s (object_at s c.root).of c.path c.of → AreUnseen s formals → AreActualsTo s formals c.others
       → AreReads (index_acts s (first_actual c) ++ actual_values s (map (passing s false) formals) c.others)
-  first_reads formals c leads unseen stay =
+  first_reads parts_named formals c leads unseen stay =
       both_reads (index_acts s (first_actual c)) (actual_values s (map (passing s false) formals) c.others)
-      (index_reads s own_law (first_actual c) c.of (leads, refl)) (values_are_read s own_law false formals c.others unseen stay)
+      (index_reads s own_law (first_actual c) c.of (leads, refl)) (values_are_read s own_law false parts_named formals c.others unseen stay)
 
   -- where all formals are of mode `in`
-  pub traversal_keeps : (f : ℕ) (formals : List ℕ) (c : TraversalCall) → Leads s (object_at s c.root).of c.path c.of → AreUnseen s formals → AreActualsTo s formals c.others
+  pub traversal_keeps : PartsAreNamed s.table → (f : ℕ) (formals : List ℕ) (c : TraversalCall) → Leads s (object_at s c.root).of c.path c.of → AreUnseen s formals → AreActualsTo s formals c.others
       → ((x : ℕ) → Has formals x → (object_at s x).mode ≡ mode.In) → (facts : List Fact)
       → after (acts (actual_values s (ways_to (f ∷ formals)) (More (first_actual c) c.others) ++ actual_acts (ways_to (f ∷ formals)) (More (first_actual c) c.others))) facts ≡ facts
-  traversal_keeps f formals c leads unseen stay modes facts =
+  traversal_keeps parts_named f formals c leads unseen stay modes facts =
       let values : List Placed = index_acts s (first_actual c) ++ actual_values s (map (passing s false) formals) c.others in
       let copies : List Placed = actual_acts (map (passing s false) formals) c.others in
       ap (λ z. after z facts) (acts_append values copies) ∙ after_append (acts values) (acts copies) facts
-      ∙ ap (after (acts copies)) (reads_keep values (first_reads formals c leads unseen stay) facts)
+      ∙ ap (after (acts copies)) (reads_keep values (first_reads parts_named formals c leads unseen stay) facts)
       ∙ copies_keep formals c.others modes facts
 
 -- ---- what the formals are given
@@ -85,7 +86,7 @@ module _ (h : Here) (settled : IsSettled h.typing.table) (hands : List Waiting) 
     (index_law : IndexLaw)
     (own_law : OwnsByShape h.typing.table)
     (parts_named : PartsAreNamed h.typing.table)
-    (formals_low : (x : ℕ) (w : Way) → v.way x ≡ Some w → is_given h.typing x ≡ true → (foreign : IsForeign (home h.typing h.frame) w) × (foreign.0 < h.frame) × (0 < foreign.0))
+    (formals_low : (x : ℕ) (w : Way) → v.way x ≡ Some w → IsLow h.typing h.frame w)
     (f : ℕ) (formals : List ℕ) (c : TraversalCall) (in_mode : (object_at h.typing f).mode ≡ mode.In) (access : IsAccess h.typing f) (shown : is_shown_type h.typing f ≡ true) where
   abbrev AreAllGiven : List Passed → Type 0
   AreAllGiven passed =
@@ -104,7 +105,7 @@ module _ (h : Here) (settled : IsSettled h.typing.table) (hands : List Waiting) 
   -- the first one as what it sees, and the others as any function is given them
   pub all_traversed : (before on : List (List machine.Word)) → TakesAll (f ∷ formals) (More (first_actual h.typing own_law c) c.others) before on
       → IsSeen h.typing f (first_actual h.typing own_law c) → ((x : ℕ) → Has formals x → IsKindOfFormal h.typing x) → AreUnseen h.typing formals → AreActualsTo h.typing formals c.others
-      → IsOpenTo h.typing h.frame v facts (first_actual h.typing own_law c) → AreOpenTo h.typing h.frame v facts formals c.others → AreOpenActuals h.typing h.frame facts formals c.others
+      → IsClear h.typing facts (first_actual h.typing own_law c) → AreClear h.typing facts formals c.others → AreOpenActuals h.typing h.frame facts formals c.others
       → AllowsAll facts (acts (actual_values h.typing (Traversed ∷ others) (More (first_actual h.typing own_law c) c.others)))
       → Quiet (record { memory = m; waits = on }) AreAllGiven
       (all_passed h (Traversed ∷ others) (f ∷ formals) (More (first_actual h.typing own_law c) c.others) (record { memory = m; waits = before }))

@@ -1,22 +1,22 @@
 -- Frames that wait for a call to end, with views: what they keep concerns the innermost frame as ways
 -- of others, and they wait still after its steps.
 use Rattle.viewed_soundness.specs.Holds.{is_view, sees_only}
-use Rattle.std.proofs.Common.{◌≡◌, refl, sym, ap, ◌∙◌, subst, ◌⊎◌, inl, inr, ℕ, ◌<◌, ◌≤◌, Bool, true, false, ◌&&◌, ◌==◌, eqb-true, nat_lt, ltb-true, lt-ltb, List, [], ◌∷◌, ◌++◌, length, arith, Option, Some, None, if◌then◌else◌, append-nil}
+use Rattle.std.proofs.Common.{◌≡◌, refl, sym, ap, ◌∙◌, subst, ◌⊎◌, inl, inr, ℕ, ◌<◌, ◌≤◌, Bool, true, false, ◌&&◌, nat_lt, ltb-true, lt-ltb, List, [], ◌∷◌, ◌++◌, length, arith, Option, Some, None, if◌then◌else◌, append-nil}
 use Rattle.std.specs.Prelude.{flat_map}
 use Rattle.spark_base.specs.Lists.{Has}
-use Rattle.spark_base.proofs.Lists.{Has-append_left, Has-append_right, Has-append_cases}
+use Rattle.spark_base.proofs.Lists.{Has-append_left, Has-append_cases}
 use Rattle.place_names.specs.declared.fact.Fact.{Fact}
 use Rattle.place_names.specs.declared.fact.Fact.TheVariants.{Moved, Lent}
 use Rattle.place_names.specs.declared.rule.Loan.{Loan}
-use Rattle.place_names.specs.declared.rule.Loan.TheVariants.{Borrowed, Observed}
-use Rattle.place_names.specs.Names.{Name, object, overlaps}
+use Rattle.place_names.specs.declared.rule.Loan.TheVariants.{Borrowed}
+use Rattle.place_names.specs.Names.{Name, object}
 use Rattle.place_names.specs.Facts.{place}
 use Rattle.type_definitions.specs.Types.{Table}
 use Rattle.typed_tree.specs.Programs.{TypedProgram}
 use Rattle.flow_paths.specs.declared.report.Effects.{Effects}
 use Rattle.flow_paths.specs.Objects.{Typing, is_package_object}
 use Rattle.flow_paths.specs.Laid.{FlowProgram, flow_typing, flow_program}
-use Rattle.machine.specs.States.{Frame, Return, State}
+use Rattle.machine.specs.States.{Frame, Return, State, sub_of}
 use Rattle.owned_ways.specs.Ways.{Loc, IsSame, Step, OfVariable, OfHand, OfRoot, OfCell, Way, Root, Object, Lost, Into, All, Held, View, Reaches, Under, Named, IsMoved, base_of, number_of, name_of, part, along}
 use Rattle.owned_ways.proofs.Locations.{under_itself, under_along}
 use Rattle.owned_ways.proofs.Named.{longer}
@@ -25,19 +25,19 @@ use Rattle.soundness.specs.Seen.{IsNear, content, word_in, home}
 use Rattle.soundness.specs.Sound.{Stage, facts_of, AreStages, Uses, view_of as view_here}
 use Rattle.soundness.proofs.Around.{near_or_far, IsFar, near_package, package_named}
 use Rattle.soundness.proofs.Contents.{bool_cases, word_part, word_root}
-use Rattle.soundness.proofs.Inherited.{Splits}
-use Rattle.owned_loans.specs.Views.{on, Around, known_gone, Views, expand, IsThrough, ExcusedBy, HasLoan, IsForeign, Viewed, Go}
-use Rattle.owned_loans.proofs.Ways.{under_on, on_under, on_named, lifts, lifted_root, lifted_way, base_on}
+use Rattle.owned_loans.specs.Views.{on, Around, known_gone, Views, expand, IsThrough, IsForeign, Go, AreShared, AreViews}
+use Rattle.owned_loans.proofs.Ways.{under_on, on_under, on_named, lifts, lifted_root, lifted_way, base_on, root_on}
 use Rattle.owned_loans.proofs.Meeting.{stands}
-use Rattle.owned_loans.proofs.Moves.{view_on, own_loan, reached}
+use Rattle.owned_loans.proofs.Moves.{reached}
 use Rattle.viewed_steps.specs.Taken.{TakenBy, Lodge}
 use Rattle.owned_loans.proofs.Meeting.{stands}
 use Rattle.viewed_steps.proofs.Between.{base_along as along_base, number_based, taken_from as words_taken, taken_base, near_base, begun_low}
-use Rattle.viewed_steps.proofs.Roots.{borrower_goes, view_goes}
+use Rattle.viewed_steps.proofs.Roots.{GoesOn, borrower_goes, view_goes}
+use Rattle.viewed_steps.proofs.Showing.{none_moved as shown_unmoved}
 use Rattle.viewed_steps.specs.Awaited.{lasting_of}
 use Rattle.viewed_steps.proofs.Whole.{flat_has}
+use Rattle.viewed_steps.specs.Sound.{loan_by, withheld, KeptBy, ViewStage, stages_of, Lies, GoneElsewhere, IsWaiting, IsFirst, AreWaiting, IsWayOf, IsBareOf, shown_at, LentBy, passed_roots}
 use Rattle.viewed_steps.proofs.Withheld.{kept_cases, kept_root, kept_fact, taken_passed, cell_passed, passed_from, flat_from}
-use Rattle.viewed_steps.specs.Sound.{loan_by, passed_roots, withheld, KeptBy, ArePast, ViewStage, stages_of, Lies, GoneElsewhere, IsWaiting, IsFirst, AreWaiting, IsWayOf, IsBareOf}
 use Rattle.viewed_steps.proofs.Views.{base_named, same_lies}
 use Rattle.machine.specs.Owners.{waiting_in}
 
@@ -93,7 +93,7 @@ along_both w [] p = refl
 along_both w (i ∷ q) p = ap (λ z. Into z i) (along_both w q p)
 
 -- a way goes on from the object that it begins at
-root_under : (f y : ℕ) (w : Way) → base_of w ≡ OfRoot (OfVariable f y) → Under (Object (OfVariable f y)) w
+pub root_under : (f y : ℕ) (w : Way) → base_of w ≡ OfRoot (OfVariable f y) → Under (Object (OfVariable f y)) w
 root_under f y (Object r) base = sym (one_root r base)
   where
     one_root : (r : Root) → OfRoot r ≡ OfRoot (OfVariable f y) → Object r ≡ Object (OfVariable f y)
@@ -119,32 +119,53 @@ module _ (table : Table) (typed : TypedProgram) (effects : Effects)
   s = flow_typing (flow_program table typed)
 
   -- Each is that of the package objects, or waits between it and the innermost one.
-  abbrev pub StandsBetween : State → ℕ → ViewStage → Type 0
-  StandsBetween state depth g = IsFirst g ⊎ ((0 < g.stage.depth) × (g.stage.depth < depth) × (callee : ℕ) × (backs : List Return) × IsWaiting table typed effects state callee backs g)
+  abbrev pub StandsBetween : State → ℕ → List ViewStage → ViewStage → Type 0
+  StandsBetween state depth all g =
+      IsFirst g ⊎ ((0 < g.stage.depth) × (g.stage.depth < depth) × (callee : ℕ) × (backs : List Return) × IsWaiting table typed effects state callee backs g
+      × AreShared (home s g.stage.depth) (sees_only s) (LentBy program effects all) g.views)
+
+  -- what those around it keep, those around more frames do
+  more_shared : (at_home : ℕ → ℕ) (v : Views) (older all : List ViewStage) → ((g : ViewStage) → Has older g → Has all g)
+      → AreShared at_home (sees_only s) (LentBy program effects older) v → AreShared at_home (sees_only s) (LentBy program effects all) v
+  more_shared at_home v older all more shared x w has given named =
+      let is = shared x w has given named in
+      let lent = is.1.3 in
+      (is.0, (is.1.0, is.1.1, is.1.2, (lent.0, more lent.0 lent.1, lent.2, lent.3, lent.4, lent.5, lent.6, lent.7)), is.2)
+
+  more_between : (state : State) (depth : ℕ) (older all : List ViewStage) → ((g : ViewStage) → Has older g → Has all g) → (g : ViewStage)
+      → StandsBetween state depth older g → StandsBetween state depth all g
+  more_between state depth older all more g (inl first) = inl first
+  more_between state depth older all more g (inr (some, less, callee, backs, waits, shared)) =
+      inr (some, less, callee, backs, waits, more_shared (home s g.stage.depth) g.views older all more shared)
 
   pub all_between : (state : State) (callee depth : ℕ) (backs : List Return) (older : List ViewStage) (outer : List Frame) → AreStages (stages_of older) outer → length outer ≤ depth
-      → AreWaiting table typed effects state callee backs older → (g : ViewStage) → Has older g → StandsBetween state depth g
+      → AreWaiting table typed effects state callee backs older → (g : ViewStage) → Has older g → StandsBetween state depth older g
   all_between state callee depth backs [] outer stages less waiting g has = absurd has
   all_between state callee depth backs (e ∷ []) outer stages less waiting g (inl same) = inl (subst IsFirst same waiting.0)
   all_between state callee depth backs (e ∷ []) outer stages less waiting g (inr never) = absurd never
   all_between state callee depth backs (h ∷ (k ∷ older)) [] stages less waiting g has = absurd stages
   all_between state callee depth backs (h ∷ (k ∷ older)) (f ∷ outer) stages less waiting g (inl same) =
-      subst (StandsBetween state depth) same (inr (
+      subst (StandsBetween state depth (h ∷ (k ∷ older))) same (inr (
         (let some = some_frames k older outer stages.2 in let deep = stages.1 in omega (arith, some, deep)),
         (let deep = stages.1 in omega (arith, less, deep)),
         callee,
         backs,
         waiting.0,
+        more_shared (home s h.stage.depth) h.views (k ∷ older) (h ∷ (k ∷ older)) (λ j has. inr has) (waiting.3).1,
       ))
   all_between state callee depth backs (h ∷ (k ∷ older)) (f ∷ outer) stages less waiting g (inr has) =
-      all_between state h.stage.frame.sub depth h.stage.frame.returns (k ∷ older) outer stages.2 (omega (arith, less)) waiting.1 g has
+      more_between state depth (k ∷ older) (h ∷ (k ∷ older)) (λ j there. inr there) g
+      (all_between state h.stage.frame.sub depth h.stage.frame.returns (k ∷ older) outer stages.2 (omega (arith, less)) waiting.1 g has)
 
   -- the frame of the package objects has moved nothing
   first_none : (e : ViewStage) → IsFirst e → (f : Fact) → Has (withheld program effects e) f → (name : Name) → f ≡ Moved name → ⊥
   first_none e first f has name is = elim (kept_cases program effects e f has) [
-    | inl fact ↦ unmoved e.stage first.0 name (subst (Has (facts_of program effects e.stage)) is fact.0)
-    | inr (y, passed, root) ↦ elim (passed_from e y passed) [
-      | inl (to, taken, same) ↦ subst (λ z. Has z to) (first.1).2 taken
+    | inl known ↦ elim (Has-append_cases (facts_of program effects e.stage) (shown_at program e.stage) f known.0) [
+      | inl fact ↦ unmoved e.stage first.0 name (subst (Has (facts_of program effects e.stage)) is fact)
+      | inr shown ↦ shown_unmoved program (sub_of program e.stage.frame.sub) e.stage.before name (subst (Has (shown_at program e.stage)) is shown)
+    ]
+    | inr (y, passed, root) ↦ elim (passed_from effects e y passed) [
+      | inl (to, taken, same, written) ↦ subst (λ z. Has z to) (first.1).2 taken
       | inr (c, there, same) ↦ subst (λ z. Has z c) first.4 there
     ]
   ]
@@ -215,9 +236,7 @@ module _ (table : Table) (typed : TypedProgram) (effects : Effects)
 
   -- A place of a package object that a frame that waits keeps.
   abbrev pub LentElsewhere : List ViewStage → Loan → Name → Type 0
-  LentElsewhere older l n =
-      (g : ViewStage) × Has older g × (0 < g.stage.depth) × (f : Fact) × Has (withheld program effects g) f × (is_package_object s n.root ≡ true)
-      × (loan_by f ≡ l) × (place f ≡ n)
+  LentElsewhere older l n = LentBy program effects older l n
 
   loan_same : (l k : Loan) (h b : ℕ) (n m : Name) → Lent l h n ≡ Lent k b m → (l ≡ k) × (h ≡ b) × (n ≡ m)
   loan_same l k h b n m e = (cc, cc, cc)
@@ -250,7 +269,7 @@ module _ (table : Table) (typed : TypedProgram) (effects : Effects)
           (loan_by found.0, place found.0, one.0, (g, there, ltb-true 0 g.stage.depth some, found.0, found.1, one.1, refl, refl))
       by_depth g there false none has = absurd has
 
-  loans_has : (older : List ViewStage) (l : Loan) (n : Name) → LentElsewhere older l n → Has (loans_there older) (Lent l n.root n)
+  pub loans_has : (older : List ViewStage) (l : Loan) (n : Name) → LentElsewhere older l n → Has (loans_there older) (Lent l n.root n)
   unfolding loans_in
   loans_has older l n (g, has, some, f, there, shared, kind, is) =
       subst (λ z. Has (loans_there older) (Lent z n.root n)) kind
@@ -269,7 +288,7 @@ module _ (table : Table) (typed : TypedProgram) (effects : Effects)
   way_reaches state callee backs g waits w n (inr (c, has, is, cell)) =
       subst (λ z. Reaches (view_here s state) z (OfCell n)) is (subst (λ z. Reaches (view_here s state) c.way (OfCell z)) cell (waits.kept c has).reaches)
 
-  module _ (state : State) (depth : ℕ) (older : List ViewStage) (between : (g : ViewStage) → Has older g → StandsBetween state depth g) where
+  module _ (state : State) (depth : ℕ) (older : List ViewStage) (between : (g : ViewStage) → Has older g → StandsBetween state depth older g) where
     -- A way goes on from such a place.
     abbrev pub IsLentFor : Loan → Way → Type 0
     IsLentFor l w = IsThrough (home s depth) (LentElsewhere older) l w
@@ -282,7 +301,7 @@ module _ (table : Table) (typed : TypedProgram) (effects : Effects)
         (k, package_named s g.stage.depth depth k root named, under, (g, has, some, f, there, root, refl, is))
 
     -- so it is with a part of an object that is passed
-    root_for : (g : ViewStage) → Has older g → 0 < g.stage.depth → (y : ℕ) (w : Way) → Has (passed_roots g) y → base_of w ≡ OfRoot (OfVariable (home s g.stage.depth y) y)
+    root_for : (g : ViewStage) → Has older g → 0 < g.stage.depth → (y : ℕ) (w : Way) → Has (passed_roots effects g) y → base_of w ≡ OfRoot (OfVariable (home s g.stage.depth y) y)
         → is_package_object s y ≡ true → IsLentFor Borrowed w
     root_for g has some y w passed base shared =
         let named : Named (home s g.stage.depth) w = base_named (home s g.stage.depth) w y base in
@@ -292,12 +311,12 @@ module _ (table : Table) (typed : TypedProgram) (effects : Effects)
     -- and with what its facts say
     fact_for : (g : ViewStage) → Has older g → 0 < g.stage.depth → (f : Fact) (k w : Way) → Has (facts_of program effects g.stage) f → place f ≡ name_of k
         → Named (home s g.stage.depth) k → Under k w → is_package_object s (number_of w) ≡ true → IsLentFor (loan_by f) w ⊎ IsLentFor Borrowed w
-    fact_for g has some f k w there is named under shared = elim (kept_fact program effects g f there) [
+    fact_for g has some f k w there is named under shared = elim (kept_fact program effects g f (Has-append_left (facts_of program effects g.stage) (shown_at program g.stage) f there)) [
       | inl keeps ↦ inl (lent_for g has some f k w keeps is named under shared)
       | inr passed ↦ (
           let on_root : number_of w ≡ number_of k = (longer k w under).root in
           let at : base_of w ≡ OfRoot (OfVariable (home s g.stage.depth (number_of k)) (number_of k)) = (longer k w under).base ∙ named_base (home s g.stage.depth) k named in
-          inr (root_for g has some (number_of k) w (subst (λ (z : Name). Has (passed_roots g) z.root) is passed) at (ap (is_package_object s) (sym on_root) ∙ shared)))
+          inr (root_for g has some (number_of k) w (subst (λ (z : Name). Has (passed_roots effects g) z.root) is passed) at (ap (is_package_object s) (sym on_root) ∙ shared)))
     ]
 
     -- what is moved or borrowed
@@ -308,17 +327,33 @@ module _ (table : Table) (typed : TypedProgram) (effects : Effects)
       | inr lent ↦ lent
     ]
 
+    -- What a view of a frame was given of package objects is kept by those around it.
+    abbrev pub SharesHere : ViewStage → Type 0
+    SharesHere g = AreShared (home s g.stage.depth) (sees_only s) (LentBy program effects older) g.views
+
+    -- it has the same names there
+    through_for : (g : ViewStage) (l : Loan) (w : Way) → IsThrough (home s g.stage.depth) (LentBy program effects older) l w → IsLentFor l w
+    through_for g l w (k, named, under, lent) = (k, package_named s g.stage.depth depth k lent.5 named, under, lent)
+
+    -- the way of a view goes on from such a place
+    goes_for : (g : ViewStage) → Has older g → 0 < g.stage.depth
+        → (views : AreViews (home s g.stage.depth) (sees_only s) g.views (view_here s state) (facts_of program effects g.stage)) (l : Loan) (w : Way)
+        → GoesOn (home s g.stage.depth) (sees_only s) g.views (view_here s state) (facts_of program effects g.stage) views l w → is_package_object s (number_of w) ≡ true
+        → IsLentFor l w ⊎ IsLentFor Borrowed w
+    goes_for g has some views l w (h, k, fact, named, under) shared = fact_for g has some (Lent l h (name_of k)) k w fact refl named under shared
+
     -- the way of a view begins at an own variable of its frame, or goes on from such a place
-    way_cases : (callee : ℕ) (backs : List Return) (g : ViewStage) → Has older g → 0 < g.stage.depth → IsWaiting table typed effects state callee backs g → (x : ℕ) (w : Way)
+    way_cases : (callee : ℕ) (backs : List Return) (g : ViewStage) → Has older g → 0 < g.stage.depth → IsWaiting table typed effects state callee backs g → SharesHere g
+        → (x : ℕ) (w : Way)
         → g.views.way x ≡ Some w → Named (home s g.stage.depth) w → (is_package_object s (number_of w) ≡ false) ⊎ ((l : Loan) × IsLentFor l w)
-    way_cases callee backs g has some waits x w way named = elim (bool_cases (is_package_object s (number_of w))) [
+    way_cases callee backs g has some waits shares x w way named = elim (bool_cases (is_package_object s (number_of w))) [
       | inr own ↦ inl own
       | inl shared ↦ (
-          let goes = view_goes (home s g.stage.depth) (sees_only s) g.views (view_here s state) (facts_of program effects g.stage) waits.views x w way named in
-          let place = goes.1 in
-          elim (fact_for g has some (Lent goes.0 place.0 (name_of place.1)) place.1 w place.2 refl place.3 place.4 shared) [
-            | inl lent ↦ inr (goes.0, lent)
-            | inr lent ↦ inr (Borrowed, lent)
+          let goes = view_goes (home s g.stage.depth) (sees_only s) g.views (view_here s state) (facts_of program effects g.stage) waits.views
+          (LentBy program effects older) shares x w way named in
+          elim goes.1 [
+            | inr through ↦ inr (goes.0, through_for g goes.0 w through)
+            | inl own ↦ elim (goes_for g has some waits.views goes.0 w own shared) [ inl lent ↦ inr (goes.0, lent) | inr lent ↦ inr (Borrowed, lent) ]
           ])
     ]
 
@@ -335,8 +370,8 @@ module _ (table : Table) (typed : TypedProgram) (effects : Effects)
     low_home false d less = less
 
     way_begins : (callee : ℕ) (backs : List Return) (g : ViewStage) → Has older g → 0 < g.stage.depth → g.stage.depth < depth
-        → IsWaiting table typed effects state callee backs g → (x : ℕ) (w : Way) → g.views.way x ≡ Some w → Lies s g.stage.depth w → Begins w
-    way_begins callee backs g has some less waits x w is (inr (foreign, low, above)) = record {
+        → IsWaiting table typed effects state callee backs g → SharesHere g → (x : ℕ) (w : Way) → g.views.way x ≡ Some w → Lies s g.stage.depth w → Begins w
+    way_begins callee backs g has some less waits shares x w is (inr (foreign, low, above)) = record {
       frame = foreign.0;
       object = foreign.1;
       base = foreign.2;
@@ -349,8 +384,8 @@ module _ (table : Table) (typed : TypedProgram) (effects : Effects)
             foreign.3 (e ∙ ap (λ b. if b then 0 else depth) shared ∙ sym (ap (λ b. if b then 0 else g.stage.depth) shared))
         by_kind false own e =
             (let there : home s depth foreign.1 ≡ depth = ap (λ b. if b then 0 else depth) own in omega (arith, low, less, e, there))
-    way_begins callee backs g has some less waits x w is (inl named) =
-        let way = way_cases callee backs g has some waits x w is named in record {
+    way_begins callee backs g has some less waits shares x w is (inl named) =
+        let way = way_cases callee backs g has some waits shares x w is named in record {
           frame = home s g.stage.depth (number_of w);
           object = number_of w;
           base = named_base (home s g.stage.depth) w named;
@@ -364,8 +399,8 @@ module _ (table : Table) (typed : TypedProgram) (effects : Effects)
     -- the way of a cell of a place begins at an own variable, or at a package object that is passed, or goes on from that
     -- of a view
     cell_begins : (callee : ℕ) (backs : List Return) (g : ViewStage) → Has older g → 0 < g.stage.depth → g.stage.depth < depth
-        → IsWaiting table typed effects state callee backs g → (c : Lodge) → Has g.cells c → Begins c.way
-    cell_begins callee backs g has some less waits c there =
+        → IsWaiting table typed effects state callee backs g → SharesHere g → (c : Lodge) → Has g.cells c → Begins c.way
+    cell_begins callee backs g has some less waits shares c there =
         let kept = waits.kept c there in
         subst Begins kept.leads (elim (lifts g.views c.name) [
           | inl itself ↦ subst Begins (sym itself) (record {
@@ -374,12 +409,12 @@ module _ (table : Table) (typed : TypedProgram) (effects : Effects)
             base = named_base (home s g.stage.depth) c.name kept.named;
             low = low_home (is_package_object s (number_of c.name)) g.stage.depth less;
             other = elim (bool_cases (is_package_object s (number_of c.name))) [
-              | inl shared ↦ inr (Borrowed, root_for g has some (number_of c.name) c.name (cell_passed g c there) (named_base (home s g.stage.depth) c.name kept.named) shared)
+              | inl shared ↦ inr (Borrowed, root_for g has some (number_of c.name) c.name (cell_passed effects g c there) (named_base (home s g.stage.depth) c.name kept.named) shared)
               | inr own ↦ inl (λ e. other_frame s g.stage.depth depth some less (number_of c.name) own (sym (ap (λ z. if z then 0 else g.stage.depth) own) ∙ e))
             ];
           })
           | inr l ↦ subst Begins (sym (lifted_way g.views c.name l))
-              (goes_on l.way l.rest (way_begins callee backs g has some less waits l.object l.way l.has (waits.holds.lies l.object l.way l.has)))
+              (goes_on l.way l.rest (way_begins callee backs g has some less waits shares l.object l.way l.has (waits.holds.lies l.object l.way l.has)))
         ])
       where
         goes_on : (w : Way) (rest : List Go) → Begins w → Begins (on w rest)
@@ -397,9 +432,9 @@ module _ (table : Table) (typed : TypedProgram) (effects : Effects)
     begins_there : (w : Way) (n : ℕ) → KeptElsewhere older w n → Begins w
     begins_there w n (g, has, way) = elim (between g has) [
       | inl first ↦ absurd (no_cells g w n first way)
-      | inr (some, less, callee, backs, waits) ↦ elim way [
-        | inl (x, is, cell) ↦ way_begins callee backs g has some less waits x w is (waits.holds.lies x w is)
-        | inr (c, there, is, cell) ↦ subst Begins is (cell_begins callee backs g has some less waits c there)
+      | inr (some, less, callee, backs, waits, shared) ↦ elim way [
+        | inl (x, is, cell) ↦ way_begins callee backs g has some less waits shared x w is (waits.holds.lies x w is)
+        | inr (c, there, is, cell) ↦ subst Begins is (cell_begins callee backs g has some less waits shared c there)
       ]
     ]
 
@@ -421,7 +456,7 @@ module _ (table : Table) (typed : TypedProgram) (effects : Effects)
     apart_elsewhere x w (inr (l, p, (g, has, (taken, inl (c, there, is, cell))))) base = kept_apart x w c.cell (g, has, inr (c, there, is, refl)) base
     apart_elsewhere x w (inr (l, p, (g, has, (taken, inr (y, shared, is, at))))) base = elim (between g has) [
       | inl first ↦ subst (λ z. Has z (along w p)) (first.1).2 taken
-      | inr (some, less, callee, backs, waits) ↦ (
+      | inr (some, less, callee, backs, waits, shared) ↦ (
           let frames = same_frame 0 y depth x (ap base_of is ∙ base) in omega (arith, frames, some, less))
     ]
 
@@ -435,7 +470,7 @@ module _ (table : Table) (typed : TypedProgram) (effects : Effects)
     stood callee backs g waits u moved =
         elim (stands (home s g.stage.depth) (sees_only s) g.views (view_here s state) (facts_of program effects g.stage) waits.views u
         (moved.0, waits.clear.owned (name_of u) moved.1)) [
-          | inl own ↦ inl own.0
+          | inl own ↦ inl own.named
           | inr held ↦ same_lies s g.stage.depth (expand g.views u) held.way (longer held.way (expand g.views u) held.under).base
               (waits.holds.lies held.object held.way held.has)
         ]
@@ -444,14 +479,14 @@ module _ (table : Table) (typed : TypedProgram) (effects : Effects)
     pub gone_low : (w : Way) → GoneElsewhere program effects older w → (f : ℕ) × (x : ℕ) × (base_of w ≡ OfRoot (OfVariable f x)) × (f < depth)
     gone_low w (g, has, inr taken) = elim (between g has) [
       | inl first ↦ absurd (subst (λ z. TakenBy z w) (first.1).2 taken).1
-      | inr (some, less, callee, backs, waits) ↦ (
+      | inr (some, less, callee, backs, waits, shared) ↦ (
           let base = taken_base s g.stage.returns g.stage.depth
           (words_taken s g.cells state.memory g.stage.depth g.views (facts_of program effects g.stage) (lasting_of s waits.point.scope) backs g.stage.returns waits.taken) w taken in
           (base.0, base.1, base.2, (let low = begun_low s g.stage.depth base.0 base.1 base.3 in omega (arith, low, less))))
     ]
     gone_low w (g, has, inl (u, moved, leads)) = elim (between g has) [
       | inl first ↦ absurd (unmoved g.stage first.0 (name_of u) moved.1)
-      | inr (some, less, callee, backs, waits) ↦ (
+      | inr (some, less, callee, backs, waits, shared) ↦ (
           elim (stood callee backs g waits u moved) [
             | inr (foreign, low, above) ↦ (foreign.0, foreign.1, ap base_of (sym leads) ∙ foreign.2, omega (arith, low, less))
             | inl there ↦ (
@@ -464,11 +499,26 @@ module _ (table : Table) (typed : TypedProgram) (effects : Effects)
           ])
     ]
 
+    -- a part of a package object that was taken goes on from a place that is kept
+    taken_lent : (g : ViewStage) → Has older g → 0 < g.stage.depth → (callee : ℕ) (backs : List Return) → IsWaiting table typed effects state callee backs g → SharesHere g
+        → (to : Way) → Has g.stage.returns to → (y : ℕ) → base_of to ≡ OfRoot (OfVariable 0 y) → is_package_object s y ≡ true → (w : Way) → Under to w → IsLentFor Borrowed w
+    taken_lent g has some callee backs waits sharing to taken y base shared w under =
+        let at_home : 0 ≡ home s g.stage.depth y = ap (λ b. if b then 0 else g.stage.depth) (sym shared) in
+        let based : base_of to ≡ OfRoot (OfVariable (home s g.stage.depth y) y) = base ∙ ap (λ f. OfRoot (OfVariable f y)) at_home in
+        elim (waits.goes to taken y base shared) [
+          | inl written ↦ root_for g has some y w (taken_passed effects g to y taken base written) ((longer to w under).base ∙ based) shared
+          | inr (x, u, is, given, sees, above) ↦ (
+              let named : Named (home s g.stage.depth) u = base_named (home s g.stage.depth) u y (sym (longer u to above).base ∙ based) in
+              let (l, through, changed) = sharing x u is given named in
+              let (k, at, below, lent) = through_for g l u through in
+              (k, at, under_on k u w below (under_on u to w above under), subst (λ z. LentElsewhere older z (name_of k)) (changed sees) lent))
+        ]
+
     -- what is near and gone elsewhere is a part of a package object, and goes on from a place that is kept
     pub near_lent : (w : Way) → IsNear depth w → GoneElsewhere program effects older w → IsLentFor Borrowed w
     near_lent w near (g, has, inr (to, taken, p, is)) = elim (between g has) [
       | inl first ↦ absurd (subst (λ z. Has z to) (first.1).2 taken)
-      | inr (some, less, callee, backs, waits) ↦ (
+      | inr (some, less, callee, backs, waits, sharing) ↦ (
           let begin = words_taken s g.cells state.memory g.stage.depth g.views (facts_of program effects g.stage) (lasting_of s waits.point.scope) backs g.stage.returns waits.taken to taken in
           let based : base_of w ≡ OfRoot (OfVariable begin.0 begin.1) = ap base_of is ∙ along_base to p ∙ begin.2 in
           elim begin.3 [
@@ -478,13 +528,14 @@ module _ (table : Table) (typed : TypedProgram) (effects : Effects)
                 let there : Named (home s g.stage.depth) w = base_named (home s g.stage.depth) w begin.1 own in
                 let shared : is_package_object s begin.1 ≡ true =
                 ap (is_package_object s) (sym (number_based (home s g.stage.depth) w begin.1 there own)) ∙ near_package s g.stage.depth depth some less w there near in
-                root_for g has some begin.1 w
-                (taken_passed g to begin.1 taken (begin.2 ∙ (λ j. OfRoot (OfVariable ((at_home ∙ ap (λ b. if b then 0 else g.stage.depth) shared) j) begin.1)))) own shared)
+                taken_lent g has some callee backs waits sharing to taken begin.1
+                (begin.2 ∙ (λ j. OfRoot (OfVariable ((at_home ∙ ap (λ b. if b then 0 else g.stage.depth) shared) j) begin.1))) shared w
+                (subst (Under to) (sym is) (under_along to to p (under_itself to))))
           ])
     ]
     near_lent w near (g, has, inl (u, moved, leads)) = elim (between g has) [
       | inl first ↦ absurd (unmoved g.stage first.0 (name_of u) moved.1)
-      | inr (some, less, callee, backs, waits) ↦ elim (lifts g.views u) [
+      | inr (some, less, callee, backs, waits, shared) ↦ elim (lifts g.views u) [
         | inl e ↦ (
             let here : IsMoved (home s g.stage.depth) (facts_of program effects g.stage) w =
             subst (IsMoved (home s g.stage.depth) (facts_of program effects g.stage)) (sym e ∙ leads) moved in
@@ -498,13 +549,16 @@ module _ (table : Table) (typed : TypedProgram) (effects : Effects)
               let plain : sees_only s (number_of u) ≡ false = waits.clear.owned (name_of u) moved.1 in
               let front : Named (home s g.stage.depth) l.way = on_named (home s g.stage.depth) l.way l.rest
               (subst (Named (home s g.stage.depth)) (lifted_way g.views u l) there) in
-              let goes = borrower_goes (home s g.stage.depth) (sees_only s) g.views (view_here s state) (facts_of program effects g.stage) waits.views l.object l.way
-              (ap (sees_only s) (sym (lifted_root g.views u l)) ∙ plain) l.has front in
               let same : w ≡ on l.way l.rest = sym leads ∙ lifted_way g.views u l in
               let named : Named (home s g.stage.depth) w = subst (Named (home s g.stage.depth)) leads there in
-              held_for g has some (Lent Borrowed goes.0 (name_of goes.1)) goes.1 w goes.2 refl goes.3
-              (subst (Under goes.1) (sym same) (under_on goes.1 l.way (on l.way l.rest) goes.4 (on_under l.way l.rest)))
-              (near_package s g.stage.depth depth some less w named near) refl)
+              let root : is_package_object s (number_of l.way) ≡ true =
+              ap (is_package_object s) (sym (root_on l.way l.rest) ∙ ap number_of (sym same)) ∙ near_package s g.stage.depth depth some less w named near in
+              let (k, at, under, lent) : IsLentFor Borrowed l.way = elim (borrower_goes (home s g.stage.depth) (sees_only s) g.views (view_here s state) (facts_of program effects g.stage) waits.views
+              (LentBy program effects older) shared l.object l.way (ap (sees_only s) (sym (lifted_root g.views u l)) ∙ plain) l.has front) [
+                | inl own ↦ elim (goes_for g has some waits.views Borrowed l.way own root) [ inl lent ↦ lent | inr lent ↦ lent ]
+                | inr through ↦ through_for g Borrowed l.way through
+              ] in
+              (k, at, subst (Under k) (sym same) (under_on k l.way (on l.way l.rest) under (on_under l.way l.rest)), lent))
         ]
       ]
     ]
@@ -542,13 +596,13 @@ module _ (table : Table) (typed : TypedProgram) (effects : Effects)
         by_way None is = is
         by_way (Some w) is = elim (between g has) [
           | inl first ↦ first.2 r
-          | inr (some, less, callee, backs, waits) ↦ absurd (not_both (is_package_object s r) shared (local r (waits.holds.only r w is)))
+          | inr (some, less, callee, backs, waits, shares) ↦ absurd (not_both (is_package_object s r) shared (local r (waits.holds.only r w is)))
         ]
 
     pub far : (w : Way) (n : ℕ) → KeptElsewhere older w n → Reaches (view_here s state) w (OfCell n)
     far w n (g, has, way) = elim (between g has) [
       | inl first ↦ absurd (no_cells g w n first way)
-      | inr (some, less, callee, backs, waits) ↦ way_reaches state callee backs g waits w n way
+      | inr (some, less, callee, backs, waits, shared) ↦ way_reaches state callee backs g waits w n way
     ]
 
     pub theirs : AreTheirs older (view_here s state)
@@ -556,7 +610,7 @@ module _ (table : Table) (typed : TypedProgram) (effects : Effects)
       far = far;
       bare = λ w l p there q k held. (let (g, has, bare) = there in elim (between g has) [
         | inl first ↦ absurd (subst (λ z. TakenBy z (along w p)) (first.1).2 (along w p, bare.0, [], refl)).1
-        | inr (some, less, callee, backs, waits) ↦ waits.bare w l p bare q k (sym (bare_word s state g w l p (q ++ p) bare) ∙ held)
+        | inr (some, less, callee, backs, waits, shared) ↦ waits.bare w l p bare q k (sym (bare_word s state g w l p (q ++ p) bare) ∙ held)
       ]);
     }
 
@@ -591,12 +645,9 @@ module _ (table : Table) (typed : TypedProgram) (effects : Effects)
       ap base_of (sym is),
       elim (between g has) [
         | inl first ↦ absurd (subst (λ z. Has z (along w p)) (first.1).2 taken)
-        | inr (some, less, callee, backs, waits) ↦ inr (
+        | inr (some, less, callee, backs, waits, shares) ↦ inr (
           Borrowed,
-          (
-              let base : base_of (along w p) ≡ OfRoot (OfVariable (home s g.stage.depth y) y) =
-              along_base w p ∙ ap base_of (sym is) ∙ (λ j. OfRoot (OfVariable (if sym shared j then 0 else g.stage.depth) y)) in
-              root_for g has some y (along w p) (taken_passed g (along w p) y taken (along_base w p ∙ ap base_of (sym is))) base shared),
+          taken_lent g has some callee backs waits shares (along w p) taken y (along_base w p ∙ ap base_of (sym is)) shared (along w p) (under_itself (along w p)),
         )
       ],
     )
@@ -646,143 +697,3 @@ module _ (table : Table) (typed : TypedProgram) (effects : Effects)
           is.1 ∙ sym (ap (λ (z : Name). z.root) is.2),
           subst (λ z. LentElsewhere older l z) (sym is.2) (subst (λ z. LentElsewhere older z found.1) (sym is.0) found.3),
         )
-
-    -- Their facts on package objects don't meet, nor do those of the innermost frame meet them.
-    pub record AreApart (facts : List Fact) : Type 0 where
-      pub seen : (n m : Name) → LentElsewhere older Borrowed n → LentElsewhere older Observed m → overlaps n m ≡ true → ⊥
-      pub own_moved : (n : Name) → Has facts (Moved n) → (l : Loan) (m : Name) → LentElsewhere older l m → n.root ≡ m.root → ⊥
-      pub own_borrowed : (b : ℕ) (n : Name) → Has facts (Lent Borrowed b n) → (l : Loan) (m : Name) → LentElsewhere older l m → n.root ≡ m.root → ⊥
-      pub own_seen : (h : ℕ) (m : Name) → Has facts (Lent Observed h m) → (n : Name) → LentElsewhere older Borrowed n → n.root ≡ m.root → ⊥
-
-    -- what is gone for them is excused by their facts on package objects, and by what concerns the innermost frame of them
-    pub elsewhere_excused : (v : Views) (facts : List Fact) (w : Way) → GoneElsewhere program effects older w → ExcusedBy (home s depth) v beside_them (facts ++ handed) w
-    elsewhere_excused v facts w away = elim (near_or_far depth w) [
-      | inr far ↦ inr (far, away)
-      | inl near ↦ inl (inr (near_lent w near away, away))
-    ]
-
-    -- with them
-    pub with_them : (v : Views) (view : View) (facts : List Fact) → ((x : ℕ) (w : Way) → v.way x ≡ Some w → is_package_object s x ≡ false)
-        → ((x : ℕ) → is_package_object s x ≡ true → sees_only s x ≡ false) → AreApart facts
-        → AreTheirs older view → ArePast s depth v older
-        → Viewed (home s depth) (sees_only s) (known_gone (home s depth) (GoneElsewhere program effects older)) v view facts
-        → Viewed (home s depth) (sees_only s) beside_them v view (facts ++ handed)
-    with_them v view facts only plain apart reach past well = record {
-      owned = well.owned;
-      covered = well.covered;
-      known = λ w l rooted r gone. elim (well.known w l rooted r gone) [
-        | inl (inr none) ↦ absurd none
-        | inl (inl (u, moved, leads)) ↦ inl (inl (u, (moved.0, Has-append_left facts handed (Moved (name_of u)) moved.1), leads))
-        | inr away ↦ elsewhere_excused v facts w away
-      ];
-      clear = record {
-        moved = λ l h n m has lends over. elim (cases (Moved n) has) [
-          | inl own ↦ elim (cases (Lent l h m) lends) [
-            | inl mine ↦ well.clear.moved l h n m own mine over
-            | inr there ↦ apart.own_moved n own l m (lent_handed l h m there).1 (same_root n m over)
-          ]
-          | inr away ↦ none_moved n away
-        ];
-        lent = λ b h n m one two off over. elim (cases (Lent Borrowed b n) one) [
-          | inl own ↦ elim (cases (Lent Borrowed h m) two) [
-            | inl mine ↦ well.clear.lent b h n m own mine off over
-            | inr there ↦ apart.own_borrowed b n own Borrowed m (lent_handed Borrowed h m there).1 (same_root n m over)
-          ]
-          | inr away ↦ elim (cases (Lent Borrowed h m) two) [
-            | inl mine ↦ apart.own_borrowed h m mine Borrowed n (lent_handed Borrowed b n away).1 (sym (same_root n m over))
-            | inr there ↦ off ((lent_handed Borrowed b n away).0 ∙ same_root n m over ∙ sym (lent_handed Borrowed h m there).0)
-          ]
-        ];
-        seen = λ b h n m one two over. elim (cases (Lent Borrowed b n) one) [
-          | inl own ↦ elim (cases (Lent Observed h m) two) [
-            | inl mine ↦ well.clear.seen b h n m own mine over
-            | inr there ↦ apart.own_borrowed b n own Observed m (lent_handed Observed h m there).1 (same_root n m over)
-          ]
-          | inr away ↦ elim (cases (Lent Observed h m) two) [
-            | inl mine ↦ apart.own_seen h m mine n (lent_handed Borrowed b n away).1 (same_root n m over)
-            | inr there ↦ apart.seen n m (lent_handed Borrowed b n away).1 (lent_handed Observed h m there).1 over
-          ]
-        ];
-        owned = λ n has. elim (cases (Moved n) has) [
-          | inl own ↦ well.clear.owned n own
-          | inr there ↦ absurd (none_moved n there)
-        ];
-      };
-      views = λ x w has.
-          view_on (home s depth) (sees_only s) (known_gone (home s depth) (GoneElsewhere program effects older)) v view view facts (facts ++ handed) x w
-          (well.views x w has)
-          (λ b n loan. own_loan (sees_only s) facts (facts ++ handed) (λ l h m own. Has-append_left facts handed (Lent l h m) own) b x n loan)
-          (reached (home s depth) (sees_only s) beside_them v view facts x w (well.views x w has));
-      whole = λ x w z has foreign gone meets. well.whole x w z has foreign gone.1 meets;
-      past = past;
-      lends = λ l n lent. record {
-        has = Has-append_right facts handed (Lent l n.root n) (loans_has older l n lent);
-        none = none_there n.root lent.5;
-        plain = plain n.root lent.5;
-      };
-      far = reach.far;
-      bare = reach.bare;
-    }
-      where
-        cases : (f : Fact) → Has (facts ++ handed) f → Has facts f ⊎ Has handed f
-        cases f has = Has-append_cases facts handed f has
-
-        same_root : (n m : Name) → overlaps n m ≡ true → n.root ≡ m.root
-        same_root n m over = eqb-true n.root m.root (both_first (n.root == m.root) _ over)
-
-        none_there : (x : ℕ) → is_package_object s x ≡ true → v.way x ≡ None
-        none_there x shared = by_way (v.way x) refl
-          where
-            by_way : (o : Option Way) → v.way x ≡ o → v.way x ≡ None
-            by_way None is = is
-            by_way (Some w) is = (let no : true ≡ false = sym shared ∙ only x w is in cc)
-
-    -- and without them
-    pub without_them : (v : Views) (view : View) (all facts : List Fact) → ((x : ℕ) (w : Way) → v.way x ≡ Some w → is_package_object s x ≡ false)
-        → ((x : ℕ) → is_package_object s x ≡ true → sees_only s x ≡ false)
-        → ((f : Fact) → Has facts f → Has all f) → Splits all facts handed
-        → Viewed (home s depth) (sees_only s) beside_them v view all
-        → Viewed (home s depth) (sees_only s) (known_gone (home s depth) (GoneElsewhere program effects older)) v view facts
-    without_them v view all facts only plain part from well = record {
-      owned = well.owned;
-      covered = well.covered;
-      known = λ w l rooted r gone. elim (well.known w l rooted r gone) [
-        | inr away ↦ inr away.1
-        | inl (inr away) ↦ inr away.1
-        | inl (inl (u, moved, leads)) ↦ elim (from (Moved (name_of u)) moved.1) [
-          | inl mine ↦ inl (inl (u, (moved.0, mine), leads))
-          | inr there ↦ absurd (none_moved (name_of u) there)
-        ]
-      ];
-      clear = record {
-        moved = λ l h n m has lends over. well.clear.moved l h n m (part (Moved n) has) (part (Lent l h m) lends) over;
-        lent = λ b h n m one two off over. well.clear.lent b h n m (part (Lent Borrowed b n) one) (part (Lent Borrowed h m) two) off over;
-        seen = λ b h n m one two over. well.clear.seen b h n m (part (Lent Borrowed b n) one) (part (Lent Observed h m) two) over;
-        owned = λ n has. well.clear.owned n (part (Moved n) has);
-      };
-      whole = λ x w z has foreign gone meets. well.whole x w z has foreign (far_met w z foreign gone meets) meets;
-      past = λ x w has given plain k n none. absurd none;
-      views = λ x w has.
-          view_on (home s depth) (sees_only s) beside_them v view view all facts x w (well.views x w has) (λ b n loan. loan_kept x w has b n loan)
-          (reached (home s depth) (sees_only s) beside_them v view all x w (well.views x w has));
-      lends = λ l n none. absurd none;
-      far = λ w n none. absurd none;
-      bare = λ w n p none. absurd none;
-    }
-      where
-        not_both : (b : Bool) → b ≡ true → b ≡ false → ⊥
-        not_both true e h = cc
-        not_both false e h = cc
-
-        -- the frame's own loans are held by its own objects
-        loan_kept : (x : ℕ) (w : Way) → v.way x ≡ Some w → (b : Bool) (n : Name) → HasLoan (sees_only s) b x all n → HasLoan (sees_only s) b x facts n
-        loan_kept x w has true n (h, lent, sees) = elim (from (Lent Observed h n) lent) [
-          | inl mine ↦ (h, mine, sees)
-          | inr there ↦ absurd (let away = lent_handed Observed h n there in
-              not_both (sees_only s h) sees (plain h (ap (is_package_object s) away.0 ∙ (away.1).5)))
-        ]
-        loan_kept x w has false n lent = elim (from (Lent Borrowed x n) lent) [
-          | inl mine ↦ mine
-          | inr there ↦ absurd (let away = lent_handed Borrowed x n there in
-              not_both (is_package_object s x) (ap (is_package_object s) away.0 ∙ (away.1).5) (only x w has))
-        ]

@@ -10,13 +10,13 @@ use Rattle.place_names.specs.declared.rule.Loan.{Loan}
 use Rattle.place_names.specs.Names.{Name, object}
 use Rattle.place_names.specs.Facts.{place}
 use Rattle.flow_paths.specs.declared.report.Effects.{Effects}
+use Rattle.flow_paths.specs.Effects.{written_by}
 use Rattle.flow_paths.specs.Laid.{FlowProgram}
 use Rattle.owned_ways.specs.Ways.{Way, number_of, Loc, OfRoot, OfVariable, OfHand, OfCell, Inside, base_of}
-use Rattle.soundness.specs.Sound.{facts_of}
 use Rattle.soundness.proofs.Contents.{bool_cases}
 use Rattle.soundness.proofs.Used.{any_has}
 use Rattle.viewed_steps.specs.Taken.{Lodge}
-use Rattle.viewed_steps.specs.Sound.{ViewStage, passed_roots, is_passed, withheld, shared_root}
+use Rattle.viewed_steps.specs.Sound.{ViewStage, known_at, passed_roots, is_passed, withheld, shared_root}
 use Rattle.viewed_steps.proofs.Whole.{flat_has}
 
 any_root : (ys : List ℕ) (x : ℕ) → list_any (λ y. y == x) ys ≡ true → Has ys x
@@ -40,31 +40,31 @@ true_or_not false e n = cc
 module _ (program : FlowProgram) (effects : Effects) (g : ViewStage) where
   -- a fact on an object that isn't passed, or such an object
   pub kept_cases : (f : Fact) → Has (withheld program effects g) f
-      → (Has (facts_of program effects g.stage) f × (Has (passed_roots g) (place f).root → ⊥))
-      ⊎ ((y : ℕ) × Has (passed_roots g) y × (f ≡ Moved (object y)))
+      → (Has (known_at program effects g.stage) f × (Has (passed_roots effects g) (place f).root → ⊥))
+      ⊎ ((y : ℕ) × Has (passed_roots effects g) y × (f ≡ Moved (object y)))
   kept_cases f has =
-      elim (Has-append_cases (filter (λ f. not (is_passed g f)) (facts_of program effects g.stage)) (map (λ y. Moved (object y)) (passed_roots g)) f has) [
+      elim (Has-append_cases (filter (λ f. not (is_passed effects g f)) (known_at program effects g.stage)) (map (λ y. Moved (object y)) (passed_roots effects g)) f has) [
         | inl fact ↦ (
-            let both = Has-filter (λ f. not (is_passed g f)) (facts_of program effects g.stage) f fact in
-            inl (both.0, λ passed. true_or_not (is_passed g f) (any_has (λ y. y == (place f).root) (passed_roots g) (place f).root passed (eq-eqb (place f).root (place f).root refl)) both.1))
-        | inr root ↦ (let from = Has-map_from (λ y. Moved (object y)) (passed_roots g) f root in inr (from.0, from.1, sym from.2))
+            let both = Has-filter (λ f. not (is_passed effects g f)) (known_at program effects g.stage) f fact in
+            inl (both.0, λ passed. true_or_not (is_passed effects g f) (any_has (λ y. y == (place f).root) (passed_roots effects g) (place f).root passed (eq-eqb (place f).root (place f).root refl)) both.1))
+        | inr root ↦ (let from = Has-map_from (λ y. Moved (object y)) (passed_roots effects g) f root in inr (from.0, from.1, sym from.2))
       ]
 
-  pub kept_root : (y : ℕ) → Has (passed_roots g) y → Has (withheld program effects g) (Moved (object y))
+  pub kept_root : (y : ℕ) → Has (passed_roots effects g) y → Has (withheld program effects g) (Moved (object y))
   kept_root y has =
-      Has-append_right (filter (λ f. not (is_passed g f)) (facts_of program effects g.stage)) (map (λ y. Moved (object y)) (passed_roots g)) (Moved (object y))
-      (Has-map (λ y. Moved (object y)) (passed_roots g) y has)
+      Has-append_right (filter (λ f. not (is_passed effects g f)) (known_at program effects g.stage)) (map (λ y. Moved (object y)) (passed_roots effects g)) (Moved (object y))
+      (Has-map (λ y. Moved (object y)) (passed_roots effects g) y has)
 
-  pub kept_fact : (f : Fact) → Has (facts_of program effects g.stage) f → Has (withheld program effects g) f ⊎ Has (passed_roots g) (place f).root
-  kept_fact f has = elim (bool_cases (is_passed g f)) [
-    | inl passed ↦ inr (any_root (passed_roots g) (place f).root passed)
-    | inr other ↦ inl (Has-append_left (filter (λ f. not (is_passed g f)) (facts_of program effects g.stage)) (map (λ y. Moved (object y)) (passed_roots g)) f
-        (Has-filter_passes (λ f. not (is_passed g f)) (facts_of program effects g.stage) f has (ap not other)))
+  pub kept_fact : (f : Fact) → Has (known_at program effects g.stage) f → Has (withheld program effects g) f ⊎ Has (passed_roots effects g) (place f).root
+  kept_fact f has = elim (bool_cases (is_passed effects g f)) [
+    | inl passed ↦ inr (any_root (passed_roots effects g) (place f).root passed)
+    | inr other ↦ inl (Has-append_left (filter (λ f. not (is_passed effects g f)) (known_at program effects g.stage)) (map (λ y. Moved (object y)) (passed_roots effects g)) f
+        (Has-filter_passes (λ f. not (is_passed effects g f)) (known_at program effects g.stage) f has (ap not other)))
   ]
 
   -- its loans are those of facts
   pub kept_loan : (l : Loan) (h : ℕ) (n : Name) → Has (withheld program effects g) (Lent l h n)
-      → Has (facts_of program effects g.stage) (Lent l h n) × (Has (passed_roots g) n.root → ⊥)
+      → Has (known_at program effects g.stage) (Lent l h n) × (Has (passed_roots effects g) n.root → ⊥)
   kept_loan l h n has = elim (kept_cases (Lent l h n) has) [
     | inl fact ↦ fact
     | inr (y, passed, is) ↦ (let no : Lent l h n ≡ Moved (object y) = is in cc)
@@ -85,21 +85,30 @@ from_first_root (OfRoot (OfHand h)) y has = absurd has
 from_first_root (OfCell n) y has = absurd has
 from_first_root (Inside l i) y has = absurd has
 
-pub taken_passed : (g : ViewStage) (to : Way) (y : ℕ) → Has g.stage.returns to → base_of to ≡ OfRoot (OfVariable 0 y) → Has (passed_roots g) y
-taken_passed g to y has base =
-    Has-append_left (flat_map (λ (to : Way). shared_root (base_of to)) g.stage.returns) (map (λ (c : Lodge). number_of c.name) g.cells) y
-    (flat_has (λ (to : Way). shared_root (base_of to)) g.stage.returns to y has (at_first_root (base_of to) y base))
+abbrev written_roots : Effects → ViewStage → ℕ → Bool
+written_roots effects g y = list_any (λ z. z == y) (written_by effects g.stage.frame.sub)
 
-pub cell_passed : (g : ViewStage) (c : Lodge) → Has g.cells c → Has (passed_roots g) (number_of c.name)
-cell_passed g c has =
-    Has-append_right (flat_map (λ (to : Way). shared_root (base_of to)) g.stage.returns) (map (λ (c : Lodge). number_of c.name) g.cells) (number_of c.name)
+pub taken_passed : (effects : Effects) (g : ViewStage) (to : Way) (y : ℕ) → Has g.stage.returns to → base_of to ≡ OfRoot (OfVariable 0 y)
+    → Has (written_by effects g.stage.frame.sub) y → Has (passed_roots effects g) y
+taken_passed effects g to y has base written =
+    Has-append_left (filter (written_roots effects g) (flat_map (λ (to : Way). shared_root (base_of to)) g.stage.returns)) (map (λ (c : Lodge). number_of c.name) g.cells) y
+    (Has-filter_passes (written_roots effects g) (flat_map (λ (to : Way). shared_root (base_of to)) g.stage.returns) y
+    (flat_has (λ (to : Way). shared_root (base_of to)) g.stage.returns to y has (at_first_root (base_of to) y base))
+    (any_has (λ z. z == y) (written_by effects g.stage.frame.sub) y written (eq-eqb y y refl)))
+
+pub cell_passed : (effects : Effects) (g : ViewStage) (c : Lodge) → Has g.cells c → Has (passed_roots effects g) (number_of c.name)
+cell_passed effects g c has =
+    Has-append_right (filter (written_roots effects g) (flat_map (λ (to : Way). shared_root (base_of to)) g.stage.returns)) (map (λ (c : Lodge). number_of c.name) g.cells) (number_of c.name)
     (Has-map (λ (c : Lodge). number_of c.name) g.cells c has)
 
-pub passed_from : (g : ViewStage) (y : ℕ) → Has (passed_roots g) y
-    → ((to : Way) × Has g.stage.returns to × (base_of to ≡ OfRoot (OfVariable 0 y))) ⊎ ((c : Lodge) × Has g.cells c × (number_of c.name ≡ y))
-passed_from g y has = elim (Has-append_cases (flat_map (λ (to : Way). shared_root (base_of to)) g.stage.returns) (map (λ (c : Lodge). number_of c.name) g.cells) y has) [
-  | inl taken ↦ (
-      let found = flat_from (λ (to : Way). shared_root (base_of to)) g.stage.returns y taken in
-      inl (found.0, found.1, from_first_root (base_of found.0) y found.2))
-  | inr cell ↦ inr (Has-map_from (λ (c : Lodge). number_of c.name) g.cells y cell)
-]
+pub passed_from : (effects : Effects) (g : ViewStage) (y : ℕ) → Has (passed_roots effects g) y
+    → ((to : Way) × Has g.stage.returns to × (base_of to ≡ OfRoot (OfVariable 0 y)) × Has (written_by effects g.stage.frame.sub) y)
+    ⊎ ((c : Lodge) × Has g.cells c × (number_of c.name ≡ y))
+passed_from effects g y has =
+    elim (Has-append_cases (filter (written_roots effects g) (flat_map (λ (to : Way). shared_root (base_of to)) g.stage.returns)) (map (λ (c : Lodge). number_of c.name) g.cells) y has) [
+      | inl taken ↦ (
+          let both = Has-filter (written_roots effects g) (flat_map (λ (to : Way). shared_root (base_of to)) g.stage.returns) y taken in
+          let found = flat_from (λ (to : Way). shared_root (base_of to)) g.stage.returns y both.0 in
+          inl (found.0, found.1, from_first_root (base_of found.0) y found.2, any_root (written_by effects g.stage.frame.sub) y both.1))
+      | inr cell ↦ inr (Has-map_from (λ (c : Lodge). number_of c.name) g.cells y cell)
+    ]

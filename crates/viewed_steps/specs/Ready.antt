@@ -28,9 +28,10 @@ use Rattle.machine.specs.Owners.{is_in}
 use Rattle.soundness.specs.Typed.{OwnsByShape}
 use Rattle.soundness.specs.Sound.{Accepted, IsNamedSub, IsAtPoint, IsProcedure, IsRunnable, is_temporary_object, has_returned, IsEntered, goes_through_none}
 use Rattle.soundness.specs.Ready.{root_of, stored_at, AreScoped, AreNew, AreElaborated, AreReturning}
-use Rattle.typed_laws.specs.Needed.{Matches, Leads, Stays, IsPlace}
+use Rattle.typed_laws.specs.Needed.{Matches, Leads, Stays, Gives, IsPlace}
 use Rattle.soundness.specs.Seen.{is_view_formal}
 use Rattle.viewed_soundness.specs.Holds.{sees_only, is_fixed, AllKeep, IsNamed, is_given}
+use Rattle.viewed_soundness.specs.Taken.{GivesPlainly}
 use Rattle.viewed_steps.specs.Awaited.{is_held, IsTaken, FillsTyped, TakesAlone}
 use Rattle.viewed_steps.specs.Traversals.{IsSourceName, TraversalCall, IsViewTaker, IsBorrowTaker}
 use Rattle.type_definitions.specs.declared.table.Shape.TheVariants as shape
@@ -68,7 +69,8 @@ pub record AreValued (table : Table) (typed : TypedProgram) : Type 0 where
       → is_held (flow_typing (flow_program table typed)) x ≡ false
   pub passed : (sub : NamedSub) → Has (flow_named table typed) sub → (p : NamedPoint) → Has sub.points p → (n : ℕ) (actuals : TypedTree) (result : Option ℕ)
       → p.instr ≡ Call n actuals result → (x : ℕ) → Has (roots_passed actuals) x → is_held (flow_typing (flow_program table typed)) x ≡ false
-  pub takes : (sub : NamedSub) → Has (flow_named table typed) sub → (p : NamedPoint) → Has sub.points p → IsTaken (flow_typing (flow_program table typed)) sub.sub.result p
+  pub takes : (n : ℕ) → IsEntered (flow_program table typed) n → (sub : NamedSub) → IsNamedSub (flow_named table typed) n sub → (p : NamedPoint) → Has sub.points p
+      → IsTaken (flow_typing (flow_program table typed)) sub.sub.result p
   -- what is of an anonymous access type is taken at once
   pub seen : (sub : NamedSub) → Has (flow_named table typed) sub → (p : NamedPoint) → Has sub.points p
       → AreNamedIn (flow_typing (flow_program table typed)) p.scope
@@ -81,11 +83,7 @@ pub record AreValued (table : Table) (typed : TypedProgram) : Type 0 where
 abbrev pub IsOwnPlace : Typing → TypedTree → Type 0
 IsOwnPlace s e = (y : ℕ) → Has (root_of e) y → is_view_formal s y ≡ false
 
--- What a formal is shown that owns nothing: null, or what a name of its type designates that is rooted in an
--- object that belongs to no package.
-abbrev pub IsShowable : Typing → ℕ → Type 0
-IsShowable s y = is_package_object s y ≡ false
-
+-- What a formal is shown that owns nothing: null, or what a name of its type designates.
 -- It has that type; or both are access types, and designate one type.
 abbrev pub IsAccessAs : Typing → ℕ → ℕ → Type 0
 IsAccessAs s u t =
@@ -95,16 +93,18 @@ IsAccessAs s u t =
 
 abbrev pub IsSeen : Typing → ℕ → TypedTree → Type 0
 IsSeen s x typed.Null = Unit {0}
-IsSeen s x (Name p y path u) = Leads s (object_at s y).of path u × IsAccessAs s u (object_at s x).of × IsShowable s y
+IsSeen s x (Name p y path u) = Leads s (object_at s y).of path u × IsAccessAs s u (object_at s x).of
 IsSeen s x e = ⊥
 
--- One of a type that owns nothing gets a scalar value, or a copy of what a name of its type stands for.
+-- One of a type that owns nothing gets a scalar value, or another one of its type: a copy of what a name stands
+-- for, or an aggregate, in which functions give scalar parts alone.
 abbrev pub IsCopyOf : Typing → ℕ → TypedTree → Type 0
-IsCopyOf s x (Name p y path u) = Leads s (object_at s y).of path u × Matches s.table u (object_at s x).of
-IsCopyOf s x e = ⊥
+IsCopyOf s x e = Gives s (object_at s x).of e × GivesPlainly s e
 
 abbrev pub IsValueTo : Typing → ℕ → TypedTree → Type 0
-IsValueTo s x e = (IsScalarObject s x × Stays s e) ⊎ (IsNamed s.table (object_at s x).of × IsCopyOf s x e)
+IsValueTo s x e =
+    (IsScalarObject s x × Stays s e)
+    ⊎ ((is_scalar (full s.table (object_at s x).of) ≡ false) × IsNamed s.table (object_at s x).of × IsCopyOf s x e)
 
 -- What is passed for a formal of mode `in` is shown, where its type owns or is an anonymous access type.
 abbrev pub is_shown_type : Typing → ℕ → Bool

@@ -4,42 +4,41 @@
 -- frame, and leaves package objects alone of which a part is lent.
 use Rattle.std.specs.List.{AllByRecursion, list_any}
 use Rattle.viewed_steps.specs.Traversals.{AreRooted, SeesFirst, AreGiven}
-use Rattle.std.specs.Prelude.{◌≡◌, ◌⊎◌, ◌<◌, ℕ, ◌==◌, Bool, not, true, false, List, [], ◌∷◌, ◌++◌, filter, map, get_or, Option, Some, None, suc, is_some, flat_map, if◌then◌else◌}
+use Rattle.std.specs.Prelude.{◌≡◌, ◌⊎◌, ◌<◌, ℕ, true, false, List, [], ◌∷◌, ◌++◌, map, flat_map, get_or, Option, Some, None, suc, is_some, ◌&&◌, if◌then◌else◌, ◌==◌, Bool, not, filter}
 use Rattle.spark_base.specs.Lists.{Has}
 use Rattle.spark_base.specs.declared.position.Pos.{Pos}
 use Rattle.place_names.specs.declared.act.Mode.TheVariants as mode
 use Rattle.place_names.specs.declared.fact.Fact.{Fact}
-use Rattle.place_names.specs.declared.act.Placed.{Placed}
-use Rattle.place_names.specs.Facts.{adds, place}
+use Rattle.place_names.specs.Facts.{place}
 use Rattle.place_names.specs.declared.fact.Fact.TheVariants.{Moved, Lent}
 use Rattle.place_names.specs.declared.rule.Loan.{Loan}
 use Rattle.place_names.specs.declared.rule.Loan.TheVariants.{Borrowed, Observed}
-use Rattle.place_names.specs.Names.{Name as PlaceName, object}
+use Rattle.place_names.specs.Names.{Name as PlaceName, overlaps, object}
 use Rattle.type_definitions.specs.Types.{Table, full, is_scalar, is_owning}
-use Rattle.typed_tree.specs.Trees.{TypedTree, Name, NoMore, More}
+use Rattle.typed_tree.specs.Trees.{TypedTree, Name, NoMore}
 use Rattle.typed_tree.specs.Programs.{TypedProgram}
 use Rattle.flow_paths.specs.declared.report.Effects.{Effects}
 use Rattle.flow_paths.specs.Instructions.{Instruction, Declare, Assign, Call, EndScope, Finish}
 use Rattle.flow_paths.specs.Objects.{Typing, object_at, sub_at, is_formal, is_observer, is_named_access, view_of, is_package_object, has_scope_end, is_anonymous}
-use Rattle.flow_paths.specs.Points.{NamedPoint, FlowPoint}
+use Rattle.flow_paths.specs.Points.{NamedPoint}
 use Rattle.flow_paths.specs.Laid.{FlowSub, FlowProgram, NamedSub, flow_typing, flow_program, flow_named}
 use Rattle.flow_paths.specs.Paths.{ControlPath}
 use Rattle.flow_paths.specs.Effects.{written_by, path_points}
 use Rattle.flow_paths.specs.Scopes.{is_within}
+use Rattle.flow_paths.specs.Aliases as alias
 use Rattle.flow_paths.specs.Views.{encloses, scope_of, traversed_formal, sub_acts}
 use Rattle.machine.specs.Words.{Cell}
 use Rattle.machine.specs.Memory.{Memory, variable_slots, no_slot}
 use Rattle.machine.specs.States.{Return, Waiting, Frame, State, Outcome, Goes, Ends, sub_of}
 use Rattle.machine.specs.Owners.{WellOwned, waiting_in}
-use Rattle.machine.specs.Run.{step}
+use Rattle.machine.specs.Run.{step, no_point}
 use Rattle.owned_ways.specs.Ways.{Object, Step, OfVariable, OfRoot, Held, Way, Named, Under, Past, name_of, number_of, OfCell, Reaches, Loc, along, View, base_of}
 use Rattle.soundness.specs.Seen.{content, word_in, home, is_view_formal}
 use Rattle.soundness.specs.Typed.{Kept}
 use Rattle.soundness.specs.Sound.{goes_through_none, is_temporary_object, IsNamedSub, IsAtPoint, IsRunnable, Stage, facts_of, AreStages, Uses, IsPlain, InScope, IsTrap, has_returned}
 use Rattle.soundness.specs.Sound as owners
-use Rattle.owned_loans.specs.Views.{known_gone, Views, IsMovedBy, AreClear, IsForeign, AreViews, Viewed, expand}
+use Rattle.owned_loans.specs.Views.{known_gone, Views, IsMovedBy, AreClear, IsForeign, AreShared, AreViews, IsOuter, ViewedAlone, expand}
 use Rattle.viewed_soundness.specs.Holds.{IsNamed, IsAccess, PartsAreNamed, is_view, sees_only, IsOwners, is_given, is_exclusive, lends_first}
-use Rattle.soundness.specs.Ready.{root_of}
 use Rattle.viewed_steps.specs.Awaited.{is_held, lasting_of, AreAwaited}
 use Rattle.viewed_steps.specs.Taken.{TakenBy, Lodge, AreTaken, AreCarried}
 
@@ -62,19 +61,6 @@ IsOwnless s x = ((object_at s x).mode ≡ mode.In) × (is_owning s.table (object
 abbrev pub IsKindOfFormal : Typing → ℕ → Type 0
 IsKindOfFormal s x = IsScalarObject s x ⊎ ((IsCopiedBack s x × IsNamed s.table (object_at s x).of) ⊎ (IsShown s x ⊎ IsOwnless s x))
 
--- A subprogram lends a part of a package object.
-abbrev pub LendsShared : Typing → FlowSub → Type 0
-LendsShared s sub =
-    (q : FlowPoint) × Has sub.points q × (a : Placed) × Has q.acts a × (l : Loan) × (h : ℕ) × (m : PlaceName) × Has (adds a.act) (Lent l h m)
-    × (is_package_object s m.root ≡ true)
-
--- What is shown to formals that own nothing is rooted in borrowers and observers only if they see no part of a
--- package object.
-abbrev pub AreShownOwn : Typing → Type 0 → List ℕ → TypedTree → Type 0
-AreShownOwn s shared (x ∷ formals) (More e rest) =
-    (is_given s x ≡ true → (y : ℕ) → Has (root_of e) y → is_anonymous (view_of s y) ≡ true → shared → ⊥) × AreShownOwn s shared formals rest
-AreShownOwn s shared formals actuals = Unit {0}
-
 -- Anonymous access types are those of objects and results alone; formals are such, those of functions of mode
 -- `in`, and what they are shown isn't changed through them, but through the first one of a function that gives a
 -- borrower, which is shown alone; those of procedures of mode `in` that own nothing are of access-to-variable
@@ -91,8 +77,6 @@ pub record IsViewClass (program : FlowProgram) : Type 0 where
       → (object_at (flow_typing program) x).mode ≡ mode.In
   pub procedures : (n : ℕ) → (sub_at (flow_typing program) n).result ≡ None → (x : ℕ) → Has (sub_at (flow_typing program) n).formals x
       → is_formal (flow_typing program) x ≡ true → is_view_formal (flow_typing program) x ≡ true → is_named_access (view_of (flow_typing program) x) ≡ true
-  pub shown : (sub : FlowSub) → Has program.subs sub → (p : FlowPoint) → Has sub.points p → (n : ℕ) (actuals : TypedTree) (result : Option ℕ)
-      → p.instr ≡ Call n actuals result → AreShownOwn (flow_typing program) (LendsShared (flow_typing program) sub) (sub_of program n).formals actuals
 
 -- ---- where objects last
 
@@ -190,6 +174,30 @@ abbrev pub loan_by : Fact → Loan
 loan_by (Moved n) = Borrowed
 loan_by (Lent l h n) = l
 
+-- What a call shows of package objects to formals that own nothing: it is lent to them, to a function for
+-- looking at it.
+abbrev pub lent_to : Option ℕ → Loan
+lent_to result = if is_some result then Observed else Borrowed
+
+unfoldable pub shown_one : Typing → Loan → alias.Passed → List Fact
+shown_one s l b =
+    if is_view_formal s b.formal && is_package_object s b.actual.name.root then Lent l b.formal b.actual.name ∷ [] else []
+
+abbrev pub shown_by : FlowProgram → Instruction → List Fact
+shown_by program (Call n actuals result) = flat_map (shown_one (flow_typing program) (lent_to result)) (alias.passed (sub_of program n).formals actuals)
+shown_by program i = []
+
+abbrev pub shown_after : FlowProgram → FlowSub → List ℕ → List Fact
+shown_after program sub [] = []
+shown_after program sub (p ∷ before) = shown_by program (get_or sub.points p no_point).instr
+
+abbrev pub shown_at : FlowProgram → Stage → List Fact
+shown_at program g = shown_after program (sub_of program g.frame.sub) g.before
+
+-- What a frame knows of loans and moved places while it waits.
+abbrev pub known_at : FlowProgram → Effects → Stage → List Fact
+known_at program effects g = facts_of program effects g ++ shown_at program g
+
 -- The package object where a way begins, if it does at one.
 abbrev pub shared_root : Loc → List ℕ
 shared_root (OfRoot (OfVariable f y)) = if f == 0 then y ∷ [] else []
@@ -197,15 +205,17 @@ shared_root l = []
 
 -- The package objects of which a frame passes parts to be copied back to, and the objects by which it names cells of such
 -- parts.
-abbrev pub passed_roots : ViewStage → List ℕ
-passed_roots g = flat_map (λ (to : Way). shared_root (base_of to)) g.stage.returns ++ map (λ (c : Lodge). number_of c.name) g.cells
+abbrev pub passed_roots : Effects → ViewStage → List ℕ
+passed_roots effects g =
+    filter (λ y. list_any (λ z. z == y) (written_by effects g.stage.frame.sub)) (flat_map (λ (to : Way). shared_root (base_of to)) g.stage.returns)
+    ++ map (λ (c : Lodge). number_of c.name) g.cells
 
-abbrev pub is_passed : ViewStage → Fact → Bool
-is_passed g f = list_any (λ y. y == (place f).root) (passed_roots g)
+abbrev pub is_passed : Effects → ViewStage → Fact → Bool
+is_passed effects g f = list_any (λ y. y == (place f).root) (passed_roots effects g)
 
--- What a frame keeps from what it calls: such objects as a whole, as moved ones, and its facts on others.
+-- What a frame keeps from what it calls: such objects as a whole, as moved ones, and what it knows of others.
 abbrev pub withheld : FlowProgram → Effects → ViewStage → List Fact
-withheld program effects g = filter (λ f. not (is_passed g f)) (facts_of program effects g.stage) ++ map (λ y. Moved (object y)) (passed_roots g)
+withheld program effects g = filter (λ f. not (is_passed effects g f)) (known_at program effects g.stage) ++ map (λ y. Moved (object y)) (passed_roots effects g)
 
 -- A cell of a place that is copied back to is there: it is named by the frame, and no way that was taken goes before
 -- the name's way.
@@ -214,6 +224,11 @@ pub record IsKept (s : Typing) (state : State) (g : ViewStage) (c : Lodge) : Typ
   pub leads : expand g.views c.name ≡ c.way
   pub reaches : Reaches (owners.view_of s state) c.way (OfCell c.cell)
   pub aside : (to : Way) → Has g.stage.returns to → Past to c.way → ⊥
+
+-- A place is behind what a view was given, and may be changed through it.
+abbrev pub IsGivenTo : Typing → ViewStage → Way → Type 0
+IsGivenTo s g to =
+    (x : ℕ) × (w : Way) × (g.views.way x ≡ Some w) × (Named (home s g.stage.depth) (g.views.up x) → ⊥) × (sees_only s x ≡ false) × Under w to
 
 -- A package object: its way and its location.
 abbrev pub IsPackageAt : Typing → Way → Loc → Type 0
@@ -240,12 +255,23 @@ pub record IsWaiting (table : Table) (typed : TypedProgram) (effects : Effects) 
   pub scope : (x : ℕ) (p : List Step) (n : ℕ)
       → word_in (flow_program table typed).table (content (flow_typing (flow_program table typed)) state.memory [] (OfRoot (OfVariable g.stage.depth x))) p ≡ Held n
       → is_within x (lasting_of (flow_typing (flow_program table typed)) point.scope) ≡ true
-  pub lends : (l : Loan) (h : ℕ) (name : PlaceName) → Has (facts_of (flow_program table typed) effects g.stage) (Lent l h name)
+  pub lends : (l : Loan) (h : ℕ) (name : PlaceName) → Has (known_at (flow_program table typed) effects g.stage) (Lent l h name)
       → is_package_object (flow_typing (flow_program table typed)) name.root ≡ true → Disturbs effects l callee name.root → ⊥
   pub unmoved : (name : PlaceName) → Has (withheld (flow_program table typed) effects g) (Moved name)
       → is_package_object (flow_typing (flow_program table typed)) name.root ≡ true → Uses effects callee name.root → ⊥
-  pub written : (y : ℕ) → Has (passed_roots g) y → is_package_object (flow_typing (flow_program table typed)) y ≡ true
+  -- what it shows it uses, and writes if it lends it to be changed; and what it knows as borrowed isn't observed
+  pub shown : (l : Loan) (h : ℕ) (name : PlaceName) → Has (shown_at (flow_program table typed) g.stage) (Lent l h name)
+      → is_package_object (flow_typing (flow_program table typed)) name.root ≡ true
+      → Uses effects g.stage.frame.sub name.root × (l ≡ Borrowed → Has (written_by effects g.stage.frame.sub) name.root)
+  pub apart : (f : Fact) (h : ℕ) (name : PlaceName) → Has (known_at (flow_program table typed) effects g.stage) f → loan_by f ≡ Borrowed
+      → Has (known_at (flow_program table typed) effects g.stage) (Lent Observed h name) → overlaps (place f) name ≡ true → ⊥
+  pub written : (y : ℕ) → Has (passed_roots effects g) y → is_package_object (flow_typing (flow_program table typed)) y ≡ true
       → Has (written_by effects g.stage.frame.sub) y
+  -- a package object of which a part was taken is written, or was lent to the frame
+  pub goes : (to : Way) → Has g.stage.returns to → (y : ℕ) → base_of to ≡ OfRoot (OfVariable 0 y) → is_package_object (flow_typing (flow_program table typed)) y ≡ true
+      → Has (written_by effects g.stage.frame.sub) y ⊎ IsGivenTo (flow_typing (flow_program table typed)) g to
+  -- none of the places goes before what a view sees
+  pub off : (x : ℕ) (w : Way) → g.views.way x ≡ Some w → (to : Way) → Has g.stage.returns to → Past to w → ⊥
   pub uses : (x : ℕ) → Uses effects callee x → Uses effects g.stage.frame.sub x
   pub writes : (x : ℕ) → Has (written_by effects callee) x → Has (written_by effects g.stage.frame.sub) x
   pub clear : AreClear (sees_only (flow_typing (flow_program table typed))) (facts_of (flow_program table typed) effects g.stage)
@@ -267,7 +293,7 @@ IsFirst e = (e.stage.frame.sub ≡ 0) × IsPlain e.stage × ((x : ℕ) → e.vie
 -- Nothing that is gone for the frames around meets what a view of a frame sees that belongs to them.
 abbrev pub AreUnmet : FlowProgram → Effects → ViewStage → List ViewStage → Type 0
 AreUnmet program effects g older =
-    (x : ℕ) (w z : Way) → g.views.way x ≡ Some w → IsForeign (home (flow_typing program) g.stage.depth) w → GoneElsewhere program effects older z
+    (x : ℕ) (w z : Way) → g.views.way x ≡ Some w → IsOuter (home (flow_typing program) g.stage.depth) g.views x w → GoneElsewhere program effects older z
     → Under z w ⊎ Under w z → ⊥
 
 -- A way of a frame that waits, with its cell: one of a view, or one to a place that is copied back to.
@@ -283,13 +309,25 @@ abbrev pub ArePast : Typing → ℕ → Views → List ViewStage → Type 0
 ArePast s depth v older =
     (x : ℕ) (w : Way) → v.way x ≡ Some w → (Named (home s depth) (v.up x) → ⊥) → sees_only s x ≡ false → (k : Way) (n : ℕ) → KeptBy older k n → Past w k → ⊥
 
+-- A place of a package object that a frame that waits keeps.
+abbrev pub LentBy : FlowProgram → Effects → List ViewStage → Loan → PlaceName → Type 0
+LentBy program effects older l n =
+    (g : ViewStage) × Has older g × (0 < g.stage.depth) × (f : Fact) × Has (withheld program effects g) f
+    × (is_package_object (flow_typing program) n.root ≡ true) × (loan_by f ≡ l) × (place f ≡ n)
+
+-- So they don't; and what a view of a frame was given that begins at a package object goes on from a place that they keep.
+abbrev pub IsBeyond : FlowProgram → Effects → ℕ → Views → List ViewStage → Type 0
+IsBeyond program effects depth v older =
+    ArePast (flow_typing program) depth v older
+    × AreShared (home (flow_typing program) depth) (sees_only (flow_typing program)) (LentBy program effects older) v
+
 -- The frames around one that runs a subprogram and copies formals back.
 abbrev pub AreWaiting : Table → TypedProgram → Effects → State → ℕ → List Return → List ViewStage → Type 0
 AreWaiting table typed effects state callee backs [] = ⊥
 AreWaiting table typed effects state callee backs (e ∷ []) = IsFirst e × (backs ≡ [])
 AreWaiting table typed effects state callee backs (g ∷ (h ∷ older)) =
     IsWaiting table typed effects state callee backs g × AreWaiting table typed effects state g.stage.frame.sub g.stage.frame.returns (h ∷ older)
-    × AreUnmet (flow_program table typed) effects g (h ∷ older) × ArePast (flow_typing (flow_program table typed)) g.stage.depth g.views (h ∷ older)
+    × AreUnmet (flow_program table typed) effects g (h ∷ older) × IsBeyond (flow_program table typed) effects g.stage.depth g.views (h ∷ older)
 
 -- ---- traversal functions
 
@@ -357,7 +395,7 @@ pub record IsSound (table : Table) (typed : TypedProgram) (effects : Effects) (s
   pub awaited : AreAwaited table typed None (top ∷ stages_of older)
   pub path : ControlPath (path_points (flow_program table typed) effects (sub_of (flow_program table typed) top.frame.sub)) top.before top.frame.next
   -- the state is well owned, each view has a way to its cell, and what ways find gone is moved
-  pub viewed : Viewed (home (flow_typing (flow_program table typed)) top.depth) (sees_only (flow_typing (flow_program table typed)))
+  pub viewed : ViewedAlone (home (flow_typing (flow_program table typed)) top.depth) (sees_only (flow_typing (flow_program table typed)))
       (known_gone (home (flow_typing (flow_program table typed)) top.depth) (GoneElsewhere (flow_program table typed) effects older)) views
       (owners.view_of (flow_typing (flow_program table typed)) state) (facts_of (flow_program table typed) effects top)
   -- words have the types of what they stand in
@@ -370,7 +408,7 @@ pub record IsSound (table : Table) (typed : TypedProgram) (effects : Effects) (s
   pub scope : InScope (flow_typing (flow_program table typed)) state.memory top.depth (lasting_of (flow_typing (flow_program table typed)) point.scope)
   pub holds : HoldsAt (flow_typing (flow_program table typed)) top.depth views state.memory point
   pub placed : ArePlaced (flow_program table typed) top.depth (facts_of (flow_program table typed) effects top) views point.scope
-  pub past : ArePast (flow_typing (flow_program table typed)) top.depth views older
+  pub past : IsBeyond (flow_program table typed) effects top.depth views older
   pub none_above : NoneAbove (flow_typing (flow_program table typed)) top.depth state.memory
   pub traversals : HasTraversals table typed (owners.view_of (flow_typing (flow_program table typed)) state) (record { stage = top; views = views; cells = [] } ∷ older)
 

@@ -1,7 +1,7 @@
 -- What a call takes from places of its caller, and gives back when it ends.
 --
 -- While the call is in progress, the formal owns what the place had, and the place has no number.
-use Rattle.std.specs.Prelude.{◌≡◌, ◌⊎◌, ◌<◌, ℕ, true, false, List, [], ◌∷◌, ◌++◌}
+use Rattle.std.specs.Prelude.{◌≡◌, ◌⊎◌, ◌<◌, ℕ, true, false, List, [], ◌∷◌, ◌++◌, suc}
 use Rattle.spark_base.specs.Lists.{Has}
 use Rattle.place_names.specs.declared.fact.Fact.{Fact}
 use Rattle.place_names.specs.declared.fact.Fact.TheVariants.{Moved, Lent}
@@ -76,7 +76,7 @@ pub record IsInside (s : Typing) (depth : ℕ) (k : Place) (to : Way) : Type 0 w
   pub object : ℕ
   pub steps : List Step
   pub frame : ℕ
-  pub begins : (frame ≡ home s depth object) ⊎ ((0 < frame) × (frame < depth))
+  pub begins : (frame ≡ home s depth object) ⊎ ((0 < frame) × (frame < suc depth))
   pub trunk : Way
   pub start : Loc
   pub stands : IsOwnAt s depth frame object k trunk start ⊎ IsCellAt k start

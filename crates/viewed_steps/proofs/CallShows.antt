@@ -1,0 +1,449 @@
+-- What a call shows of package objects to formals that own nothing: what is called doesn't disturb it, nothing
+-- that is known as moved or borrowed meets what is observed, and it is named by the frame that calls.
+use Rattle.std.proofs.Common.{◌≡◌, refl, sym, ap, ◌∙◌, subst, ◌⊎◌, inl, inr, ℕ, suc, ◌<◌, true, false, List, [], ◌∷◌, ◌++◌, length, arith, Option, Some, None, Bool, ◌||◌}
+use Rattle.spark_base.specs.Lists.{Has}
+use Rattle.place_names.specs.declared.act.Act.TheVariants as act
+use Rattle.place_names.specs.declared.fact.Fact.{Fact}
+use Rattle.place_names.specs.declared.fact.Fact.TheVariants.{Moved, Lent}
+use Rattle.place_names.specs.declared.rule.Loan.{Loan}
+use Rattle.place_names.specs.declared.rule.Loan.TheVariants.{Observed}
+use Rattle.place_names.specs.Names.{Name as PlaceName, overlaps, object}
+use Rattle.place_names.specs.declared.act.Mode.TheVariants as mode
+use Rattle.type_definitions.specs.Types.{Table}
+use Rattle.typed_tree.specs.Trees.{TypedTree, More}
+use Rattle.typed_tree.specs.Programs.{TypedProgram}
+use Rattle.flow_paths.specs.declared.report.Effects.{Effects}
+use Rattle.flow_paths.specs.Instructions.{Call}
+use Rattle.flow_paths.specs.Objects.{Typing, object_at, is_anonymous, is_package_object, view_of, is_observer}
+use Rattle.flow_paths.specs.Aliases.{overlap_reports, passed_reports, call_reports}
+use Rattle.flow_paths.specs.Aliases as alias
+use Rattle.flow_paths.specs.Points.{NamedPoint}
+use Rattle.flow_paths.specs.Laid.{FlowProgram, NamedSub, flow_sub, typing_of, flow_typing, flow_program, flow_named}
+use Rattle.flow_paths.specs.Paths.{ControlPath}
+use Rattle.flow_paths.specs.Effects.{path_points}
+use Rattle.machine.specs.States.{Frame, State, sub_of}
+use Rattle.machine.specs.Step.{Turn}
+use Rattle.machine.specs.Calls.{Passed}
+use Rattle.machine.specs.Owners.{waiting_in}
+use Rattle.place_names.specs.declared.act.Mode.TheVariants as mode
+use Rattle.owned_ways.specs.Ways.{Step, Way, after, AllowsAll, Past}
+use Rattle.owned_ways.specs.Ways as ways
+use Rattle.owned_ways.proofs.Locations.{under_itself}
+use Rattle.soundness.specs.Seen.{is_view_formal, seen, home}
+use Rattle.owned_ways.proofs.Named.{longer}
+use Rattle.owned_ways.proofs.Dropped.{named_base}
+use Rattle.soundness.proofs.Contents.{bool_cases}
+use Rattle.soundness.specs.Typed.{Kept}
+use Rattle.soundness.specs.Sound.{Stage, facts_of, AreStages, Uses, IsRunnable, InScope, IsNamedSub, IsAtPoint, view_of as view_here}
+use Rattle.soundness.proofs.Around.{package_named}
+use Rattle.owned_loans.specs.Views.{expand, Around, known_gone, Views, ViewedAlone, IsThrough, IsShared, on}
+use Rattle.owned_loans.proofs.Ways.{under_on, Lifted, lifted_way, stands_alone, on_named, on_under}
+use Rattle.viewed_soundness.proofs.Names.{true_false}
+use Rattle.viewed_soundness.specs.Holds.{is_view, sees_only, is_given, is_exclusive}
+use Rattle.viewed_steps.specs.Awaited.{lasting_of, AreAwaited}
+use Rattle.viewed_steps.specs.Sound.{IsBeyond, HoldsAt, ArePlaced, NoneAbove, ViewStage, stages_of, GoneElsewhere, Disturbs, AreWaiting, IsResting, HasTraversals, passed_roots, LentBy, known_at}
+use Rattle.viewed_steps.specs.Ready.{IsReady, IsCalled}
+use Rattle.viewed_steps.proofs.Lent.{loans_stay}
+use Rattle.viewed_steps.proofs.Waiting.{StandsBetween, beside_them, handed, root_under}
+use Rattle.flow_paths.specs.Effects.{written_by}
+use Rattle.viewed_steps.proofs.Standing.{or_right}
+use Rattle.viewed_steps.proofs.Standing as standing
+use Rattle.viewed_steps.proofs.Packages as packages
+use Rattle.viewed_steps.proofs.Innermost as innermost
+use Rattle.viewed_steps.proofs.Views.{AreAccess}
+use Rattle.viewed_steps.proofs.Seeing.{AreClear}
+use Rattle.viewed_steps.proofs.Lending.{named_has}
+use Rattle.viewed_steps.proofs.Exclusive.{sees_shown}
+use Rattle.viewed_steps.proofs.CallActs as acting
+use Rattle.viewed_steps.proofs.Withheld.{kept_fact, kept_root}
+use Rattle.std.specs.Prelude.{flat_map, is_some}
+use Rattle.std.proofs.Common.{not, ◌&&◌, eq-eqb, if◌then◌else◌}
+use Rattle.spark_base.proofs.Lists.{Has-append_left, Has-append_cases, Has-append_right}
+use Rattle.place_names.specs.declared.rule.Loan.TheVariants.{Borrowed}
+use Rattle.place_names.specs.Facts.{place}
+use Rattle.place_names.proofs.Names.{overlaps-sym}
+use Rattle.type_definitions.specs.declared.judgement.View.{View as TypeView}
+use Rattle.type_definitions.specs.declared.judgement.View.TheVariants as view
+use Rattle.typed_tree.specs.Trees.{Name}
+use Rattle.flow_paths.specs.Objects.{sub_at, Signature, is_named_access, is_variable_access}
+use Rattle.flow_paths.specs.Names.{written}
+use Rattle.flow_paths.specs.Views.{is_in_mode}
+use Rattle.flow_paths.specs.Effects.{act_writes, act_reads}
+use Rattle.machine.specs.Owners.{is_in_formal}
+use Rattle.soundness.proofs.Passing.{signature_is}
+use Rattle.owned_loans.specs.Views.{AreClear as FactsAreClear}
+use Rattle.owned_loans.proofs.Allowed.{Cleared}
+use Rattle.viewed_steps.specs.Sound.{lent_to, shown_one, shown_by, shown_at, loan_by}
+use Rattle.viewed_steps.proofs.Seeing.{IsClear}
+use Rattle.viewed_steps.proofs.Showing.{IsShownOf, all_are, all_shown}
+use Rattle.viewed_steps.proofs.Globals.{changed_unused}
+use Rattle.viewed_steps.proofs.Written.{function_writes}
+use Rattle.viewed_steps.proofs.First.{way_named}
+use Rattle.viewed_steps.proofs.Calling as calling
+use Rattle.viewed_steps.proofs.Roots.{view_goes}
+
+-- ---- what is known of an actual that is shown
+
+clear_named : (s : Typing) (facts : List Fact) (formals : List ℕ) (actuals : TypedTree) → AreClear s facts formals actuals
+    → (b : alias.Passed) → Has (alias.passed formals actuals) b → is_given s b.formal ≡ true → sees_only s b.actual.name.root ≡ false
+    → (w : Way) → ways.name_of w ≡ b.actual.name → Cleared facts w
+clear_named s facts (x ∷ formals) (More e rest) clear b has given plain w named = elim (Has-append_cases (alias.passed_as x (written e)) (alias.passed formals rest) b has) [
+  | inr later ↦ clear_named s facts formals rest clear.1 b later given plain w named
+  | inl here ↦ first e here clear.0
+]
+  where
+    first : (e : TypedTree) → Has (alias.passed_as x (written e)) b → (is_given s x ≡ true → IsClear s facts e) → Cleared facts w
+    first (Name q y steps u) (inl same) clears =
+        clears (ap (λ (z : alias.Passed). is_given s z.formal) same ∙ given) w (named ∙ ap (λ (z : alias.Passed). z.actual.name) (sym same))
+        (ap (λ (z : alias.Passed). sees_only s z.actual.name.root) same ∙ plain)
+    first (Name q y steps u) (inr none) clears = absurd none
+    first e has clears = absurd has
+clear_named s facts [] actuals clear b has given plain w named = absurd has
+clear_named s facts (x ∷ formals) _ clear b has given plain w named = absurd has
+
+module _ (table : Table) (typed : TypedProgram) (effects : Effects) (input : List ℕ) (ready : IsReady table typed effects) where
+  abbrev program : FlowProgram
+  program = flow_program table typed
+
+  abbrev s : Typing
+  s = flow_typing program
+
+  abbrev own : Typing
+  own = typing_of table typed
+
+  abbrev in_formals : AreAccess s
+  in_formals = standing.in_formals table typed effects input ready
+
+  abbrev local : (x : ℕ) → is_view s x ≡ true → is_package_object s x ≡ false
+  local = standing.local table typed effects input ready
+
+  abbrev unmoved_stage : (e : Stage) → e.frame.sub ≡ 0 → (name : PlaceName) → Has (facts_of program effects e) (Moved name) → ⊥
+  unmoved_stage = packages.unmoved_stage table typed effects input ready
+
+  module _ (state : State) (top : Stage) (below : ViewStage) (more_frames : List ViewStage) (rest : List Frame) (named : NamedSub) (p : NamedPoint)
+      (frames : state.frames ≡ top.frame ∷ (below.stage.frame ∷ rest)) (deep : top.depth ≡ suc (length rest))
+      (stages : AreStages (stages_of (below ∷ more_frames)) (below.stage.frame ∷ rest))
+      (running : IsRunnable table typed top.frame.sub × IsResting s top × AreWaiting table typed effects state top.frame.sub top.frame.returns (below ∷ more_frames))
+      (awaiting : AreAwaited table typed None (top ∷ stages_of (below ∷ more_frames)))
+      (of_sub : IsNamedSub (flow_named table typed) top.frame.sub named) (at_point : IsAtPoint named.points top.frame.next p)
+      (path : ControlPath (path_points program effects (sub_of program top.frame.sub)) top.before top.frame.next) (views : Views)
+      (viewed_before : ViewedAlone (home s (suc (length rest))) (sees_only s) (known_gone (home s (suc (length rest))) (GoneElsewhere program effects (below ∷ more_frames))) views
+      (view_here s state) (facts_of program effects top))
+      (kept : Kept s state.memory (waiting_in state)) (scope : InScope s state.memory (suc (length rest)) (lasting_of s p.scope)) (holds : HoldsAt s (suc (length rest)) views state.memory p)
+      (placed_before : ArePlaced program (suc (length rest)) (facts_of program effects top) views p.scope × IsBeyond program effects (suc (length rest)) views (below ∷ more_frames)) (above : NoneAbove s (suc (length rest)) state.memory
+      × HasTraversals table typed (view_here s state) (record { stage = top; views = views; cells = [] } ∷ (below ∷ more_frames))) where
+    abbrev outer : List Frame
+    outer = below.stage.frame ∷ rest
+
+    abbrev older : List ViewStage
+    older = below ∷ more_frames
+
+    abbrev depth : ℕ
+    depth = suc (length rest)
+
+    abbrev between : (g : ViewStage) → Has (below ∷ more_frames) g → StandsBetween table typed effects unmoved_stage local state (suc (length rest)) (below ∷ more_frames) g
+    between = innermost.between table typed effects input ready state top below more_frames rest named p frames deep stages running awaiting of_sub at_point path views viewed_before kept scope holds placed_before above
+
+    abbrev other : Around (home s (suc (length rest)))
+    other = beside_them table typed effects unmoved_stage local state (suc (length rest)) (below ∷ more_frames) between
+
+    abbrev main_turn : Turn
+    main_turn = standing.t table typed effects input ready state top older outer named p frames of_sub at_point
+
+    abbrev own_facts : List Fact
+    own_facts = standing.facts table typed effects input ready state top older outer named p frames of_sub at_point path
+
+    abbrev handed_on : List Fact
+    handed_on = handed table typed effects unmoved_stage local state (suc (length rest)) (below ∷ more_frames) between
+
+    abbrev facts_now : List Fact
+    facts_now = own_facts ++ handed_on
+
+    module _ (n : ℕ) (actuals : TypedTree) (result : Option ℕ) (e : p.instr ≡ Call n actuals result) where
+      abbrev called : IsCalled table typed n actuals result
+      called = calling.called table typed effects input ready state top below more_frames rest named p frames deep stages running awaiting of_sub at_point path views viewed_before kept scope holds placed_before above n actuals result e
+
+      abbrev formals : List ℕ
+      formals = (sub_of program n).formals
+
+      abbrev passed_all : List alias.Passed
+      passed_all = alias.passed formals actuals
+
+      abbrev procedure : Bool
+      procedure = calling.procedure table typed effects input ready state top below more_frames rest named p frames deep stages running awaiting of_sub at_point path views viewed_before kept scope holds placed_before above n actuals result e
+
+      abbrev facts_called : List Fact
+      facts_called = calling.facts_called table typed effects input ready state top below more_frames rest named p frames deep stages running awaiting of_sub at_point path views viewed_before kept scope holds placed_before above n actuals result e
+
+      there_formals : (x : ℕ) → Has formals x → Has (sub_at s n).formals x
+      there_formals x has = subst (λ z. Has z x) (sym (ap (λ (z : Signature). z.formals) (signature_is program n))) has
+
+      result_there : (o : Option ℕ) → (sub_of program n).result ≡ o → (sub_at s n).result ≡ o
+      result_there o is = ap (λ (z : Signature). z.result) (signature_is program n) ∙ is
+
+      -- what the call shows
+      pub shown_is : (returns : List Way) → shown_at program (calling.waits_with table typed effects input ready state top below more_frames rest named p frames deep stages running awaiting of_sub at_point path views viewed_before kept scope holds placed_before above n actuals result e returns)
+          ≡ flat_map (shown_one s (lent_to result)) passed_all
+      shown_is returns = ap (shown_by program) (innermost.instr_there table typed effects input ready state top below more_frames rest named p frames deep stages running awaiting of_sub at_point path views viewed_before kept scope holds placed_before above ∙ e)
+
+      pub shown_of : (f : Fact) → Has (flat_map (shown_one s (lent_to result)) passed_all) f → IsShownOf s (lent_to result) passed_all f
+      shown_of f has = all_are s (lent_to result) passed_all f has
+
+      -- by whether a function is called
+      by_answer : (sub_of program n).result ≡ None ⊎ ((t : ℕ) × ((sub_of program n).result ≡ Some t))
+      by_answer = by_result (sub_of program n).result refl
+        where
+          by_result : (o : Option ℕ) → (sub_of program n).result ≡ o → (o ≡ None) ⊎ ((t : ℕ) × (o ≡ Some t))
+          by_result None is = inl refl
+          by_result (Some t) is = inr (t, refl)
+
+      lent_none : (sub_of program n).result ≡ None → lent_to result ≡ Borrowed
+      lent_none is = by_test (is_some result) (sym called.answers ∙ ap is_some is)
+        where
+          by_test : (b : Bool) → b ≡ false → (if b then Observed else Borrowed) ≡ Borrowed
+          by_test b is = ap (λ z. if z then Observed else Borrowed) is
+
+      lent_some : (t : ℕ) → (sub_of program n).result ≡ Some t → lent_to result ≡ Observed
+      lent_some t is = ap (λ z. if z then Observed else Borrowed) (sym called.answers ∙ ap is_some is)
+
+      formal_named : (b : alias.Passed) → Has passed_all b → is_view_formal s b.formal ≡ true → (sub_of program n).result ≡ None → is_named_access (view_of s b.formal) ≡ true
+      formal_named b has formal is =
+          let x_has = named_has formals actuals b has in
+          ready.class.procedures n (result_there None is) b.formal (there_formals b.formal x_has) (called.formals b.formal x_has) formal
+
+      -- what is called doesn't disturb it
+      pub shown_spared : (b : alias.Passed) → Has passed_all b → is_view_formal s b.formal ≡ true → is_package_object s b.actual.name.root ≡ true
+          → Disturbs effects (lent_to result) n b.actual.name.root → ⊥
+      shown_spared b has formal shared disturbs = elim by_answer [
+        | inl is ↦ changed_unused program effects ready.accepted.no_reports (flow_sub own named)
+            (standing.in_program table typed effects input ready state top older outer named p frames of_sub at_point) main_turn.point
+            (standing.in_sub table typed effects input ready state top older outer named p frames of_sub at_point) n actuals result e called.answers is b has
+            (not_immutable is) shared (subst (λ l. Disturbs effects l n b.actual.name.root) (lent_none is) disturbs)
+        | inr (t, is) ↦ function_writes table typed effects ready.accepted.no_reports ready.accepted.effects_are called.text_io
+            (innermost.borrower_local table typed effects input ready state top below more_frames rest named p frames deep stages running awaiting of_sub at_point path views viewed_before kept scope holds placed_before above)
+            (λ sub in_program q in_sub k more answer call_is. (let other_call = ready.called sub in_program q in_sub k more answer call_is in
+            ((other_call.runs).named, (other_call.runs).stands, other_call.answers, other_call.local)))
+            n (called.runs).named (called.runs).stands (ap is_some is) called.local b.actual.name.root shared
+            (subst (λ l. Disturbs effects l n b.actual.name.root) (lent_some t is) disturbs)
+      ]
+        where
+          variable_named : (w : TypeView) → is_named_access w ≡ true → is_variable_access w ≡ true
+          variable_named (view.Access d c n) is = second n (not c) is
+            where
+              second : (a b : Bool) → a && b ≡ true → b ≡ true
+              second true b e = e
+              second false b e = cc
+          variable_named w is = cc
+
+          mutable : (a b : Bool) → b ≡ true → not (a && not b) ≡ true
+          mutable true b is = (λ j. not (not (is j)))
+          mutable false b is = refl
+
+          not_immutable : (sub_of program n).result ≡ None → not (alias.is_immutable s b.formal) ≡ true
+          not_immutable is =
+              mutable (is_in_mode (object_at s b.formal).mode) (is_variable_access (view_of s b.formal)) (variable_named (view_of s b.formal) (formal_named b has formal is))
+
+      -- the frame names it, and changes it where a procedure is called
+      pub shown_used : (b : alias.Passed) → Has passed_all b → is_view_formal s b.formal ≡ true → is_package_object s b.actual.name.root ≡ true
+          → Uses effects top.frame.sub b.actual.name.root × (lent_to result ≡ Borrowed → Has (written_by effects top.frame.sub) b.actual.name.root)
+      shown_used b has formal shared =
+          let act_there = acting.shown_there table typed effects input ready state top below more_frames rest named p frames deep stages running awaiting of_sub at_point path views viewed_before kept scope holds placed_before above n actuals result e b has formal shared in
+          let in_point = subst (λ z. Has z act_there.0) (standing.acts_agree table typed effects input ready state top older outer named p frames of_sub at_point) act_there.1 in
+          let in_sub = standing.in_sub table typed effects input ready state top older outer named p frames of_sub at_point in (
+            innermost.act_uses table typed effects input ready state top below more_frames rest named p frames deep stages running awaiting of_sub at_point path views viewed_before kept scope holds placed_before above
+                b.actual.name.root shared main_turn.point in_sub act_there.0 in_point
+                (subst (λ z. (act_writes b.actual.name.root z ≡ true) ⊎ (act_reads b.actual.name.root z ≡ true)) (sym act_there.2)
+                (writes_or_reads b.actual.name (procedure && is_named_access (view_of s b.formal)))),
+            λ borrowed. elim by_answer [
+              | inr (t, is) ↦ absurd (borrowed_observed (sym borrowed ∙ lent_some t is))
+              | inl is ↦ innermost.act_writes_it table typed effects input ready state top below more_frames rest named p frames deep stages running awaiting of_sub at_point path views viewed_before kept scope holds placed_before above
+                  b.actual.name.root shared main_turn.point in_sub act_there.0 in_point
+                  (subst (λ z. act_writes b.actual.name.root z ≡ true) (sym act_there.2)
+                  (writes_then b.actual.name (procedure && is_named_access (view_of s b.formal)) (λ j. not (is_some (is j)) && formal_named b has formal is j)))
+            ],
+          )
+        where
+          borrowed_observed : Borrowed ≡ Observed → ⊥
+          borrowed_observed is = cc
+
+          writes_then : (m : PlaceName) (access : Bool) → access ≡ true → act_writes m.root (act.Actual m mode.In true access) ≡ true
+          writes_then m access is = (λ j. eq-eqb m.root m.root refl j && is j)
+
+          writes_or_reads : (m : PlaceName) (access : Bool) → (act_writes m.root (act.Actual m mode.In true access) ≡ true) ⊎ (act_reads m.root (act.Actual m mode.In true access) ≡ true)
+          writes_or_reads m true = inl (λ j. eq-eqb m.root m.root refl j && true)
+          writes_or_reads m false = inr (λ j. eq-eqb m.root m.root refl j && true)
+
+      -- nothing that the frame knows as moved or borrowed overlaps what is observed
+      module _ (clear : AreClear s facts_now formals actuals) where
+        clears : (b : alias.Passed) → Has passed_all b → is_view_formal s b.formal ≡ true → is_package_object s b.actual.name.root ≡ true
+            → (w : Way) → ways.name_of w ≡ b.actual.name → Cleared facts_now w
+        clears b has formal shared w named_so =
+            clear_named s facts_now formals actuals clear b has (ap (λ z. z || (is_in_formal s b.formal && is_anonymous (view_of s b.formal))) formal)
+            (innermost.package_owns table typed effects input ready state top below more_frames rest named p frames deep stages running awaiting of_sub at_point path views viewed_before kept scope holds placed_before above b.actual.name.root shared) w named_so
+
+        less_now : (f : Fact) → Has facts_called f → Has facts_now f
+        less_now f has =
+            Has-append_left own_facts handed_on f (acting.adds_none table typed effects input ready state top below more_frames rest named p frames deep stages running awaiting of_sub at_point path views viewed_before kept scope holds placed_before above n actuals result e f has)
+
+        pub shown_apart : FactsAreClear (sees_only s) facts_called → (f : Fact) (h : ℕ) (name : PlaceName) → Has (facts_called ++ flat_map (shown_one s (lent_to result)) passed_all) f
+            → loan_by f ≡ Borrowed → Has (facts_called ++ flat_map (shown_one s (lent_to result)) passed_all) (Lent Observed h name) → overlaps (place f) name ≡ true → ⊥
+        shown_apart own_clear f h name has borrowed seen over =
+            elim (Has-append_cases facts_called (flat_map (shown_one s (lent_to result)) passed_all) f has) [
+              | inl fact ↦ elim (Has-append_cases facts_called (flat_map (shown_one s (lent_to result)) passed_all) (Lent Observed h name) seen) [
+                | inl also ↦ both_facts f borrowed fact also over
+                | inr shown ↦ (
+                    let b = shown_of (Lent Observed h name) shown in
+                    let is = same_loan Observed (lent_to result) h (b.passed).formal name (b.passed).actual.name b.is in
+                    let u = way_named (b.passed).actual.name in
+                    cleared_off f borrowed (less_now f fact) u.0 (clears b.passed b.has b.formal b.shared u.0 u.1)
+                    (subst (λ (z : PlaceName). overlaps (place f) z ≡ true) (is.1 ∙ sym u.1) over))
+              ]
+              | inr shown ↦ elim by_answer [
+                | inr (t, some) ↦ (let b = shown_of f shown in borrowed_observed (sym borrowed ∙ ap loan_by b.is ∙ lent_some t some))
+                | inl none ↦ elim (Has-append_cases facts_called (flat_map (shown_one s (lent_to result)) passed_all) (Lent Observed h name) seen) [
+                  | inr also ↦ (let b = shown_of (Lent Observed h name) also in
+                      borrowed_observed (sym (lent_none none) ∙ sym (same_loan Observed (lent_to result) h (b.passed).formal name (b.passed).actual.name b.is).0))
+                  | inl fact ↦ (
+                      let b = shown_of f shown in
+                      let lent = acting.lent_there table typed effects input ready state top below more_frames rest named p frames deep stages running awaiting of_sub at_point path views viewed_before kept scope holds placed_before above n actuals result e none (b.passed).formal
+                      (named_has formals actuals b.passed b.has) (ap (λ z. z || (is_in_formal s (b.passed).formal && is_anonymous (view_of s (b.passed).formal))) b.formal) (b.passed).actual b.has in
+                      lent.clear (Lent Observed h name) (less_now (Lent Observed h name) fact)
+                      (overlaps-sym name (b.passed).actual.name ∙ subst (λ (z : PlaceName). overlaps z name ≡ true) (ap place b.is) over))
+                ]
+              ]
+            ]
+          where
+            borrowed_observed : Borrowed ≡ Observed → ⊥
+            borrowed_observed is = cc
+
+            same_loan : (l k : Loan) (h b : ℕ) (n m : PlaceName) → Lent l h n ≡ Lent k b m → (l ≡ k) × (n ≡ m)
+            same_loan l k h b n m e = (cc, cc)
+
+            both_facts : (f : Fact) → loan_by f ≡ Borrowed → Has facts_called f → Has facts_called (Lent Observed h name) → overlaps (place f) name ≡ true → ⊥
+            both_facts (Moved m) is fact also met = own_clear.moved Observed h m name fact also met
+            both_facts (Lent l b m) is fact also met = own_clear.seen b h m name (subst (λ z. Has facts_called (Lent z b m)) is fact) also met
+
+            cleared_off : (f : Fact) → loan_by f ≡ Borrowed → Has facts_now f → (u : Way) → Cleared facts_now u → overlaps (place f) (ways.name_of u) ≡ true → ⊥
+            cleared_off (Moved m) is there u (unborrowed, unmoved) met = unmoved m there met
+            cleared_off (Lent l b m) is there u (unborrowed, unmoved) met = unborrowed b m (subst (λ z. Has facts_now (Lent z b m)) is there) met
+
+      -- ---- what a formal sees that begins at a package object
+
+      module _ (passed : List Passed) (given : calling.Given table typed effects input ready state top below more_frames rest named p frames deep stages running awaiting of_sub at_point path views viewed_before kept scope holds placed_before above n actuals result e passed) where
+        abbrev waits_there : ViewStage
+        waits_there = calling.waits_there table typed effects input ready state top below more_frames rest named p frames deep stages running awaiting of_sub at_point path views viewed_before kept scope holds placed_before above n actuals result e passed given
+
+        abbrev LentAround : Loan → PlaceName → Type 0
+        LentAround l m = LentBy program effects (waits_there ∷ older) l m
+
+        abbrev next : ℕ
+        next = suc (suc (length rest))
+
+        some_depth : 0 < waits_there.stage.depth
+        some_depth = omega (arith, deep)
+
+        -- what the frame knows it keeps, or the object as a whole
+        known_lent : (f : Fact) (k w : Way) → Has (known_at program effects waits_there.stage) f → place f ≡ ways.name_of k → ways.Named (home s depth) k → ways.Under k w
+            → is_package_object s (ways.number_of w) ≡ true → IsThrough (home s next) LentAround (loan_by f) w ⊎ IsThrough (home s next) LentAround Borrowed w
+        known_lent f k w known is at_home under shared =
+            let root : is_package_object s (ways.number_of k) ≡ true = ap (is_package_object s) (sym (longer k w under).root) ∙ shared in
+            elim (kept_fact program effects waits_there f known) [
+              | inl keeps ↦ inl (k, package_named s depth next k root at_home, under, (waits_there, inl refl, some_depth, f, keeps, root, refl, is))
+              | inr passed_root ↦ inr (
+                  let r : ℕ = ways.number_of k in
+                  let whole : Way = ways.Object (ways.OfVariable (home s depth r) r) in
+                  let base : ways.base_of w ≡ ways.OfRoot (ways.OfVariable (home s depth r) r) = (longer k w under).base ∙ named_base (home s depth) k at_home in (
+                    whole,
+                    package_named s depth next whole root refl,
+                    root_under (home s depth r) r w base,
+                    (
+                      waits_there,
+                      inl refl,
+                      some_depth,
+                      Moved (object r),
+                      kept_root program effects waits_there r (subst (λ (z : PlaceName). Has (passed_roots effects waits_there) z.root) is passed_root),
+                      root,
+                      refl,
+                      refl,
+                    ),
+                  ))
+            ]
+
+        older_lent : (l : Loan) (w : Way) → IsThrough (home s depth) (LentBy program effects older) l w → IsThrough (home s next) LentAround l w
+        older_lent l w (k, at_home, under, lent) = (
+          k,
+          package_named s depth next k lent.5 at_home,
+          under,
+          (lent.0, inr lent.1, lent.2, lent.3, lent.4, lent.5, lent.6, lent.7),
+        )
+
+        -- a formal that changes what it sees is one of a procedure, or is shown nothing of a package object
+        lent_changed : (b : alias.Passed) → Has passed_all b → is_given s b.formal ≡ true → is_package_object s b.actual.name.root ≡ true → sees_only s b.formal ≡ false
+            → lent_to result ≡ Borrowed
+        lent_changed b has is_given_formal shared changes = elim by_answer [
+          | inl none ↦ lent_none none
+          | inr (t, some) ↦ (
+              let x_has = named_has formals actuals b has in
+              absurd (true_false (sees_only s b.formal)
+              (sees_shown (is_observer s b.formal) (is_given s b.formal) (is_exclusive s b.formal) is_given_formal
+              (ready.class.functions n t (result_there (Some t) some) b.formal (there_formals b.formal x_has) (called.formals b.formal x_has) is_given_formal
+              (acting.plainly_shown table typed effects input ready state top below more_frames rest named p frames deep stages running awaiting of_sub at_point path views viewed_before kept scope holds placed_before above n actuals result e b has is_given_formal shared).1)) changes))
+        ]
+
+        pub shared_at : (b : alias.Passed) → Has passed_all b → is_given s b.formal ≡ true → (from : Way) → ways.Named (home s depth) from → b.actual.name ≡ ways.name_of from
+            → (is_view s (ways.number_of from) ≡ true → (l : Lifted views (ways.All from)) × (l.object ≡ ways.number_of from))
+            → (sees_only s b.formal ≡ false → sees_only s (ways.number_of from) ≡ false)
+            → (w : Way) → w ≡ expand views (ways.All from) → ways.Named (home s depth) w → is_package_object s (ways.number_of w) ≡ true
+            → IsShared (home s next) LentAround (sees_only s b.formal) w
+        shared_at b has is_given_formal from at_home named_so lifted plain w leads w_home shared = elim (bool_cases (is_view s (ways.number_of from))) [
+          | inr owner ↦ by_owner (no_way owner)
+          | inl view ↦ by_view (lifted view)
+        ]
+          where
+            no_way : is_view s (ways.number_of from) ≡ false → views.way (ways.number_of from) ≡ None
+            no_way owner = by_way (views.way (ways.number_of from)) refl
+              where
+                by_way : (o : Option Way) → views.way (ways.number_of from) ≡ o → views.way (ways.number_of from) ≡ None
+                by_way None is = is
+                by_way (Some k) is = absurd (true_false (is_view s (ways.number_of from)) (holds.only (ways.number_of from) k is) owner)
+
+            by_owner : views.way (ways.number_of from) ≡ None → IsShared (home s next) LentAround (sees_only s b.formal) w
+            by_owner none =
+                let itself : w ≡ ways.All from = leads ∙ stands_alone views (ways.All from) none in
+                let root : is_package_object s b.actual.name.root ≡ true = ap (λ (z : PlaceName). is_package_object s z.root) named_so ∙ ap (λ z. is_package_object s (ways.number_of z)) (sym itself) ∙ shared in
+                let formal = (acting.plainly_shown table typed effects input ready state top below more_frames rest named p frames deep stages running awaiting of_sub at_point path views viewed_before kept scope holds placed_before above n actuals result e b has is_given_formal root).0 in
+                let f : Fact = Lent (lent_to result) b.formal b.actual.name in
+                let shown : Has (shown_at program waits_there.stage) f =
+                subst (λ z. Has z f) (sym (shown_is waits_there.stage.returns)) (all_shown s (lent_to result) passed_all b has formal root) in
+                elim (known_lent f from w (Has-append_right (facts_of program effects waits_there.stage) (shown_at program waits_there.stage) f shown) named_so at_home
+                (subst (ways.Under from) (sym itself) (inr (under_itself from))) shared) [
+                  | inl through ↦ (lent_to result, through, λ changes. lent_changed b has is_given_formal root changes)
+                  | inr through ↦ (Borrowed, through, λ changes. refl)
+                ]
+
+            by_view : (l : Lifted views (ways.All from)) × (l.object ≡ ways.number_of from) → IsShared (home s next) LentAround (sees_only s b.formal) w
+            by_view (l, object_is) =
+                let on_way : w ≡ on l.way l.rest = leads ∙ lifted_way views (ways.All from) l in
+                let l_home : ways.Named (home s depth) l.way = on_named (home s depth) l.way l.rest (subst (ways.Named (home s depth)) on_way w_home) in
+                let under : ways.Under l.way w = subst (ways.Under l.way) (sym on_way) (on_under l.way l.rest) in
+                let (loan, goes, changed) = view_goes (home s depth) (sees_only s) views (view_here s state) (facts_of program effects top) viewed_before.views
+                (LentBy program effects older) placed_before.1.1 l.object l.way l.has l_home in
+                let changes_so : sees_only s b.formal ≡ false → loan ≡ Borrowed = λ changes. changed (ap (sees_only s) object_is ∙ plain changes) in
+                elim goes [
+                  | inr through ↦ (loan, further loan l.way under (older_lent loan l.way through), changes_so)
+                  | inl (holder, k, fact, k_home, k_under) ↦ (
+                      let called_fact : Has facts_called (Lent loan holder (ways.name_of k)) =
+                      loans_stay s (acting.values table typed effects input ready state top below more_frames rest named p frames deep stages running awaiting of_sub at_point path views viewed_before kept scope holds placed_before above n actuals result e ++ acting.copies table typed effects input ready state top below more_frames rest named p frames deep stages running awaiting of_sub at_point path views viewed_before kept scope holds placed_before above n actuals result e) (acting.spare_call table typed effects input ready state top below more_frames rest named p frames deep stages running awaiting of_sub at_point path views viewed_before kept scope holds placed_before above n actuals result e)
+                      own_facts loan holder (ways.name_of k)
+                      (subst (λ fs. Has fs (Lent loan holder (ways.name_of k))) (standing.facts_are table typed effects input ready state top older outer named p frames of_sub at_point path) fact) in
+                      elim (known_lent (Lent loan holder (ways.name_of k)) k w
+                      (Has-append_left (facts_of program effects waits_there.stage) (shown_at program waits_there.stage) (Lent loan holder (ways.name_of k))
+                      (subst (λ fs. Has fs (Lent loan holder (ways.name_of k))) (sym (calling.facts_there table typed effects input ready state top below more_frames rest named p frames deep stages running awaiting of_sub at_point path views viewed_before kept scope holds placed_before above n actuals result e)) called_fact))
+                      refl k_home (under_on k l.way w k_under under) shared) [
+                        | inl through ↦ (loan, through, changes_so)
+                        | inr through ↦ (Borrowed, through, λ changes. refl)
+                      ])
+                ]
+              where
+                further : (loan : Loan) (k : Way) → ways.Under k w → IsThrough (home s next) LentAround loan k → IsThrough (home s next) LentAround loan w
+                further loan k under (q, q_home, above_k, lent) = (q, q_home, under_on q k w above_k under, lent)
