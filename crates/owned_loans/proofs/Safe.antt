@@ -300,25 +300,28 @@ module _ (home : ℕ → ℕ) (observer : ℕ → Bool) (other : Around home) (v
   seen_way u w l named is past moved = seen_above u w l named is (past_under w (expand v u) past) moved
 
   -- what a moved name stands for lies in what a name that overlaps nothing borrowed does only if the one begins the other
-  pub clean_name : (u m : Way) → IsName u → Unborrowed facts u → IsMoved home facts m → (Under u m → ⊥) → Under (expand v u) (expand v m) → ⊥
-  clean_name u m plain unborrowed moved off under =
+  pub begun_name : (u m : Way) → IsName u → Unborrowed facts u → IsMoved home facts m → Under (expand v u) (expand v m) → Under u m
+  begun_name u m plain unborrowed moved under =
       elim (met u m plain (moved_plain m moved) under) [
-        | inl below ↦ off below
+        | inl below ↦ below
         | inr more ↦ elim more [
-          | inl a ↦ unmoved_loan m Borrowed a.object (v.loan a.object) moved (loan_of a.object a.lends)
-              (inr (under_on (v.loan a.object) a.name m a.loan a.begins))
+          | inl a ↦ absurd (unmoved_loan m Borrowed a.object (v.loan a.object) moved (loan_of a.object a.lends)
+              (inr (under_on (v.loan a.object) a.name m a.loan a.begins)))
           | inr more ↦ elim more [
-            | inl b ↦ unborrowed b.object (name_of (v.loan b.object)) (loan_of b.object b.lends) (meet_overlaps (v.loan b.object) u (flip u (v.loan b.object) b.meets))
+            | inl b ↦ absurd (unborrowed b.object (name_of (v.loan b.object)) (loan_of b.object b.lends) (meet_overlaps (v.loan b.object) u (flip u (v.loan b.object) b.meets)))
             | inr loans ↦ elim loans [
-              | inl c ↦ no_both c
+              | inl c ↦ absurd (no_both c)
               | inr lone ↦ elim lone [
-                | inl l ↦ unborrowed (number_of l.place) (name_of l.place) (lent_fact Borrowed l.place l.lent_it) (meet_overlaps l.place u (flip u l.place (lone_meets u m l)))
-                | inr l ↦ moved_lone m u moved l
+                | inl l ↦ absurd (unborrowed (number_of l.place) (name_of l.place) (lent_fact Borrowed l.place l.lent_it) (meet_overlaps l.place u (flip u l.place (lone_meets u m l))))
+                | inr l ↦ absurd (moved_lone m u moved l)
               ]
             ]
           ]
         ]
       ]
+
+  pub clean_name : (u m : Way) → IsName u → Unborrowed facts u → IsMoved home facts m → (Under u m → ⊥) → Under (expand v u) (expand v m) → ⊥
+  clean_name u m plain unborrowed moved off under = off (begun_name u m plain unborrowed moved under)
 
   -- nothing that was moved is, or lies in, a name that overlaps nothing moved or borrowed
   pub clean_below : (u w : Way) → IsName u → Unborrowed facts u → Unmoved facts u → Under (expand v u) w → IsMovedBy home v facts w → ⊥

@@ -16,8 +16,9 @@ use Rattle.flow_paths.specs.Layout.{Around, within_loop, within_block, with_scop
 use Rattle.flow_paths.specs.Laid.{around_body, scope_at_end, procedure_end, function_end, sub_points}
 use Rattle.flow_paths.specs.Scopes.{taken}
 use Rattle.flow_paths.proofs.Held.{held_count}
-use Rattle.scope_laws.specs.Alone.{CallsOnly, SourceFits, ValueFits, StoredFits, CodeFits, BranchesFit, BranchFits, AlternativesFit, AlternativeFits, InstructionFits}
+use Rattle.scope_laws.specs.Alone.{CallsFit, CallsOnly, PassedFit, SourceFits, ValueFits, StoredFits, CodeFits, BranchesFit, BranchFits, AlternativesFit, AlternativeFits, InstructionFits}
 use Rattle.scope_laws.specs.Fitted.{types, types_at, Pairs, FillsFit, RightFits, IsFitted}
+use Rattle.scope_laws.proofs.Alone.{calls_as}
 use Rattle.scope_laws.proofs.Lists.{all_both, all_one}
 
 all_left : {A : Type 0} (P : A → Type 0) (xs ys : List A) → AllByRecursion P (xs ++ ys) → AllByRecursion P xs
@@ -42,9 +43,10 @@ pairs_both fit [] us (x ∷ xs) ys h g = absurd h
 pairs_both fit (t ∷ ts) us [] ys h g = absurd h
 pairs_both fit (t ∷ ts) us (x ∷ xs) ys h g = (h.0, pairs_both fit ts us xs ys h.1 g)
 
-module _ (fit : ℕ → ℕ → Type 0) (of : ℕ → ℕ) (truth : ℕ) (ask alone single : ℕ → Type 0) (weaker : (n : ℕ) → ask n → alone n) (s : Setting) where
+module _ (fit : ℕ → ℕ → Type 0) (of : ℕ → ℕ) (truth : ℕ) (ask passed alone single : ℕ → Type 0) (weaker : (n : ℕ) → ask n → alone n) (wider : (n : ℕ) → passed n → alone n)
+    (s : Setting) where
   abbrev Good : NamedPoint → Type 0
-  Good p = IsFitted fit of truth ask alone single p
+  Good p = IsFitted fit of truth ask passed alone single p
 
   abbrev Fitted : List NamedPoint → Type 0
   Fitted ps = AllByRecursion Good ps
@@ -58,26 +60,21 @@ module _ (fit : ℕ → ℕ → Type 0) (of : ℕ → ℕ) (truth : ℕ) (ask al
   abbrev May : ℕ → Type 0
   May n = alone n ⊎ single n
 
-  -- a value of any of these kinds
-  source_may : (e : TypedTree) → SourceFits ask alone e → SourceFits ask May e
-  unfolding SourceFits
-  source_may (typed.Call p sub actuals) (may, inner) = (inl may, inner)
-  source_may (Parens e) asked = source_may e asked
-  source_may (Aggregate t e) asked = source_may e asked
-  source_may (Alike t e) asked = source_may e asked
-  source_may (New t e) asked = source_may e asked
-  source_may (typed.More a b) (first, second) = (source_may a first, source_may b second)
-  source_may e asked = asked
+  source_may : (e : TypedTree) → SourceFits ask passed alone e → SourceFits ask passed May e
+  source_may e asked = calls_as ask passed alone May (λ n one. inl one) e asked
 
-  value_may : (v : TypedTree) → ValueFits ask alone single v → SourceFits ask May v
-  unfolding SourceFits CallsOnly
+  passed_may : (e : TypedTree) → PassedFit ask passed e → SourceFits ask passed May e
+  passed_may e asked = calls_as ask passed passed May (λ n one. inl (wider n one)) e asked
+
+  value_may : (v : TypedTree) → ValueFits ask passed alone single v → SourceFits ask passed May v
+  unfolding CallsFit
   value_may v (inl source) = source_may v source
-  value_may v (inr (q, n, a, is, one, calls)) = subst (SourceFits ask May) (sym is) ((inr one, calls), tt)
+  value_may v (inr (q, n, a, is, one, calls)) = subst (SourceFits ask passed May) (sym is) ((inr one, calls), tt)
 
-  stored_may : (target e : TypedTree) → StoredFits ask alone single target e → SourceFits ask May e
-  unfolding SourceFits CallsOnly
+  stored_may : (target e : TypedTree) → StoredFits ask passed alone single target e → SourceFits ask passed May e
+  unfolding CallsFit
   stored_may target e (inl source) = source_may e source
-  stored_may target e (inr (q, n, a, is, one, calls, r, x, path, u, target_is, none)) = subst (SourceFits ask May) (sym is) (inr one, calls)
+  stored_may target e (inr (q, n, a, is, one, calls, r, x, path, u, target_is, none)) = subst (SourceFits ask passed May) (sym is) (inr one, calls)
 
   both : (ps qs : List NamedPoint) → Fitted ps → Fitted qs → Fitted (ps ++ qs)
   both ps qs h g = all_both Good ps qs h g
@@ -96,7 +93,7 @@ module _ (fit : ℕ → ℕ → Type 0) (of : ℕ → ℕ) (truth : ℕ) (ask al
 
   -- a point whose instruction takes the temporaries at the front of its scope
   fitted : (p : NamedPoint) (xs scope : List ℕ) → Pairs fit (types_at of truth p.instr) xs → length xs ≡ taken p.instr → p.scope ≡ xs ++ scope
-      → InstructionFits ask alone single p.instr → RightFits fit truth p.instr scope → Good p
+      → InstructionFits ask passed alone single p.instr → RightFits fit truth p.instr scope → Good p
   fitted p xs scope pairs long is asked right_one =
       let front : take (taken p.instr) p.scope ≡ xs = subst (λ n. take n p.scope ≡ xs) long (ap (λ zs. take (length xs) zs) is ∙ take_all xs scope) in
       let back : drop (taken p.instr) p.scope ≡ scope = subst (λ n. drop n p.scope ≡ scope) long (ap (λ zs. drop (length xs) zs) is ∙ drop_all xs scope) in
@@ -158,7 +155,7 @@ module _ (fit : ℕ → ℕ → Type 0) (of : ℕ → ℕ) (truth : ℕ) (ask al
   either_fit false ps qs h g fill = g fill
 
   -- the points of a call
-  call_fit : (p : Pos) (sub : ℕ) (actuals : TypedTree) (at : Place) (scope : List ℕ) (k : List PointName) → May sub → CallsOnly ask actuals
+  call_fit : (p : Pos) (sub : ℕ) (actuals : TypedTree) (at : Place) (scope : List ℕ) (k : List PointName) → May sub → PassedFit ask passed actuals
       → (Filling (prep s actuals (0 ∷ at) scope (row_at at 0 ∷ [])) → Fitted (prep s actuals (0 ∷ at) scope (row_at at 0 ∷ [])))
       → Filling (prep s (typed.Call p sub actuals) at scope k) → Fitted (prep s (typed.Call p sub actuals) at scope k)
   unfolding prep
@@ -169,11 +166,14 @@ module _ (fit : ℕ → ℕ → Type 0) (of : ℕ → ℕ) (truth : ℕ) (ask al
       one_more before q (inner filling)
       (fitted q (held s actuals (0 ∷ at)) scope (held_fit actuals (0 ∷ at) scope (row_at at 0 ∷ []) filling) (held_count s actuals (0 ∷ at)) refl (may, asked) tt)
 
-  prep_fit : (e : TypedTree) (at : Place) (scope : List ℕ) (k : List PointName) → CallsOnly ask e → Filling (prep s e at scope k) → Fitted (prep s e at scope k)
-  unfolding prep CallsOnly
-  prep_fit (typed.Call p sub actuals) at scope k (asked, inner) fill =
-      call_fit p sub actuals at scope k (inl (weaker sub asked)) inner (prep_fit actuals (0 ∷ at) scope (row_at at 0 ∷ []) inner) fill
-  prep_fit (Short op p a q b) at scope k (first_asked, second_asked) fill =
+  -- Calls in all of an expression may give values.
+  prep_kind : (kind : ℕ → Type 0) → ((n : ℕ) → kind n → May n) → (e : TypedTree) (at : Place) (scope : List ℕ) (k : List PointName) → CallsFit ask passed kind e
+      → Filling (prep s e at scope k) → Fitted (prep s e at scope k)
+  unfolding prep CallsFit
+  prep_kind kind into (typed.Call p sub actuals) at scope k (asked, inner) fill =
+      call_fit p sub actuals at scope k (into sub asked) inner (prep_kind passed (λ n one. inl (wider n one)) actuals (0 ∷ at) scope (row_at at 0 ∷ []) inner) fill
+  prep_kind kind into (Short op p a q b) at scope k (first_asked, second_asked) fill =
+      let asks : (n : ℕ) → ask n → May n = (λ n one. inl (weaker n one)) in
       let behind : List NamedPoint = prep s b (1 ∷ at) (with_held s a (0 ∷ at) scope) k in
       either_fit (has_call b) _ (prep s a (0 ∷ at) scope (entry behind k) ++ behind)
       (λ f.
@@ -183,48 +183,43 @@ module _ (fit : ℕ → ℕ → Type 0) (of : ℕ → ℕ) (truth : ℕ) (ask al
       let n : NamedPoint = point (row_at at 1) q (Evaluate (s.temporary at) b None) (with_held s b (1 ∷ at) (s.temporary at ∷ scope)) k in
       let first : Filling before = left before (m ∷ (middle ++ n ∷ [])) f in
       let second : Filling middle = left middle (n ∷ []) (right before (m ∷ (middle ++ n ∷ [])) f).1 in
-      both before (m ∷ (middle ++ n ∷ [])) (prep_fit a (0 ∷ at) scope (row_at at 0 ∷ []) first_asked first) (
+      both before (m ∷ (middle ++ n ∷ [])) (prep_kind ask asks a (0 ∷ at) scope (row_at at 0 ∷ []) first_asked first) (
         fitted m (held s a (0 ∷ at)) scope (held_fit a (0 ∷ at) scope (row_at at 0 ∷ []) first) (held_count s a (0 ∷ at)) refl first_asked tt,
-        one_more middle n (prep_fit b (1 ∷ at) (s.temporary at ∷ scope) (row_at at 1 ∷ []) second_asked second)
+        one_more middle n (prep_kind ask asks b (1 ∷ at) (s.temporary at ∷ scope) (row_at at 1 ∷ []) second_asked second)
             (fitted n (held s b (1 ∷ at)) (s.temporary at ∷ scope) (held_fit b (1 ∷ at) (s.temporary at ∷ scope) (row_at at 1 ∷ []) second) (held_count s b (1 ∷ at)) refl
             second_asked (s.temporary at, scope, refl, last before m (middle ++ n ∷ []) f)),
       ))
-      (pair_fit a b (0 ∷ at) (1 ∷ at) scope (with_held s a (0 ∷ at) scope) (entry behind k) k (prep_fit a (0 ∷ at) scope (entry behind k) first_asked)
-      (prep_fit b (1 ∷ at) (with_held s a (0 ∷ at) scope) k second_asked))
+      (pair_fit a b (0 ∷ at) (1 ∷ at) scope (with_held s a (0 ∷ at) scope) (entry behind k) k (prep_kind ask asks a (0 ∷ at) scope (entry behind k) first_asked)
+      (prep_kind ask asks b (1 ∷ at) (with_held s a (0 ∷ at) scope) k second_asked))
       fill
-  prep_fit (Binary op a b) at scope k (first, second) fill =
-      pair_fit a b (0 ∷ at) (1 ∷ at) scope (with_held s a (0 ∷ at) scope) _ k (prep_fit a (0 ∷ at) scope _ first) (prep_fit b (1 ∷ at) (with_held s a (0 ∷ at) scope) k second) fill
-  prep_fit (typed.More a b) at scope k (first, second) fill =
-      pair_fit a b (0 ∷ at) (1 ∷ at) scope (with_held s a (0 ∷ at) scope) _ k (prep_fit a (0 ∷ at) scope _ first) (prep_fit b (1 ∷ at) (with_held s a (0 ∷ at) scope) k second) fill
-  prep_fit (Element a low high b) at scope k (first, second) fill =
-      pair_fit a b (0 ∷ at) (1 ∷ at) scope (with_held s a (0 ∷ at) scope) _ k (prep_fit a (0 ∷ at) scope _ first) (prep_fit b (1 ∷ at) (with_held s a (0 ∷ at) scope) k second) fill
-  prep_fit (Name p x e t) at scope k asked fill = prep_fit e (0 ∷ at) scope k asked fill
-  prep_fit (Component i e) at scope k asked fill = prep_fit e (0 ∷ at) scope k asked fill
-  prep_fit (Designated e) at scope k asked fill = prep_fit e (0 ∷ at) scope k asked fill
-  prep_fit (Image t e) at scope k asked fill = prep_fit e (0 ∷ at) scope k asked fill
-  prep_fit (Parens e) at scope k asked fill = prep_fit e (0 ∷ at) scope k asked fill
-  prep_fit (Unary op e) at scope k asked fill = prep_fit e (0 ∷ at) scope k asked fill
-  prep_fit (IsNull equal e) at scope k asked fill = prep_fit e (0 ∷ at) scope k asked fill
-  prep_fit (Aggregate t e) at scope k asked fill = prep_fit e (0 ∷ at) scope k asked fill
-  prep_fit (Alike t e) at scope k asked fill = prep_fit e (0 ∷ at) scope k asked fill
-  prep_fit (New t e) at scope k asked fill = prep_fit e (0 ∷ at) scope k asked fill
-  prep_fit _ at scope k asked fill = tt
+  prep_kind kind into (Binary op a b) at scope k (first, second) fill =
+      pair_fit a b (0 ∷ at) (1 ∷ at) scope (with_held s a (0 ∷ at) scope) _ k (prep_kind ask (λ n one. inl (weaker n one)) a (0 ∷ at) scope _ first)
+      (prep_kind ask (λ n one. inl (weaker n one)) b (1 ∷ at) (with_held s a (0 ∷ at) scope) k second) fill
+  prep_kind kind into (typed.More a b) at scope k (first, second) fill =
+      pair_fit a b (0 ∷ at) (1 ∷ at) scope (with_held s a (0 ∷ at) scope) _ k (prep_kind kind into a (0 ∷ at) scope _ first) (prep_kind kind into b (1 ∷ at) (with_held s a (0 ∷ at) scope) k second) fill
+  prep_kind kind into (Element a low high b) at scope k (first, second) fill =
+      pair_fit a b (0 ∷ at) (1 ∷ at) scope (with_held s a (0 ∷ at) scope) _ k (prep_kind ask (λ n one. inl (weaker n one)) a (0 ∷ at) scope _ first)
+      (prep_kind ask (λ n one. inl (weaker n one)) b (1 ∷ at) (with_held s a (0 ∷ at) scope) k second) fill
+  prep_kind kind into (Name p x e t) at scope k asked fill = prep_kind ask (λ n one. inl (weaker n one)) e (0 ∷ at) scope k asked fill
+  prep_kind kind into (Component i e) at scope k asked fill = prep_kind ask (λ n one. inl (weaker n one)) e (0 ∷ at) scope k asked fill
+  prep_kind kind into (Designated e) at scope k asked fill = prep_kind ask (λ n one. inl (weaker n one)) e (0 ∷ at) scope k asked fill
+  prep_kind kind into (Image t e) at scope k asked fill = prep_kind ask (λ n one. inl (weaker n one)) e (0 ∷ at) scope k asked fill
+  prep_kind kind into (Unary op e) at scope k asked fill = prep_kind ask (λ n one. inl (weaker n one)) e (0 ∷ at) scope k asked fill
+  prep_kind kind into (IsNull equal e) at scope k asked fill = prep_kind ask (λ n one. inl (weaker n one)) e (0 ∷ at) scope k asked fill
+  prep_kind kind into (Parens e) at scope k asked fill = prep_kind kind into e (0 ∷ at) scope k asked fill
+  prep_kind kind into (Aggregate t e) at scope k asked fill = prep_kind kind into e (0 ∷ at) scope k asked fill
+  prep_kind kind into (Alike t e) at scope k asked fill = prep_kind kind into e (0 ∷ at) scope k asked fill
+  prep_kind kind into (New t e) at scope k asked fill = prep_kind kind into e (0 ∷ at) scope k asked fill
+  prep_kind kind into _ at scope k asked fill = tt
 
-  -- an expression that stands for a value
-  source_fit : (e : TypedTree) (at : Place) (scope : List ℕ) (k : List PointName) → SourceFits ask May e → Filling (prep s e at scope k) → Fitted (prep s e at scope k)
-  unfolding prep SourceFits
-  source_fit (typed.Call p sub actuals) at scope k (may, inner) fill =
-      call_fit p sub actuals at scope k may inner (prep_fit actuals (0 ∷ at) scope (row_at at 0 ∷ []) inner) fill
-  source_fit (Parens e) at scope k asked fill = source_fit e (0 ∷ at) scope k asked fill
-  source_fit (Aggregate t e) at scope k asked fill = source_fit e (0 ∷ at) scope k asked fill
-  source_fit (Alike t e) at scope k asked fill = source_fit e (0 ∷ at) scope k asked fill
-  source_fit (New t e) at scope k asked fill = source_fit e (0 ∷ at) scope k asked fill
-  source_fit (typed.More a b) at scope k (first, second) fill =
-      pair_fit a b (0 ∷ at) (1 ∷ at) scope (with_held s a (0 ∷ at) scope) _ k (source_fit a (0 ∷ at) scope _ first) (source_fit b (1 ∷ at) (with_held s a (0 ∷ at) scope) k second) fill
-  source_fit e at scope k asked fill = prep_fit e at scope k asked fill
+  prep_fit : (e : TypedTree) (at : Place) (scope : List ℕ) (k : List PointName) → CallsOnly ask passed e → Filling (prep s e at scope k) → Fitted (prep s e at scope k)
+  prep_fit e at scope k asked fill = prep_kind ask (λ n one. inl (weaker n one)) e at scope k asked fill
+
+  source_fit : (e : TypedTree) (at : Place) (scope : List ℕ) (k : List PointName) → SourceFits ask passed May e → Filling (prep s e at scope k) → Fitted (prep s e at scope k)
+  source_fit e at scope k asked fill = prep_kind May (λ n one. one) e at scope k asked fill
 
   uses_fit : (at : Place) (p : Pos) (e : TypedTree) (i : Instruction) (w : Around) (next : List PointName) → types_at of truth i ≡ types of truth e → taken i ≡ waiting e
-      → InstructionFits ask alone single i → RightFits fit truth i w.scope → (Filling (prep s e (0 ∷ at) w.scope (row_at at 0 ∷ [])) → Fitted (prep s e (0 ∷ at) w.scope (row_at at 0 ∷ [])))
+      → InstructionFits ask passed alone single i → RightFits fit truth i w.scope → (Filling (prep s e (0 ∷ at) w.scope (row_at at 0 ∷ [])) → Fitted (prep s e (0 ∷ at) w.scope (row_at at 0 ∷ [])))
       → Filling (uses s at p e i w next) → Fitted (uses s at p e i w next)
   uses_fit at p e i w next same takes asked right_one before_fit fill =
       let before : List NamedPoint = prep s e (0 ∷ at) w.scope (row_at at 0 ∷ []) in
@@ -235,17 +230,17 @@ module _ (fit : ℕ → ℕ → Type 0) (of : ℕ → ℕ) (truth : ℕ) (ask al
       (held_count s e (0 ∷ at) ∙ sym takes) refl asked right_one)
 
   used : (at : Place) (p : Pos) (e : TypedTree) (i : Instruction) (w : Around) (next : List PointName) → types_at of truth i ≡ types of truth e → taken i ≡ waiting e
-      → InstructionFits ask alone single i → RightFits fit truth i w.scope → CallsOnly ask e → Filling (uses s at p e i w next) → Fitted (uses s at p e i w next)
+      → InstructionFits ask passed alone single i → RightFits fit truth i w.scope → CallsOnly ask passed e → Filling (uses s at p e i w next) → Fitted (uses s at p e i w next)
   used at p e i w next same takes asked right_one calls = uses_fit at p e i w next same takes asked right_one (prep_fit e (0 ∷ at) w.scope (row_at at 0 ∷ []) calls)
 
   stored : (at : Place) (p : Pos) (e : TypedTree) (i : Instruction) (w : Around) (next : List PointName) → types_at of truth i ≡ types of truth e → taken i ≡ waiting e
-      → InstructionFits ask alone single i → RightFits fit truth i w.scope → SourceFits ask May e → Filling (uses s at p e i w next) → Fitted (uses s at p e i w next)
+      → InstructionFits ask passed alone single i → RightFits fit truth i w.scope → SourceFits ask passed May e → Filling (uses s at p e i w next) → Fitted (uses s at p e i w next)
   stored at p e i w next same takes asked right_one source = uses_fit at p e i w next same takes asked right_one (source_fit e (0 ∷ at) w.scope (row_at at 0 ∷ []) source)
 
   -- two expressions at some places, the first one first, and a point that uses both
   two_fit : (x y : Place) (a b : TypedTree) (scope : List ℕ) (k l : List PointName) (q : NamedPoint)
       → q.scope ≡ with_held s b y (with_held s a x scope) → waiting a + waiting b ≡ taken q.instr → types_at of truth q.instr ≡ types of truth b ++ types of truth a
-      → InstructionFits ask alone single q.instr → RightFits fit truth q.instr scope → (Filling (prep s a x scope k) → Fitted (prep s a x scope k))
+      → InstructionFits ask passed alone single q.instr → RightFits fit truth q.instr scope → (Filling (prep s a x scope k) → Fitted (prep s a x scope k))
       → (Filling (prep s b y (with_held s a x scope) l) → Fitted (prep s b y (with_held s a x scope) l))
       → Filling ((prep s a x scope k ++ prep s b y (with_held s a x scope) l) ++ q ∷ []) → Fitted ((prep s a x scope k ++ prep s b y (with_held s a x scope) l) ++ q ∷ [])
   two_fit x y a b scope k l q is takes same asked right_one first_fit second_fit fill =
@@ -285,7 +280,7 @@ module _ (fit : ℕ → ℕ → Type 0) (of : ℕ → ℕ) (truth : ℕ) (ask al
   mutual
     unfolding laid laid_branches laid_branch laid_whens laid_when CodeFits BranchesFit BranchFits AlternativesFit AlternativeFits
 
-    laid_fit : (c : TypedCode) (at : Place) (w : Around) (k : List PointName) → CodeFits ask alone single c → Filling (laid s c at w k) → Fitted (laid s c at w k)
+    laid_fit : (c : TypedCode) (at : Place) (w : Around) (k : List PointName) → CodeFits ask passed alone single c → Filling (laid s c at w k) → Fitted (laid s c at w k)
     laid_fit (typed.More a rest) at w k (first, second) =
         let behind : List NamedPoint = laid s rest (1 ∷ at) (with_scope (declared a) w) k in
         joined (laid s a (0 ∷ at) w (entry behind k)) behind (laid_fit a (0 ∷ at) w (entry behind k) first) (laid_fit rest (1 ∷ at) (with_scope (declared a) w) k second)
@@ -295,7 +290,7 @@ module _ (fit : ℕ → ℕ → Type 0) (of : ℕ → ℕ) (truth : ℕ) (ask al
         (point (row_at at 0) p (instruction.Assign target e) (with_held s target (0 ∷ at) (with_held s e (1 ∷ at) w.scope)) k) refl refl refl (target_fits, source) tt
         (source_fit e (1 ∷ at) w.scope _ (stored_may target e source)) (prep_fit target (0 ∷ at) (with_held s e (1 ∷ at) w.scope) (row_at at 0 ∷ []) target_fits)
     laid_fit (Skip p) at w k fits = λ fill. ((tt, none_taken w.scope, tt), tt)
-    laid_fit (typed.Call p sub actuals) at w k fits = used at p actuals (instruction.Call sub actuals None) w k refl refl fits tt fits
+    laid_fit (typed.Call p sub actuals) at w k fits = stored at p actuals (instruction.Call sub actuals None) w k refl refl fits tt (passed_may actuals fits)
     laid_fit (Output p text line) at w k fits = used at p text (instruction.Output text line) w k refl refl fits tt fits
     laid_fit (Input p target) at w k fits = used at p target (instruction.Input target) w k refl refl fits tt fits
     laid_fit (Release p m) at w k fits = used at p m (instruction.Release m) w k refl refl fits tt fits
@@ -333,7 +328,7 @@ module _ (fit : ℕ → ℕ → Type 0) (of : ℕ → ℕ) (truth : ℕ) (ask al
         (laid_fit stmts (0 ∷ at) (within_block (ending s stmts) w) (entry out k) fits) (λ fill. ends_fit at 0 end (ending s stmts) (reverse (declared stmts) ++ w.scope) k)
     laid_fit _ at w k fits = λ fill. tt
 
-    branches_fit : (c : TypedCode) (at : Place) (w : Around) (k otherwise : List PointName) → BranchesFit ask alone single c
+    branches_fit : (c : TypedCode) (at : Place) (w : Around) (k otherwise : List PointName) → BranchesFit ask passed alone single c
         → Filling (laid_branches s c at w k otherwise) → Fitted (laid_branches s c at w k otherwise)
     branches_fit (typed.More a rest) at w k otherwise (first, second) =
         let behind : List NamedPoint = laid_branches s rest (1 ∷ at) w k otherwise in
@@ -341,7 +336,7 @@ module _ (fit : ℕ → ℕ → Type 0) (of : ℕ → ℕ) (truth : ℕ) (ask al
         (branches_fit rest (1 ∷ at) w k otherwise second)
     branches_fit _ at w k otherwise fits = λ fill. tt
 
-    branch_fit : (c : TypedCode) (at : Place) (w : Around) (k otherwise : List PointName) → BranchFits ask alone single c
+    branch_fit : (c : TypedCode) (at : Place) (w : Around) (k otherwise : List PointName) → BranchFits ask passed alone single c
         → Filling (laid_branch s c at w k otherwise) → Fitted (laid_branch s c at w k otherwise)
     branch_fit (Branch p e stmts) at w k otherwise (first, second) =
         let inner : List NamedPoint = laid s stmts (1 ∷ at) w k in
@@ -349,13 +344,13 @@ module _ (fit : ℕ → ℕ → Type 0) (of : ℕ → ℕ) (truth : ℕ) (ask al
         (used at p e (instruction.Test e) w (entry inner k ++ otherwise) refl refl first tt first) (laid_fit stmts (1 ∷ at) w k second)
     branch_fit _ at w k otherwise fits = λ fill. tt
 
-    whens_fit : (c : TypedCode) (at : Place) (w : Around) (k : List PointName) → AlternativesFit ask alone single c
+    whens_fit : (c : TypedCode) (at : Place) (w : Around) (k : List PointName) → AlternativesFit ask passed alone single c
         → Filling (flat_map (λ ps. ps) (laid_whens s c at w k)) → Fitted (flat_map (λ ps. ps) (laid_whens s c at w k))
     whens_fit (typed.More a rest) at w k (first, second) =
         joined (laid_when s a (0 ∷ at) w k) (flat_map (λ ps. ps) (laid_whens s rest (1 ∷ at) w k)) (when_fit a (0 ∷ at) w k first) (whens_fit rest (1 ∷ at) w k second)
     whens_fit _ at w k fits = λ fill. tt
 
-    when_fit : (c : TypedCode) (at : Place) (w : Around) (k : List PointName) → AlternativeFits ask alone single c → Filling (laid_when s c at w k) → Fitted (laid_when s c at w k)
+    when_fit : (c : TypedCode) (at : Place) (w : Around) (k : List PointName) → AlternativeFits ask passed alone single c → Filling (laid_when s c at w k) → Fitted (laid_when s c at w k)
     when_fit (When choices stmts) at w k fits = laid_fit stmts (1 ∷ at) w k fits
     when_fit _ at w k fits = λ fill. tt
 
@@ -363,6 +358,6 @@ module _ (fit : ℕ → ℕ → Type 0) (of : ℕ → ℕ) (truth : ℕ) (ask al
   end_fit sub true = ((tt, none_taken (scope_at_end sub), tt), tt)
   end_fit sub false = last_fit [] 0 sub.end sub.end (ending s sub.body) (scope_at_end sub) (reverse sub.formals) (row_at [] (length (ending s sub.body)))
 
-  pub sub_fit : (sub : TypedSub) → CodeFits ask alone single sub.body → Filling (sub_points s sub) → Fitted (sub_points s sub)
+  pub sub_fit : (sub : TypedSub) → CodeFits ask passed alone single sub.body → Filling (sub_points s sub) → Fitted (sub_points s sub)
   sub_fit sub fits =
       joined (laid s sub.body (0 ∷ []) (around_body s sub) _) _ (laid_fit sub.body (0 ∷ []) (around_body s sub) _ fits) (λ fill. end_fit sub (is_some sub.result))

@@ -14,7 +14,7 @@ use Rattle.flow_paths.specs.Points.{Place, PointName, row_at, NamedPoint, point,
 use Rattle.flow_paths.specs.Prep.{Setting, with_held, prep}
 use Rattle.flow_paths.specs.Layout.{Around, within_loop, within_block, from, ending, ends, uses, uses_both, uses_second_first, laid, laid_branches, laid_branch, laid_whens, laid_when}
 use Rattle.flow_paths.specs.Laid.{around_body, scope_at_end, function_end, procedure_end, sub_points}
-use Rattle.scope_laws.specs.Alone.{CallsOnly, SourceFits, ValueFits, StoredFits, CodeFits, BranchesFit, BranchFits, AlternativesFit, AlternativeFits}
+use Rattle.scope_laws.specs.Alone.{CallsFit, CallsOnly, PassedFit, SourceFits, ValueFits, StoredFits, CodeFits, BranchesFit, BranchFits, AlternativesFit, AlternativeFits}
 use Rattle.scope_laws.proofs.Given.{Takes, none_before}
 
 -- The one successor of a point takes what a function gives.
@@ -26,7 +26,7 @@ abbrev pub AreFollowed : (ℕ → Type 0) → List NamedPoint → Type 0
 AreFollowed alone ps =
     (p : NamedPoint) → Has ps p → (n : ℕ) (a : TypedTree) (t : ℕ) → p.instr ≡ instruction.Call n a (Some t) → alone n ⊎ IsFollowed ps p n a
 
-module _ (s : Setting) (ask alone single : ℕ → Type 0) (weaker : (n : ℕ) → ask n → alone n) where
+module _ (s : Setting) (ask passed alone single : ℕ → Type 0) (weaker : (n : ℕ) → ask n → alone n) (wider : (n : ℕ) → passed n → alone n) where
   -- all of them are as asked
   abbrev AreAsked : List NamedPoint → Type 0
   AreAsked ps = (p : NamedPoint) → Has ps p → (n : ℕ) (a : TypedTree) (t : ℕ) → p.instr ≡ instruction.Call n a (Some t) → alone n
@@ -53,49 +53,46 @@ module _ (s : Setting) (ask alone single : ℕ → Type 0) (weaker : (n : ℕ) �
   asked_if true ps qs h g = h
   asked_if false ps qs h g = g
 
-  prep_asked : (e : TypedTree) (at : Place) (scope : List ℕ) (k : List PointName) → CallsOnly ask e → AreAsked (prep s e at scope k)
-  unfolding prep CallsOnly
-  prep_asked (typed.Call p sub actuals) at scope k (asked, inner) =
-      asked_both (prep s actuals (0 ∷ at) scope (row_at at 0 ∷ [])) _ (prep_asked actuals (0 ∷ at) scope (row_at at 0 ∷ []) inner)
-      (asked_call _ sub actuals (s.temporary at) refl (weaker sub asked))
-  prep_asked (Short op p a q b) at scope k (first, second) =
+  -- calls of a kind that may give values
+  kind_asked : (kind : ℕ → Type 0) → ((n : ℕ) → kind n → alone n) → (e : TypedTree) (at : Place) (scope : List ℕ) (k : List PointName) → CallsFit ask passed kind e
+      → AreAsked (prep s e at scope k)
+  unfolding prep CallsFit
+  kind_asked kind into (typed.Call p sub actuals) at scope k (asked, inner) =
+      asked_both (prep s actuals (0 ∷ at) scope (row_at at 0 ∷ [])) _ (kind_asked passed wider actuals (0 ∷ at) scope (row_at at 0 ∷ []) inner)
+      (asked_call _ sub actuals (s.temporary at) refl (into sub asked))
+  kind_asked kind into (Short op p a q b) at scope k (first, second) =
       asked_if (has_call b) _ _
-      (asked_both (prep s a (0 ∷ at) scope (row_at at 0 ∷ [])) _ (prep_asked a (0 ∷ at) scope (row_at at 0 ∷ []) first)
+      (asked_both (prep s a (0 ∷ at) scope (row_at at 0 ∷ [])) _ (kind_asked ask weaker a (0 ∷ at) scope (row_at at 0 ∷ []) first)
       (asked_both (_ ∷ []) _ (asked_one _ (λ n a t e. cc))
-      (asked_both (prep s b (1 ∷ at) (s.temporary at ∷ scope) (row_at at 1 ∷ [])) _ (prep_asked b (1 ∷ at) (s.temporary at ∷ scope) (row_at at 1 ∷ []) second)
+      (asked_both (prep s b (1 ∷ at) (s.temporary at ∷ scope) (row_at at 1 ∷ [])) _ (kind_asked ask weaker b (1 ∷ at) (s.temporary at ∷ scope) (row_at at 1 ∷ []) second)
       (asked_one _ (λ n a t e. cc)))))
-      (asked_both (prep s a (0 ∷ at) scope _) _ (prep_asked a (0 ∷ at) scope _ first) (prep_asked b (1 ∷ at) _ k second))
-  prep_asked (Binary op a b) at scope k (first, second) =
-      asked_both (prep s a (0 ∷ at) scope _) _ (prep_asked a (0 ∷ at) scope _ first) (prep_asked b (1 ∷ at) _ k second)
-  prep_asked (typed.More a b) at scope k (first, second) =
-      asked_both (prep s a (0 ∷ at) scope _) _ (prep_asked a (0 ∷ at) scope _ first) (prep_asked b (1 ∷ at) _ k second)
-  prep_asked (Element a low high b) at scope k (first, second) =
-      asked_both (prep s a (0 ∷ at) scope _) _ (prep_asked a (0 ∷ at) scope _ first) (prep_asked b (1 ∷ at) _ k second)
-  prep_asked (Name p x e t) at scope k fits = prep_asked e (0 ∷ at) scope k fits
-  prep_asked (Component i e) at scope k fits = prep_asked e (0 ∷ at) scope k fits
-  prep_asked (Designated e) at scope k fits = prep_asked e (0 ∷ at) scope k fits
-  prep_asked (Image t e) at scope k fits = prep_asked e (0 ∷ at) scope k fits
-  prep_asked (Parens e) at scope k fits = prep_asked e (0 ∷ at) scope k fits
-  prep_asked (Unary op e) at scope k fits = prep_asked e (0 ∷ at) scope k fits
-  prep_asked (IsNull equal e) at scope k fits = prep_asked e (0 ∷ at) scope k fits
-  prep_asked (Aggregate t e) at scope k fits = prep_asked e (0 ∷ at) scope k fits
-  prep_asked (Alike t e) at scope k fits = prep_asked e (0 ∷ at) scope k fits
-  prep_asked (New t e) at scope k fits = prep_asked e (0 ∷ at) scope k fits
-  prep_asked _ at scope k fits = λ p has n a t is. absurd has
+      (asked_both (prep s a (0 ∷ at) scope _) _ (kind_asked ask weaker a (0 ∷ at) scope _ first) (kind_asked ask weaker b (1 ∷ at) _ k second))
+  kind_asked kind into (Binary op a b) at scope k (first, second) =
+      asked_both (prep s a (0 ∷ at) scope _) _ (kind_asked ask weaker a (0 ∷ at) scope _ first) (kind_asked ask weaker b (1 ∷ at) _ k second)
+  kind_asked kind into (typed.More a b) at scope k (first, second) =
+      asked_both (prep s a (0 ∷ at) scope _) _ (kind_asked kind into a (0 ∷ at) scope _ first) (kind_asked kind into b (1 ∷ at) _ k second)
+  kind_asked kind into (Element a low high b) at scope k (first, second) =
+      asked_both (prep s a (0 ∷ at) scope _) _ (kind_asked ask weaker a (0 ∷ at) scope _ first) (kind_asked ask weaker b (1 ∷ at) _ k second)
+  kind_asked kind into (Name p x e t) at scope k fits = kind_asked ask weaker e (0 ∷ at) scope k fits
+  kind_asked kind into (Component i e) at scope k fits = kind_asked ask weaker e (0 ∷ at) scope k fits
+  kind_asked kind into (Designated e) at scope k fits = kind_asked ask weaker e (0 ∷ at) scope k fits
+  kind_asked kind into (Image t e) at scope k fits = kind_asked ask weaker e (0 ∷ at) scope k fits
+  kind_asked kind into (Unary op e) at scope k fits = kind_asked ask weaker e (0 ∷ at) scope k fits
+  kind_asked kind into (IsNull equal e) at scope k fits = kind_asked ask weaker e (0 ∷ at) scope k fits
+  kind_asked kind into (Parens e) at scope k fits = kind_asked kind into e (0 ∷ at) scope k fits
+  kind_asked kind into (Aggregate t e) at scope k fits = kind_asked kind into e (0 ∷ at) scope k fits
+  kind_asked kind into (Alike t e) at scope k fits = kind_asked kind into e (0 ∷ at) scope k fits
+  kind_asked kind into (New t e) at scope k fits = kind_asked kind into e (0 ∷ at) scope k fits
+  kind_asked kind into _ at scope k fits = λ p has n a t is. absurd has
 
-  -- an expression that stands for a value
-  source_asked : (e : TypedTree) (at : Place) (scope : List ℕ) (k : List PointName) → SourceFits ask alone e → AreAsked (prep s e at scope k)
-  unfolding prep SourceFits
-  source_asked (typed.Call p sub actuals) at scope k (may, inner) =
-      asked_both (prep s actuals (0 ∷ at) scope (row_at at 0 ∷ [])) _ (prep_asked actuals (0 ∷ at) scope (row_at at 0 ∷ []) inner)
-      (asked_call _ sub actuals (s.temporary at) refl may)
-  source_asked (Parens e) at scope k fits = source_asked e (0 ∷ at) scope k fits
-  source_asked (Aggregate t e) at scope k fits = source_asked e (0 ∷ at) scope k fits
-  source_asked (Alike t e) at scope k fits = source_asked e (0 ∷ at) scope k fits
-  source_asked (New t e) at scope k fits = source_asked e (0 ∷ at) scope k fits
-  source_asked (typed.More a b) at scope k (first, second) =
-      asked_both (prep s a (0 ∷ at) scope _) _ (source_asked a (0 ∷ at) scope _ first) (source_asked b (1 ∷ at) _ k second)
-  source_asked e at scope k fits = prep_asked e at scope k fits
+  prep_asked : (e : TypedTree) (at : Place) (scope : List ℕ) (k : List PointName) → CallsOnly ask passed e → AreAsked (prep s e at scope k)
+  prep_asked e at scope k fits = kind_asked ask weaker e at scope k fits
+
+  passed_asked : (e : TypedTree) (at : Place) (scope : List ℕ) (k : List PointName) → PassedFit ask passed e → AreAsked (prep s e at scope k)
+  passed_asked e at scope k fits = kind_asked passed wider e at scope k fits
+
+  source_asked : (e : TypedTree) (at : Place) (scope : List ℕ) (k : List PointName) → SourceFits ask passed alone e → AreAsked (prep s e at scope k)
+  source_asked e at scope k fits = kind_asked alone (λ n one. one) e at scope k fits
 
   -- ---- points that follow each other
 
@@ -139,11 +136,11 @@ module _ (s : Setting) (ask alone single : ℕ → Type 0) (weaker : (n : ℕ) �
     ]
   ]
 
-  uses_asked : (at : Place) (p : Pos) (e : TypedTree) (i : Instruction) (w : Around) (next : List PointName) → CallsOnly ask e → CallsNone i → AreAsked (uses s at p e i w next)
+  uses_asked : (at : Place) (p : Pos) (e : TypedTree) (i : Instruction) (w : Around) (next : List PointName) → CallsOnly ask passed e → CallsNone i → AreAsked (uses s at p e i w next)
   uses_asked at p e i w next only none =
       asked_both (prep s e (0 ∷ at) w.scope (row_at at 0 ∷ [])) _ (prep_asked e (0 ∷ at) w.scope (row_at at 0 ∷ []) only) (asked_one _ none)
 
-  uses_source : (at : Place) (p : Pos) (e : TypedTree) (i : Instruction) (w : Around) (next : List PointName) → SourceFits ask alone e → CallsNone i → AreAsked (uses s at p e i w next)
+  uses_source : (at : Place) (p : Pos) (e : TypedTree) (i : Instruction) (w : Around) (next : List PointName) → SourceFits ask passed alone e → CallsNone i → AreAsked (uses s at p e i w next)
   uses_source at p e i w next source none =
       asked_both (prep s e (0 ∷ at) w.scope (row_at at 0 ∷ [])) _ (source_asked e (0 ∷ at) w.scope (row_at at 0 ∷ []) source) (asked_one _ none)
 
@@ -153,7 +150,7 @@ module _ (s : Setting) (ask alone single : ℕ → Type 0) (weaker : (n : ℕ) �
 
   -- a value that is declared with or returned
   value_follows : (at : Place) (p : Pos) (v : TypedTree) (i : Instruction) (w : Around) (next : List PointName) → ((e : TypedTree) → v ≡ typed.More e NoMore → Takes i e)
-      → CallsNone i → ValueFits ask alone single v → Follow (uses s at p v i w next)
+      → CallsNone i → ValueFits ask passed alone single v → Follow (uses s at p v i w next)
   unfolding prep
   value_follows at p v i w next takes none (inl only) = all_asked (uses s at p v i w next) (uses_source at p v i w next only none)
   value_follows at p v i w next takes none (inr (q, n, a, is, may, only)) =
@@ -163,11 +160,11 @@ module _ (s : Setting) (ask alone single : ℕ → Type 0) (weaker : (n : ℕ) �
       let before : prep s v (0 ∷ at) w.scope (row_at at 0 ∷ []) ≡ actuals ++ call ∷ [] =
       ap (λ z. prep s z (0 ∷ at) w.scope (row_at at 0 ∷ [])) is ∙ no_more (actuals ++ call ∷ []) in
       subst (λ z. Follow (z ++ user ∷ [])) (sym before)
-      (follow_call actuals [] call user q n a (s.temporary (0 ∷ 0 ∷ at)) (prep_asked a (0 ∷ 0 ∷ 0 ∷ at) w.scope (row_at (0 ∷ 0 ∷ at) 0 ∷ []) only) (λ r never. absurd never)
+      (follow_call actuals [] call user q n a (s.temporary (0 ∷ 0 ∷ at)) (passed_asked a (0 ∷ 0 ∷ 0 ∷ at) w.scope (row_at (0 ∷ 0 ∷ at) 0 ∷ []) only) (λ r never. absurd never)
       refl refl (takes (typed.Call q n a) is) none)
 
   -- an assignment
-  assign_follows : (at : Place) (p : Pos) (target e : TypedTree) (w : Around) (next : List PointName) → CallsOnly ask target → StoredFits ask alone single target e
+  assign_follows : (at : Place) (p : Pos) (target e : TypedTree) (w : Around) (next : List PointName) → CallsOnly ask passed target → StoredFits ask passed alone single target e
       → Follow (uses_second_first s at p target e (instruction.Assign target e) w next)
   unfolding prep
   assign_follows at p target e w next only (inl plain) =
@@ -188,7 +185,7 @@ module _ (s : Setting) (ask alone single : ℕ → Type 0) (weaker : (n : ℕ) �
       subst (λ z. Follow ((z ++ behind) ++ user ∷ [])) (sym (before (entry behind (row_at at 0 ∷ [])) (ap (λ z. entry z (row_at at 0 ∷ [])) nothing)))
       (subst (λ z. Follow (((actuals ++ call ∷ []) ++ z) ++ user ∷ [])) (sym nothing)
       (subst (λ z. Follow (z ++ user ∷ [])) (sym (no_more (actuals ++ call ∷ [])))
-      (follow_call actuals [] call user q n a (s.temporary (1 ∷ at)) (prep_asked a (0 ∷ 1 ∷ at) w.scope (row_at (1 ∷ at) 0 ∷ []) plain) (λ r never. absurd never) refl refl
+      (follow_call actuals [] call user q n a (s.temporary (1 ∷ at)) (passed_asked a (0 ∷ 1 ∷ at) w.scope (row_at (1 ∷ at) 0 ∷ []) plain) (λ r never. absurd never) refl refl
       (inr (inl (r, x, path, u, (λ j. instruction.Assign (target_is j) (is j)), none))) (λ n a t e. cc))))
 
   -- ---- all points
@@ -204,7 +201,7 @@ module _ (s : Setting) (ask alone single : ℕ → Type 0) (weaker : (n : ℕ) �
   declare_takes : (x : ℕ) (v e : TypedTree) → v ≡ typed.More e NoMore → Takes (instruction.Declare x v) e
   declare_takes x v e is = inl (x, ap (instruction.Declare x) is)
 
-  only_uses : (at : Place) (p : Pos) (e : TypedTree) (i : Instruction) (w : Around) (next : List PointName) → CallsOnly ask e → CallsNone i → Follow (uses s at p e i w next)
+  only_uses : (at : Place) (p : Pos) (e : TypedTree) (i : Instruction) (w : Around) (next : List PointName) → CallsOnly ask passed e → CallsNone i → Follow (uses s at p e i w next)
   only_uses at p e i w next only none = all_asked (uses s at p e i w next) (uses_asked at p e i w next only none)
 
   only_one : (p : NamedPoint) → CallsNone p.instr → Follow (p ∷ [])
@@ -213,13 +210,15 @@ module _ (s : Setting) (ask alone single : ℕ → Type 0) (weaker : (n : ℕ) �
   mutual
     unfolding laid laid_branches laid_branch laid_whens laid_when CodeFits BranchesFit BranchFits AlternativesFit AlternativeFits
 
-    laid_follows : (c : TypedCode) (at : Place) (w : Around) (k : List PointName) → CodeFits ask alone single c → Follow (laid s c at w k)
+    laid_follows : (c : TypedCode) (at : Place) (w : Around) (k : List PointName) → CodeFits ask passed alone single c → Follow (laid s c at w k)
     laid_follows (typed.More a rest) at w k (first, second) =
         follow_both (laid s a (0 ∷ at) w _) (laid s rest (1 ∷ at) _ k) (laid_follows a (0 ∷ at) w _ first) (laid_follows rest (1 ∷ at) _ k second)
     laid_follows (Declare p x v) at w k fits = value_follows at p v (instruction.Declare x v) w k (declare_takes x v) (λ n a t e. cc) fits
     laid_follows (Assign p target e) at w k (only, source) = assign_follows at p target e w k only source
     laid_follows (Skip p) at w k fits = only_one _ (λ n a t e. cc)
-    laid_follows (typed.Call p sub actuals) at w k fits = only_uses at p actuals (instruction.Call sub actuals None) w k fits (λ n a t e. cc)
+    laid_follows (typed.Call p sub actuals) at w k fits =
+        all_asked (uses s at p actuals (instruction.Call sub actuals None) w k)
+        (asked_both (prep s actuals (0 ∷ at) w.scope (row_at at 0 ∷ [])) _ (passed_asked actuals (0 ∷ at) w.scope (row_at at 0 ∷ []) fits) (asked_one _ (λ n a t e. cc)))
     laid_follows (Output p text line) at w k fits = only_uses at p text (instruction.Output text line) w k fits (λ n a t e. cc)
     laid_follows (Input p target) at w k fits = only_uses at p target (instruction.Input target) w k fits (λ n a t e. cc)
     laid_follows (Release p m) at w k fits = only_uses at p m (instruction.Release m) w k fits (λ n a t e. cc)
@@ -249,22 +248,22 @@ module _ (s : Setting) (ask alone single : ℕ → Type 0) (weaker : (n : ℕ) �
         (all_asked _ (ends_asked at 0 end (ending s stmts) _ k))
     laid_follows _ at w k fits = λ p has. absurd has
 
-    branches_follow : (c : TypedCode) (at : Place) (w : Around) (k m : List PointName) → BranchesFit ask alone single c → Follow (laid_branches s c at w k m)
+    branches_follow : (c : TypedCode) (at : Place) (w : Around) (k m : List PointName) → BranchesFit ask passed alone single c → Follow (laid_branches s c at w k m)
     branches_follow (typed.More a rest) at w k m (first, second) =
         follow_both (laid_branch s a (0 ∷ at) w k _) (laid_branches s rest (1 ∷ at) w k m) (branch_follows a (0 ∷ at) w k _ first) (branches_follow rest (1 ∷ at) w k m second)
     branches_follow _ at w k m fits = λ p has. absurd has
 
-    branch_follows : (c : TypedCode) (at : Place) (w : Around) (k m : List PointName) → BranchFits ask alone single c → Follow (laid_branch s c at w k m)
+    branch_follows : (c : TypedCode) (at : Place) (w : Around) (k m : List PointName) → BranchFits ask passed alone single c → Follow (laid_branch s c at w k m)
     branch_follows (Branch p e stmts) at w k m (first, second) =
         follow_both (uses s at p e (instruction.Test e) w _) _ (only_uses at p e (instruction.Test e) w _ first (λ n a t e. cc)) (laid_follows stmts (1 ∷ at) w k second)
     branch_follows _ at w k m fits = λ p has. absurd has
 
-    whens_follow : (c : TypedCode) (at : Place) (w : Around) (k : List PointName) → AlternativesFit ask alone single c → Follow (flat_map (λ ps. ps) (laid_whens s c at w k))
+    whens_follow : (c : TypedCode) (at : Place) (w : Around) (k : List PointName) → AlternativesFit ask passed alone single c → Follow (flat_map (λ ps. ps) (laid_whens s c at w k))
     whens_follow (typed.More a rest) at w k (first, second) =
         follow_both (laid_when s a (0 ∷ at) w k) _ (when_follows a (0 ∷ at) w k first) (whens_follow rest (1 ∷ at) w k second)
     whens_follow _ at w k fits = λ p has. absurd has
 
-    when_follows : (c : TypedCode) (at : Place) (w : Around) (k : List PointName) → AlternativeFits ask alone single c → Follow (laid_when s c at w k)
+    when_follows : (c : TypedCode) (at : Place) (w : Around) (k : List PointName) → AlternativeFits ask passed alone single c → Follow (laid_when s c at w k)
     when_follows (When choices stmts) at w k fits = laid_follows stmts (1 ∷ at) w k fits
     when_follows _ at w k fits = λ p has. absurd has
 
@@ -275,8 +274,8 @@ module _ (s : Setting) (ask alone single : ℕ → Type 0) (weaker : (n : ℕ) �
       (only_one _ (λ n a t e. cc))
 
 -- So it is at each point of a subprogram.
-pub sub_followed : (s : Setting) (sub : TypedSub) (ask alone single : ℕ → Type 0) → ((n : ℕ) → ask n → alone n) → CodeFits ask alone single sub.body
+pub sub_followed : (s : Setting) (sub : TypedSub) (ask passed alone single : ℕ → Type 0) → ((n : ℕ) → ask n → alone n) → ((n : ℕ) → passed n → alone n) → CodeFits ask passed alone single sub.body
     → AreFollowed alone (sub_points s sub)
-sub_followed s sub ask alone single weaker fits =
-    follow_both s ask alone single weaker (laid s sub.body (0 ∷ []) (around_body s sub) _) _
-    (laid_follows s ask alone single weaker sub.body (0 ∷ []) (around_body s sub) _ fits) (end_follows s ask alone single weaker sub (is_some sub.result))
+sub_followed s sub ask passed alone single weaker wider fits =
+    follow_both s ask passed alone single weaker wider (laid s sub.body (0 ∷ []) (around_body s sub) _) _
+    (laid_follows s ask passed alone single weaker wider sub.body (0 ∷ []) (around_body s sub) _ fits) (end_follows s ask passed alone single weaker wider sub (is_some sub.result))

@@ -1,6 +1,6 @@
 -- Where what some functions give stands alone, all that is in scope at a point is good, but for the temporary that the point
 -- takes so.
-use Rattle.std.proofs.Common.{◌≡◌, refl, sym, ap, ◌∙◌, subst, ◌⊎◌, inl, inr, ℕ, suc, Bool, true, false, ◌||◌, ◌==◌, List, [], ◌∷◌, ◌++◌, drop, Some, None, if◌then◌else◌}
+use Rattle.std.proofs.Common.{◌≡◌, refl, sym, ap, ◌∙◌, subst, ◌⊎◌, inl, inr, ℕ, suc, Bool, true, false, ◌==◌, List, [], ◌∷◌, ◌++◌, drop, Some, None, if◌then◌else◌}
 use Rattle.std.specs.Prelude.{flat_map, is_some, reverse}
 use Rattle.spark_base.specs.declared.position.Pos.{Pos}
 use Rattle.spark_base.specs.Lists.{Has}
@@ -17,7 +17,8 @@ use Rattle.flow_paths.specs.Prep.{Setting, held, with_held, prep}
 use Rattle.flow_paths.specs.Layout.{Around, within_loop, within_block, with_scope, declared, from, ending, ends, uses, uses_both, uses_second_first, laid, laid_branches, laid_branch, laid_whens, laid_when}
 use Rattle.flow_paths.specs.Laid.{declared_within, around_body, scope_at_end, function_end, procedure_end, sub_points, elaboration_points}
 use Rattle.scope_laws.specs.Code.{objects_of}
-use Rattle.scope_laws.specs.Alone.{CallsOnly, SourceFits, ValueFits, StoredFits, CodeFits, BranchesFit, BranchFits, AlternativesFit, AlternativeFits}
+use Rattle.scope_laws.specs.Alone.{CallsFit, CallsOnly, PassedFit, SourceFits, ValueFits, StoredFits, CodeFits, BranchesFit, BranchFits, AlternativesFit, AlternativeFits}
+use Rattle.scope_laws.proofs.Alone.{calls_from}
 use Rattle.scope_laws.proofs.Lists.{has_reverse}
 use Rattle.scope_laws.proofs.Given.{Takes, none_held, none_before}
 
@@ -35,39 +36,18 @@ IsLone single good p =
     ⊎ ((t : ℕ) × (rest : List ℕ) × (p.scope ≡ t ∷ rest) × AllGood good rest × (q : Pos) × (n : ℕ) × (a : TypedTree) × Takes p.instr (typed.Call q n a)
     × single n)
 
--- Functions that are asked for may give values, too.
-calls_more : (ask alone : ℕ → Type 0) → ((n : ℕ) → ask n → alone n) → (e : TypedTree) → CallsOnly ask e → CallsOnly alone e
-unfolding CallsOnly
-calls_more ask alone more (typed.Call p sub actuals) (asked, inner) = (more sub asked, calls_more ask alone more actuals inner)
-calls_more ask alone more (Name p x steps t) only = calls_more ask alone more steps only
-calls_more ask alone more (Component i rest) only = calls_more ask alone more rest only
-calls_more ask alone more (Designated rest) only = calls_more ask alone more rest only
-calls_more ask alone more (Element index low high rest) (first, second) = (calls_more ask alone more index first, calls_more ask alone more rest second)
-calls_more ask alone more (Image t e) only = calls_more ask alone more e only
-calls_more ask alone more (Parens e) only = calls_more ask alone more e only
-calls_more ask alone more (Unary op e) only = calls_more ask alone more e only
-calls_more ask alone more (Binary op a b) (first, second) = (calls_more ask alone more a first, calls_more ask alone more b second)
-calls_more ask alone more (Short op p a q b) (first, second) = (calls_more ask alone more a first, calls_more ask alone more b second)
-calls_more ask alone more (IsNull equal e) only = calls_more ask alone more e only
-calls_more ask alone more (Aggregate t e) only = calls_more ask alone more e only
-calls_more ask alone more (Alike t e) only = calls_more ask alone more e only
-calls_more ask alone more (New t e) only = calls_more ask alone more e only
-calls_more ask alone more (typed.More e rest) (first, second) = (calls_more ask alone more e first, calls_more ask alone more rest second)
-calls_more ask alone more _ only = tt
-
-source_calls : (ask alone : ℕ → Type 0) → ((n : ℕ) → ask n → alone n) → (e : TypedTree) → SourceFits ask alone e → CallsOnly alone e
-unfolding SourceFits CallsOnly
-source_calls ask alone more (typed.Call p sub actuals) (may, inner) = (may, calls_more ask alone more actuals inner)
-source_calls ask alone more (Parens e) only = source_calls ask alone more e only
-source_calls ask alone more (Aggregate t e) only = source_calls ask alone more e only
-source_calls ask alone more (Alike t e) only = source_calls ask alone more e only
-source_calls ask alone more (New t e) only = source_calls ask alone more e only
-source_calls ask alone more (typed.More e rest) (first, second) = (source_calls ask alone more e first, source_calls ask alone more rest second)
-source_calls ask alone more e only = calls_more ask alone more e only
-
-module _ (s : Setting) (whole : List NamedPoint) (ask alone single good : ℕ → Type 0) (weaker : (n : ℕ) → ask n → alone n)
+module _ (s : Setting) (whole : List NamedPoint) (ask passed alone single good : ℕ → Type 0) (weaker : (n : ℕ) → ask n → alone n) (wider : (n : ℕ) → passed n → alone n)
     (fills : (r : NamedPoint) → Has whole r → (n : ℕ) (a : TypedTree) (t : ℕ) → r.instr ≡ instruction.Call n a (Some t) → alone n → good t)
     (truths : (r : NamedPoint) → Has whole r → (t : ℕ) (e : TypedTree) (op : ShortCircuit) → r.instr ≡ instruction.Evaluate t e (Some op) → good t) where
+  only_more : (e : TypedTree) → CallsOnly ask passed e → CallsFit alone alone alone e
+  only_more e fits = calls_from ask passed alone alone weaker wider ask alone weaker e fits
+
+  passed_more : (e : TypedTree) → PassedFit ask passed e → CallsFit alone alone alone e
+  passed_more e fits = calls_from ask passed alone alone weaker wider passed alone wider e fits
+
+  source_more : (e : TypedTree) → SourceFits ask passed alone e → CallsFit alone alone alone e
+  source_more e fits = calls_from ask passed alone alone weaker wider alone alone (λ n one. one) e fits
+
   abbrev Within : List NamedPoint → Type 0
   Within ps = (r : NamedPoint) → Has ps r → Has whole r
 
@@ -91,8 +71,8 @@ module _ (s : Setting) (whole : List NamedPoint) (ask alone single good : ℕ �
   points_one p h q (inr never) = absurd never
 
   -- what an expression holds is good, if its calls are as asked
-  held_good : (e : TypedTree) (at : Place) (scope : List ℕ) (k : List PointName) → CallsOnly alone e → Within (prep s e at scope k) → AllGood good (held s e at)
-  unfolding held prep CallsOnly
+  held_good : (e : TypedTree) (at : Place) (scope : List ℕ) (k : List PointName) → CallsFit alone alone alone e → Within (prep s e at scope k) → AllGood good (held s e at)
+  unfolding held prep CallsFit
   held_good (typed.Call p sub actuals) at scope k (asked, inner) within =
       λ x has. elim has [
         | inl same ↦ subst good same (fills _ (within _ (Has-append_right (prep s actuals (0 ∷ at) scope (row_at at 0 ∷ [])) (_ ∷ []) _ (inl refl))) sub actuals (s.temporary at) refl asked)
@@ -146,14 +126,14 @@ module _ (s : Setting) (whole : List NamedPoint) (ask alone single good : ℕ �
   held_good (New t e) at scope k only within = held_good e (0 ∷ at) scope k only within
   held_good _ at scope k only within = λ x has. absurd has
 
-  evaluated_good : (e : TypedTree) (at : Place) (scope : List ℕ) (k : List PointName) → CallsOnly alone e → Within (prep s e at scope k) → AllGood good scope
+  evaluated_good : (e : TypedTree) (at : Place) (scope : List ℕ) (k : List PointName) → CallsFit alone alone alone e → Within (prep s e at scope k) → AllGood good scope
       → AllGood good (with_held s e at scope)
   evaluated_good e at scope k only within fine = good_both (held s e at) scope (held_good e at scope k only within) fine
 
   -- and so are the scopes of the points before
-  prep_good : (e : TypedTree) (at : Place) (scope : List ℕ) (k : List PointName) → CallsOnly alone e → Within (prep s e at scope k) → AllGood good scope
+  prep_good : (e : TypedTree) (at : Place) (scope : List ℕ) (k : List PointName) → CallsFit alone alone alone e → Within (prep s e at scope k) → AllGood good scope
       → AreGood (prep s e at scope k)
-  unfolding prep CallsOnly
+  unfolding prep CallsFit
   prep_good (typed.Call p sub actuals) at scope k (asked, inner) within fine =
       let before : List NamedPoint = prep s actuals (0 ∷ at) scope (row_at at 0 ∷ []) in
       points_both before _ (prep_good actuals (0 ∷ at) scope (row_at at 0 ∷ []) inner (first_of before _ within) fine)
@@ -255,7 +235,7 @@ module _ (s : Setting) (whole : List NamedPoint) (ask alone single good : ℕ �
     | inr more ↦ ends_good at (suc row) p xs (drop 1 (from x scope)) k (drop_good (from x scope) (from_good x scope fine)) q more
   ]
 
-  uses_good : (at : Place) (p : Pos) (e : TypedTree) (i : Instruction) (w : Around) (next : List PointName) → CallsOnly alone e → Within (uses s at p e i w next)
+  uses_good : (at : Place) (p : Pos) (e : TypedTree) (i : Instruction) (w : Around) (next : List PointName) → CallsFit alone alone alone e → Within (uses s at p e i w next)
       → AllGood good w.scope → AreFine (uses s at p e i w next)
   uses_good at p e i w next only within fine =
       let before : List NamedPoint = prep s e (0 ∷ at) w.scope (row_at at 0 ∷ []) in
@@ -264,9 +244,9 @@ module _ (s : Setting) (whole : List NamedPoint) (ask alone single good : ℕ �
 
   -- the value of a declaration or of a return
   value_fine : (at : Place) (p : Pos) (v : TypedTree) (i : Instruction) (w : Around) (next : List PointName) → ((e : TypedTree) → v ≡ typed.More e NoMore → Takes i e)
-      → ValueFits ask alone single v → Within (uses s at p v i w next) → AllGood good w.scope → AreFine (uses s at p v i w next)
+      → ValueFits ask passed alone single v → Within (uses s at p v i w next) → AllGood good w.scope → AreFine (uses s at p v i w next)
   unfolding held prep
-  value_fine at p v i w next takes (inl only) within fine = uses_good at p v i w next (source_calls ask alone weaker v only) within fine
+  value_fine at p v i w next takes (inl only) within fine = uses_good at p v i w next (source_more v only) within fine
   value_fine at p v i w next takes (inr (q, n, a, is, may, only)) within fine =
       let before : List NamedPoint = prep s v (0 ∷ at) w.scope (row_at at 0 ∷ []) in
       fine_both before _ (as_fine before (alone_before (first_of before _ within)))
@@ -288,16 +268,16 @@ module _ (s : Setting) (whole : List NamedPoint) (ask alone single good : ℕ �
           (λ inside_call. (
           let actuals : List NamedPoint = prep s a (0 ∷ 0 ∷ 0 ∷ at) w.scope (row_at (0 ∷ 0 ∷ at) 0 ∷ []) in
           let inside_actuals : Within actuals = (λ r has. inside_call r (Has-append_left _ _ r (Has-append_left actuals _ r has))) in
-          points_both _ _ (points_both actuals _ (prep_good a (0 ∷ 0 ∷ 0 ∷ at) w.scope (row_at (0 ∷ 0 ∷ at) 0 ∷ []) (calls_more ask alone weaker a only) inside_actuals fine)
-          (points_one _ (evaluated_good a (0 ∷ 0 ∷ 0 ∷ at) w.scope (row_at (0 ∷ 0 ∷ at) 0 ∷ []) (calls_more ask alone weaker a only) inside_actuals fine))) (λ r has. absurd has))) inside
+          points_both _ _ (points_both actuals _ (prep_good a (0 ∷ 0 ∷ 0 ∷ at) w.scope (row_at (0 ∷ 0 ∷ at) 0 ∷ []) (passed_more a only) inside_actuals fine)
+          (points_one _ (evaluated_good a (0 ∷ 0 ∷ 0 ∷ at) w.scope (row_at (0 ∷ 0 ∷ at) 0 ∷ []) (passed_more a only) inside_actuals fine))) (λ r has. absurd has))) inside
 
   -- an assignment
-  assign_fine : (at : Place) (p : Pos) (target e : TypedTree) (w : Around) (next : List PointName) → CallsOnly ask target → StoredFits ask alone single target e
+  assign_fine : (at : Place) (p : Pos) (target e : TypedTree) (w : Around) (next : List PointName) → CallsOnly ask passed target → StoredFits ask passed alone single target e
       → Within (uses_second_first s at p target e (instruction.Assign target e) w next) → AllGood good w.scope
       → AreFine (uses_second_first s at p target e (instruction.Assign target e) w next)
   unfolding held prep
   assign_fine at p target e w next only (inl source) within fine =
-      let plain : CallsOnly alone e = source_calls ask alone weaker e source in
+      let plain : CallsFit alone alone alone e = source_more e source in
       let inner : List ℕ = with_held s e (1 ∷ at) w.scope in
       let behind : List NamedPoint = prep s target (0 ∷ at) inner (row_at at 0 ∷ []) in
       let before : List NamedPoint = prep s e (1 ∷ at) w.scope (entry behind (row_at at 0 ∷ [])) in
@@ -306,8 +286,8 @@ module _ (s : Setting) (whole : List NamedPoint) (ask alone single good : ℕ �
       let fine_inner = evaluated_good e (1 ∷ at) w.scope (entry behind (row_at at 0 ∷ [])) plain first fine in
       as_fine _ (points_both (before ++ behind) _
       (points_both before behind (prep_good e (1 ∷ at) w.scope (entry behind (row_at at 0 ∷ [])) plain first fine)
-      (prep_good target (0 ∷ at) inner (row_at at 0 ∷ []) (calls_more ask alone weaker target only) second fine_inner))
-      (points_one _ (evaluated_good target (0 ∷ at) inner (row_at at 0 ∷ []) (calls_more ask alone weaker target only) second fine_inner)))
+      (prep_good target (0 ∷ at) inner (row_at at 0 ∷ []) (only_more target only) second fine_inner))
+      (points_one _ (evaluated_good target (0 ∷ at) inner (row_at at 0 ∷ []) (only_more target only) second fine_inner)))
   assign_fine at p target e w next only (inr (q, n, a, is, may, plain, r, x, path, u, target_is, none)) within fine =
       let inner : List ℕ = with_held s e (1 ∷ at) w.scope in
       let behind : List NamedPoint = prep s target (0 ∷ at) inner (row_at at 0 ∷ []) in
@@ -338,8 +318,8 @@ module _ (s : Setting) (whole : List NamedPoint) (ask alone single good : ℕ �
           (λ inside_call. (
           let actuals : List NamedPoint = prep s a (0 ∷ 1 ∷ at) w.scope (row_at (1 ∷ at) 0 ∷ []) in
           let inside_actuals : Within actuals = first_of actuals _ inside_call in
-          points_both actuals _ (prep_good a (0 ∷ 1 ∷ at) w.scope (row_at (1 ∷ at) 0 ∷ []) (calls_more ask alone weaker a plain) inside_actuals fine)
-          (points_one _ (evaluated_good a (0 ∷ 1 ∷ at) w.scope (row_at (1 ∷ at) 0 ∷ []) (calls_more ask alone weaker a plain) inside_actuals fine)))) inside
+          points_both actuals _ (prep_good a (0 ∷ 1 ∷ at) w.scope (row_at (1 ∷ at) 0 ∷ []) (passed_more a plain) inside_actuals fine)
+          (points_one _ (evaluated_good a (0 ∷ 1 ∷ at) w.scope (row_at (1 ∷ at) 0 ∷ []) (passed_more a plain) inside_actuals fine)))) inside
 
   -- ---- all points
 
@@ -366,7 +346,7 @@ module _ (s : Setting) (whole : List NamedPoint) (ask alone single good : ℕ �
   mutual
     unfolding laid laid_branches laid_branch laid_whens laid_when CodeFits BranchesFit BranchFits AlternativesFit AlternativeFits declared_within
 
-    laid_fine : (c : TypedCode) (at : Place) (w : Around) (k : List PointName) → CodeFits ask alone single c → AllGood good (declared_within c) → Within (laid s c at w k)
+    laid_fine : (c : TypedCode) (at : Place) (w : Around) (k : List PointName) → CodeFits ask passed alone single c → AllGood good (declared_within c) → Within (laid s c at w k)
         → IsGoodAround w → AreFine (laid s c at w k)
     laid_fine (typed.More a rest) at w k (first, second) objects within fine =
         let inner : Around = with_scope (declared a) w in
@@ -379,10 +359,10 @@ module _ (s : Setting) (whole : List NamedPoint) (ask alone single good : ℕ �
     laid_fine (Declare p x v) at w k fits objects within fine = value_fine at p v (instruction.Declare x v) w k (declare_takes x v) fits within fine.0
     laid_fine (Assign p target e) at w k (only, source) objects within fine = assign_fine at p target e w k only source within fine.0
     laid_fine (Skip p) at w k fits objects within fine = fine_one _ (inl fine.0)
-    laid_fine (typed.Call p sub actuals) at w k fits objects within fine = uses_good at p actuals (instruction.Call sub actuals None) w k (calls_more ask alone weaker actuals fits) within fine.0
-    laid_fine (Output p text line) at w k fits objects within fine = uses_good at p text (instruction.Output text line) w k (calls_more ask alone weaker text fits) within fine.0
-    laid_fine (Input p target) at w k fits objects within fine = uses_good at p target (instruction.Input target) w k (calls_more ask alone weaker target fits) within fine.0
-    laid_fine (Release p m) at w k fits objects within fine = uses_good at p m (instruction.Release m) w k (calls_more ask alone weaker m fits) within fine.0
+    laid_fine (typed.Call p sub actuals) at w k fits objects within fine = uses_good at p actuals (instruction.Call sub actuals None) w k (passed_more actuals fits) within fine.0
+    laid_fine (Output p text line) at w k fits objects within fine = uses_good at p text (instruction.Output text line) w k (only_more text fits) within fine.0
+    laid_fine (Input p target) at w k fits objects within fine = uses_good at p target (instruction.Input target) w k (only_more target fits) within fine.0
+    laid_fine (Release p m) at w k fits objects within fine = uses_good at p m (instruction.Release m) w k (only_more m fits) within fine.0
     laid_fine (If branches otherwise) at w k (first, second) objects within fine =
         let behind : List NamedPoint = laid s otherwise (1 ∷ at) w k in
         let before : List NamedPoint = laid_branches s branches (0 ∷ at) w k (entry behind k) in
@@ -390,11 +370,11 @@ module _ (s : Setting) (whole : List NamedPoint) (ask alone single good : ℕ �
         (branches_fine branches (0 ∷ at) w k (entry behind k) first (λ x has. objects x (Has-append_left (declared_within branches) (declared_within otherwise) x has)) (first_of before behind within) fine)
         (laid_fine otherwise (1 ∷ at) w k second (λ x has. objects x (Has-append_right (declared_within branches) (declared_within otherwise) x has)) (second_of before behind within) fine)
     laid_fine (Case p e whens) at w k (first, second) objects within fine =
-        fine_both (uses s at p e _ w _) _ (uses_good at p e _ w _ (calls_more ask alone weaker e first) (first_of (uses s at p e _ w _) _ within) fine.0)
+        fine_both (uses s at p e _ w _) _ (uses_good at p e _ w _ (only_more e first) (first_of (uses s at p e _ w _) _ within) fine.0)
         (whens_fine whens (1 ∷ at) w k second objects (second_of (uses s at p e _ w _) _ within) fine)
     laid_fine (Loop stmts) at w k fits objects within fine = laid_fine stmts (0 ∷ at) (within_loop k w) _ fits objects within fine
     laid_fine (While p e stmts) at w k (first, second) objects within fine =
-        fine_both (uses s at p e (instruction.Test e) w _) _ (uses_good at p e (instruction.Test e) w _ (calls_more ask alone weaker e first) (first_of (uses s at p e (instruction.Test e) w _) _ within) fine.0)
+        fine_both (uses s at p e (instruction.Test e) w _) _ (uses_good at p e (instruction.Test e) w _ (only_more e first) (first_of (uses s at p e (instruction.Test e) w _) _ within) fine.0)
         (laid_fine stmts (1 ∷ at) (within_loop k w) _ second objects (second_of (uses s at p e (instruction.Test e) w _) _ within) fine)
     laid_fine (For p x reversed low high stmts) at w k (first, second, inside) objects within fine =
         let inner : Around = with_scope (x ∷ []) (within_loop k w) in
@@ -407,8 +387,8 @@ module _ (s : Setting) (whole : List NamedPoint) (ask alone single good : ℕ �
         let starts = first_of start (next ∷ body) within in
         let low_there = first_of before behind (first_of (before ++ behind) _ starts) in
         let high_there = second_of before behind (first_of (before ++ behind) _ starts) in
-        let low_only = calls_more ask alone weaker low first in
-        let high_only = calls_more ask alone weaker high second in
+        let low_only = only_more low first in
+        let high_only = only_more high second in
         let fine_middle = evaluated_good low (0 ∷ at) w.scope (entry behind (row_at at 0 ∷ [])) low_only low_there fine.0 in
         let fine_next : AllGood good (x ∷ w.scope) = (λ y has. elim has [ inl same ↦ objects y (inl same) | inr more ↦ fine.0 y more ]) in
         fine_both start (next ∷ body)
@@ -418,7 +398,7 @@ module _ (s : Setting) (whole : List NamedPoint) (ask alone single good : ℕ �
         (fine_both (next ∷ []) body (fine_one next (inl fine_next))
         (laid_fine stmts (2 ∷ at) inner (row_at at 1 ∷ []) inside (λ y has. objects y (inr has)) (λ r has. second_of start (next ∷ body) within r (inr has)) (fine_next, fine.1)))
     laid_fine (Exit p e) at w k fits objects within fine =
-        fine_both (uses s at p e (instruction.LeaveLoop e) w _) _ (uses_good at p e (instruction.LeaveLoop e) w _ (calls_more ask alone weaker e fits) (first_of (uses s at p e (instruction.LeaveLoop e) w _) _ within) fine.0)
+        fine_both (uses s at p e (instruction.LeaveLoop e) w _) _ (uses_good at p e (instruction.LeaveLoop e) w _ (only_more e fits) (first_of (uses s at p e (instruction.LeaveLoop e) w _) _ within) fine.0)
         (as_fine _ (ends_good at 1 p w.in_loop w.scope w.leave fine.0))
     laid_fine (Return p v) at w k fits objects within fine =
         fine_both (uses s at p v (instruction.Hold v) w _) _ (value_fine at p v (instruction.Hold v) w _ (hold_takes v) fits (first_of (uses s at p v (instruction.Hold v) w _) _ within) fine.0)
@@ -430,7 +410,7 @@ module _ (s : Setting) (whole : List NamedPoint) (ask alone single good : ℕ �
         (good_both (reverse (declared stmts)) w.scope (reversed_good (declared stmts) (declared_good stmts objects)) fine.0)))
     laid_fine _ at w k fits objects within fine = λ p has. absurd has
 
-    branches_fine : (c : TypedCode) (at : Place) (w : Around) (k m : List PointName) → BranchesFit ask alone single c → AllGood good (declared_within c) → Within (laid_branches s c at w k m)
+    branches_fine : (c : TypedCode) (at : Place) (w : Around) (k m : List PointName) → BranchesFit ask passed alone single c → AllGood good (declared_within c) → Within (laid_branches s c at w k m)
         → IsGoodAround w → AreFine (laid_branches s c at w k m)
     branches_fine (typed.More a rest) at w k m (first, second) objects within fine =
         fine_both (laid_branch s a (0 ∷ at) w k _) _
@@ -438,14 +418,14 @@ module _ (s : Setting) (whole : List NamedPoint) (ask alone single good : ℕ �
         (branches_fine rest (1 ∷ at) w k m second (λ x has. objects x (Has-append_right (declared_within a) (declared_within rest) x has)) (second_of (laid_branch s a (0 ∷ at) w k _) _ within) fine)
     branches_fine _ at w k m fits objects within fine = λ p has. absurd has
 
-    branch_fine : (c : TypedCode) (at : Place) (w : Around) (k m : List PointName) → BranchFits ask alone single c → AllGood good (declared_within c) → Within (laid_branch s c at w k m)
+    branch_fine : (c : TypedCode) (at : Place) (w : Around) (k m : List PointName) → BranchFits ask passed alone single c → AllGood good (declared_within c) → Within (laid_branch s c at w k m)
         → IsGoodAround w → AreFine (laid_branch s c at w k m)
     branch_fine (Branch p e stmts) at w k m (first, second) objects within fine =
-        fine_both (uses s at p e (instruction.Test e) w _) _ (uses_good at p e (instruction.Test e) w _ (calls_more ask alone weaker e first) (first_of (uses s at p e (instruction.Test e) w _) _ within) fine.0)
+        fine_both (uses s at p e (instruction.Test e) w _) _ (uses_good at p e (instruction.Test e) w _ (only_more e first) (first_of (uses s at p e (instruction.Test e) w _) _ within) fine.0)
         (laid_fine stmts (1 ∷ at) w k second objects (second_of (uses s at p e (instruction.Test e) w _) _ within) fine)
     branch_fine _ at w k m fits objects within fine = λ p has. absurd has
 
-    whens_fine : (c : TypedCode) (at : Place) (w : Around) (k : List PointName) → AlternativesFit ask alone single c → AllGood good (declared_within c)
+    whens_fine : (c : TypedCode) (at : Place) (w : Around) (k : List PointName) → AlternativesFit ask passed alone single c → AllGood good (declared_within c)
         → Within (flat_map (λ ps. ps) (laid_whens s c at w k)) → IsGoodAround w → AreFine (flat_map (λ ps. ps) (laid_whens s c at w k))
     whens_fine (typed.More a rest) at w k (first, second) objects within fine =
         fine_both (laid_when s a (0 ∷ at) w k) _
@@ -453,7 +433,7 @@ module _ (s : Setting) (whole : List NamedPoint) (ask alone single good : ℕ �
         (whens_fine rest (1 ∷ at) w k second (λ x has. objects x (Has-append_right (declared_within a) (declared_within rest) x has)) (second_of (laid_when s a (0 ∷ at) w k) _ within) fine)
     whens_fine _ at w k fits objects within fine = λ p has. absurd has
 
-    when_fine : (c : TypedCode) (at : Place) (w : Around) (k : List PointName) → AlternativeFits ask alone single c → AllGood good (declared_within c) → Within (laid_when s c at w k)
+    when_fine : (c : TypedCode) (at : Place) (w : Around) (k : List PointName) → AlternativeFits ask passed alone single c → AllGood good (declared_within c) → Within (laid_when s c at w k)
         → IsGoodAround w → AreFine (laid_when s c at w k)
     when_fine (When choices stmts) at w k fits objects within fine = laid_fine stmts (1 ∷ at) w k fits objects within fine
     when_fine _ at w k fits objects within fine = λ p has. absurd has
@@ -471,30 +451,30 @@ module _ (s : Setting) (whole : List NamedPoint) (ask alone single good : ℕ �
       (fine_one _ (inl (reversed_good sub.formals (λ x has. objects x (Has-append_left sub.formals (declared_within sub.body) x has)))))
 
 -- So it is at each point of a subprogram.
-pub sub_lone : (s : Setting) (sub : TypedSub) (ask alone single good : ℕ → Type 0) → ((n : ℕ) → ask n → alone n)
+pub sub_lone : (s : Setting) (sub : TypedSub) (ask passed alone single good : ℕ → Type 0) → ((n : ℕ) → ask n → alone n) → ((n : ℕ) → passed n → alone n)
     → ((r : NamedPoint) → Has (sub_points s sub) r → (n : ℕ) (a : TypedTree) (t : ℕ) → r.instr ≡ instruction.Call n a (Some t) → alone n → good t)
     → ((r : NamedPoint) → Has (sub_points s sub) r → (t : ℕ) (e : TypedTree) (op : ShortCircuit) → r.instr ≡ instruction.Evaluate t e (Some op) → good t)
-    → CodeFits ask alone single sub.body → AllGood good (objects_of sub) → (p : NamedPoint) → Has (sub_points s sub) p → IsLone single good p
-sub_lone s sub ask alone single good weaker fills truths fits objects =
-    fine_both s (sub_points s sub) ask alone single good weaker fills truths (laid s sub.body (0 ∷ []) (around_body s sub) _) _
-    (laid_fine s (sub_points s sub) ask alone single good weaker fills truths sub.body (0 ∷ []) (around_body s sub) _ fits
+    → CodeFits ask passed alone single sub.body → AllGood good (objects_of sub) → (p : NamedPoint) → Has (sub_points s sub) p → IsLone single good p
+sub_lone s sub ask passed alone single good weaker wider fills truths fits objects =
+    fine_both s (sub_points s sub) ask passed alone single good weaker wider fills truths (laid s sub.body (0 ∷ []) (around_body s sub) _) _
+    (laid_fine s (sub_points s sub) ask passed alone single good weaker wider fills truths sub.body (0 ∷ []) (around_body s sub) _ fits
     (λ x has. objects x (Has-append_right sub.formals (declared_within sub.body) x has))
     (λ r has. Has-append_left (laid s sub.body (0 ∷ []) (around_body s sub) _) _ r has) (formals_good, formals_good))
-    (end_fine s (sub_points s sub) ask alone single good weaker fills truths sub (is_some sub.result) objects)
+    (end_fine s (sub_points s sub) ask passed alone single good weaker wider fills truths sub (is_some sub.result) objects)
   where
     formals_good : AllGood good (reverse sub.formals)
-    formals_good = reversed_good s (sub_points s sub) ask alone single good weaker fills truths sub.formals (λ x has. objects x (Has-append_left sub.formals (declared_within sub.body) x has))
+    formals_good = reversed_good s (sub_points s sub) ask passed alone single good weaker wider fills truths sub.formals (λ x has. objects x (Has-append_left sub.formals (declared_within sub.body) x has))
 
 -- Where package objects are elaborated, all that is in scope is good, or is taken alone.
-pub package_lone : (s : Setting) (sub : TypedSub) (ask alone single good : ℕ → Type 0) → ((n : ℕ) → ask n → alone n)
+pub package_lone : (s : Setting) (sub : TypedSub) (ask passed alone single good : ℕ → Type 0) → ((n : ℕ) → ask n → alone n) → ((n : ℕ) → passed n → alone n)
     → ((r : NamedPoint) → Has (elaboration_points s sub) r → (n : ℕ) (a : TypedTree) (t : ℕ) → r.instr ≡ instruction.Call n a (Some t) → alone n → good t)
     → ((r : NamedPoint) → Has (elaboration_points s sub) r → (t : ℕ) (e : TypedTree) (op : ShortCircuit) → r.instr ≡ instruction.Evaluate t e (Some op) → good t)
-    → CodeFits ask alone single sub.body → AllGood good (objects_of sub) → (p : NamedPoint) → Has (elaboration_points s sub) p → IsLone single good p
-package_lone s sub ask alone single good weaker fills truths fits objects =
-    fine_both s (elaboration_points s sub) ask alone single good weaker fills truths (laid s sub.body (0 ∷ []) (around_body s sub) []) []
-    (laid_fine s (elaboration_points s sub) ask alone single good weaker fills truths sub.body (0 ∷ []) (around_body s sub) [] fits
+    → CodeFits ask passed alone single sub.body → AllGood good (objects_of sub) → (p : NamedPoint) → Has (elaboration_points s sub) p → IsLone single good p
+package_lone s sub ask passed alone single good weaker wider fills truths fits objects =
+    fine_both s (elaboration_points s sub) ask passed alone single good weaker wider fills truths (laid s sub.body (0 ∷ []) (around_body s sub) []) []
+    (laid_fine s (elaboration_points s sub) ask passed alone single good weaker wider fills truths sub.body (0 ∷ []) (around_body s sub) [] fits
     (λ x has. objects x (Has-append_right sub.formals (declared_within sub.body) x has))
     (λ r has. Has-append_left (laid s sub.body (0 ∷ []) (around_body s sub) []) [] r has) (formals_good, formals_good)) (λ p never. absurd never)
   where
     formals_good : AllGood good (reverse sub.formals)
-    formals_good = reversed_good s (elaboration_points s sub) ask alone single good weaker fills truths sub.formals (λ x has. objects x (Has-append_left sub.formals (declared_within sub.body) x has))
+    formals_good = reversed_good s (elaboration_points s sub) ask passed alone single good weaker wider fills truths sub.formals (λ x has. objects x (Has-append_left sub.formals (declared_within sub.body) x has))

@@ -62,7 +62,7 @@ RightFits fit truth (Evaluate t e None) left = (x : ℕ) × (rest : List ℕ) ×
 RightFits fit truth i left = Unit {0}
 
 -- A point takes temporaries that fit, and its instruction is as asked.
-abbrev pub IsFitted : (fit : ℕ → ℕ → Type 0) (of : ℕ → ℕ) (truth : ℕ) (ask alone single : ℕ → Type 0) → NamedPoint → Type 0
-IsFitted fit of truth ask alone single p =
-    InstructionFits ask alone single p.instr × Pairs fit (types_at of truth p.instr) (take (taken p.instr) p.scope)
+abbrev pub IsFitted : (fit : ℕ → ℕ → Type 0) (of : ℕ → ℕ) (truth : ℕ) (ask passed alone single : ℕ → Type 0) → NamedPoint → Type 0
+IsFitted fit of truth ask passed alone single p =
+    InstructionFits ask passed alone single p.instr × Pairs fit (types_at of truth p.instr) (take (taken p.instr) p.scope)
     × RightFits fit truth p.instr (drop (taken p.instr) p.scope)

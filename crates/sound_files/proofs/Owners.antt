@@ -1,5 +1,5 @@
 -- What the class with formals that own says of the program as it is laid out, and that the third class is a part of it.
-use Rattle.std.proofs.Common.{◌≡◌, sym, ap, ◌∙◌, subst, ◌⊎◌, inl, inr, ℕ, suc, true, false, not, ◌&&◌, List, [], ◌∷◌, get_or, Option, Some, None, is_some}
+use Rattle.std.proofs.Common.{◌≡◌, sym, ap, ◌∙◌, subst, ◌⊎◌, inl, inr, ℕ, suc, true, false, not, ◌&&◌, List, [], ◌∷◌, get_or, Option, Some, None, is_some, refl, Bool, ◌||◌}
 use Rattle.spark_base.specs.Lists.{Has}
 use Rattle.place_names.specs.declared.act.Mode.{Mode}
 use Rattle.place_names.specs.declared.act.Mode.TheVariants as mode
@@ -7,16 +7,21 @@ use Rattle.resolved_tree.specs.Trees.{Program}
 use Rattle.type_definitions.specs.Types.{Table, full, is_scalar, is_owning}
 use Rattle.type_definitions.specs.Whole.{known_of}
 use Rattle.typed_tree.specs.declared.object.Object.{Object}
-use Rattle.typed_tree.specs.Trees.{TypedTree, More}
+use Rattle.typed_tree.specs.Trees.{TypedTree, More, Name, Call as CallIn}
 use Rattle.typed_tree.specs.Programs.{TypedSub, typed_program}
-use Rattle.flow_paths.specs.Instructions.{Call}
-use Rattle.flow_paths.specs.Objects.{Typing, Signature, object_at, sub_at, is_formal_kind, is_formal, is_state, is_anonymous, is_named_access, is_package_object, view_of}
+use Rattle.flow_paths.specs.Instructions.{Call, Instruction, Declare, Assign, Hold}
+use Rattle.flow_paths.specs.Objects.{Typing, Signature, object_at, sub_at, is_formal_kind, is_formal, is_state, is_anonymous, is_named_access, is_package_object, view_of, is_borrowing}
 use Rattle.flow_paths.specs.Points.{FlowPoint}
 use Rattle.flow_paths.specs.Laid.{FlowSub, FlowProgram, flow_typing, flow_program}
+use Rattle.flow_paths.specs.Acts.{gives_variable}
+use Rattle.flow_paths.specs.Names.{has_call}
+use Rattle.viewed_soundness.specs.Holds.{is_given}
+use Rattle.type_definitions.specs.declared.judgement.View.{View}
+use Rattle.type_definitions.specs.declared.judgement.View.TheVariants as view
 use Rattle.machine.specs.States.{no_sub, sub_of}
-use Rattle.machine.specs.Owners.{is_in}
+use Rattle.machine.specs.Owners.{is_in, is_in_formal}
 use Rattle.soundness.specs.Seen.{is_view_formal}
-use Rattle.soundness.specs.Sound.{AreCopied}
+use Rattle.soundness.specs.Sound.{AreCopied, calls_procedures}
 use Rattle.machine.specs.Run.{no_point}
 use Rattle.soundness.proofs.Passing.{signature_is}
 use Rattle.soundness.proofs.Typings.{Agree, flow_agrees}
@@ -26,12 +31,12 @@ use Rattle.called_subs.proofs.Main.{points_asked_at}
 use Rattle.called_subs.proofs.Statements.{IsFineSub}
 use Rattle.ready_laws.specs.InOrder.{IsSub}
 use Rattle.order_laws.specs.Orderly.{typed_of, typing_in, bodies_of}
-use Rattle.sound_files.specs.Class.{IsScalarAt, IsShownAt, IsOwnlessAt, IsFitActual, AreFitActuals, AreShownFit, AreOwnersShown, ShowOwners, FormalsAreScalar, FormalsAreKinds, CopyToVariables, PassFitActuals, CallsFunctions, CallsWithOwners}
+use Rattle.sound_files.specs.Class.{IsScalarAt, IsFitActual, AreFitActuals, AreShownFit, AreOwnersShown, ShowOwners, FormalsAreScalar, CallsProcedures, ResultsAreScalar, TakesBorrower, TakeBorrowers, CopyToVariables, PassFitActuals, CallsFunctions, CallsWithOwners}
 use Rattle.sound_files.proofs.Functions.{FunctionsTakeIn}
 use Rattle.sound_files.proofs.Weaker.{code_weaker}
 use Rattle.sound_files.proofs.Called.{at_number}
 use Rattle.sound_files.proofs.Results.{results_fit}
-use Rattle.sound_files.proofs.Classes.{all_of, signature_at, signature_same, signature_there, mode_same}
+use Rattle.sound_files.proofs.Classes.{all_of, signature_at, signature_same, signature_there, mode_same, scalar_results}
 
 module _ (p : Program) where
   abbrev table : Table
@@ -71,34 +76,7 @@ module _ (p : Program) where
   scalar_wide : (x : ℕ) → is_formal wide x ≡ true → IsScalarAt own x → IsScalarAt wide x
   scalar_wide x is plain = scalar_there x is ∙ plain
 
-  view_formal_there : (x : ℕ) → is_view_formal wide x ≡ is_view_formal own x
-  view_formal_there x = elim (alike.object x) [
-    | inl same ↦ (λ j. (is_formal_kind (same j).kind && is_in (same j).mode) && is_owning (alike.table j) (same j).of)
-    | inr (a, b) ↦ ap (λ f. (f && is_in (object_at wide x).mode) && is_owning wide.table (object_at wide x).of) a.1
-        ∙ sym (ap (λ f. (f && is_in (object_at own x).mode) && is_owning own.table (object_at own x).of) b.1)
-  ]
-
   -- ---- formals
-
-  pub kinds_there : FormalsAreKinds p → (x : ℕ) → is_formal wide x ≡ true
-      → IsScalarAt wide x
-      ⊎ ((((object_at wide x).mode ≡ mode.In → ⊥) × (is_anonymous (view_of wide x) ≡ false)) ⊎ (IsShownAt wide x ⊎ IsOwnlessAt wide x))
-  kinds_there all x is = elim (all x (formal_own x is)) [
-    | inl plain ↦ inl (scalar_wide x is plain)
-    | inr (inl (back, named)) ↦ inr (inl (
-      (λ in_mode. back (sym (ap (λ (o : Object). o.mode) (formal_there x is)) ∙ in_mode)),
-      ap (λ (rows : Table). is_anonymous (full rows (object_at wide x).of)) alike.table ∙ ap (λ (o : Object). is_anonymous (full own.table o.of)) (formal_there x is) ∙ named,
-    ))
-    | inr (inr (inl (shown, access))) ↦ inr (inr (inl (
-      view_formal_there x ∙ shown,
-      ap (λ (rows : Table). is_named_access (full rows (object_at wide x).of)) alike.table ∙ ap (λ (o : Object). is_named_access (full own.table o.of)) (formal_there x is) ∙ access,
-    )))
-    | inr (inr (inr (in_mode, none, named))) ↦ inr (inr (inr (
-      ap (λ (o : Object). o.mode) (formal_there x is) ∙ in_mode,
-      ap (λ (rows : Table). is_owning rows (object_at wide x).of) alike.table ∙ ap (λ (o : Object). is_owning own.table o.of) (formal_there x is) ∙ none,
-      ap (λ (rows : Table). is_anonymous (full rows (object_at wide x).of)) alike.table ∙ ap (λ (o : Object). is_anonymous (full own.table o.of)) (formal_there x is) ∙ named,
-    )))
-  ]
 
   -- Those of functions are of mode `in`.
   modes_own : FunctionsTakeIn p → (n t x : ℕ) → (sub_at own n).result ≡ Some t → Has (sub_at own n).formals x → (object_at own x).mode ≡ mode.In
@@ -164,6 +142,53 @@ module _ (p : Program) where
       (λ n actuals h. subst (λ (z : Signature). AreFitActuals wide z.formals actuals) (sym (signature_same p n)) (scalar_passed all (sub_at own n).formals actuals))
       sub.body (copied sub has)
 
+  -- a formal of mode `in` is one of scalar type
+  given_scalar : FormalsAreScalar p → (x : ℕ) → is_given wide x ≡ true → IsScalarAt wide x
+  given_scalar all x is =
+      let formal = given_formal (is_formal wide x) (is_in (object_at wide x).mode) (is_owning wide.table (object_at wide x).of) (is_anonymous (view_of wide x)) is in
+      scalar_wide x formal (all x (formal_own x formal))
+    where
+      given_formal : (f i o a : Bool) → ((f && i) && o) || ((f && i) && a) ≡ true → f ≡ true
+      given_formal true i o a e = refl
+      given_formal false i o a e = cc
+
+  view_scalar : FormalsAreScalar p → (x : ℕ) → is_view_formal wide x ≡ true → IsScalarAt wide x
+  view_scalar all x is = given_scalar all x (ap (λ b. b || (is_in_formal wide x && is_anonymous (view_of wide x))) is)
+
+  -- nothing is borrowed where procedures alone are called, or results are scalar
+  scalar_lends : (v : View) → is_scalar v ≡ true → is_borrowing v ≡ true → ⊥
+  scalar_lends (view.Access d c n) e h = cc
+  scalar_lends v e h = cc
+
+  no_borrower : ResultsAreScalar p → (n : ℕ) → gives_variable wide (sub_at wide n).result ≡ true → ⊥
+  no_borrower scalar n borrows = by (sub_at own n).result refl (sym (ap (gives_variable wide) (ap (λ (z : Signature). z.result) (signature_same p n))) ∙ borrows)
+    where
+      by : (r : Option ℕ) → (sub_at own n).result ≡ r → gives_variable wide (sub_at own n).result ≡ true → ⊥
+      by None is h = (let no : false ≡ true = sym (ap (gives_variable wide) is) ∙ h in cc)
+      by (Some t) is h =
+          scalar_lends (full wide.table t) (ap (λ (rows : Table). is_scalar (full rows t)) alike.table ∙ scalar_results p scalar n t is) (sym (ap (gives_variable wide) is) ∙ h)
+
+  no_call : (r : Option ℕ) (i : Instruction) → calls_procedures i ≡ true → TakesBorrower wide r i
+  unfolding has_call
+  no_call r (Declare x (More (CallIn q n a) rest)) e = cc
+  no_call r (Assign (Name q x path u) (CallIn k n a)) e = absurd (none (has_call path) e)
+    where
+      none : (b : Bool) → not b && false ≡ true → ⊥
+      none true e = cc
+      none false e = cc
+  no_call r (Hold (More (CallIn q n a) rest)) e = cc
+  no_call r i e = tt
+
+  scalar_takes : ResultsAreScalar p → (r : Option ℕ) (i : Instruction) → TakesBorrower wide r i
+  scalar_takes scalar r (Declare x (More (CallIn q n a) rest)) = λ borrows. absurd (no_borrower scalar n borrows)
+  scalar_takes scalar r (Assign (Name q x path u) (CallIn k n a)) = λ borrows. absurd (no_borrower scalar n borrows)
+  scalar_takes scalar r (Hold (More (CallIn q n a) rest)) = λ borrows. absurd (no_borrower scalar n borrows)
+  scalar_takes scalar r i = tt
+
+  pub takes_none : CallsProcedures flow ⊎ ResultsAreScalar p → TakeBorrowers p
+  takes_none (inl calls) sub has q there = no_call sub.result q.instr (calls sub has q there)
+  takes_none (inr scalar) sub has q there = scalar_takes scalar sub.result q.instr
+
   -- what scalar formals get is shown to none
   scalar_shown : FormalsAreScalar p → (shared : Type 0) (formals : List ℕ) (actuals : TypedTree) → AreShownFit wide shared formals actuals
   scalar_shown all shared (x ∷ formals) (More e rest) = ((λ is. inl (scalar_wide x is (all x (formal_own x is)))), scalar_shown all shared formals rest)
@@ -174,7 +199,9 @@ module _ (p : Program) where
   pub calls_functions : CallsFunctions p → CallsWithOwners p
   calls_functions calls = record {
     results = results_fit p calls.results;
-    formals = λ x is. inl (calls.formals x is);
+    formals = λ x is. inl (view_scalar calls.formals x is);
     passed = code_passed calls.formals calls.copied;
     shown = inr (λ sub has q there n actuals result is. scalar_shown calls.formals (LendsShared wide sub) (sub_of flow n).formals actuals);
+    lends = λ n x y lends has given. inl (given_scalar calls.formals y given);
+    borrowed = takes_none calls.results;
   }

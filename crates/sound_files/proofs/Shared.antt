@@ -32,6 +32,10 @@ once_after : (xs ys : List ℕ) → Once (xs ++ ys) → Once ys
 once_after [] ys once = once
 once_after (x ∷ xs) ys once = once_after xs ys once.1
 
+once_before : (xs ys : List ℕ) → Once (xs ++ ys) → Once xs
+once_before [] ys once = tt
+once_before (x ∷ xs) ys once = ((λ has. once.0 (Has-append_left xs ys x has)), once_before xs ys once.1)
+
 abbrev formals_in : List TypedSub → List ℕ
 formals_in subs = flat_map (λ (z : TypedSub). z.formals) subs
 
@@ -49,6 +53,11 @@ one_sub (z ∷ subs) a b x once (inl same) (inr there) has other =
 one_sub (z ∷ subs) a b x once (inr here) (inl alike) has other =
     absurd (once_apart z.formals (formals_in subs) x once (subst (λ (k : TypedSub). Has k.formals x) (sym alike) other) (formals_there subs a x here has))
 one_sub (z ∷ subs) a b x once (inr here) (inr there) has other = one_sub subs a b x (once_after z.formals (formals_in subs) once) here there has other
+
+once_of : (subs : List TypedSub) (sub : TypedSub) → Has subs sub → Once (formals_in subs) → Once sub.formals
+once_of [] sub has once = absurd has
+once_of (z ∷ subs) sub (inl same) once = subst (λ (k : TypedSub). Once k.formals) same (once_before z.formals (formals_in subs) once)
+once_of (z ∷ subs) sub (inr has) once = once_of subs sub has (once_after z.formals (formals_in subs) once)
 
 formals_both : (xs ys : List TypedSub) → formals_in (xs ++ ys) ≡ formals_in xs ++ formals_in ys
 formals_both [] ys = refl
@@ -189,13 +198,13 @@ module _ (p : Program) (once : Once (map (λ (o : DeclaredObject). o.number) (pr
   functions_see n t x is has lends =
       none_of (is_named_access (view_of wide x)) (list_any (is_of_procedure x) wide.subs) (list_any (lends_first wide x) wide.subs)
       (λ any. (let found = any_from (is_of_procedure x) wide.subs any in
-          let none = and_first (not (is_some (found.0).result)) (list_any (λ y. y == x) (found.0).formals) found.2 in
-          let listed_there = listed (found.0).formals x (and_second (not (is_some (found.0).result)) (list_any (λ y. y == x) (found.0).formals) found.2) in
-          no_result (found.0).result t none (ap (λ (z : Signature). z.result) (sym (same found.0 found.1 listed_there)) ∙ is)))
+      let none = and_first (not (is_some (found.0).result)) (list_any (λ y. y == x) (found.0).formals) found.2 in
+      let listed_there = listed (found.0).formals x (and_second (not (is_some (found.0).result)) (list_any (λ y. y == x) (found.0).formals) found.2) in
+      no_result (found.0).result t none (ap (λ (z : Signature). z.result) (sym (same found.0 found.1 listed_there)) ∙ is)))
       (λ any. (let found = any_from (lends_first wide x) wide.subs any in
-          let first = first_has (found.0).formals x (and_second (gives_variable wide (found.0).result) (is_first x (found.0).formals) found.2) in
-          let no : true ≡ false = sym found.2 ∙ ap (lends_first wide x) (sym (same found.0 found.1 first)) ∙ lends in
-          cc))
+      let first = first_has (found.0).formals x (and_second (gives_variable wide (found.0).result) (is_first x (found.0).formals) found.2) in
+      let no : true ≡ false = sym found.2 ∙ ap (lends_first wide x) (sym (same found.0 found.1 first)) ∙ lends in
+      cc))
     where
       mine : Has wide.subs (sub_at wide n)
       mine = elim (got wide.subs n) [
@@ -205,3 +214,17 @@ module _ (p : Program) (once : Once (map (λ (o : DeclaredObject). o.number) (pr
 
       same : (g : Signature) → Has wide.subs g → Has g.formals x → sub_at wide n ≡ g
       same g there other = one_signature (sub_at wide n) g x mine there has other
+
+  -- The formals of a subprogram differ.
+  pub formals_differ : (n : ℕ) → Once (sub_at wide n).formals
+  unfolding typed_program
+  formals_differ n = elim (got wide.subs n) [
+    | inl none ↦ subst (λ (g : Signature). Once g.formals) (sym none) tt
+    | inr there ↦ (
+        let found = Has-map_from signature (typed_of p).subs (sub_at wide n) (subst (λ gs. Has gs (sub_at wide n)) alike.subs there) in
+        subst (λ (g : Signature). Once g.formals) found.2 (by found.0 found.1))
+  ]
+    where
+      by : (sub : TypedSub) → Has (typed_of p).subs sub → Once sub.formals
+      by sub (inl first) = subst (λ (z : TypedSub). Once z.formals) first tt
+      by sub (inr body) = once_of (bodies_of p) sub body formals_once

@@ -8,11 +8,11 @@ use Rattle.place_names.specs.declared.act.Mode.TheVariants as mode
 use Rattle.resolved_tree.specs.Trees.{Code, Program}
 use Rattle.type_definitions.specs.Types.{full, is_scalar, is_owning, shape_of}
 use Rattle.type_definitions.specs.Whole.{known_of}
-use Rattle.typed_tree.specs.Trees.{TypedTree, Name, More}
+use Rattle.typed_tree.specs.Trees.{TypedTree, Name, Call as CallIn, More}
 use Rattle.typed_tree.specs.Trees as typed
 use Rattle.typed_tree.specs.Programs.{TypedSub}
-use Rattle.flow_paths.specs.Instructions.{Call}
-use Rattle.flow_paths.specs.Objects.{Typing, object_at, sub_at, is_formal, is_anonymous, is_named_access, is_package_object, view_of}
+use Rattle.flow_paths.specs.Instructions.{Call, Instruction, Declare, Assign, Hold}
+use Rattle.flow_paths.specs.Objects.{Typing, object_at, sub_at, is_formal, is_anonymous, is_named_access, is_package_object, view_of, is_borrowing}
 use Rattle.flow_paths.specs.Points.{FlowPoint}
 use Rattle.flow_paths.specs.Laid.{FlowSub, FlowProgram, flow_typing, flow_program}
 use Rattle.machine.specs.States.{sub_of}
@@ -20,7 +20,10 @@ use Rattle.soundness.specs.Seen.{is_view_formal}
 use Rattle.soundness.specs.Sound.{calls_nothing, calls_procedures, goes_through_none, AreCopied}
 use Rattle.soundness.specs.Ready.{root_of}
 use Rattle.gathered_laws.specs.Named.{IsNamed}
+use Rattle.flow_paths.specs.Acts.{gives_variable}
+use Rattle.viewed_soundness.specs.Holds.{is_given, lends_first}
 use Rattle.viewed_soundness.specs.Taken.{GivesPlainly}
+use Rattle.viewed_steps.specs.Ready.{is_shown_type}
 use Rattle.scope_laws.specs.Alone.{ResultsFit}
 use Rattle.viewed_steps.specs.Sound.{LendsShared}
 use Rattle.called_subs.specs.Called.{CodeCalls}
@@ -88,48 +91,34 @@ pub record CallsFunctions (p : Program) : Type 0 where
 abbrev pub IsScalarAt : Typing → ℕ → Type 0
 IsScalarAt s x = is_scalar (full s.table (object_at s x).of) ≡ true
 
--- A formal is of a scalar type; or of mode `out` or `in out`, or of mode `in` and of a type that owns nothing, and of no
--- anonymous access type; or of mode `in` and of a named access type that owns.
-abbrev pub IsShownAt : Typing → ℕ → Type 0
-IsShownAt s x = (is_view_formal s x ≡ true) × (is_named_access (view_of s x) ≡ true)
-
-abbrev pub IsOwnlessAt : Typing → ℕ → Type 0
-IsOwnlessAt s x = ((object_at s x).mode ≡ mode.In) × (is_owning s.table (object_at s x).of ≡ false) × (is_anonymous (view_of s x) ≡ false)
-
-abbrev pub FormalsAreKinds : Program → Type 0
-FormalsAreKinds p =
-    (x : ℕ) → is_formal (typing_in p) x ≡ true
-    → IsScalarAt (typing_in p) x
-    ⊎ ((((object_at (typing_in p) x).mode ≡ mode.In → ⊥) × (is_anonymous (view_of (typing_in p) x) ≡ false))
-    ⊎ (IsShownAt (typing_in p) x ⊎ IsOwnlessAt (typing_in p) x))
-
 -- The objects as the program is laid out.
 abbrev pub laid_in : Program → Typing
 laid_in p = flow_typing (flow_program (known_of p).table (typed_of p))
 
--- An actual for one of a named access type is rooted in an object that belongs to no package. (It is null, or a name of
--- its type.)
+-- A formal of mode `in` that owns is of a named access-to-variable type.
+abbrev pub FormalsAreAccess : Program → Type 0
+FormalsAreAccess p =
+    (x : ℕ) → is_view_formal (laid_in p) x ≡ true → IsScalarAt (laid_in p) x ⊎ (is_named_access (view_of (laid_in p) x) ≡ true)
+
+-- An actual for a formal of mode `in` that owns, or is of an anonymous access type, is rooted in an object that belongs to no
+-- package. (It is null, or a name.)
 abbrev pub IsShownActual : Typing → TypedTree → Type 0
 IsShownActual s e = (y : ℕ) → Has (root_of e) y → is_package_object s y ≡ false
-
--- In one for a formal of mode `in` whose type owns nothing, as a name or an aggregate, functions give scalar parts alone.
-abbrev pub IsCopiedActual : Typing → ℕ → TypedTree → Type 0
-IsCopiedActual s x e = GivesPlainly s e
 
 -- One that is copied back to goes through no access value; or the formal is of a scalar type, or the object that it is
 -- rooted in is no borrower or observer, and no formal of mode `in` that owns.
 abbrev pub IsOwnRoot : Typing → ℕ → Type 0
 IsOwnRoot s y = (is_anonymous (view_of s y) ≡ false) × (is_view_formal s y ≡ false)
 
-abbrev pub IsKeptActual : Typing → ℕ → TypedTree → Type 0
-IsKeptActual s x e =
-    IsScalarAt s x ⊎ ((goes_through_none e ≡ true) ⊎ ((y : ℕ) → Has (root_of e) y → IsOwnRoot s y))
+abbrev pub IsKeptActual : Typing → TypedTree → Type 0
+IsKeptActual s e = (goes_through_none e ≡ true) ⊎ ((y : ℕ) → Has (root_of e) y → IsOwnRoot s y)
 
+-- In one for a formal of mode `in` whose type owns nothing and isn't scalar, as a name or an aggregate, functions give scalar
+-- parts alone.
 abbrev pub IsFitActual : Typing → ℕ → Mode → TypedTree → Type 0
 IsFitActual s x mode.In e =
-    IsScalarAt s x
-    ⊎ (((is_owning s.table (object_at s x).of ≡ true) × IsShownActual s e) ⊎ ((is_owning s.table (object_at s x).of ≡ false) × IsCopiedActual s x e))
-IsFitActual s x m e = IsKeptActual s x e
+    IsScalarAt s x ⊎ ((is_shown_type s x ≡ true → IsShownActual s e) × (is_shown_type s x ≡ false → GivesPlainly s e))
+IsFitActual s x m e = IsScalarAt s x ⊎ IsKeptActual s e
 
 abbrev pub AreFitActuals : Typing → List ℕ → TypedTree → Type 0
 AreFitActuals s (x ∷ formals) (More e rest) = (is_formal s x ≡ true → IsFitActual s x (object_at s x).mode e) × AreFitActuals s formals rest
@@ -139,10 +128,10 @@ abbrev pub PassFitActuals : Program → Type 0
 PassFitActuals p =
     (sub : TypedSub) → Has (typed_of p).subs sub → CodeCalls (λ n actuals. AreFitActuals (laid_in p) (sub_at (laid_in p) n).formals actuals) sub.body
 
--- No actual that a formal of a named access type sees is rooted in a borrower or observer.
+-- No actual that a formal sees is rooted in a borrower or observer.
 abbrev pub AreOwnersShown : Typing → List ℕ → TypedTree → Type 0
 AreOwnersShown s (x ∷ formals) (More e rest) =
-    (is_view_formal s x ≡ true → (y : ℕ) → Has (root_of e) y → is_anonymous (view_of s y) ≡ false) × AreOwnersShown s formals rest
+    (is_given s x ≡ true → (y : ℕ) → Has (root_of e) y → is_anonymous (view_of s y) ≡ false) × AreOwnersShown s formals rest
 AreOwnersShown s formals actuals = Unit {0}
 
 abbrev pub ShowOwners : Program → Type 0
@@ -162,13 +151,31 @@ ShowsFit p =
     → q.instr ≡ Call n actuals result
     → AreShownFit (laid_in p) (LendsShared (laid_in p) sub) (sub_of (flow_program (known_of p).table (typed_of p)) n).formals actuals
 
--- What a function gives is of a scalar type; or it stands alone, and is of no anonymous access type: an object is declared
--- with it, or it is assigned or returned.
+-- A function that gives a borrower sees through its first formal alone.
+abbrev pub LendFirst : Program → Type 0
+LendFirst p =
+    (n x y : ℕ) → lends_first (laid_in p) x (sub_at (laid_in p) n) ≡ true → Has (sub_at (laid_in p) n).formals y → is_given (laid_in p) y ≡ true
+    → IsScalarAt (laid_in p) y ⊎ (y ≡ x)
+
+-- A borrower that it gives is taken by a borrower, or returned as one.
+abbrev pub TakesBorrower : Typing → Option ℕ → Instruction → Type 0
+TakesBorrower s result (Declare x (More (CallIn q n a) rest)) = gives_variable s (sub_at s n).result ≡ true → is_borrowing (view_of s x) ≡ true
+TakesBorrower s result (Assign (Name q x path u) (CallIn r n a)) = gives_variable s (sub_at s n).result ≡ true → is_borrowing (full s.table u) ≡ true
+TakesBorrower s result (Hold (More (CallIn q n a) rest)) = gives_variable s (sub_at s n).result ≡ true → gives_variable s result ≡ true
+TakesBorrower s result i = Unit {0}
+
+abbrev pub TakeBorrowers : Program → Type 0
+TakeBorrowers p =
+    (sub : FlowSub) → Has (flow_program (known_of p).table (typed_of p)).subs sub → (q : FlowPoint) → Has sub.points q → TakesBorrower (laid_in p) sub.result q.instr
+
+-- What a function gives is of a scalar type; or a value is made of it, and it is of no anonymous access type.
 abbrev pub AllResultsFit : Program → Type 0
 AllResultsFit p = (sub : TypedSub) → Has (bodies_of p) sub → ResultsFit (typing_in p) sub.body
 
 pub record CallsWithOwners (p : Program) : Type 0 where
   pub results : AllResultsFit p
-  pub formals : FormalsAreKinds p
+  pub formals : FormalsAreAccess p
   pub passed : PassFitActuals p
   pub shown : ShowOwners p ⊎ ShowsFit p
+  pub lends : LendFirst p
+  pub borrowed : TakeBorrowers p

@@ -1,8 +1,11 @@
 -- The law: files that break no rule of names and of types are typed, where their identifiers stand in the order of the
 -- text.
-use Rattle.std.proofs.Common.{◌≡◌, ◌≤◌, ◌∙◌, inl, inr, sym, ap, subst, ℕ, true, List, [], map, length, IsTrue, None}
+use Rattle.std.proofs.Common.{◌≡◌, ◌≤◌, ◌∙◌, inl, inr, sym, ap, subst, ℕ, Bool, true, List, [], ◌∷◌, map, length, IsTrue, Some, None}
 use Rattle.std.specs.Prelude.{flat_map}
 use Rattle.spark_base.specs.Lists.{Has}
+use Rattle.place_names.specs.declared.act.Mode.TheVariants as mode
+use Rattle.type_definitions.specs.declared.table.Shape.TheVariants as shape
+use Rattle.type_definitions.specs.Types.{shape_of}
 use Rattle.ada_lexer.specs.Tokens.{Cut}
 use Rattle.ada_tree.specs.declared.unit.SourceUnit.{SourceUnit}
 use Rattle.name_events.specs.Outline.{source_events}
@@ -17,7 +20,7 @@ use Rattle.type_definitions.specs.Entries.{entry_of}
 use Rattle.type_definitions.specs.Whole.{outside, known_of, type_fault}
 use Rattle.typing_steps.specs.Programs.{program_of}
 use Rattle.typed_tree.specs.Expressions.{object_number, object_type}
-use Rattle.typed_tree.specs.Programs.{DeclaredObject, program_objects}
+use Rattle.typed_tree.specs.Programs.{TypedSub, DeclaredObject, program_objects}
 use Rattle.type_sizes.specs.Formed.{all_formed}
 use Rattle.type_rules.proofs.Formed.{files_formed}
 use Rattle.settled_types.specs.Orderly.{at_start, IsOrderly}
@@ -30,7 +33,8 @@ use Rattle.file_positions.specs.Order.{Ascends, event_positions}
 use Rattle.file_positions.specs.Texts.{AreParsed}
 use Rattle.file_positions.proofs.Ascending.{events_ascend}
 use Rattle.file_positions.proofs.Main.{files_apart as parsed_apart, files_ended}
-use Rattle.flow_paths.specs.Objects.{object_at}
+use Rattle.flow_paths.specs.Objects.{object_at, sub_at, is_anonymous, traverses, view_of}
+use Rattle.flow_paths.specs.Views.{traversed_of}
 use Rattle.flow_paths.specs.Points.{FlowPoint}
 use Rattle.flow_paths.specs.Laid.{FlowSub, flow_typing}
 use Rattle.gathered_laws.specs.Made.{IsMade}
@@ -68,12 +72,14 @@ use Rattle.typed_laws.specs.Fine.{Denotes, Laws}
 use Rattle.typed_laws.specs.Needed.{AreFine}
 use Rattle.typed_points.proofs.Numbers.{object_numbered, denotes}
 use Rattle.typed_steps.specs.Steps.{AreTyped, AreCounted}
-use Rattle.typed_runs.specs.Code.{IsTypedUse}
+use Rattle.typed_runs.specs.Code.{IsTypedUse, IsTypedCode}
 use Rattle.typed_runs.specs.Formals.{AreProfiled}
-use Rattle.typed_runs.specs.Meant.{laid_in, site_in, typing_laid}
+use Rattle.typed_runs.specs.Meant.{typed_in, laid_in, site_in, typing_laid}
+use Rattle.typed_runs.proofs.Laid.{laid_typing}
 use Rattle.typed_texts.specs.Meant.{IsMeant}
-use Rattle.typed_texts.proofs.Main.{text_typed, text_used, text_fine, text_counted, text_is_typed}
+use Rattle.typed_texts.proofs.Main.{text_typed, text_used, text_code, text_fine, text_counted, text_is_typed}
 use Rattle.typed_files.proofs.Profiled.{are_profiled}
+use Rattle.typed_files.proofs.Traversed.{firsts_there, first_in}
 use Rattle.typed_files.proofs.Denoted.{same_object, laid_object, denotes_laid}
 
 first_long : (p : Program) (orderly : IsOrderly p) (opens : AllOpen (known_of p) p.units) → p.count ≤ length (second p orderly opens)
@@ -173,6 +179,30 @@ module _ (files : List (List SourceUnit)) where
     -- So are what is passed, and sources of views.
     pub files_used : (sub : FlowSub) → Has (laid_in p).subs sub → (q : FlowPoint) → Has sub.points q → IsTypedUse (flow_typing (laid_in p)) sub.result q.instr
     files_used = text_used p none are_meant
+
+    -- Formals of anonymous access types are the first ones of traversal functions.
+    pub files_firsts : (n x : ℕ) → Has (sub_at (flow_typing (laid_in p)) n).formals x → is_anonymous (view_of (flow_typing (laid_in p)) x) ≡ true
+        → traversed_of (traverses (flow_typing (laid_in p)).table (sub_at (flow_typing (laid_in p)) n).result) (sub_at (flow_typing (laid_in p)) n).formals ≡ Some x
+    files_firsts =
+        subst (λ z. (n x : ℕ) → Has (sub_at z n).formals x → is_anonymous (view_of z x) ≡ true → traversed_of (traverses z.table (sub_at z n).result) (sub_at z n).formals ≡ Some x)
+        (laid_typing (known_of p).table (typed_in p))
+        (firsts_there p formed orderly none (files_apart files up named) (IsMade p.units) laws once (laid_object p) object_named (units_faultless p none) declared
+        (formals_are_apart (identified files) files named))
+
+    -- Each of these has a first formal, of mode `in` and of an access type.
+    pub files_first : (n : ℕ) → traverses (flow_typing (laid_in p)).table (sub_at (flow_typing (laid_in p)) n).result ≡ true
+        → (f : ℕ) × (rest : List ℕ) × ((sub_at (flow_typing (laid_in p)) n).formals ≡ f ∷ rest) × ((object_at (flow_typing (laid_in p)) f).mode ≡ mode.In)
+        × (d : ℕ) × (c : Bool) × (k : Bool) × (shape_of (flow_typing (laid_in p)).table (object_at (flow_typing (laid_in p)) f).of ≡ shape.Access d c k)
+    files_first =
+        subst (λ z. (n : ℕ) → traverses z.table (sub_at z n).result ≡ true
+        → (f : ℕ) × (rest : List ℕ) × ((sub_at z n).formals ≡ f ∷ rest) × ((object_at z f).mode ≡ mode.In)
+        × (d : ℕ) × (c : Bool) × (k : Bool) × (shape_of z.table (object_at z f).of ≡ shape.Access d c k))
+        (laid_typing (known_of p).table (typed_in p))
+        (first_in p formed orderly none (files_apart files up named) (IsMade p.units) laws once (laid_object p) object_named (units_faultless p none) declared
+        (formals_are_apart (identified files) files named))
+
+    pub files_code : (sub : TypedSub) → Has (typed_in p).subs sub → IsTypedCode (typing_laid p) sub.result sub.body
+    files_code = text_code p none are_meant
 
     -- Instructions are as soundness needs them.
     pub files_fine : AreFine (laid_in p)

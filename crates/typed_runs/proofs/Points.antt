@@ -89,7 +89,7 @@ module _ (s : Typing) (result : Option ℕ) where
 
   returned_typed : (g : Setting) (r : Option ℕ) (v : TypedTree) (at : Place) (scope : List ℕ) (k : List PointName) → ReturnedWithin s r v → Typed (prep g v at scope k)
   returned_typed g None v at scope k h = prep_typed g v at scope k h
-  returned_typed g (Some t) v at scope k h = first_typed g t v at scope k h
+  returned_typed g (Some t) v at scope k h = first_typed g t v at scope k h.0
 
   assigned_typed : (g : Setting) (target e : TypedTree) (at : Place) (scope : List ℕ) (k : List PointName) → AssignedWithin s target e → Typed (prep g e at scope k)
   assigned_typed g (Name p x path u) e at scope k h = source_typed g u e at scope k h

@@ -24,6 +24,7 @@ use Rattle.typed_tree.specs.declared.object.Object.{Object}
 use Rattle.typed_tree.specs.Expressions.{Site, typed_expression, typed_optional}
 use Rattle.typed_tree.specs.Statements.{type_read, typed_object, returned_type}
 use Rattle.flow_paths.specs.Objects.{Typing, Signature}
+use Rattle.flow_paths.specs.Objects as flow
 use Rattle.typed_laws.specs.Fine.{Has, Laws, IsMeant}
 use Rattle.typed_laws.proofs.Agreeing.{holds, and_left, nil_left, nil_right}
 use Rattle.typed_laws.proofs.Assigns as assigns
@@ -32,10 +33,10 @@ use Rattle.typed_points.proofs.Flags.{flagged, at_flags, typed_same, meant_same,
 use Rattle.typed_points.proofs.Values.{seen_full, scalar_at}
 use Rattle.typed_points.proofs.Statements.{result_given, marked_made}
 use Rattle.typed_steps.specs.Steps.{FirstHas, FirstTaken, IsPlaceOf, Returned, Taken}
-use Rattle.typed_runs.specs.Code.{IsTypedCode, Within, WithinSource, FirstWithin, AssignedWithin, ReturnedWithin}
+use Rattle.typed_runs.specs.Code.{IsTypedCode, Within, WithinSource, FirstWithin, AssignedWithin, ReturnedWithin, IsViewSource}
 use Rattle.typed_runs.specs.Formals.{AreProfiled}
-use Rattle.typed_runs.proofs.Within.{plain_within}
-use Rattle.typed_runs.proofs.Sources.{inner, had, plain_source, viewed_source, returned_source, formal_given, target_inside}
+use Rattle.typed_runs.proofs.Within.{view_plain, plain_within}
+use Rattle.typed_runs.proofs.Sources.{inner, had, plain_source, viewed_source, returned_source, returned_form, formal_given, target_inside}
 use Rattle.typed_runs.proofs.Actuals.{place}
 
 -- A value, and what stands within it.
@@ -177,12 +178,16 @@ module _ (s : Site) (objects : List Object) (subs : List Signature) (made : ℕ 
     unfolding Within
     value_returned p e None meant types none = cc
     value_returned p e (Some t) meant types none =
-        let found = by (is_anonymous (full table t)) refl none in ((typed_expression s t e, refl, found.0), (found.1, tt))
+        let found = by (is_anonymous (full table t)) refl none in ((typed_expression s t e, refl, found.0), ((found.1, tt), found.2))
       where
         by : (b : Bool) → is_anonymous (full table t) ≡ b → (if b then return_source c t e else faults c stands.Stored t e) ≡ []
-            → Taken y t (typed_expression s t e) × WithinSource y t (typed_expression s t e)
-        by true is h = returned_source s objects subs made laws profiled looped starts e t meant (types t refl) is h
-        by false is h = plain_source s objects subs made laws profiled looped starts e t meant (types t refl) h
+            → Taken y t (typed_expression s t e) × WithinSource y t (typed_expression s t e) × (flow.is_anonymous (full table t) ≡ true → IsViewSource y (typed_expression s t e))
+        by true is h =
+            let found = returned_source s objects subs made laws profiled looped starts e t meant (types t refl) is h in
+            (found.0, found.1, λ view. returned_form s objects subs made laws profiled looped starts e t meant h)
+        by false is h =
+            let found = plain_source s objects subs made laws profiled looped starts e t meant (types t refl) h in
+            (found.0, found.1, λ view. absurd (let no : false ≡ true = sym (view_plain (full table t) is) ∙ view in cc))
 
     none_returned : (p : Pos) (r : Option ℕ) → demand 3 p (is_none r) ≡ [] → Returned y r typed.NoMore × ReturnedWithin y r typed.NoMore
     unfolding Within

@@ -37,7 +37,7 @@ use Rattle.typed_tree.specs.Trees.{TypedTree, typed_list}
 use Rattle.typed_tree.specs.Trees as typed
 use Rattle.typed_tree.specs.declared.object.Object.{Object}
 use Rattle.typed_tree.specs.Expressions.{Site, number, value_of_type, sub_number, typed_expression, typed_name, typed_steps, typed_step, typed_actuals, typed_imaged, typed_first, typed_values, object_type, called_function, operands, designating, element, component_number, named_value, arranged, role_names}
-use Rattle.flow_paths.specs.Objects.{Typing, Signature}
+use Rattle.flow_paths.specs.Objects.{Typing, Signature, sub_at}
 use Rattle.flow_paths.specs.Objects as flow
 use Rattle.typed_laws.specs.Fine.{Has, Laws, IsMeant, AreSuffixes, IsSuffix, AreArguments}
 use Rattle.typed_laws.proofs.Agreeing.{holds, nil_left, nil_right, and_left, not_true}
@@ -80,13 +80,19 @@ unfolding Within
 plain_within y want (typed.Call p sub actuals) h = (h.0, h.1, inl h.2, h.3)
 plain_within y want e h = h
 
-view_plain : (v : View) → is_anonymous v ≡ false → flow.is_anonymous v ≡ false
+pub view_plain : (v : View) → is_anonymous v ≡ false → flow.is_anonymous v ≡ false
 view_plain (view.Access d k true) e = refl
 view_plain (view.Access d k false) e = cc
 view_plain (view.Whole low high) e = refl
 view_plain (view.Listed low high) e = refl
 view_plain (view.Elements low high of) e = refl
 view_plain v e = refl
+
+pub view_shown : (v : View) → is_anonymous v ≡ true → flow.is_anonymous v ≡ true
+view_shown (view.Access d true false) e = refl
+view_shown (view.Access d false false) e = refl
+view_shown (view.Access d k true) e = cc
+view_shown v e = cc
 
 -- ---- lists of values
 
@@ -185,7 +191,7 @@ place_read : (c : Context) (d t : ℕ) (rest : Tree) → reading_of c d rest ≡
 unfolding reading_of
 place_read c d t rest is = let found = place_along c d t (entry_of c.known d) rest is in (found.0, found.1)
 
-call_read : (c : Context) (d f : ℕ) (rest : Tree) → reading_of c d rest ≡ reading.Call f → (f ≡ d) × (t : ℕ) × ((profile_of (entry_of c.known d)).result ≡ Some t)
+pub call_read : (c : Context) (d f : ℕ) (rest : Tree) → reading_of c d rest ≡ reading.Call f → (f ≡ d) × (t : ℕ) × ((profile_of (entry_of c.known d)).result ≡ Some t)
 unfolding reading_of
 call_read c d f rest is = call_of c d f (entry_of c.known d) rest is
 
@@ -205,7 +211,7 @@ gives_demanding op e = by (is_join op) (is_arithmetic op) e
     by false true f = cc
     by false false f = cc
 
-function_entry : (known : Known) (d t : ℕ) → (profile_of (entry_of known d)).result ≡ Some t → (p : Profile) × (entry_of known d ≡ entry.Subprogram p)
+pub function_entry : (known : Known) (d t : ℕ) → (profile_of (entry_of known d)).result ≡ Some t → (p : Profile) × (entry_of known d ≡ entry.Subprogram p)
 function_entry known d t is = by (entry_of known d) is
   where
     by : (e : Entry) → (profile_of e).result ≡ Some t → (p : Profile) × (e ≡ entry.Subprogram p)
@@ -295,6 +301,15 @@ module _ (s : Site) (objects : List Object) (subs : List Signature) (made : ℕ 
         by : (r : Option ℕ) → is_some r && is_anonymous (full table (result_type r)) ≡ false → flow.traverses table r ≡ false
         by None e = refl
         by (Some t) e = view_plain (full table t) e
+
+    -- and a traversal call is one
+    pub view_given : (f : ℕ) → IsProfiled s.context.known s.bodies y made f → is_traversal c.known (profile_of (entry_of c.known f)) ≡ true
+        → flow.traverses table (sub_at y (sub_number s f)).result ≡ true
+    view_given f of is = ap (flow.traverses table) of.result ∙ by (profile_of (entry_of c.known f)).result is
+      where
+        by : (r : Option ℕ) → is_some r && is_anonymous (full table (result_type r)) ≡ true → flow.traverses table r ≡ true
+        by None e = cc
+        by (Some t) e = view_shown (full table t) e
 
     mutual
       unfolding own_type inside arguments behind within_suffix typed_expression typed_steps typed_step typed_actuals typed_imaged typed_first typed_values Within IsMeant AreSuffixes IsSuffix AreArguments

@@ -75,8 +75,19 @@ abbrev pub AssignedWithin : Typing → TypedTree → TypedTree → Type 0
 AssignedWithin s (Name p x path u) e = WithinSource s u e
 AssignedWithin s target e = Within s e
 
+-- A traversal function returns null, what a name stands for, or what another one gives.
+abbrev pub IsViewSource : Typing → TypedTree → Type 0
+IsViewSource s (Name p x steps t) = Unit {0}
+IsViewSource s (typed.Call p sub actuals) = traverses s.table (sub_at s sub).result ≡ true
+IsViewSource s typed.Null = Unit {0}
+IsViewSource s e = ⊥
+
+abbrev pub FirstIsSource : Typing → TypedTree → Type 0
+FirstIsSource s (More e rest) = IsViewSource s e
+FirstIsSource s v = Unit {0}
+
 abbrev pub ReturnedWithin : Typing → Option ℕ → TypedTree → Type 0
-ReturnedWithin s (Some t) v = FirstWithin s t v
+ReturnedWithin s (Some t) v = FirstWithin s t v × (is_anonymous (full s.table t) ≡ true → FirstIsSource s v)
 ReturnedWithin s None v = Within s v
 
 -- Those within the expressions of a step.

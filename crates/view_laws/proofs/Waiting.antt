@@ -81,9 +81,9 @@ module _ (table : Table) (typed : TypedProgram) (effects : Effects) (given : IsV
 
     lone_there : (p : NamedPoint) → Has named.points p → IsLone Any Lasts p
     lone_there p there =
-        package_lone (unnumbered own) given.order.first Any Any Any Lasts (λ n any. any)
+        package_lone (unnumbered own) given.order.first Any Any Any Any Lasts (λ n any. any) (λ n any. any)
         (λ r at n a t is any. absurd (valued.no_call table typed effects given named e r (in_points r at) n a (Some t) is))
-        (λ r at t v op is. absurd (no_evaluate r (in_points r at) t v op is)) (code_all Any Any Any (λ n any. any) (λ n. tt) given.order.first.body)
+        (λ r at t v op is. absurd (no_evaluate r (in_points r at) t v op is)) (code_all Any Any Any Any (λ n any. any) (λ n any. any) (λ n. tt) given.order.first.body)
         (λ x object. valued.text_object table typed effects given x
         ((given.order.bodies given.order.first (subst (λ subs. Has subs given.order.first) (sym given.order.subs) (inl refl))).numbered x object).1)
         p (subst (λ (z : NamedSub). Has z.points p) (sym e) there)
@@ -118,8 +118,8 @@ module _ (table : Table) (typed : TypedProgram) (effects : Effects) (given : IsV
 
     body_lone : (p : NamedPoint) → Has named.points p → IsLone (valued.Single table typed effects given) IsPlain p
     body_lone p there =
-        sub_lone (setting_from own body.2 body.0) body.0 (valued.Asked table typed effects given) (valued.May table typed effects given) (valued.Single table typed effects given) IsPlain
-        (valued.weaker table typed effects given)
+        sub_lone (setting_from own body.2 body.0) body.0 (valued.Asked table typed effects given) (valued.Passed table typed effects given) (valued.May table typed effects given) (valued.Single table typed effects given) IsPlain
+        (valued.weaker table typed effects given) (valued.wider table typed effects given)
         (λ r at n a t is may temporary.
         (let found = valued.call_type table typed effects given named has inside r (valued.in_points table typed effects given named has inside r at) n a t is in
         (λ j. is_anonymous (full (alike.table j) (found.2 j))) ∙ may found.0 found.1))

@@ -15,7 +15,14 @@ use Rattle.soundness.specs.Seen.{word_in, content, seen, home}
 use Rattle.soundness.proofs.Contents.{word_part, word_root}
 use Rattle.soundness.specs.Sound.{AreStages}
 use Rattle.owned_loans.specs.Views.{Views, AreClear, AreViews, expand}
-use Rattle.owned_loans.proofs.Safe.{clean_name}
+use Rattle.owned_loans.proofs.Meeting.{Lends, meeting}
+use Rattle.owned_loans.proofs.Ways.{Meet, flip, meet_overlaps, under_on}
+use Rattle.owned_loans.specs.Views.{AreShared, HasLoan}
+use Rattle.owned_ways.proofs.Named.{longer}
+use Rattle.place_names.specs.declared.rule.Loan.{Loan}
+use Rattle.place_names.specs.declared.fact.Fact.TheVariants.{Moved, Lent}
+use Rattle.place_names.specs.Names.{Name as PlaceName}
+use Rattle.std.proofs.Common.{None}
 use Rattle.exact_facts.proofs.Steps.{under_covers}
 use Rattle.viewed_steps.specs.Sound.{ViewStage, stages_of, Lies}
 use Rattle.viewed_steps.specs.Taken.{TakenBy, AreCarried, IsPassedOn, AreTaken, Lodge, IsTakenIn}
@@ -139,13 +146,50 @@ passed_of s cells m depth facts scope (r ∷ rest) (k ∷ ways) (inr (one, apart
 
 module _ (s : Typing) (settled : IsSettled s.table) (cells : List Lodge) (depth : ℕ) (facts : List Fact) (scope : List ℕ) (r : Return) (to : Way)
     (passed : IsPassedOn s cells depth facts scope r.formal r.to to) where
-  -- nothing is there that the frame moved, by a name without an element
-  pub passed_clean : (v : Views) (view : View) → ((x : ℕ) (w : Way) → v.way x ≡ Some w → is_view s x ≡ true) → AreViews (home s depth) (sees_only s) v view facts → AreClear (sees_only s) facts
+  -- Nothing is there that the frame moved, by a name without an element. What others have lent has other roots than the place,
+  -- and than what the frame moved or borrowed.
+  pub passed_clean : (v : Views) (view : View) → ((x : ℕ) (w : Way) → v.way x ≡ Some w → is_view s x ≡ true)
+      → (views : AreViews (home s depth) (sees_only s) v view facts) → AreClear (sees_only s) facts
+      → (lent : Loan → PlaceName → Type 0) → ((l : Loan) (n : PlaceName) → lent l n → v.way n.root ≡ None) → AreShared (home s depth) (sees_only s) lent v
+      → ((n : PlaceName) → lent Borrowed n → n.root ≡ number_of to → ⊥)
+      → ((m : PlaceName) → Has facts (Moved m) → (n : PlaceName) → lent Borrowed n → m.root ≡ n.root → ⊥)
+      → ((b : ℕ) (m : PlaceName) → Has facts (Lent Borrowed b m) → (n : PlaceName) → lent Borrowed n → m.root ≡ n.root → ⊥)
       → (w : Way) → IsDefiniteBy (home s depth) v facts w → Under to w → ⊥
-  passed_clean v view only views clear w (m, moved, plain, same) under =
-      clean_name (home s depth) (sees_only s) v view facts views clear to m (
+  passed_clean v view only views clear lent none shown spared own_moved own_borrowed w (m, moved, plain, same) under =
+      elim (meeting (home s depth) (sees_only s) v view facts views lent none shown to m (
         inside_named s settled depth r.to to passed.inside,
         ap (sees_only s) (inside_number s settled depth r.to to passed.inside)
             ∙ owner_sees s (passed.inside).object (inside_plain s settled depth r.to to passed.inside) (passed.inside).owner,
-      ) (λ h n has over. passed.unlent Borrowed h n has over) moved (λ below. passed.cleared (name_of m) moved.1 (under_covers to m below plain))
-      (subst (λ z. Under z (expand v m)) (sym (inside_itself s settled depth r.to to passed.inside v only)) (subst (Under to) (sym same) under))
+      ) (moved.0, clear.owned (name_of m) moved.1)
+      (subst (λ z. Under z (expand v m)) (sym (inside_itself s settled depth r.to to passed.inside v only)) (subst (Under to) (sym same) under))) [
+        | inl below ↦ passed.cleared (name_of m) moved.1 (under_covers to m below plain)
+        | inr more ↦ elim more [
+          | inl a ↦ clear.moved Borrowed a.object (name_of m) (name_of (v.loan a.object)) moved.1 (loan_there a.object a.lends)
+              (meet_overlaps m (v.loan a.object) (inr (under_on (v.loan a.object) a.name m a.loan a.begins)))
+          | inr more ↦ elim more [
+            | inl b ↦ passed.unlent Borrowed b.object (name_of (v.loan b.object)) (loan_there b.object b.lends)
+                (meet_overlaps (v.loan b.object) to (flip to (v.loan b.object) b.meets))
+            | inr loans ↦ elim loans [
+              | inl c ↦ clear.lent c.one c.two (name_of (v.loan c.one)) (name_of (v.loan c.two)) (loan_there c.one c.lends) (loan_there c.two c.lent)
+                  c.differ (meet_overlaps (v.loan c.one) (v.loan c.two) c.meets)
+              | inr lone ↦ elim lone [
+                | inl l ↦ elim l.meets [
+                  | inl meets ↦ spared (name_of l.place) l.lent_it (sym (met_root to l.place meets))
+                  | inr (b, lends, meets) ↦ own_borrowed b (name_of (v.loan b)) (loan_there b lends) (name_of l.place) l.lent_it (met_root (v.loan b) l.place meets)
+                ]
+                | inr l ↦ elim l.meets [
+                  | inl meets ↦ own_moved (name_of m) moved.1 (name_of l.place) l.lent_it (met_root m l.place meets)
+                  | inr (b, lends, meets) ↦ own_borrowed b (name_of (v.loan b)) (loan_there b lends) (name_of l.place) l.lent_it (met_root (v.loan b) l.place meets)
+                ]
+              ]
+            ]
+          ]
+        ]
+      ]
+    where
+      loan_there : (b : ℕ) → Lends (home s depth) (sees_only s) v view facts views b → Has facts (Lent Borrowed b (name_of (v.loan b)))
+      loan_there b l = subst (λ z. HasLoan (sees_only s) z b facts (name_of (v.loan b))) l.2 l.3.lent
+
+      met_root : (a b : Way) → Meet a b → number_of a ≡ number_of b
+      met_root a b (inl under) = sym (longer a b under).root
+      met_root a b (inr under) = (longer b a under).root

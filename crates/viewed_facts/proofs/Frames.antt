@@ -40,7 +40,7 @@ module _ (table : Table) (typed : TypedProgram) (effects : Effects)
   IsDefiniteHere depth v own older w =
       IsDefiniteBy (home (flow_typing (flow_program table typed)) depth) v own w ⊎ IsDefiniteOf (flow_program table typed) effects older w
 
-  module _ (state : State) (depth : ℕ) (older : List ViewStage) (between : (g : ViewStage) → Has older g → StandsBetween table typed effects unmoved local state depth g)
+  module _ (state : State) (depth : ℕ) (older : List ViewStage) (between : (g : ViewStage) → Has older g → StandsBetween table typed effects unmoved local state depth older g)
       (v : Views) (own_views : (x : ℕ) (w : Way) → v.way x ≡ Some w → is_package_object s x ≡ false) where
     -- what they have moved of their own, or through a place of a package object that they have borrowed
     abbrev pub elsewhere : Way → Type 0

@@ -23,8 +23,8 @@ use Rattle.soundness.specs.Seen.{home, seen}
 use Rattle.soundness.specs.Typed.{Kept}
 use Rattle.soundness.specs.Sound.{Stage, facts_of, AreStages, IsRunnable, InScope, IsNamedSub, IsAtPoint, IsNoCall, IsOnward, view_of as view_here}
 use Rattle.soundness.proofs.Points.{sub_there}
-use Rattle.owned_loans.specs.Views.{known_gone, Views, Viewed, expand}
-use Rattle.viewed_steps.specs.Sound.{ArePast, IsResting, HoldsAt, ArePlaced, NoneAbove, ViewStage, stages_of, GoneElsewhere, AreWaiting, IsRunning, AreTurned, AreLeft, Follows, steps_on, leaves_scope, begins_main, returns_one, calls_one, ends_one, LeadsAlong, IsSound, HasTraversals, loan_by, IsWaiting}
+use Rattle.owned_loans.specs.Views.{known_gone, Views, expand, ViewedAlone}
+use Rattle.viewed_steps.specs.Sound.{IsBeyond, IsResting, HoldsAt, ArePlaced, NoneAbove, ViewStage, stages_of, GoneElsewhere, AreWaiting, IsRunning, AreTurned, AreLeft, Follows, steps_on, leaves_scope, begins_main, returns_one, calls_one, ends_one, LeadsAlong, IsSound, HasTraversals, loan_by, IsWaiting, LentBy}
 use Rattle.viewed_steps.specs.Awaited.{AreAwaited, lasting_of}
 use Rattle.viewed_steps.specs.Ready.{IsReady}
 use Rattle.viewed_steps.proofs.Waiting.{StandsBetween, all_between, gone_low, unused_there}
@@ -35,7 +35,10 @@ use Rattle.viewed_facts.specs.Exact.{IsDefiniteBy, IsDefiniteOf, LeadsExactly, S
 use Rattle.owned_ways.proofs.Named.{longer}
 use Rattle.owned_loans.proofs.Meeting.{stands}
 use Rattle.viewed_steps.proofs.Views.{same_lies, base_named}
-use Rattle.viewed_facts.proofs.Calls.{carried_told, lies_low, lower, passed_of, passed_clean}
+use Rattle.viewed_facts.proofs.Calls.{carried_told, lies_low, passed_of, passed_clean}
+use Rattle.viewed_steps.proofs.Handed.{AreApart, apart_of}
+use Rattle.std.proofs.Common.{Option, None}
+use Rattle.place_names.specs.declared.rule.Loan.TheVariants.{Borrowed}
 use Rattle.viewed_steps.specs.Taken.{AreCarried, Lodge, IsTakenIn}
 use Rattle.viewed_facts.proofs.Frames.{IsDefiniteHere}
 use Rattle.viewed_facts.proofs.Told.{told_next}
@@ -63,8 +66,8 @@ module _ (table : Table) (typed : TypedProgram) (effects : Effects) (input : Lis
   abbrev unmoved_stage : (e : Stage) → e.frame.sub ≡ 0 → (name : PlaceName) → Has (facts_of program effects e) (Moved name) → ⊥
   unmoved_stage = packages.unmoved_stage table typed effects input ready
 
-  abbrev Between : State → ℕ → ViewStage → Type 0
-  Between state depth g = StandsBetween table typed effects unmoved_stage local state depth g
+  abbrev Between : State → ℕ → List ViewStage → ViewStage → Type 0
+  Between state depth older g = StandsBetween table typed effects unmoved_stage local state depth older g
 
   abbrev Definite : ViewStage → Way → Type 0
   Definite g w = IsDefiniteBy (home s g.stage.depth) g.views (facts_of program effects g.stage) w
@@ -113,7 +116,7 @@ module _ (table : Table) (typed : TypedProgram) (effects : Effects) (input : Lis
   gone_by g stages has w d = (g, has, inl (d.0, d.1, d.3))
 
   told_ended : (state : State) (depth : ℕ) (n : Memory) (cells : List Lodge)
-      → ((c : Lodge) → Has cells c → Reaches (view_here s state) c.way (OfCell c.cell)) → Owned (view_here s state) → (ways : List Way) (stages : List ViewStage) → ((g : ViewStage) → Has stages g → Between state depth g)
+      → ((c : Lodge) → Has cells c → Reaches (view_here s state) c.way (OfCell c.cell)) → Owned (view_here s state) → (ways : List Way) (stages : List ViewStage) → ((g : ViewStage) → Has stages g → Between state depth stages g)
       → ((g : ViewStage) → Has stages g → (w : Way) → Definite g w → (to : Way) → Has ways to → Under to w → ⊥)
       → AreCarried s (λ f. f ≡ depth → ⊥) cells ways state.memory n → AllTold state.memory stages → AllTold n stages
   told_ended state depth n cells kept owned ways stages between off carried told =
@@ -144,11 +147,13 @@ module _ (table : Table) (typed : TypedProgram) (effects : Effects) (input : Lis
       (IsNoCall i × (i ≡ Finish → ⊥) × ((y : ℕ) → i ≡ EndScope y → ⊥) × AreTurned i before later) ⊎ ((y : ℕ) × (i ≡ EndScope y) × AreLeft (home s depth) y before later)
 
   module _ (i : Instruction) (state after_step : State) (top : ViewStage) (older : List ViewStage) (packages_first : older ≡ [] → top.stage.frame.sub ≡ 0)
-      (between : (g : ViewStage) → Has older g → StandsBetween table typed effects unmoved_stage local state top.stage.depth g)
+      (between : (g : ViewStage) → Has older g → StandsBetween table typed effects unmoved_stage local state top.stage.depth older g)
       (top_low : (w : Way) → IsDefiniteBy (home (flow_typing (flow_program table typed)) top.stage.depth) top.views (facts_of (flow_program table typed) effects top.stage) w
       → (f : ℕ) × (x : ℕ) × (base_of w ≡ OfRoot (OfVariable f x)) × (f < suc top.stage.depth))
       (around_clear : (next : ViewStage) (around : List ViewStage) → older ≡ next ∷ around → (to : Way) → Has next.stage.returns to
       → (w : Way) → GoneElsewhere (flow_program table typed) effects around w → Under to w → ⊥)
+      (own_clear : (next : ViewStage) (around : List ViewStage) → older ≡ next ∷ around → (to : Way) → Has next.stage.returns to
+      → (w : Way) → IsDefiniteBy (home (flow_typing (flow_program table typed)) next.stage.depth) next.views (facts_of (flow_program table typed) effects next.stage) w → Under to w → ⊥)
       (owned : Owned (view_here (flow_typing (flow_program table typed)) state))
       (told : Told (seen (flow_typing (flow_program table typed)) state.memory [] []) (IsDefiniteOf (flow_program table typed) effects (top ∷ older)))
       (next : ViewStage) (around : List ViewStage)
@@ -169,23 +174,15 @@ module _ (table : Table) (typed : TypedProgram) (effects : Effects) (input : Lis
         → Reaches (view_here s state) c.way (OfCell c.cell)
     kept_cells cells same c has = elim (between (with_cells cells) (subst (λ gs. Has gs (with_cells cells)) (sym same) (inl refl))) [
       | inl first ↦ absurd (subst (λ z. Has z c) first.4 has)
-      | inr (some, less, callee, backs, waits) ↦ (waits.kept c has).reaches
+      | inr (some, less, callee, backs, waits, shared) ↦ (waits.kept c has).reaches
     ]
 
     -- what the frames moved is in no place that the call took
     off_places : (cells : List Lodge) → older ≡ record { stage = next.stage; views = next.views; cells = cells } ∷ around → (g : ViewStage) → Has older g
         → (w : Way) → Definite g w → (to : Way) → Has next.stage.returns to → Under to w → ⊥
-    off_places cells same g has w definite to there under = elim (between (with_cells cells) (subst (λ gs. Has gs (with_cells cells)) (sym same) (inl refl))) [
-      | inl first ↦ subst (λ z. Has z to) (first.1).2 there
-      | inr (some, less, callee, backs, waits) ↦ elim (subst (λ gs. Has gs g) same has) [
-        | inl is ↦ (
-            let passed = passed_of s cells state.memory next.stage.depth (facts_of program effects next.stage) (lasting_of s waits.point.scope) backs next.stage.returns waits.taken to there in
-            let own : Definite next w = same_stage (with_cells cells) g is w definite in
-            passed_clean s ready.accepted.settled cells next.stage.depth (facts_of program effects next.stage) (lasting_of s waits.point.scope) passed.0 to passed.1 next.views (view_here s state) waits.holds.only
-            waits.views waits.clear w own under)
-        | inr other ↦
-            around_clear (with_cells cells) around same to there w (gone_by g around other w definite) under
-      ]
+    off_places cells same g has w definite to there under = elim (subst (λ gs. Has gs g) same has) [
+      | inl is ↦ own_clear (with_cells cells) around same to there w (same_stage (with_cells cells) g is w definite) under
+      | inr other ↦ around_clear (with_cells cells) around same to there w (gone_by g around other w definite) under
     ]
 
     onward_told : IsOnward top.stage next.stage → Stays top.stage.depth i top.views next.views → around ≡ older → AllTold after_step.memory (next ∷ around)
@@ -255,71 +252,108 @@ module _ (table : Table) (typed : TypedProgram) (effects : Effects) (input : Lis
   packages_of state top views (below ∷ more) running none = cc
 
   between_of : (state : State) (top : Stage) (views : Views) (older : List ViewStage) (fs : List Frame) → AreStages (top ∷ stages_of older) fs
-      → IsRunning table typed effects state (record { stage = top; views = views; cells = [] }) older → (g : ViewStage) → Has older g → Between state top.depth g
+      → IsRunning table typed effects state (record { stage = top; views = views; cells = [] }) older → (g : ViewStage) → Has older g → Between state top.depth older g
   between_of state top views older [] stages running g has = absurd stages
   between_of state top views [] (f ∷ outer) stages running g has = absurd has
   between_of state top views (below ∷ more) (f ∷ outer) stages running g has =
       all_between table typed effects unmoved_stage local state top.frame.sub top.depth top.frame.returns (below ∷ more) outer stages.2
       (let deep = stages.1 in omega (arith, deep)) running.2 g has
 
-  lower_of : (top : Stage) (older : List ViewStage) (fs : List Frame) → AreStages (top ∷ stages_of older) fs → (next : ViewStage) (around : List ViewStage)
-      → older ≡ next ∷ around → (g : ViewStage) → Has around g → g.stage.depth < next.stage.depth
-  lower_of top older [] stages next around same g has = absurd stages
-  lower_of top older (f ∷ outer) (frame, deep, others) next around same g has =
-      below outer (subst (λ gs. AreStages (stages_of gs) outer) same others)
-    where
-      below : (outer : List Frame) → AreStages (stages_of (next ∷ around)) outer → g.stage.depth < next.stage.depth
-      below [] stages = absurd stages
-      below (h ∷ rest) (frame, deep, others) = (let less = lower around rest others g has in omega (arith, less, deep))
+  -- ---- the places that were taken from a frame that waits
 
-  -- what is gone for the frames around the one that waits is in no place that was taken from it
+  module _ (state : State) (callee : ℕ) (backs : List Return) (next h : ViewStage) (others : List ViewStage) (rest : List Frame) (deep : next.stage.depth ≡ length rest)
+      (stages : AreStages (stages_of (h ∷ others)) rest) (waiting : AreWaiting table typed effects state callee backs (next ∷ (h ∷ others))) where
+    abbrev waits : IsWaiting table typed effects state callee backs next
+    waits = waiting.0
+
+    abbrev low : ℕ
+    low = next.stage.depth
+
+    abbrev their_facts : List Fact
+    their_facts = facts_of program effects next.stage
+
+    between_low : (g : ViewStage) → Has (h ∷ others) g → Between state low (h ∷ others) g
+    between_low g has =
+        all_between table typed effects unmoved_stage local state next.stage.frame.sub low next.stage.frame.returns (h ∷ others) rest stages
+        (let same = deep in omega (arith, same)) waiting.1 g has
+
+    homed : (to : Way) → Has next.stage.returns to → IsHomed s low to
+    homed to has = taken_from s next.cells state.memory low their_facts (lasting_of s waits.point.scope) backs next.stage.returns waits.taken to has
+
+    rooted_there : (to : Way) (has : Has next.stage.returns to) → number_of to ≡ (homed to has).1
+    rooted_there to has =
+        let at : base_of to ≡ OfRoot (OfVariable (home s low (homed to has).1) (homed to has).1) =
+        (homed to has).2 ∙ ap (λ f. OfRoot (OfVariable f (homed to has).1)) (homed to has).3 in
+        number_based (home s low) to (homed to has).1 (base_named (home s low) to (homed to has).1 at) at
+
+    -- the frame writes these objects, so the others keep nothing of them
+    spared_to : (to : Way) (has : Has next.stage.returns to) → IsSpared table typed effects unmoved_stage local state low (h ∷ others) between_low (homed to has).1
+    spared_to to has l name lent root =
+        let number = rooted_there to has in
+        let (g, there, some_there, f, keeps, shared, kind, name_is) = lent in
+        let written = waits.written (number_of to) (taken_passed next to has) (ap (is_package_object s) (number ∙ sym root) ∙ shared) in
+        kept_there table typed effects ready.accepted.effects_are (unused_there table typed effects unmoved_stage local) state next.stage.frame.sub next.stage.frame.returns
+        (h ∷ others) waiting.1 g there some_there f keeps (ap (λ (z : PlaceName). is_package_object s z.root) name_is ∙ shared)
+        (written_disturbs table typed effects ready.accepted.effects_are (loan_by f) next.stage.frame.sub (place f).root
+        (subst (Has (written_by effects next.stage.frame.sub)) (number ∙ sym root ∙ ap (λ (z : PlaceName). z.root) (sym name_is)) written))
+
+    -- what is gone for the frames around it is in no such place
+    others_clear : (to : Way) → Has next.stage.returns to → (w : Way) → GoneElsewhere program effects (h ∷ others) w → Under to w → ⊥
+    others_clear to has w gone under =
+        gone_clear table typed effects unmoved_stage local state low (h ∷ others) between_low to (homed to has) (spared_to to has) w gone (base_under to w under)
+
+    -- nor is what it moved itself
+    mine_clear : (to : Way) → Has next.stage.returns to → (w : Way) → Definite next w → Under to w → ⊥
+    mine_clear to has w definite under =
+        let passed = passed_of s next.cells state.memory low their_facts (lasting_of s waits.point.scope) backs next.stage.returns waits.taken to has in
+        passed_clean s ready.accepted.settled next.cells low their_facts (lasting_of s waits.point.scope) passed.0 to passed.1 next.views (view_here s state) waits.holds.only
+        waits.views waits.clear (LentBy program effects (h ∷ others)) (λ l n lent. no_way n.root lent.5 (next.views.way n.root) refl) (waiting.3).1
+        (λ n lent root. spared_to to has Borrowed n lent (root ∙ rooted_there to has))
+        (λ m moved n lent root. apart.own_moved m moved Borrowed n lent root)
+        (λ b m lends n lent root. apart.own_borrowed b m lends Borrowed n lent root) w definite under
+      where
+        apart : AreApart table typed effects unmoved_stage local state low (h ∷ others) between_low their_facts
+        apart = apart_of table typed effects unmoved_stage local state low (h ∷ others) between_low ready.accepted.effects_are next.stage waits.named waits.of_sub next.stage.frame.returns waiting.1
+
+        no_way : (x : ℕ) → is_package_object s x ≡ true → (o : Option Way) → next.views.way x ≡ o → next.views.way x ≡ None
+        no_way x shared None is = is
+        no_way x shared (Some w) is = (let no : true ≡ false = sym shared ∙ local x (waits.holds.only x w is) in cc)
+
+  -- of the frame that the innermost one returns to
   clear_around : (state : State) (top : Stage) (views : Views) (older : List ViewStage) (fs : List Frame) → AreStages (top ∷ stages_of older) fs
       → IsRunning table typed effects state (record { stage = top; views = views; cells = [] }) older → (next : ViewStage) (around : List ViewStage) → older ≡ next ∷ around
       → (to : Way) → Has next.stage.returns to → (w : Way) → GoneElsewhere program effects around w → Under to w → ⊥
-  clear_around state top views [] fs stages running next around same to has w gone under = cc
-  clear_around state top views (below ∷ more) fs stages running next [] same to has w (g, none, gone) under = none
-  clear_around state top views (below ∷ more) fs stages running next (h ∷ others) same to has w gone under =
-      elim (between next (inl (sym head))) [
-        | inl first ↦ subst (λ z. Has z to) (first.1).2 has
-        | inr (some, less, callee, backs, waits) ↦ whole backs (callee, waits)
-      ]
+  clear_around state top views older fs stages running next [] same to has w (g, none, gone) under = none
+  clear_around state top views older fs stages running next (h ∷ others) same to has w gone under =
+      by_frames fs (subst (λ gs. AreStages (top ∷ stages_of gs) fs) same stages)
     where
-      between : (g : ViewStage) → Has (below ∷ more) g → Between state top.depth g
-      between = between_of state top views (below ∷ more) fs stages running
-
-      head : next ≡ below
-      head = cc
-
-      rest_is : more ≡ h ∷ others
-      rest_is = cc
-
       waiting : AreWaiting table typed effects state top.frame.sub top.frame.returns (next ∷ (h ∷ others))
-      waiting = subst (AreWaiting table typed effects state top.frame.sub top.frame.returns) same running.2
+      waiting = (subst (IsRunning table typed effects state (record { stage = top; views = views; cells = [] })) same running).2
 
-      between_low : (g : ViewStage) → Has (h ∷ others) g → Between state next.stage.depth g
-      between_low g there = elim (between g (inr (subst (λ gs. Has gs g) (sym rest_is) there))) [
-        | inl first ↦ inl first
-        | inr (some, less, callee, backs, waits) ↦ inr (some, lower_of top (below ∷ more) fs stages next (h ∷ others) same g there, callee, backs, waits)
-      ]
+      by_frames : (fs : List Frame) → AreStages (top ∷ stages_of (next ∷ (h ∷ others))) fs → ⊥
+      by_frames [] there = there
+      by_frames (f ∷ []) there = there.2
+      by_frames (f ∷ (b ∷ rest)) (frame, deep, (frame_below, deep_below, around_there)) =
+          others_clear state top.frame.sub top.frame.returns next h others rest deep_below around_there waiting to has w gone under
 
-      whole : (backs : List Return) → (callee : ℕ) × IsWaiting table typed effects state callee backs next → ⊥
-      whole backs (callee, waits) =
-          gone_clear table typed effects unmoved_stage local state next.stage.depth (h ∷ others) between_low to homed spared_to w gone (base_under to w under)
-        where
-          homed : IsHomed s next.stage.depth to
-          homed = taken_from s next.cells state.memory next.stage.depth (facts_of program effects next.stage) (lasting_of s waits.point.scope) backs next.stage.returns waits.taken to has
+  clear_own : (state : State) (top : Stage) (views : Views) (older : List ViewStage) (fs : List Frame) → AreStages (top ∷ stages_of older) fs
+      → IsRunning table typed effects state (record { stage = top; views = views; cells = [] }) older → (next : ViewStage) (around : List ViewStage) → older ≡ next ∷ around
+      → (to : Way) → Has next.stage.returns to → (w : Way) → Definite next w → Under to w → ⊥
+  clear_own state top views older fs stages running next [] same to has w definite under =
+      let waiting : AreWaiting table typed effects state top.frame.sub top.frame.returns (next ∷ []) =
+      (subst (IsRunning table typed effects state (record { stage = top; views = views; cells = [] })) same running).2 in
+      subst (λ z. Has z to) (((waiting.0).1).2) has
+  clear_own state top views older fs stages running next (h ∷ others) same to has w definite under =
+      by_frames fs (subst (λ gs. AreStages (top ∷ stages_of gs) fs) same stages)
+    where
+      waiting : AreWaiting table typed effects state top.frame.sub top.frame.returns (next ∷ (h ∷ others))
+      waiting = (subst (IsRunning table typed effects state (record { stage = top; views = views; cells = [] })) same running).2
 
-          spared_to : IsSpared table typed effects unmoved_stage local state next.stage.depth (h ∷ others) between_low homed.1
-          spared_to l name lent root =
-              let at : base_of to ≡ OfRoot (OfVariable (home s next.stage.depth homed.1) homed.1) =
-              homed.2 ∙ ap (λ f. OfRoot (OfVariable f homed.1)) homed.3 in
-              let number : number_of to ≡ homed.1 = number_based (home s next.stage.depth) to homed.1 (base_named (home s next.stage.depth) to homed.1 at) at in
-              let (g, there, some_there, f, keeps, shared, kind, name_is) = lent in
-              let written = waits.written (number_of to) (taken_passed next to has) (ap (is_package_object s) (number ∙ sym root) ∙ shared) in
-              kept_there table typed effects ready.accepted.effects_are (unused_there table typed effects unmoved_stage local) state next.stage.frame.sub next.stage.frame.returns
-              (h ∷ others) waiting.1 g there some_there f keeps (ap (λ (z : PlaceName). is_package_object s z.root) name_is ∙ shared)
-              (written_disturbs table typed effects ready.accepted.effects_are (loan_by f) next.stage.frame.sub (place f).root
-              (subst (Has (written_by effects next.stage.frame.sub)) (number ∙ sym root ∙ ap (λ (z : PlaceName). z.root) (sym name_is)) written))
+      by_frames : (fs : List Frame) → AreStages (top ∷ stages_of (next ∷ (h ∷ others))) fs → ⊥
+      by_frames [] there = there
+      by_frames (f ∷ []) there = there.2
+      by_frames (f ∷ (b ∷ rest)) (frame, deep, (frame_below, deep_below, around_there)) =
+          mine_clear state top.frame.sub top.frame.returns next h others rest deep_below around_there waiting to has w definite under
 
   none_then : (top : Stage) → top.frame.sub ≡ 0 → (v : Views) (w : Way) → Here top.depth v (facts_then top) [] w → ⊥
   none_then top first v w (inr (g, has, definite)) = has
@@ -339,10 +373,10 @@ module _ (table : Table) (typed : TypedProgram) (effects : Effects) (input : Lis
       (awaiting : AreAwaited table typed None (top ∷ stages_of (below ∷ more_frames)))
       (of_sub : IsNamedSub (flow_named table typed) top.frame.sub named) (at_point : IsAtPoint named.points top.frame.next p)
       (path : ControlPath (path_points program effects (sub_of program top.frame.sub)) top.before top.frame.next) (views : Views)
-      (viewed_before : Viewed (home s (suc (length rest))) (sees_only s) (known_gone (home s (suc (length rest))) (GoneElsewhere program effects (below ∷ more_frames))) views
+      (viewed_before : ViewedAlone (home s (suc (length rest))) (sees_only s) (known_gone (home s (suc (length rest))) (GoneElsewhere program effects (below ∷ more_frames))) views
       (view_here s state) (facts_of program effects top))
       (kept : Kept s state.memory (waiting_in state)) (scope : InScope s state.memory (suc (length rest)) (lasting_of s p.scope)) (holds : HoldsAt s (suc (length rest)) views state.memory p)
-      (placed_before : ArePlaced program (suc (length rest)) (facts_of program effects top) views p.scope × ArePast s (suc (length rest)) views (below ∷ more_frames)) (above : NoneAbove s (suc (length rest)) state.memory
+      (placed_before : ArePlaced program (suc (length rest)) (facts_of program effects top) views p.scope × IsBeyond program effects (suc (length rest)) views (below ∷ more_frames)) (above : NoneAbove s (suc (length rest)) state.memory
       × HasTraversals table typed (view_here s state) (record { stage = top; views = views; cells = [] } ∷ (below ∷ more_frames)))
       (exact_before : Told (seen s state.memory [] []) (IsDefiniteOf program effects (record { stage = top; views = views; cells = [] } ∷ (below ∷ more_frames)))) where
     main_told : (next : State) → step program input state ≡ Goes next → (later : Views) → AreClearThen top later → Stays (suc (length rest)) p.instr views later
@@ -360,10 +394,10 @@ module _ (table : Table) (typed : TypedProgram) (effects : Effects) (input : Lis
   step_told : (state : State) (top : Stage) (views : Views) (older : List ViewStage) (fs : List Frame) → state.frames ≡ fs → AreStages (top ∷ stages_of older) fs
       → IsRunning table typed effects state (record { stage = top; views = views; cells = [] }) older → AreAwaited table typed None (top ∷ stages_of older)
       → ControlPath (path_points program effects (sub_of program top.frame.sub)) top.before top.frame.next
-      → Viewed (home s top.depth) (sees_only s) (known_gone (home s top.depth) (GoneElsewhere program effects older)) views (view_here s state) (facts_of program effects top)
+      → ViewedAlone (home s top.depth) (sees_only s) (known_gone (home s top.depth) (GoneElsewhere program effects older)) views (view_here s state) (facts_of program effects top)
       → Kept s state.memory (waiting_in state)
       → (named : NamedSub) → IsNamedSub (flow_named table typed) top.frame.sub named → (p : NamedPoint) → IsAtPoint named.points top.frame.next p
-      → InScope s state.memory top.depth (lasting_of s p.scope) → HoldsAt s top.depth views state.memory p → ArePlaced program top.depth (facts_of program effects top) views p.scope × ArePast s top.depth views older
+      → InScope s state.memory top.depth (lasting_of s p.scope) → HoldsAt s top.depth views state.memory p → ArePlaced program top.depth (facts_of program effects top) views p.scope × IsBeyond program effects top.depth views older
       → NoneAbove s top.depth state.memory × HasTraversals table typed (view_here s state) (record { stage = top; views = views; cells = [] } ∷ older)
       → Told (seen s state.memory [] []) (IsDefiniteOf program effects (record { stage = top; views = views; cells = [] } ∷ older))
       → (next : State) → step program input state ≡ Goes next → (later : Views) → AreClearThen top later → Stays top.depth p.instr views later
@@ -374,9 +408,9 @@ module _ (table : Table) (typed : TypedProgram) (effects : Effects) (input : Lis
       next goes later clear stays =
       subst (λ d. Told (seen s next.memory [] []) (Here d later (facts_then top) (below ∷ more))) (sym deep)
       (main_told state top below more rest named p (is ∙ (λ j. sym frame j ∷ (sym around_frame j ∷ rest))) deep (refl, deeper, others) running awaiting of_sub at_point path views
-      (subst (λ d. Viewed (home s d) (sees_only s) (known_gone (home s d) (GoneElsewhere program effects (below ∷ more))) views (view_here s state) (facts_of program effects top)) deep well) kept
+      (subst (λ d. ViewedAlone (home s d) (sees_only s) (known_gone (home s d) (GoneElsewhere program effects (below ∷ more))) views (view_here s state) (facts_of program effects top)) deep well) kept
       (subst (λ d. InScope s state.memory d (lasting_of s p.scope)) deep scope) (subst (λ d. HoldsAt s d views state.memory p) deep holds)
-      (subst (λ d. ArePlaced program d (facts_of program effects top) views p.scope × ArePast s d views (below ∷ more)) deep there)
+      (subst (λ d. ArePlaced program d (facts_of program effects top) views p.scope × IsBeyond program effects d views (below ∷ more)) deep there)
       (subst (λ d. NoneAbove s d state.memory) deep above.0, above.1) exact next goes later clear (subst (λ d. Stays d p.instr views later) deep stays))
   step_told state top views (below ∷ more) [] is stages running awaiting path well kept named of_sub p at_point scope holds there above exact next goes later clear stays = absurd stages
   step_told state top views (below ∷ more) (f ∷ []) is stages running awaiting path well kept named of_sub p at_point scope holds there above exact next goes later clear stays = absurd stages.2
@@ -389,7 +423,7 @@ module _ (table : Table) (typed : TypedProgram) (effects : Effects) (input : Lis
       (lies_low s sound.top.depth (expand sound.views u)
       (elim (stands (home s sound.top.depth) (sees_only s) sound.views (view_here s state) (facts_of program effects sound.top) sound.viewed.views u
       (moved.0, sound.viewed.clear.owned (name_of u) moved.1)) [
-        | inl own ↦ inl own.0
+        | inl own ↦ inl own.named
         | inr held ↦ same_lies s sound.top.depth (expand sound.views u) held.way (longer held.way (expand sound.views u) held.under).base
             (sound.holds.lies held.object held.way held.has)
       ]))
@@ -406,7 +440,8 @@ module _ (table : Table) (typed : TypedProgram) (effects : Effects) (input : Lis
         follows_told sound.point.instr state after_step (record { stage = sound.top; views = sound.views; cells = [] }) sound.older (packages_of state sound.top sound.views sound.older sound.running)
             (between_of state sound.top sound.views sound.older state.frames sound.stages sound.running)
             (own_low state sound)
-            (clear_around state sound.top sound.views sound.older state.frames sound.stages sound.running) sound.viewed.owned exact (record { stage = (leads.0).top; views = (leads.0).views; cells = [] }) (leads.0).older
+            (clear_around state sound.top sound.views sound.older state.frames sound.stages sound.running)
+            (clear_own state sound.top sound.views sound.older state.frames sound.stages sound.running) sound.viewed.owned exact (record { stage = (leads.0).top; views = (leads.0).views; cells = [] }) (leads.0).older
             (λ on stays. step_told state sound.top sound.views sound.older state.frames refl sound.stages sound.running sound.awaited sound.path sound.viewed sound.kept sound.named sound.of_sub sound.point
             sound.at_point sound.scope sound.holds (sound.placed, sound.past) (sound.none_above, sound.traversals) exact after_step is (leads.0).views (
               (leads.0).holds.only,

@@ -56,6 +56,8 @@ use Rattle.soundness.proofs.Taking.{Takes, takes_as, nothing_more}
 use Rattle.viewed_facts.specs.Exact.{IsDefinite, IsExact}
 use Rattle.viewed_facts.proofs.Steps.{IsAway, definite_variable, told_still, told_fewer, told_turned, IsOthers, of_others}
 use Rattle.viewed_facts.proofs.Memories.{told_seen, exact_from, declared_exact, ended_exact}
+use Rattle.owned_loans.proofs.Ways.{home_or_foreign, under_on}
+use Rattle.place_names.specs.declared.rule.Loan.{Loan}
 use Rattle.viewed_facts.proofs.Evaluated.{ExactTo, checked_exact, exact_on}
 use Rattle.viewed_facts.proofs.Stored.{StoresExact, assigned_exact}
 use Rattle.viewed_facts.proofs.Checks.{place_holds}
@@ -179,29 +181,37 @@ module _ (t : Turn) (settled : IsSettled (typing t).table) (own_law : OwnsByShap
   same_frame : (f x g y : ℕ) → OfRoot (OfVariable f x) ≡ OfRoot (OfVariable g y) → f ≡ g
   same_frame f x g y e = cc
 
+  -- a place that others have lent isn't a part of the variable
+  off_lent : (x : ℕ) (l : Loan) (k w : Way) → Named (home s depth) k → Under k w → other.lent l (way_name k)
+      → ((l : Loan) (name : PlaceName) → other.lent l name → name.root ≡ x → depth ≡ home s depth x → ⊥) → Under (Object (OfVariable depth x)) w → ⊥
+  off_lent x l k w named begins_it lent free under =
+      let begins_there = longer (Object (OfVariable depth x)) w under in
+      let begins_lent = longer k w begins_it in
+      let root : number_of k ≡ x = sym begins_lent.root ∙ begins_there.root in
+      let at_home : home s depth (number_of k) ≡ depth =
+      same_frame (home s depth (number_of k)) (number_of k) depth x (sym (named_base (home s depth) k named) ∙ sym begins_lent.base ∙ begins_there.base) in
+      free l (way_name k) lent root (sym at_home ∙ ap (home s depth) root)
+
   unspoken : (x : ℕ) (facts : List Fact) (z : View) → Viewed (home s depth) (sees_only s) other v z facts → Speaks_not x facts
       → (w : Way) → IsDefinite (home s depth) v elsewhere facts w → Under (Object (OfVariable depth x)) w → ⊥
   unspoken x facts z viewed (unmoved, free) w (inr e) under = elim (away w e.1) [
     | inl far ↦ far.0 (near_under depth (Object (OfVariable depth x)) w under (inr refl))
-    | inr (k, named, begins_it, lent) ↦ (
-        let begins_there = longer (Object (OfVariable depth x)) w under in
-        let begins_lent = longer k w begins_it in
-        let root : number_of k ≡ x = sym begins_lent.root ∙ begins_there.root in
-        let at_home : home s depth (number_of k) ≡ depth =
-        same_frame (home s depth (number_of k)) (number_of k) depth x (sym (named_base (home s depth) k named) ∙ sym begins_lent.base ∙ begins_there.base) in
-        free.1 Borrowed (way_name k) lent root (sym at_home ∙ ap (home s depth) root))
+    | inr away_there ↦ (let (k, named, begins_it, lent) = other.through w away_there in off_lent x Borrowed k w named begins_it lent free.1 under)
   ]
   unspoken x facts z viewed (unmoved, free) w (inl d) under =
       let begins_there = longer (Object (OfVariable depth x)) w under in
       let root : number_of (expand v d.0) ≡ x = ap number_of d.3 ∙ begins_there.root in
       elim (stands (home s depth) (sees_only s) v z facts viewed.views d.0 (d.1.0, viewed.clear.owned (way_name d.0) d.1.1)) [
-        | inr held ↦ (
-            let foreign = held.passed.foreign in
-            (free.0 held.object held.way held.has).0 foreign
-            (same_frame foreign.0 foreign.1 depth x
-            (sym foreign.2 ∙ sym (longer held.way (expand v d.0) held.under).base ∙ ap base_of d.3 ∙ begins_there.base)))
+        | inr held ↦ elim (home_or_foreign (home s depth) held.way held.passed.begins) [
+          | inr foreign ↦ (free.0 held.object held.way held.has).0 foreign
+              (same_frame foreign.0 foreign.1 depth x
+              (sym foreign.2 ∙ sym (longer held.way (expand v d.0) held.under).base ∙ ap base_of d.3 ∙ begins_there.base))
+          | inl at_home ↦ (
+              let (loan, (k, named, begins_it, lent), changed) = viewed.shown held.object held.way held.has held.passed.given at_home in
+              off_lent x loan k w named (subst (Under k) d.3 (under_on k held.way (expand v d.0) begins_it held.under)) lent free.1 under)
+        ]
         | inl own ↦ (
-            let named : Named (home s depth) w = subst (Named (home s depth)) d.3 own.0 in
+            let named : Named (home s depth) w = subst (Named (home s depth)) d.3 own.named in
             let at_home : home s depth x ≡ depth =
             ap (home s depth) (sym begins_there.root)
             ∙ same_frame (home s depth (number_of w)) (number_of w) depth x (sym (named_base (home s depth) w named) ∙ begins_there.base) in

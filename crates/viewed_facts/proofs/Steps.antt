@@ -15,15 +15,15 @@ use Rattle.owned_ways.proofs.Unique.{one_way}
 use Rattle.owned_ways.proofs.Named.{longer}
 use Rattle.owned_ways.proofs.Moving.{Given}
 use Rattle.owned_ways.proofs.Told.{told_after}
-use Rattle.owned_loans.specs.Views.{Go, Part, Down, on, Views, Around, IsThrough, expand, expand_root, Viewed, Becomes, Unused}
+use Rattle.owned_loans.specs.Views.{Go, Part, Down, on, Views, Around, expand, expand_root, Viewed, Becomes, Unused}
 use Rattle.owned_loans.proofs.Others.{below_through}
 use Rattle.place_names.specs.declared.rule.Loan.{Loan}
 use Rattle.flow_paths.specs.Objects.{Typing}
 use Rattle.soundness.specs.Seen.{IsNear, home as frame_home}
 use Rattle.soundness.proofs.Near.{near_under, named_near}
 use Rattle.owned_loans.proofs.Ways.{flip, under_on, meet_overlaps, base_on, on_named, Lifted, lifts, lifted_root, lifted_way}
-use Rattle.owned_loans.proofs.Meeting.{IsPlain, meeting}
-use Rattle.owned_loans.proofs.Safe.{Unborrowed, loan_of, clean_below}
+use Rattle.owned_loans.proofs.Meeting.{IsPlain}
+use Rattle.owned_loans.proofs.Safe.{Unborrowed, loan_of, clean_below, met, no_both, only_itself, lent_fact}
 use Rattle.owned_loans.proofs.Allowed.{move_unlent, move_unmoved, write_unlent, free_unlent}
 use Rattle.owned_loans.proofs.Moves.{expand_along}
 use Rattle.exact_facts.specs.Exact.{IsOfVariable}
@@ -69,17 +69,18 @@ number_there (All w) e = number_there w e
 
 -- ---- one frame
 
--- A way of others begins with no name of the frame and is gone for them, or goes on from a place that they have borrowed.
+-- A way of others begins with no name of the frame and is gone for them, or is gone and goes on from a place that they have
+-- borrowed.
 abbrev pub IsOthers : (home : ℕ → ℕ) → Around home → Way → Type 0
-IsOthers home other w = (((k : Way) → Under k w → Named home k → ⊥) × other.gone w) ⊎ IsThrough home other.lent Borrowed w
+IsOthers home other w = (((k : Way) → Under k w → Named home k → ⊥) × other.gone w) ⊎ other.away w
 
 -- What begins at no variable of a frame and of no package object, or goes on from such a place.
 abbrev pub IsAway : (s : Typing) (depth : ℕ) → Around (frame_home s depth) → Way → Type 0
-IsAway s depth other w = ((IsNear depth w → ⊥) × other.gone w) ⊎ IsThrough (frame_home s depth) other.lent Borrowed w
+IsAway s depth other w = ((IsNear depth w → ⊥) × other.gone w) ⊎ other.away w
 
 pub of_others : (s : Typing) (depth : ℕ) (other : Around (frame_home s depth)) (w : Way) → IsAway s depth other w → IsOthers (frame_home s depth) other w
 of_others s depth other w (inl (far, gone)) = inl ((λ k under named. far (near_under depth k w under (named_near s depth k named))), gone)
-of_others s depth other w (inr through) = inr through
+of_others s depth other w (inr away) = inr away
 
 -- A way that begins at a variable is one of a variable.
 pub based_variable : (w : Way) (f x : ℕ) → base_of w ≡ OfRoot (OfVariable f x) → IsOfVariable w
@@ -130,10 +131,10 @@ module _ (home : ℕ → ℕ) (observer : ℕ → Bool) (other : Around home) (v
       → (w : Way) → Under (expand v k) w → elsewhere w → ⊥
   off_elsewhere s facts viewed k name free w under e = elim (apart w e) [
     | inl far ↦ elim (stands home observer v s facts viewed.views k name) [
-      | inl own ↦ far.0 (expand v k) under own.0
-      | inr held ↦ viewed.whole held.object held.way w held.has held.passed.foreign far.1 (inr (under_on held.way (expand v k) w held.under under))
+      | inl own ↦ far.0 (expand v k) under own.named
+      | inr held ↦ viewed.whole held.object held.way w held.has (inr held.passed.given) far.1 (inr (under_on held.way (expand v k) w held.under under))
     ]
-    | inr (j, named, begins_it, lent) ↦ below_through home observer other v s facts viewed j named lent k w name free begins_it under
+    | inr away ↦ below_through home observer other v s facts viewed w away k name free under
   ]
 
   -- a hand begins none
@@ -146,18 +147,29 @@ module _ (home : ℕ → ℕ) (observer : ℕ → Bool) (other : Around home) (v
       → IsMoved home facts u → Under (expand v k) (expand v u) → Under k u
   begins_name s facts viewed k u plain unborrowed moved under =
       let clear = viewed.clear in
-      elim (meeting home observer v s facts viewed.views k u plain (moved.0, clear.owned (name_of u) moved.1) under) [
+      elim (met home observer other v s facts viewed k u plain (moved.0, clear.owned (name_of u) moved.1) under) [
         | inl below ↦ below
         | inr more ↦ elim more [
           | inl a ↦ absurd (clear.moved Borrowed a.object (name_of u) (name_of (v.loan a.object)) moved.1
-              (loan_of home observer v s facts viewed.views clear a.object a.lends)
+              (loan_of home observer other v s facts viewed a.object a.lends)
               (meet_overlaps u (v.loan a.object) (inr (under_on (v.loan a.object) a.name u a.loan a.begins))))
           | inr more ↦ elim more [
-            | inl b ↦ absurd (unborrowed b.object (name_of (v.loan b.object)) (loan_of home observer v s facts viewed.views clear b.object b.lends)
+            | inl b ↦ absurd (unborrowed b.object (name_of (v.loan b.object)) (loan_of home observer other v s facts viewed b.object b.lends)
                 (meet_overlaps (v.loan b.object) k (flip k (v.loan b.object) b.meets)))
-            | inr c ↦ absurd (clear.lent c.one c.two (name_of (v.loan c.one)) (name_of (v.loan c.two))
-                (loan_of home observer v s facts viewed.views clear c.one c.lends) (loan_of home observer v s facts viewed.views clear c.two c.lent)
-                c.differ (meet_overlaps (v.loan c.one) (v.loan c.two) c.meets))
+            | inr loans ↦ elim loans [
+              | inl both ↦ absurd (no_both home observer other v s facts viewed both)
+              -- nor does one of the two meet a place that others have borrowed
+              | inr lone ↦ elim lone [
+                | inl l ↦ absurd (
+                    let meets = only_itself home observer other v s facts viewed Borrowed l.place k l.lent_it l.meets in
+                    unborrowed (number_of l.place) (name_of l.place) (lent_fact home observer other v s facts viewed Borrowed l.place l.lent_it)
+                    (meet_overlaps l.place k (flip k l.place meets)))
+                | inr l ↦ absurd (
+                    let meets = only_itself home observer other v s facts viewed Borrowed l.place u l.lent_it l.meets in
+                    clear.moved Borrowed (number_of l.place) (name_of u) (name_of l.place) moved.1 (lent_fact home observer other v s facts viewed Borrowed l.place l.lent_it)
+                    (meet_overlaps u l.place meets))
+              ]
+            ]
           ]
         ]
       ]
@@ -213,7 +225,7 @@ module _ (home : ℕ → ℕ) (observer : ℕ → Bool) (other : Around home) (v
     where
       clean : (w : Way) → Under (expand v k) w → Definite facts w → ⊥
       clean w under (inl d) =
-          clean_below home observer v s facts viewed.views viewed.clear k w (named, plain) (λ n m. move_unlent facts k parts allowed Borrowed n m)
+          clean_below home observer other v s facts viewed k w (named, plain) (λ n m. move_unlent facts k parts allowed Borrowed n m)
           (move_unmoved facts k parts allowed) under (d.0, d.1, d.3)
       clean w under (inr e) = off_elsewhere s facts viewed k (named, plain) (λ n m. move_unlent facts k parts allowed Borrowed n m) w under e.1
 
@@ -363,7 +375,8 @@ module _ (home : ℕ → ℕ) (observer : ℕ → Bool) (other : Around home) (v
           stays w l (inr e)
           (λ under. elim (apart w e.1) [
             | inl far ↦ far.0 (place x) under refl
-            | inr (k, named, begins_it, lent) ↦ unlent Borrowed (name_of k) lent (sym (longer k w begins_it).root ∙ (longer (place x) w under).root)
+            | inr away ↦ (let (k, named, begins_it, lent) = other.through w away in
+                unlent Borrowed (name_of k) lent (sym (longer k w begins_it).root ∙ (longer (place x) w under).root))
           ]) reach
       by w l (inl d) reach = elim (fact_before (EndScope x borrower) facts (Moved (name_of d.0)) d.1.1) [
         | inr none ↦ absurd none

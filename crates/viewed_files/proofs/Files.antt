@@ -182,7 +182,7 @@ module _ (files : List (List SourceUnit)) where
 
     -- ---- views
 
-    module _ (main : ℕ) (is_main : (typed_of p).main ≡ Some main) (plain : (x : ℕ) → flow.is_formal (typing_in p) x ≡ true → flow.is_anonymous (flow.view_of (typing_in p) x) ≡ false) where
+    module _ (main : ℕ) (is_main : (typed_of p).main ≡ Some main) where
       orderly : IsOrderly p
       orderly = files_orderly files apart ended up named no_fault files_views main is_main
 
@@ -190,7 +190,6 @@ module _ (files : List (List SourceUnit)) where
       given = record {
         marks = marks;
         formals = orderly.formals;
-        plain = plain;
         written = orderly.written;
         once = orderly.once;
         meant = meant_units;
@@ -203,7 +202,7 @@ module _ (files : List (List SourceUnit)) where
         apart = formals_apart p (IsMade p.units) declared;
       }
 
-      -- Where no formal is of an anonymous access type, borrowers and observers are in order.
+      -- Borrowers and observers are in order.
       pub files_views_in_order : AreViewsInOrder table (typed_of p) (elaboration (site_of (known_of p) p.units) p.units) (bodies_of p)
       files_views_in_order = views_in_order p (IsMade p.units) laws (IsObjectIn (names_known files)) given
 
@@ -216,14 +215,6 @@ module _ (files : List (List SourceUnit)) where
     -- Of the class with formals that own, the program is ready,
     module _ (main : ℕ) (is_main : (typed_of p).main ≡ Some main) (effects : Effects) (are : AreEffects flow_of_files effects) (none : AreReports flow_of_files effects [])
         (calls : CallsWithOwners p) where
-      formals_plain : (x : ℕ) → flow.is_formal (typing_in p) x ≡ true → flow.is_anonymous (flow.view_of (typing_in p) x) ≡ false
-      formals_plain x is = elim (calls.formals x is) [
-        | inl plain ↦ scalar_plain (flow.view_of (typing_in p) x) plain
-        | inr (inl (back, plain)) ↦ plain
-        | inr (inr (inl (shown, access))) ↦ access_plain (flow.view_of (typing_in p) x) access
-        | inr (inr (inr (in_mode, none, plain))) ↦ plain
-      ]
-
       accepted : Accepted table (typed_of p) effects
       accepted = record {
         no_reports = none;
@@ -250,7 +241,7 @@ module _ (files : List (List SourceUnit)) where
       views_here : AreViewsInOrder table (typed_of p) order.first order.rest
       views_here =
           subst (λ first. AreViewsInOrder table (typed_of p) first order.rest) first_is
-          (subst (λ rest. AreViewsInOrder table (typed_of p) (elaboration (site_of (known_of p) p.units) p.units) rest) rest_is (files_views_in_order main is_main formals_plain))
+          (subst (λ rest. AreViewsInOrder table (typed_of p) (elaboration (site_of (known_of p) p.units) p.units) rest) rest_is (files_views_in_order main is_main))
 
       same_table : table ≡ flow_of_files.table
       same_table = sym (flow_table table (typed_of p))
@@ -264,60 +255,215 @@ module _ (files : List (List SourceUnit)) where
       integers : is_scalar (full table integer) ≡ true
       integers = integers_scalar files apart ended up named no_fault files_views
 
+      used : (sub : FlowSub) → Has flow_of_files.subs sub → (q : FlowPoint) → Has sub.points q → IsTypedUse wide sub.result q.instr
+      used = files_used files apart ended up named no_fault
+
       passed : ArePassed flow_of_files
       passed =
           typed_passed flow_of_files (subst (λ (rows : Table). counts (shape_of rows integer) ≡ true) same_table laws.whole)
           (subst (λ (rows : Table). lists (shape_of rows boolean) ≡ true) same_table laws.listed)
           (subst (λ (rows : Table). (t : ℕ) → words rows t ≡ words_of (words rows) (shape_of rows t)) same_table laws.word_law) typed
 
-      kinds : (x : ℕ) → flow.is_formal (flow_typing flow_of_files) x ≡ true → IsKindOfFormal (flow_typing flow_of_files) x
-      kinds x is = elim (kinds_there p calls.formals x is) [
-        | inl plain ↦ inl plain
-        | inr (inl (back, plain)) ↦ inr (inl (back, named_type (shape_of flow_of_files.table (flow.object_at (flow_typing flow_of_files) x).of) plain))
-        | inr (inr (inl (shown, access))) ↦ inr (inr (inl (shown, access_shape (shape_of flow_of_files.table (flow.object_at (flow_typing flow_of_files) x).of) access)))
-        | inr (inr (inr (in_mode, none, plain))) ↦
-            inr (inr (inr (in_mode, none, named_type (shape_of flow_of_files.table (flow.object_at (flow_typing flow_of_files) x).of) plain)))
+      parts_here : PartsAreNamed flow_of_files.table
+      parts_here = subst PartsAreNamed same_table parts_named
+
+      -- ---- objects of anonymous access types
+
+      alike : Agree wide (typing_in p)
+      alike = flow_agrees table (typed_of p)
+
+      anonymous_type : (x : ℕ) → flow.is_anonymous (flow.view_of wide x) ≡ true → (d : ℕ) × (c : Bool) × (n : Bool) × (shape_of wide.table (flow.object_at wide x).of ≡ shape.Access d c n)
+      anonymous_type x view = anonymous_shape (shape_of wide.table (flow.object_at wide x).of) view
+
+      -- one that is no temporary is a variable, or a formal of mode `in`
+      local_there : (x : ℕ) → flow.is_formal wide x ≡ true ⊎ (flow.object_at wide x ≡ flow.object_at (typing_in p) x) → flow.is_anonymous (flow.view_of wide x) ≡ true
+          → (flow.is_variable (flow.object_at wide x).kind ≡ true) ⊎ (is_in_formal wide x ≡ true)
+      local_there x which view = by (same_object which)
+        where
+          same_object : flow.is_formal wide x ≡ true ⊎ (flow.object_at wide x ≡ flow.object_at (typing_in p) x) → flow.object_at wide x ≡ flow.object_at (typing_in p) x
+          same_object (inr same) = same
+          same_object (inl is) = elim (alike.object x) [
+            | inl same ↦ same
+            | inr others ↦ absurd (let no : false ≡ true = sym others.0.1 ∙ is in cc)
+          ]
+
+          by : flow.object_at wide x ≡ flow.object_at (typing_in p) x → (flow.is_variable (flow.object_at wide x).kind ≡ true) ⊎ (is_in_formal wide x ≡ true)
+          by same =
+              let here = views_here.local x (sym (λ j. flow.is_anonymous (full (alike.table j) (same j).of)) ∙ view) in
+              elim here.0 [
+                | inl variable ↦ inl (ap (λ (o : Object). flow.is_variable o.kind) same ∙ variable)
+                | inr formal ↦ inr (ap (λ (o : Object). flow.is_formal_kind o.kind && is_in o.mode) same ∙ formal)
+              ]
+
+      -- ---- formals
+
+      no_back : (x : ℕ) → flow.is_formal wide x ≡ true → flow.is_anonymous (flow.view_of wide x) ≡ true → is_in_formal wide x ≡ true
+      no_back x is view = elim (local_there x (inl is) view) [
+        | inl variable ↦ absurd (formal_kind (flow.object_at wide x).kind is variable)
+        | inr formal ↦ formal
       ]
+        where
+          formal_kind : (k : ObjectKind) → flow.is_formal_kind k ≡ true → flow.is_variable k ≡ true → ⊥
+          formal_kind object_kind.Formal e f = cc
+          formal_kind k e f = cc
+
+      kinds : (x : ℕ) → flow.is_formal wide x ≡ true → IsKindOfFormal wide x
+      kinds x is = by (flow.object_at wide x).mode refl
+        where
+          of_in : (flow.object_at wide x).mode ≡ mode.In → is_in_formal wide x ≡ true
+          of_in in_mode = ap (λ b. b && is_in (flow.object_at wide x).mode) is ∙ ap is_in in_mode
+
+          owner : (flow.object_at wide x).mode ≡ mode.In → (o : Bool) → is_owning wide.table (flow.object_at wide x).of ≡ o → (a : Bool) → flow.is_anonymous (flow.view_of wide x) ≡ a → IsKindOfFormal wide x
+          owner in_mode true owns a view =
+              let shown : is_view_formal wide x ≡ true = ap (λ b. b && is_owning wide.table (flow.object_at wide x).of) (of_in in_mode) ∙ owns in
+              elim (calls.formals x shown) [
+                | inl plain ↦ inl plain
+                | inr access ↦ inr (inr (inl (ap (λ b. b || (is_in_formal wide x && flow.is_anonymous (flow.view_of wide x))) shown, access_shape (shape_of wide.table (flow.object_at wide x).of) access)))
+              ]
+          owner in_mode false none true view =
+              let seen : is_given wide x ≡ true
+              = ap (λ b. (is_in_formal wide x && b) || (is_in_formal wide x && flow.is_anonymous (flow.view_of wide x))) none
+              ∙ ap (λ b. (b && false) || (b && flow.is_anonymous (flow.view_of wide x))) (of_in in_mode) ∙ view in
+              inr (inr (inl (seen, anonymous_type x view)))
+          owner in_mode false none false view = inr (inr (inr (in_mode, none, named_type (shape_of wide.table (flow.object_at wide x).of) view)))
+
+          back : (m : Mode) → (flow.object_at wide x).mode ≡ m → (m ≡ mode.In → ⊥) → IsKindOfFormal wide x
+          back m at other = inr (inl ((λ in_mode. other (sym at ∙ in_mode)), named_type (shape_of wide.table (flow.object_at wide x).of) (by_view (flow.is_anonymous (flow.view_of wide x)) refl)))
+            where
+              by_view : (b : Bool) → flow.is_anonymous (flow.view_of wide x) ≡ b → flow.is_anonymous (flow.view_of wide x) ≡ false
+              by_view false e = e
+              by_view true e = absurd (other (sym at ∙ in_mode (flow.object_at wide x).mode (and_second (flow.is_formal wide x) (is_in (flow.object_at wide x).mode) (no_back x is e))))
+
+          by : (m : Mode) → (flow.object_at wide x).mode ≡ m → IsKindOfFormal wide x
+          by mode.In at = owner at (is_owning wide.table (flow.object_at wide x).of) refl (flow.is_anonymous (flow.view_of wide x)) refl
+          by mode.Out at = back mode.Out at (λ e. cc)
+          by mode.InOut at = back mode.InOut at (λ e. cc)
 
       fit : PassFit flow_of_files
       fit = passed_there p calls.passed
 
       -- a formal of a scalar type owns nothing
-      scalar_none : (x : ℕ) → IsScalarObject (flow_typing flow_of_files) x → is_view_formal (flow_typing flow_of_files) x ≡ false
-      scalar_none x plain =
-          ap (λ b. is_in_formal (flow_typing flow_of_files) x && b) (plain_type (flow_typing flow_of_files) owns (flow.object_at (flow_typing flow_of_files) x).of plain)
-          ∙ and_false (is_in_formal (flow_typing flow_of_files) x)
+      scalar_none : (x : ℕ) → IsScalarObject wide x → is_view_formal wide x ≡ false
+      scalar_none x plain = ap (λ b. is_in_formal wide x && b) (plain_type wide owns (flow.object_at wide x).of plain) ∙ and_false (is_in_formal wide x)
 
-      modes : (n t : ℕ) → (flow.sub_at (flow_typing flow_of_files) n).result ≡ Some t → (x : ℕ) → Has (flow.sub_at (flow_typing flow_of_files) n).formals x
-          → (flow.object_at (flow_typing flow_of_files) x).mode ≡ mode.In
+      scalar_ungiven : (x : ℕ) → IsScalarObject wide x → is_given wide x ≡ true → ⊥
+      scalar_ungiven x plain given =
+          (let none : is_given wide x ≡ false
+          = ap (λ b. b || (is_in_formal wide x && flow.is_anonymous (flow.view_of wide x))) (scalar_none x plain)
+          ∙ ap (λ b. is_in_formal wide x && b) (scalar_plain (flow.view_of wide x) plain) ∙ and_false (is_in_formal wide x) in
+          let no : true ≡ false = sym given ∙ none in cc)
+
+      modes : (n t : ℕ) → (flow.sub_at wide n).result ≡ Some t → (x : ℕ) → Has (flow.sub_at wide n).formals x → (flow.object_at wide x).mode ≡ mode.In
       modes = modes_there p (functions_in p (units_faultless p no_fault) text_orderly.once)
 
       -- what a procedure is shown is of a named access type
-      procedures : (n : ℕ) → (flow.sub_at (flow_typing flow_of_files) n).result ≡ None → (x : ℕ) → Has (flow.sub_at (flow_typing flow_of_files) n).formals x
-          → flow.is_formal (flow_typing flow_of_files) x ≡ true → is_view_formal (flow_typing flow_of_files) x ≡ true
-          → flow.is_named_access (flow.view_of (flow_typing flow_of_files) x) ≡ true
-      procedures n result x has formal view = elim (kinds_there p calls.formals x formal) [
+      procedures : (n : ℕ) → (flow.sub_at wide n).result ≡ None → (x : ℕ) → Has (flow.sub_at wide n).formals x
+          → flow.is_formal wide x ≡ true → is_view_formal wide x ≡ true → flow.is_named_access (flow.view_of wide x) ≡ true
+      procedures n result x has formal view = elim (calls.formals x view) [
         | inl plain ↦ absurd (let no : true ≡ false = sym view ∙ scalar_none x plain in cc)
-        | inr (inl (back, plain)) ↦ absurd (back (in_mode (flow.object_at (flow_typing flow_of_files) x).mode (and_second (flow.is_formal (flow_typing flow_of_files) x) (is_in (flow.object_at (flow_typing flow_of_files) x).mode)
-            (and_first (is_in_formal (flow_typing flow_of_files) x) (is_owning flow_of_files.table (flow.object_at (flow_typing flow_of_files) x).of) view))))
-        | inr (inr (inl (shown, access))) ↦ access
-        | inr (inr (inr (in_mode, none, plain))) ↦
-            absurd (let no : true ≡ false = sym (and_second (is_in_formal (flow_typing flow_of_files) x) (is_owning flow_of_files.table (flow.object_at (flow_typing flow_of_files) x).of) view) ∙ none in cc)
+        | inr access ↦ access
       ]
-        where
-          in_mode : (m : Mode) → is_in m ≡ true → m ≡ mode.In
-          in_mode mode.In e = refl
-          in_mode mode.Out e = cc
-          in_mode mode.InOut e = cc
+
+      lends : (n x z : ℕ) → lends_first wide x (flow.sub_at wide n) ≡ true → Has (flow.sub_at wide n).formals z → is_given wide z ≡ true → z ≡ x
+      lends n x z first has given = elim (calls.lends n x z first has given) [
+        | inl plain ↦ absurd (scalar_ungiven z plain given)
+        | inr same ↦ same
+      ]
 
       passes : PassActuals flow_of_files
       passes =
           actuals_passed flow_of_files (subst (λ (rows : Table). counts (shape_of rows integer) ≡ true) same_table laws.whole)
           (subst (λ (rows : Table). lists (shape_of rows boolean) ≡ true) same_table laws.listed)
-          (subst (λ (rows : Table). (t : ℕ) → words rows t ≡ words_of (words rows) (shape_of rows t)) same_table laws.word_law) owns typed kinds fit
-          (λ sub has q there n actuals result is.
-              subst (λ fs. NamesOwners (flow_typing flow_of_files) fs actuals) (ap (λ (z : flow.Signature). z.formals) (signature_is flow_of_files n))
-              (subst (λ i. WithinStep (flow_typing flow_of_files) sub.result i) is (files_used files apart ended up named no_fault sub has q there).1).0.0)
+          (subst (λ (rows : Table). (t : ℕ) → words rows t ≡ words_of (words rows) (shape_of rows t)) same_table laws.word_law) owns used
+          (formals_differ p text_orderly.once) (files_firsts files apart ended up named no_fault) fit
+
+      -- ---- traversal functions
+
+      first_there : (n : ℕ) → flow.traverses wide.table (flow.sub_at wide n).result ≡ true
+          → (f : ℕ) × (rest : List ℕ) × ((flow.sub_at wide n).formals ≡ f ∷ rest) × (is_given wide f ≡ true)
+      first_there n gives =
+          let found = files_first files apart ended up named no_fault n gives in
+          let has : Has (flow.sub_at wide n).formals found.0 = subst (λ fs. Has fs found.0) (sym found.2) (inl refl) in
+          let of_in : is_in_formal wide found.0 ≡ true = ap (λ b. b && is_in (flow.object_at wide found.0).mode) (known_formal n found.0 has) ∙ ap is_in found.3 in
+          (found.0, found.1, found.2, access_given found.0 of_in found.4 found.5 found.6 found.7)
+        where
+          known_formal : (n x : ℕ) → Has (flow.sub_at wide n).formals x → flow.is_formal wide x ≡ true
+          known_formal = formals_wide p (λ sub among x has. text_orderly.formals sub among x has)
+
+          access_given : (x : ℕ) → is_in_formal wide x ≡ true → (d : ℕ) (c k : Bool) → shape_of wide.table (flow.object_at wide x).of ≡ shape.Access d c k → is_given wide x ≡ true
+          access_given x of_in d c true is =
+              ap (λ b. b || (is_in_formal wide x && flow.is_anonymous (flow.view_of wide x)))
+              (ap (λ b. b && is_owning wide.table (flow.object_at wide x).of) of_in ∙ owns (flow.object_at wide x).of ∙ ap (owns_of (is_owning wide.table)) is)
+          access_given x of_in d c false is = either_true (is_view_formal wide x) (is_in_formal wide x && flow.is_anonymous (flow.view_of wide x))
+              (ap (λ b. b && flow.is_anonymous (flow.view_of wide x)) of_in ∙ ap (λ z. flow.is_anonymous (view_of z)) is ∙ unnamed c)
+            where
+              unnamed : (c : Bool) → flow.is_anonymous (view.Access d c false) ≡ true
+              unnamed true = refl
+              unnamed false = refl
+
+              either_true : (a b : Bool) → b ≡ true → a || b ≡ true
+              either_true true b e = refl
+              either_true false b e = e
+
+      traverse : TraversesNames flow_of_files
+      traverse sub has q there n actuals result is gives =
+          let from : flow.traverses wide.table (flow.sub_at wide n).result ≡ true
+          = ap (λ (z : flow.Signature). flow.traverses wide.table z.result) (signature_is flow_of_files n) ∙ gives in
+          let first = first_there n from in
+          let use = subst (λ i. IsTypedUse wide sub.result i) is (used sub has q there) in
+          let name = called_name wide sub.result n actuals result use from first.0 first.1 first.2 in
+          let formals : (sub_of flow_of_files n).formals ≡ first.0 ∷ first.1 = sym (ap (λ (z : flow.Signature). z.formals) (signature_is flow_of_files n)) ∙ first.2 in
+          (name.0, name.1, name.2, name.3, name.4, name.5, own_root first.0 first.1 first.3 name.0 name.1 name.2 name.3 name.4
+          (subst (λ fs. AreFitActuals wide fs (More (Name name.0 name.1 name.2 name.3) name.4)) formals (subst (AreFitActuals wide (sub_of flow_of_files n).formals) name.5 (fit sub has q there n actuals result is))))
+        where
+          shown_of : (f i o a : Bool) → ((f && i) && o) || ((f && i) && a) ≡ true → (f ≡ true) × (i ≡ true) × (o || a ≡ true)
+          shown_of true true true a e = (refl, refl, refl)
+          shown_of true true false a e = (refl, refl, e)
+          shown_of true false o a e = cc
+          shown_of false i o a e = cc
+
+          own_root : (f : ℕ) (rest : List ℕ) → is_given wide f ≡ true → (p : Pos) (y : ℕ) (path : TypedTree) (u : ℕ) (more : TypedTree)
+              → AreFitActuals wide (f ∷ rest) (More (Name p y path u) more) → flow.is_package_object wide y ≡ false
+          own_root f rest given p y path u more are =
+              let shown = shown_of (flow.is_formal wide f) (is_in (flow.object_at wide f).mode) (is_owning wide.table (flow.object_at wide f).of) (flow.is_anonymous (flow.view_of wide f)) given in
+              by (flow.object_at wide f).mode shown.1 (are.0 shown.0)
+            where
+              by : (m : Mode) → is_in m ≡ true → IsFitActual wide f m (Name p y path u) → flow.is_package_object wide y ≡ false
+              by mode.In e (inl plain) = absurd (scalar_ungiven f plain given)
+              by mode.In e (inr (roots, plainly)) = roots (shown_of (flow.is_formal wide f) (is_in (flow.object_at wide f).mode) (is_owning wide.table (flow.object_at wide f).of) (flow.is_anonymous (flow.view_of wide f)) given).2 y (inl refl)
+              by mode.Out e h = cc
+              by mode.InOut e h = cc
+
+      stored : (sub : FlowSub) → Has flow_of_files.subs sub → (q : FlowPoint) → Has sub.points q → (x : ℕ) → IsStoredAt q.instr x → flow.is_anonymous (flow.view_of wide x) ≡ true
+          → flow.is_variable (flow.object_at wide x).kind ≡ true
+      stored = are_stored table (typed_of p) effects accepted order views_here.declared
+          (λ x view. unnamed_access (flow.view_of wide x) view) views_here.local
+
+      take : (sub : FlowSub) → Has flow_of_files.subs sub → (q : FlowPoint) → Has sub.points q → TakesView wide sub.result q.instr
+      take sub has q there = by q.instr refl (used sub has q there) (calls.borrowed sub has q there)
+        where
+          borrows : (x : ℕ) → IsStoredAt q.instr x → flow.is_anonymous (flow.view_of wide x) ≡ true → flow.is_borrowing (flow.view_of wide x) ≡ true → flow.is_borrower wide x ≡ true
+          borrows x at view lends = ap (λ b. b && flow.is_borrowing (flow.view_of wide x)) (stored sub has q there x at view) ∙ lends
+
+          by : (i : Instruction) → q.instr ≡ i → IsTypedUse wide sub.result i → TakesBorrower wide sub.result i → TakesView wide sub.result i
+          by (Declare x (More (CallIn k n a) rest)) is use borrow = λ gives.
+              (let found = declares_view wide parts_here sub.result x k n a rest use gives in
+              (found.0, found.1, λ lends. borrows x (inl (More (CallIn k n a) rest, is)) found.0 (borrow lends)))
+          by (Assign (Name r x path u) (CallIn k n a)) is use borrow = λ gives.
+              (let found = assigns_view wide parts_here sub.result (Name r x path u) k n a use gives in
+              (found.0, found.1, found.2, found.3, found.4, found.5, λ lends. borrows found.1
+              (inr (found.0, found.2, CallIn k n a, subst (λ z. q.instr ≡ Assign z (CallIn k n a)) found.3 is)) found.4
+              (lent_type r x path u found.0 found.1 found.2 found.3 k n a use (borrow lends))))
+          by (Assign target (CallIn k n a)) is use borrow = λ gives. absurd (use.0.1)
+          by (Hold (More (CallIn k n a) rest)) is use borrow = λ gives. (holds_view wide parts_here sub.result k n a rest use gives, borrow)
+          by i is use borrow = tt
+
+      returned : (sub : FlowSub) → Has flow_of_files.subs sub → (q : FlowPoint) → Has sub.points q → (e last : TypedTree) → q.instr ≡ Hold (More e last)
+          → (of : ℕ) → sub.result ≡ Some of → flow.is_anonymous (full flow_of_files.table of) ≡ true
+          → (e ≡ typed_tree.Null) ⊎ ((r : Pos) × (y : ℕ) × (path : TypedTree) × (u : ℕ) × IsSourceName wide of e r y path u)
+      returned sub has q there e last is of result view =
+          returns_source wide sub.result e last of (subst (λ i. IsTypedUse wide sub.result i) is (used sub has q there)) result view
+          (λ n gives. (let first = first_there n gives in (first.0, first.1, first.2)))
 
       main_in : IsSub (bodies_of p) order.number order.main
       main_in = subst (λ rest. IsSub rest order.number order.main) (sym rest_is) order.stands

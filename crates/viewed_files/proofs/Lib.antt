@@ -6,6 +6,8 @@ pub mod Sources
 pub mod Walked
 pub mod Units
 pub mod Roots
+pub mod Stored
+pub mod Traversals
 pub mod Main
 pub mod Passed
 pub mod Files

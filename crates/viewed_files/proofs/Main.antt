@@ -5,6 +5,7 @@ use Rattle.std.specs.Prelude.{reverse, flat_map}
 use Rattle.std.specs.List.{AllByRecursion, position_or_len}
 use Rattle.spark_base.specs.Lists.{Has}
 use Rattle.place_names.specs.declared.act.Mode.{Mode}
+use Rattle.place_names.specs.declared.act.Mode.TheVariants as mode
 use Rattle.resolved_tree.specs.Trees.{Code, Formals, Program, code_items}
 use Rattle.type_definitions.specs.declared.table.Known.{Known}
 use Rattle.type_definitions.specs.Types.{Table, full}
@@ -20,6 +21,7 @@ use Rattle.typed_tree.specs.Trees as typed
 use Rattle.typed_tree.specs.Expressions.{Site}
 use Rattle.typed_tree.specs.Statements.{scope_count, typed_body}
 use Rattle.typed_tree.specs.Programs.{TypedSub, DeclaredObject, Home, object_of, objects_in, scopes_in, formals_of, front_formals, local, placed, elaboration, elaborated, over_units, program_objects, site_of, text_io, typed_program}
+use Rattle.machine.specs.Owners.{is_in, is_in_formal}
 use Rattle.flow_paths.specs.Objects.{Typing, object_at, is_variable, is_formal_kind, is_formal, is_observer, is_observing, is_anonymous, is_package_object, is_state, view_of}
 use Rattle.flow_paths.specs.Laid.{declared_within}
 use Rattle.flow_paths.specs.Layout.{declared}
@@ -51,7 +53,7 @@ use Rattle.viewed_files.proofs.Bodies.{IsKnown, units_laid}
 use Rattle.viewed_files.proofs.Sources as source
 use Rattle.viewed_files.proofs.Sources.{IsLocalView, DeclaresPlain, counts_plain}
 use Rattle.viewed_files.proofs.Units.{units_went}
-use Rattle.viewed_files.proofs.Roots.{roots_plain}
+use Rattle.viewed_files.proofs.Roots.{roots_formal}
 
 -- ---- lists of objects
 
@@ -146,7 +148,7 @@ module _ (own : Typing) (outer : ℕ → Bool) (shared : (x : ℕ) → outer x �
 abbrev IsLocalObject : Table → Object → Type 0
 IsLocalObject table o =
     is_anonymous (full table o.of) ≡ true
-    → (is_formal_kind o.kind ≡ true) ⊎ ((is_variable o.kind ≡ true) × (is_some o.«package» && not (is_state o.kind) ≡ false))
+    → ((is_formal_kind o.kind ≡ true) × (o.mode ≡ mode.In)) ⊎ ((is_variable o.kind ≡ true) × (is_some o.«package» && not (is_state o.kind) ≡ false))
 
 module _ (table : Table) (whole : is_anonymous (full table integer) ≡ false) where
   never : is_anonymous (full table integer) ≡ true → ⊥
@@ -197,7 +199,6 @@ module _ (p : Program) (made : ℕ → Type 0) (laws : Laws (known_of p) made) (
   pub record IsGiven : Type 0 where
     pub marks : source.AreMarksPlain s own.objects own.subs made laws
     pub formals : (sub : TypedSub) → Has (bodies_of p) sub → (x : ℕ) → Has sub.formals x → is_formal own x ≡ true
-    pub plain : (x : ℕ) → is_formal own x ≡ true → is_anonymous (view_of own x) ≡ false
     pub written : (u : Code) → Has p.units u → is_unit u ≡ true
     pub once : Once (map (λ (o : DeclaredObject). o.number) all)
     pub meant : AreMeantUnits known made p.units
@@ -224,17 +225,18 @@ module _ (p : Program) (made : ℕ → Type 0) (laws : Laws (known_of p) made) (
     at : AreAt s own 1 all
     at = all_at s own all refl objects_are given.once
 
-    rooted : (u : Code) → Has p.units u → AreDenoted (source.IsRootPlain s own.objects own.subs made laws) u
-    rooted = roots_plain s own p.units home object given.names at given.plain given.fits
+    rooted : (u : Code) → Has p.units u → AreDenoted (source.IsRootFormal s own.objects own.subs made laws) u
+    rooted = roots_formal s own p.units home object given.names at given.fits
 
     went : AllByRecursion (λ (sub : TypedSub). all_fit (has_source own) sub.body ≡ true) (bodies_of p) × AllByRecursion (IsLocalView table) all
         × AllByRecursion (DeclaresPlain own) (over_units (elaborated s) 1 p.units)
     went = units_went known p.units own.objects own.subs made laws given.marks home refl 1 1 p.units given.written rooted given.meant given.typed given.none
 
-    pub local_views : (x : ℕ) → is_anonymous (view_of own x) ≡ true → (is_variable (object_at own x).kind ≡ true) × (is_package_object own x ≡ false)
+    pub local_views : (x : ℕ) → is_anonymous (view_of own x) ≡ true
+        → ((is_variable (object_at own x).kind ≡ true) ⊎ (is_in_formal own x ≡ true)) × (is_package_object own x ≡ false)
     local_views x view = elim (subst (λ os. IsLocalObject table (get_or os x text_io)) (sym objects_are) (all_local table (counts_plain _ laws.whole) all went.1 x) view) [
-      | inl formal ↦ absurd (true_false (is_anonymous (view_of own x)) view (given.plain x formal))
-      | inr here ↦ here
+      | inl (formal, of_in) ↦ (inr (ap (λ b. b && is_in (object_at own x).mode) formal ∙ ap is_in of_in), given.apart x formal)
+      | inr here ↦ (inl here.0, here.1)
     ]
 
     shared_plain : (x : ℕ) → is_package_object own x ≡ true → is_anonymous (view_of own x) ≡ false

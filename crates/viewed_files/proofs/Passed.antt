@@ -1,45 +1,79 @@
 -- The actuals of typed calls of the class with formals that own are as they are asked for.
-use Rattle.std.proofs.Common.{◌≡◌, ◌∙◌, refl, sym, ap, subst, ◌⊎◌, inl, inr, ℕ, Bool, true, false, ◌&&◌, List, [], ◌∷◌, Option}
+use Rattle.std.proofs.Common.{◌≡◌, ◌∙◌, refl, sym, ap, subst, ◌⊎◌, inl, inr, ℕ, Bool, true, false, ◌&&◌, List, [], ◌∷◌, Option, ◌||◌, Some, None}
 use Rattle.spark_base.specs.Lists.{Has as Holds}
 use Rattle.place_names.specs.declared.act.Mode.{Mode}
 use Rattle.place_names.specs.declared.act.Mode.TheVariants as mode
+use Rattle.type_definitions.specs.declared.judgement.View.{View}
+use Rattle.type_definitions.specs.declared.judgement.View.TheVariants as view
+use Rattle.type_definitions.specs.declared.table.Shape.{Shape}
 use Rattle.type_definitions.specs.declared.table.Shape.TheVariants as shape
 use Rattle.type_definitions.specs.Types.{shape_of, words, words_of, full, is_scalar, is_owning}
+use Rattle.type_definitions.specs.Types as types
 use Rattle.type_definitions.specs.Entries.{integer, boolean}
 use Rattle.typed_tree.specs.Trees.{TypedTree, Name, More}
 use Rattle.typed_tree.specs.Trees as typed
-use Rattle.flow_paths.specs.Objects.{Typing, Signature, object_at, sub_at, is_formal, is_package_object}
+use Rattle.flow_paths.specs.Objects.{Typing, Signature, object_at, sub_at, is_formal, is_package_object, is_anonymous, view_of, traverses}
 use Rattle.flow_paths.specs.Instructions.{Call}
 use Rattle.flow_paths.specs.Points.{FlowPoint}
 use Rattle.flow_paths.specs.Laid.{FlowSub, FlowProgram, flow_typing}
 use Rattle.machine.specs.States.{sub_of}
-use Rattle.machine.specs.Owners.{is_in, is_in_formal}
+use Rattle.machine.specs.Owners.{is_in}
 use Rattle.soundness.specs.Typed.{OwnsByShape}
 use Rattle.soundness.specs.Sound.{goes_through_none}
 use Rattle.typed_laws.specs.Fine.{Has, Agree, counts, lists}
 use Rattle.typed_laws.specs.Needed.{Matches, Gives, IsPlace}
 use Rattle.typed_laws.proofs.Sound.{matches, leads, gives}
-use Rattle.typed_steps.specs.Steps.{IsViewed, Taken, IsPlaceOf, IsActual, ActualsTaken, IsTypedStep, AreTyped}
-use Rattle.typed_runs.specs.Code.{IsNamedOwner, NamesOwner, NamesOwners}
+use Rattle.typed_steps.specs.Steps.{IsViewed, Taken, IsPlaceOf, IsActual, ActualsTaken}
+use Rattle.typed_runs.specs.Code.{IsNamedOwner, NamesOwner, NamesOwners, IsName, NamesFirst, IsTypedUse}
 use Rattle.soundness.specs.Ready.{root_of}
 use Rattle.soundness.proofs.Contents.{bool_cases}
 use Rattle.soundness.proofs.Passing.{plain_type, signature_there}
 use Rattle.viewed_soundness.specs.Holds.{IsNamed}
 use Rattle.viewed_soundness.specs.Taken.{GivesPlainly}
 use Rattle.ready_laws.proofs.Actuals.{taken_stays, scalar_back}
-use Rattle.sound_files.specs.Class.{IsShownActual, IsKeptActual, IsFitActual, AreFitActuals, AreOwnersShown, AreShownFit}
-use Rattle.viewed_steps.specs.Sound.{IsScalarObject, IsKindOfFormal, IsReachedBack, AreKeptPlaces, AreShownOwn}
-use Rattle.viewed_steps.specs.Ready.{IsSeen, IsValueTo}
+use Rattle.scope_laws.specs.Code.{Once}
+use Rattle.flow_paths.specs.Views.{traversed_of}
+use Rattle.sound_files.specs.Class.{IsScalarAt, IsShownActual, IsKeptActual, IsFitActual, AreFitActuals, AreOwnersShown, AreShownFit}
+use Rattle.viewed_steps.specs.Sound.{IsScalarObject, IsReachedBack, AreKeptPlaces, AreShownOwn}
+use Rattle.viewed_steps.specs.Ready.{IsSeen, IsValueTo, is_shown_type}
 use Rattle.viewed_steps.proofs.Copies.{no_cell}
 use Rattle.view_laws.specs.Program.{IsPassedTo, ArePassedTo, PassActuals}
 
-both_first : (a b : Bool) → a && b ≡ true → a ≡ true
-both_first true b e = refl
-both_first false b e = cc
+either_one : (a b : Bool) → a || b ≡ true → (a ≡ true) ⊎ (b ≡ true)
+either_one true b e = inl refl
+either_one false b e = inr e
 
-both_second : (a b : Bool) → a && b ≡ true → b ≡ true
-both_second true b e = e
-both_second false b e = cc
+either_first : (a b : Bool) → a || b ≡ false → a ≡ false
+either_first true b e = cc
+either_first false b e = refl
+
+either_second : (a b : Bool) → a || b ≡ false → b ≡ false
+either_second true b e = cc
+either_second false b e = e
+
+both_none : (a b : Bool) → a ≡ false → b ≡ false → a || b ≡ true → ⊥
+both_none true b e f h = cc
+both_none false true e f h = cc
+both_none false false e f h = cc
+
+scalar_plain : (v : View) → is_scalar v ≡ true → is_anonymous v ≡ false
+scalar_plain (view.Whole low high) e = refl
+scalar_plain (view.Listed low high) e = refl
+scalar_plain v e = cc
+
+named_type : (z : Shape) → is_anonymous (types.view_of z) ≡ false → (d : ℕ) (c n : Bool) → z ≡ shape.Access d c n → n ≡ true
+named_type (shape.Access e k true) plain d c n is = cc
+named_type (shape.Access e true false) plain d c n is = cc
+named_type (shape.Access e false false) plain d c n is = cc
+named_type z plain d c n is = cc
+
+-- What a formal of an anonymous access type sees is a name.
+abbrev NamesView : Typing → ℕ → TypedTree → Type 0
+NamesView s x e = is_anonymous (view_of s x) ≡ true → IsName e
+
+abbrev NamesViews : Typing → List ℕ → TypedTree → Type 0
+NamesViews s (x ∷ formals) (More e rest) = NamesView s x e × NamesViews s formals rest
+NamesViews s formals e = Unit {0}
 
 module _ (y : Typing) (whole : counts (shape_of y.table integer) ≡ true) (listed : lists (shape_of y.table boolean) ≡ true)
     (word_law : (t : ℕ) → words y.table t ≡ words_of (words y.table) (shape_of y.table t)) where
@@ -54,8 +88,20 @@ module _ (y : Typing) (whole : counts (shape_of y.table integer) ≡ true) (list
   unfolding Has
   shown_seen x typed.Null roots named has = tt
   shown_seen x (Name p z path u) roots named has =
-      (leads y whole listed word_law path (object_at y z).of u has.0, matches y.table u (object_at y x).of has.1, roots z (inl refl))
+      (leads y whole listed word_law path (object_at y z).of u has.0, inl (matches y.table u (object_at y x).of has.1), roots z (inl refl))
   shown_seen x e roots named has = absurd named
+
+  -- or a name of an access value that designates what the formal's type does
+  view_seen : (x : ℕ) (e : TypedTree) → IsShownActual y e → IsName e → Taken y (object_at y x).of e → IsSeen y x e
+  unfolding Has
+  view_seen x (Name p z path u) roots named (inl has) =
+      (leads y whole listed word_law path (object_at y z).of u has.0, inl (matches y.table u (object_at y x).of has.1), roots z (inl refl))
+  view_seen x (Name p z path u) roots named (inr (lead, view)) = (
+    leads y whole listed word_law path (object_at y z).of u lead,
+    inr (view.0, view.2, view.3, view.1, view.4, view.5, view.6, view.7, matches y.table view.0 view.1 view.8),
+    roots z (inl refl),
+  )
+  view_seen x e roots named taken = absurd named
 
   -- what is looked at is for an access type
   viewed_access : (want : ℕ) (e : TypedTree) → IsViewed y want e → (d : ℕ) × (c : Bool) × (n : Bool) × (shape_of y.table want ≡ shape.Access d c n)
@@ -78,34 +124,30 @@ module _ (y : Typing) (whole : counts (shape_of y.table integer) ≡ true) (list
       | inr many ↦ inr (many, named, (copied_gives x e named none taken, plainly))
     ]
 
-    actual_to : (x : ℕ) (e : TypedTree) → IsKindOfFormal y x → IsFitActual y x (object_at y x).mode e → NamesOwner y x e → IsActual y x e
+    actual_to : (x : ℕ) (e : TypedTree) → IsFitActual y x (object_at y x).mode e → NamesOwner y x e → NamesView y x e → IsActual y x e
         → IsPassedTo y x (object_at y x).mode e
-    actual_to x e kind fit named actual = by_mode (object_at y x).mode refl fit actual
+    actual_to x e fit named viewed actual = by_mode (object_at y x).mode refl fit actual
       where
-        owns_none : IsScalarObject y x → is_owning y.table (object_at y x).of ≡ false
-        owns_none plain = plain_type y own_law (object_at y x).of plain
+        owning : Bool
+        owning = is_owning y.table (object_at y x).of
 
-        no_owner : is_owning y.table (object_at y x).of ≡ true → is_owning y.table (object_at y x).of ≡ false → ⊥
-        no_owner owns none = (let no : true ≡ false = sym owns ∙ none in cc)
+        unshown : IsScalarObject y x → is_shown_type y x ≡ true → ⊥
+        unshown plain shown = both_none owning (is_anonymous (view_of y x)) (plain_type y own_law (object_at y x).of plain) (scalar_plain (view_of y x) plain) shown
 
-        value : Taken y (object_at y x).of e → IsFitActual y x mode.In e → (object_at y x).mode ≡ mode.In → is_owning y.table (object_at y x).of ≡ false → IsValueTo y x e
-        value taken fit is none = elim kind [
-          | inl plain ↦ inl (plain, taken_stays y whole listed word_law (object_at y x).of e plain taken)
-          | inr (inl (back, named)) ↦ absurd (back is)
-          | inr (inr (inl (shown, access))) ↦ absurd (no_owner (both_second (is_in_formal y x) (is_owning y.table (object_at y x).of) shown) none)
-          | inr (inr (inr (in_mode, owns, named))) ↦ elim fit [
-            | inl plain ↦ inl (plain, taken_stays y whole listed word_law (object_at y x).of e plain taken)
-            | inr (inl (here, shown)) ↦ absurd (no_owner here none)
-            | inr (inr (here, plainly)) ↦ copied_value x e named none plainly taken
-          ]
+        value : Taken y (object_at y x).of e → IsFitActual y x mode.In e → is_shown_type y x ≡ false → IsValueTo y x e
+        value taken (inl plain) none = inl (plain, taken_stays y whole listed word_law (object_at y x).of e plain taken)
+        value taken (inr (shown, plainly)) none =
+            copied_value x e (named_type (shape_of y.table (object_at y x).of) (either_second owning (is_anonymous (view_of y x)) none)) (either_first owning (is_anonymous (view_of y x)) none)
+            (plainly none) taken
+
+        seen : Taken y (object_at y x).of e → IsFitActual y x mode.In e → (object_at y x).mode ≡ mode.In → is_shown_type y x ≡ true → IsSeen y x e
+        seen taken (inl plain) is shown = absurd (unshown plain shown)
+        seen taken (inr (roots, plainly)) is shown = elim (either_one owning (is_anonymous (view_of y x)) shown) [
+          | inl owns ↦ (let found = named is owns in shown_seen x e (roots shown) found.0 found.1)
+          | inr view ↦ view_seen x e (roots shown) (viewed view) taken
         ]
 
-        seen : IsFitActual y x mode.In e → (object_at y x).mode ≡ mode.In → is_owning y.table (object_at y x).of ≡ true → IsSeen y x e
-        seen (inl plain) is owns = absurd (no_owner owns (owns_none plain))
-        seen (inr (inl (here, shown))) is owns = (let found = named is owns in shown_seen x e shown found.0 found.1)
-        seen (inr (inr (none, copy))) is owns = absurd (no_owner owns none)
-
-        copied : IsKeptActual y x e → (t : ℕ) → IsPlaceOf y t e → Agree y.table t (object_at y x).of → IsPassedTo y x mode.InOut e
+        copied : IsScalarAt y x ⊎ IsKeptActual y e → (t : ℕ) → IsPlaceOf y t e → Agree y.table t (object_at y x).of → IsPassedTo y x mode.InOut e
         copied kept t place agree =
             let found = named_place x t e place agree in (
               found.0,
@@ -119,22 +161,39 @@ module _ (y : Typing) (whole : counts (shape_of y.table integer) ≡ true) (list
             )
 
         by_mode : (m : Mode) → (object_at y x).mode ≡ m → IsFitActual y x m e → IsActual y x e → IsPassedTo y x m e
-        by_mode mode.In is fit g = (value (rw is at g) fit is, seen fit is)
+        by_mode mode.In is fit g = (value (rw is at g) fit, seen (rw is at g) fit is)
         by_mode mode.Out is fit g = (let place = rw is at g in copied fit place.0 place.1 place.2)
         by_mode mode.InOut is fit g = (let place = rw is at g in copied fit place.0 place.1 place.2)
 
-    actuals_to : (formals : List ℕ) (actuals : TypedTree) → ((x : ℕ) → Holds formals x → is_formal y x ≡ true) → ((x : ℕ) → is_formal y x ≡ true → IsKindOfFormal y x)
-        → AreFitActuals y formals actuals → NamesOwners y formals actuals → ActualsTaken y formals actuals → ArePassedTo y formals actuals
-    actuals_to (x ∷ formals) (More e rest) known kinds fit named (one, others) =
-        (actual_to x e (kinds x (known x (inl refl))) (fit.0 (known x (inl refl))) named.0 one, actuals_to formals rest (λ z has. known z (inr has)) kinds fit.1 named.1 others)
-    actuals_to [] actuals known kinds fit named taken = λ x has. absurd has
-    actuals_to (x ∷ formals) actuals known kinds fit named taken = absurd taken
+    actuals_to : (formals : List ℕ) (actuals : TypedTree) → ((x : ℕ) → Holds formals x → is_formal y x ≡ true)
+        → AreFitActuals y formals actuals → NamesOwners y formals actuals → NamesViews y formals actuals → ActualsTaken y formals actuals → ArePassedTo y formals actuals
+    actuals_to (x ∷ formals) (More e rest) known fit named viewed (one, others) =
+        (actual_to x e (fit.0 (known x (inl refl))) named.0 viewed.0 one, actuals_to formals rest (λ z has. known z (inr has)) fit.1 named.1 viewed.1 others)
+    actuals_to [] actuals known fit named viewed taken = λ x has. absurd has
+    actuals_to (x ∷ formals) actuals known fit named viewed taken = absurd taken
+
+  -- Only the first formal of a traversal function is of an anonymous access type, and what it sees is a name.
+  later_named : (formals : List ℕ) (actuals : TypedTree) → ((x : ℕ) → Holds formals x → is_anonymous (view_of y x) ≡ true → ⊥) → NamesViews y formals actuals
+  later_named (x ∷ formals) (More e rest) none = ((λ view. absurd (none x (inl refl) view)), later_named formals rest (λ z has. none z (inr has)))
+  later_named [] actuals none = tt
+  later_named (x ∷ formals) actuals none = tt
+
+  views_named : (b : Bool) (formals : List ℕ) (actuals : TypedTree) → Once formals → ((x : ℕ) → Holds formals x → is_anonymous (view_of y x) ≡ true → traversed_of b formals ≡ Some x)
+      → ((e rest : TypedTree) → actuals ≡ More e rest → b ≡ true → IsName e) → NamesViews y formals actuals
+  views_named true (x ∷ formals) (More e rest) once firsts first =
+      ((λ view. first e rest refl refl), later_named formals rest (λ z has view. once.0 (subst (Holds formals) (sym (one x z (firsts z (inr has) view))) has)))
+    where
+      one : (x z : ℕ) → Some x ≡ Some z → x ≡ z
+      one x z e = cc
+  views_named false (x ∷ formals) (More e rest) once firsts first = later_named (x ∷ formals) (More e rest) (λ z has view. (let none : None ≡ Some z = firsts z has view in cc))
+  views_named b [] actuals once firsts first = tt
+  views_named b (x ∷ formals) actuals once firsts first = tt
 
 -- Where places are that are copied back to.
 abbrev IsKeptPlace : Typing → ℕ → TypedTree → Type 0
 IsKeptPlace s x e = (goes_through_none e ≡ true) ⊎ IsReachedBack s x e
 
-kept_there : (s : Typing) (x : ℕ) (e : TypedTree) → IsKeptActual s x e → IsKeptPlace s x e
+kept_there : (s : Typing) (x : ℕ) (e : TypedTree) → IsScalarAt s x ⊎ IsKeptActual s e → IsKeptPlace s x e
 kept_there s x e (inl plain) = inr (inl plain)
 kept_there s x e (inr (inl none)) = inl none
 kept_there s x e (inr (inr roots)) = inr (inr roots)
@@ -155,12 +214,24 @@ kept_places s (x ∷ formals) actuals known fit = tt
 pub shown_own : (s : Typing) → OwnsByShape s.table → (shared : Type 0) (formals : List ℕ) (actuals : TypedTree) → AreShownFit s shared formals actuals
     → AreShownOwn s shared formals actuals
 shown_own s own_law shared (x ∷ formals) (More e rest) fit = (
-  λ view. elim (fit.0 (both_first (is_formal s x) (is_in (object_at s x).mode) (both_first (is_in_formal s x) (is_owning s.table (object_at s x).of) view))) [
-    | inl plain ↦ absurd (let no : true ≡ false = sym (both_second (is_in_formal s x) (is_owning s.table (object_at s x).of) view) ∙ plain_type s own_law (object_at s x).of plain in cc)
+  λ given. elim (fit.0 (given_formal (is_formal s x) (is_in (object_at s x).mode) (is_owning s.table (object_at s x).of) (is_anonymous (view_of s x)) given)) [
+    | inl plain ↦ absurd (given_none (is_formal s x) (is_in (object_at s x).mode) (is_owning s.table (object_at s x).of) (is_anonymous (view_of s x)) given
+        (plain_type s own_law (object_at s x).of plain) (scalar_plain (view_of s x) plain))
     | inr roots ↦ roots
   ],
   shown_own s own_law shared formals rest fit.1,
 )
+  where
+    given_formal : (f i o a : Bool) → ((f && i) && o) || ((f && i) && a) ≡ true → f ≡ true
+    given_formal true i o a e = refl
+    given_formal false i o a e = cc
+
+    given_none : (f i o a : Bool) → ((f && i) && o) || ((f && i) && a) ≡ true → o ≡ false → a ≡ false → ⊥
+    given_none true true false false e g h = cc
+    given_none true false false false e g h = cc
+    given_none false i o a e g h = cc
+    given_none true i true a e g h = cc
+    given_none true i false true e g h = cc
 shown_own s own_law shared [] actuals fit = tt
 shown_own s own_law shared (x ∷ formals) actuals fit = tt
 
@@ -180,18 +251,23 @@ module _ (program : FlowProgram) where
       (sub : FlowSub) → Holds program.subs sub → (p : FlowPoint) → Holds sub.points p → (n : ℕ) (actuals : TypedTree) (result : Option ℕ)
       → p.instr ≡ Call n actuals result → AreFitActuals s (sub_of program n).formals actuals
 
-  -- What owns and is passed by a formal of mode `in` is null, or what a name of its type stands for.
-  abbrev pub PassNamed : Type 0
-  PassNamed =
-      (sub : FlowSub) → Holds program.subs sub → (p : FlowPoint) → Holds sub.points p → (n : ℕ) (actuals : TypedTree) (result : Option ℕ)
-      → p.instr ≡ Call n actuals result → NamesOwners s (sub_of program n).formals actuals
-
-  -- So it is of a program whose steps are typed.
+  -- So it is of a program whose steps are typed, where formals of anonymous access types are the first ones of traversal functions.
   pub actuals_passed : counts (shape_of program.table integer) ≡ true → lists (shape_of program.table boolean) ≡ true
-      → ((t : ℕ) → words program.table t ≡ words_of (words program.table) (shape_of program.table t)) → OwnsByShape program.table → AreTyped program
-      → ((x : ℕ) → is_formal s x ≡ true → IsKindOfFormal s x) → PassFit → PassNamed → PassActuals program
-  actuals_passed whole listed word_law own_law typed kinds fit named sub has p there n actuals result is known =
-      let call = subst (λ i. IsTypedStep (flow_typing program) sub.result i) is (typed sub has p there) in
+      → ((t : ℕ) → words program.table t ≡ words_of (words program.table) (shape_of program.table t)) → OwnsByShape program.table
+      → ((sub : FlowSub) → Holds program.subs sub → (p : FlowPoint) → Holds sub.points p → IsTypedUse s sub.result p.instr)
+      → ((n : ℕ) → Once (sub_at s n).formals)
+      → ((n x : ℕ) → Holds (sub_at s n).formals x → is_anonymous (view_of s x) ≡ true → traversed_of (traverses s.table (sub_at s n).result) (sub_at s n).formals ≡ Some x)
+      → PassFit → PassActuals program
+  actuals_passed whole listed word_law own_law used once firsts fit sub has p there n actuals result is known =
+      let call = subst (λ i. IsTypedUse (flow_typing program) sub.result i) is (used sub has p there) in
       let same : (sub_at (flow_typing program) n).formals ≡ (sub_of program n).formals = ap (λ (z : Signature). z.formals) (signature_there program.subs n) in
-      actuals_to (flow_typing program) whole listed word_law own_law (sub_of program n).formals actuals known kinds (fit sub has p there n actuals result is) (named sub has p there n actuals result is)
-      (subst (λ fs. ActualsTaken (flow_typing program) fs actuals) same call.0)
+      actuals_to (flow_typing program) whole listed word_law own_law (sub_of program n).formals actuals known (fit sub has p there n actuals result is)
+      (subst (λ fs. NamesOwners (flow_typing program) fs actuals) same call.1.0.0)
+      (subst (λ fs. NamesViews (flow_typing program) fs actuals) same
+      (views_named (flow_typing program) whole listed word_law (traverses program.table (sub_at (flow_typing program) n).result) (sub_at (flow_typing program) n).formals actuals (once n) (firsts n)
+      (first_named (sub_at (flow_typing program) n) actuals call.1.0.1)))
+      (subst (λ fs. ActualsTaken (flow_typing program) fs actuals) same call.0.0)
+    where
+      first_named : (sub : Signature) (actuals : TypedTree) → NamesFirst (flow_typing program) sub actuals → (e rest : TypedTree) → actuals ≡ More e rest
+          → traverses program.table sub.result ≡ true → IsName e
+      first_named sub actuals first e rest at gives = (let here = subst (NamesFirst (flow_typing program) sub) at first in here gives)

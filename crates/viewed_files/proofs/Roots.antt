@@ -101,17 +101,16 @@ formal_known kind.Formal e = refl
 formal_known k e = cc
 
 module _ (s : Site) (own : Typing) (units : List Code) (h : Home) (object : ℕ → Type 0) (names : (d : ℕ) → is_object_entry (entry_of h.known d) ≡ true → object d)
-    (at : AreAt s own 1 (over_units (objects_in units h 0) 1 units)) (plain : (x : ℕ) → flow.is_formal own x ≡ true → is_anonymous (view_of own x) ≡ false) where
-  abbrev IsPlainRoot : ℕ → Type 0
-  IsPlainRoot d = (o : ObjectInfo) → entry_of h.known d ≡ entry.Object o → is_formal_kind o.kind ≡ true → is_anonymous (full own.table o.of) ≡ false
+    (at : AreAt s own 1 (over_units (objects_in units h 0) 1 units)) where
+  abbrev IsFormalRoot : ℕ → Type 0
+  IsFormalRoot d = (o : ObjectInfo) → entry_of h.known d ≡ entry.Object o → is_formal_kind o.kind ≡ true → flow.is_formal own (object_number s d) ≡ true
 
-  root_plain : (d : ℕ) → (object d → Has (flat_map object_numbers units) d) → IsPlainRoot d
-  root_plain d declared o is formal =
+  root_formal : (d : ℕ) → (object d → Has (flat_map object_numbers units) d) → IsFormalRoot d
+  root_formal d declared o is formal =
       let has : Has (map (λ (u : DeclaredObject). u.number) (over_units (objects_in units h 0) 1 units)) d
       = subst (λ ns. Has ns d) (sym (units_same units h 1 units)) (declared (names d (ap is_object_entry is))) in
       let here = numbered s own h.known 1 (over_units (objects_in units h 0) 1 units) at (units_known units h 1 units) d has in
-      let known_formal : flow.is_formal own (object_number s d) ≡ true = ap flow.is_formal_kind (here.1 ∙ ap entry_kind is) ∙ formal_known o.kind formal in
-      sym (ap (λ t. is_anonymous (full own.table t)) (here.0 ∙ ap object_type is)) ∙ plain (object_number s d) known_formal
+      ap flow.is_formal_kind (here.1 ∙ ap entry_kind is) ∙ formal_known o.kind formal
 
-  pub roots_plain : AllFit object [] units → (u : Code) → Has units u → AreDenoted IsPlainRoot u
-  roots_plain fits = units_denoted object IsPlainRoot (flat_map object_numbers units) root_plain units [] (λ n has. absurd has) (λ n has. has) fits
+  pub roots_formal : AllFit object [] units → (u : Code) → Has units u → AreDenoted IsFormalRoot u
+  roots_formal fits = units_denoted object IsFormalRoot (flat_map object_numbers units) root_formal units [] (λ n has. absurd has) (λ n has. has) fits

@@ -15,6 +15,7 @@ use Rattle.type_definitions.specs.declared.table.Entry.TheVariants as entry
 use Rattle.type_definitions.specs.declared.table.Kind.TheVariants as kind
 use Rattle.type_definitions.specs.declared.table.ObjectInfo.{ObjectInfo}
 use Rattle.type_definitions.specs.declared.table.Known.{Known}
+use Rattle.type_definitions.specs.declared.table.Profile.{Profile}
 use Rattle.type_definitions.specs.declared.table.Shape.{Shape}
 use Rattle.type_definitions.specs.declared.table.Shape.TheVariants as shape
 use Rattle.type_definitions.specs.declared.judgement.View.{View}
@@ -25,13 +26,13 @@ use Rattle.type_definitions.specs.declared.judgement.Reading.{Reading}
 use Rattle.type_definitions.specs.declared.judgement.Reading.TheVariants as reading
 use Rattle.type_definitions.specs.declared.judgement.Where.TheVariants as stands
 use Rattle.type_definitions.specs.Types.{Table, full, shape_of, view_of, untyped, is_untyped, is_owning, is_scalar}
-use Rattle.type_definitions.specs.Entries.{entry_of, integer, marked}
+use Rattle.type_definitions.specs.Entries.{entry_of, integer, marked, denotes_type}
 use Rattle.type_definitions.specs.Faults.{demand, K2, K6}
 use Rattle.type_definitions.specs.Names.{Context, extent, seen, step, along, led_on, ended, reached, through, indexed, is_index, array_value, array_attribute, of_entry, reading_of, is_end}
-use Rattle.type_definitions.specs.Expressions.{faults, inside, behind, way_of, reading_faults, given_names, call_arguments, own_of, next_type, is_variable, is_anonymous, is_traversal, profile_of, result_type}
+use Rattle.type_definitions.specs.Expressions.{faults, inside, behind, way_of, reading_faults, given_names, call_arguments, own_of, next_type, is_variable, is_anonymous, is_traversal, profile_of, result_type, is_in}
 use Rattle.type_definitions.specs.Statements.{source_faults, source_name, source_fits, formal_source, designates, is_source, keeps_constant, is_object_entry, is_formal, is_formal_kind, target_faults, assign_faults, assigned}
-use Rattle.type_definitions.specs.Gathered.{indicated, is_anonymous_indication, declared_number}
-use Rattle.type_definitions.specs.Declarations.{indication_faults, is_single, first_pos, first_number, in_package, starting, has_one, initial_faults, object_faults}
+use Rattle.type_definitions.specs.Gathered.{indicated, is_anonymous_indication, declared_number, declared_pos, indicates_type, profile_from}
+use Rattle.type_definitions.specs.Declarations.{indication_faults, is_single, first_pos, first_number, in_package, starting, has_one, initial_faults, object_faults, formal_faults, group_faults, formals_group, formals_faults, front_faults, result_faults, is_traversable}
 use Rattle.typed_tree.specs.Trees.{TypedTree, TypedCode, Name, NoMore as nothing_more}
 use Rattle.typed_tree.specs.Trees as typed
 use Rattle.typed_tree.specs.declared.object.Object.{Object}
@@ -78,7 +79,7 @@ scalar_plain w e = cc
 abbrev pub IsLocalView : Table → DeclaredObject → Type 0
 IsLocalView table o =
     flow.is_anonymous (full table o.object.of) ≡ true
-    → (flow.is_formal_kind o.object.kind ≡ true) ⊎ ((is_variable_object o.object.kind ≡ true) × (o.object.«package» ≡ None))
+    → ((flow.is_formal_kind o.object.kind ≡ true) × (o.object.mode ≡ mode.In)) ⊎ ((is_variable_object o.object.kind ≡ true) × (o.object.«package» ≡ None))
 
 -- What is declared is no view.
 abbrev pub DeclaresPlain : Typing → TypedCode → Type 0
@@ -98,9 +99,9 @@ module _ (s : Site) (objects : List Object) (subs : List Signature) (made : ℕ 
   abbrev pub AreMarksPlain : Type 0
   AreMarksPlain = (m : Mark) → flow.is_anonymous (full table (marked known m)) ≡ false
 
-  -- If this is a formal, it is of no anonymous access type.
-  abbrev pub IsRootPlain : ℕ → Type 0
-  IsRootPlain d = (o : ObjectInfo) → entry_of known d ≡ entry.Object o → is_formal_kind o.kind ≡ true → flow.is_anonymous (full table o.of) ≡ false
+  -- If this is known as a formal, the object is one.
+  abbrev pub IsRootFormal : ℕ → Type 0
+  IsRootFormal d = (o : ObjectInfo) → entry_of known d ≡ entry.Object o → is_formal_kind o.kind ≡ true → flow.is_formal y (object_number s d) ≡ true
 
   pub integer_plain : flow.is_anonymous (full table integer) ≡ false
   integer_plain = counts_plain (shape_of table integer) laws.whole
@@ -312,29 +313,73 @@ module _ (s : Site) (objects : List Object) (subs : List Signature) (made : ℕ 
 
   -- ---- formals
 
-  module _ (h : Home) (same : h.known ≡ known) where
-    formal_known : (a : ℕ) (how : Mode) (d : Code) (o : ObjectInfo) → entry_of known (declared_number d) ≡ entry.Object o → o.kind ≡ kind.Formal
+  module _ (marks : AreMarksPlain) (h : Home) (same : h.known ≡ known) where
+    in_mode : (m : Mode) → is_in m ≡ true → m ≡ mode.In
+    in_mode mode.In e = refl
+    in_mode mode.Out e = cc
+    in_mode mode.InOut e = cc
+
+    -- one of an anonymous access type is traversed, so it is of mode `in`
+    mode_of : (f : Bool) (r : Option ℕ) (traversed : Bool) (how : Mode) (of d : Code) → indication_faults known of ≡ [] → formal_faults s.context f r traversed how of d ≡ []
+        → flow.is_anonymous (full table (indicated known (declared_number d) of)) ≡ true → how ≡ mode.In
+    mode_of f r traversed how (Anonymous p k m) d none faults view =
+        let late = nil_right (demand 3 (declared_pos d) (not f || is_in how)) _ faults in
+        let through = holds 6 (declared_pos d) (not true || traversed) (nil_left _ _ late) in
+        let last = holds 6 (declared_pos d) (not (traversed && indicates_type known (Anonymous p k m)) || is_traversable s.context r how (indicated known (declared_number d) (Anonymous p k m)))
+        (nil_right (demand 6 (declared_pos d) (not true || traversed)) _ late) in
+        let denotes : indicates_type known (Anonymous p k m) ≡ true = holds 1 m.pos (denotes_type known m.decl) (nil_left _ _ none) in
+        in_mode how (both_first (is_in how) _ (open traversed (indicates_type known (Anonymous p k m)) _ through denotes last))
+      where
+        open : (a b c : Bool) → not true || a ≡ true → b ≡ true → not (a && b) || c ≡ true → c ≡ true
+        open true true c e g h = h
+        open true false c e g h = cc
+        open false b c e g h = cc
+
+        both_first : (a b : Bool) → a && b ≡ true → a ≡ true
+        both_first true b e = refl
+        both_first false b e = cc
+    mode_of f r traversed how (Plain m) d none faults view = absurd (true_false (flow.is_anonymous (full table (marked known m))) view (marks m))
+    mode_of f r traversed how of d none faults view = absurd (true_false (flow.is_anonymous (full table integer)) view integer_plain)
+
+    formal_known : (f : Bool) (r : Option ℕ) (traversed : Bool) (a : ℕ) (how : Mode) (of d : Code) (o : ObjectInfo) → entry_of known (declared_number d) ≡ entry.Object o
+        → o.of ≡ indicated known (declared_number d) of → o.kind ≡ kind.Formal → indication_faults known of ≡ [] → formal_faults s.context f r traversed how of d ≡ []
         → IsLocalView table (object_of h a how d)
-    formal_known a how d o is formal anonymous =
-        inl (ap flow.is_formal_kind (ap (λ (k : Known). entry_kind (entry_of k (declared_number d))) same ∙ ap entry_kind is ∙ ap kind_of formal))
+    formal_known f r traversed a how of d o is typed formal none faults anonymous = inl (
+      ap flow.is_formal_kind (ap (λ (k : Known). entry_kind (entry_of k (declared_number d))) same ∙ ap entry_kind is ∙ ap kind_of formal),
+      mode_of f r traversed how of d none faults
+          (sym (ap (λ t. flow.is_anonymous (full table t)) (ap (λ (k : Known). object_type (entry_of k (declared_number d))) same ∙ ap object_type is ∙ typed)) ∙ anonymous),
+    )
 
-    each_formal : (a : ℕ) (how : Mode) (of ids : Code) → AreOf known of ids → AllByRecursion (IsLocalView table) (map (object_of h a how) (code_items ids))
-    each_formal a how of (More d rest) are =
-        (formal_known a how d are.0.0 are.0.1 are.0.3, each_formal a how of rest are.1)
-    each_formal a how of ids are = tt
+    each_formal : (f : Bool) (r : Option ℕ) (traversed : Bool) (a : ℕ) (how : Mode) (of ids : Code) → AreOf known of ids → indication_faults known of ≡ []
+        → group_faults s.context f r traversed how of ids ≡ [] → AllByRecursion (IsLocalView table) (map (object_of h a how) (code_items ids))
+    each_formal f r traversed a how of (More d rest) are none faults = (
+      formal_known f r traversed a how of d are.0.0 are.0.1 are.0.2 are.0.3 none (nil_left (formal_faults s.context f r traversed how of d) _ faults),
+      each_formal f r false a how of rest are.1 none (nil_right (formal_faults s.context f r traversed how of d) _ faults),
+    )
+    each_formal f r traversed a how of ids are none faults = tt
 
-    group_local : (a : ℕ) (g : Code) → IsGroupTyped known g → AllByRecursion (IsLocalView table) (formals_of h a g)
-    group_local a (Formals ids m of) are = each_formal a m of ids are
-    group_local a g are = tt
+    groups_local : (f : Bool) (r : Option ℕ) (traversed : Bool) (a : ℕ) (formals : Code) → AreGroupsTyped known formals → formals_faults s.context f r traversed formals ≡ []
+        → AllByRecursion (IsLocalView table) (flat_map (formals_of h a) (code_items formals))
+    groups_local f r traversed a (More (Formals ids m of) rest) are faults =
+        let group = nil_left (formals_group s.context f r traversed (Formals ids m of)) _ faults in
+        all_both (IsLocalView table) (formals_of h a (Formals ids m of)) (flat_map (formals_of h a) (code_items rest))
+        (each_formal f r traversed a m of ids are.0 (nil_left (indication_faults known of) _ group) (nil_right (indication_faults known of) _ group))
+        (groups_local f r false a rest are.1 (nil_right (formals_group s.context f r traversed (Formals ids m of)) _ faults))
+    groups_local f r traversed a (More group rest) are faults =
+        all_both (IsLocalView table) (formals_of h a group) (flat_map (formals_of h a) (code_items rest)) (none_of group)
+        (groups_local f r false a rest are.1 (nil_right (formals_group s.context f r traversed group) _ faults))
+      where
+        none_of : (g : Code) → AllByRecursion (IsLocalView table) (formals_of h a g)
+        none_of g = tt
+    groups_local f r traversed a formals are faults = tt
 
-    groups_local : (a : ℕ) (formals : Code) → AreGroupsTyped known formals → AllByRecursion (IsLocalView table) (flat_map (formals_of h a) (code_items formals))
-    groups_local a (More group rest) are =
-        all_both (IsLocalView table) (formals_of h a group) (flat_map (formals_of h a) (code_items rest)) (group_local a group are.0) (groups_local a rest are.1)
-    groups_local a formals are = tt
-
-    pub front_local : (a : ℕ) (front : Code) → IsFrontTyped known front → AllByRecursion (IsLocalView table) (flat_map (formals_of h a) (front_formals front))
-    front_local a (Front d formals result) are = groups_local a formals are
-    front_local a front are = tt
+    pub front_local : (a : ℕ) (front : Code) → IsFrontTyped known front → front_faults s.context front ≡ []
+        → AllByRecursion (IsLocalView table) (flat_map (formals_of h a) (front_formals front))
+    front_local a (Front d formals result) are faults =
+        let q : Profile = profile_from known (declared_number d) formals result in
+        groups_local (is_some q.result) q.result (is_traversal known q) a formals are
+        (nil_left (formals_faults s.context (is_some q.result) q.result (is_traversal known q) formals) _ (nil_right (result_faults known result) _ faults))
+    front_local a front are faults = tt
 
   -- ---- assignments
 
@@ -443,7 +488,7 @@ module _ (s : Site) (objects : List Object) (subs : List Signature) (made : ℕ 
     abbrev IsStored : Tree → Tree → Type 0
     IsStored target e = all_fit (has_source y) (typed_assign s target e) ≡ true
 
-    object_stored : (p : Pos) (d t : ℕ) (o : ObjectInfo) (value : TypedTree) (e : Tree) → IsRootPlain d → Denotes s y d → entry_of known d ≡ entry.Object o → o.of ≡ t
+    object_stored : (p : Pos) (d t : ℕ) (o : ObjectInfo) (value : TypedTree) (e : Tree) → IsRootFormal d → Denotes s y d → entry_of known d ≡ entry.Object o → o.of ≡ t
         → ((want : ℕ) → source_faults z want e ≡ [] → IsNameOrCall value) → assigned z true (entry_of known d) e (reading.Place t) ≡ []
         → stores_name y (Some (object_number s d)) value || gives_view y value ≡ true
     object_stored p d t o value e root denotes is of source none = by (flow.is_anonymous (full table t)) refl
@@ -451,18 +496,28 @@ module _ (s : Site) (objects : List Object) (subs : List Signature) (made : ℕ 
         object_is : flow.is_anonymous (full table (object_at y (object_number s d)).of) ≡ flow.is_anonymous (full table t)
         object_is = ap (λ u. flow.is_anonymous (full table u)) (denotes.0 o is ∙ of)
 
-        named : (a b c : Bool) → a ≡ false → (not a || b) || c ≡ true
-        named true b c e = cc
-        named false b c e = refl
+        named : (a f b c : Bool) → a ≡ false → ((not a || f) || b) || c ≡ true
+        named true f b c e = cc
+        named false f b c e = refl
 
-        either : (a b c : Bool) → b || c ≡ true → (not a || b) || c ≡ true
-        either true b c e = e
-        either false b c e = refl
+        either : (a f b c : Bool) → b || c ≡ true → ((not a || f) || b) || c ≡ true
+        either true true b c e = refl
+        either true false b c e = e
+        either false f b c e = refl
 
-        within : (f : Bool) → is_formal_kind o.kind ≡ f → flow.is_anonymous (full table t) ≡ true
-            → (if f then formal_source z t e else source_faults z t e) ≡ [] → IsNameOrCall value
-        within true formal view h = absurd (true_false (flow.is_anonymous (full table t)) view (sym (ap (λ u. flow.is_anonymous (full table u)) of) ∙ root o is formal))
-        within false other view h = source t h
+        passed : (a f b c : Bool) → f ≡ true → ((not a || f) || b) || c ≡ true
+        passed true true b c e = refl
+        passed false true b c e = refl
+        passed a false b c e = cc
+
+        Stored : Type 0
+        Stored = stores_name y (Some (object_number s d)) value || gives_view y value ≡ true
+
+        within : (f : Bool) → is_formal_kind o.kind ≡ f → (if f then formal_source z t e else source_faults z t e) ≡ [] → Stored
+        within true formal h =
+            passed (flow.is_anonymous (full table (object_at y (object_number s d)).of)) (flow.is_formal y (object_number s d)) (is_name_of is_any value) (gives_view y value) (root o is formal)
+        within false other h =
+            either (flow.is_anonymous (full table (object_at y (object_number s d)).of)) (flow.is_formal y (object_number s d)) (is_name_of is_any value) (gives_view y value) (source t h)
 
         known_formal : is_formal (entry_of known d) ≡ is_formal_kind o.kind
         known_formal = ap is_formal is
@@ -473,14 +528,14 @@ module _ (s : Site) (objects : List Object) (subs : List Signature) (made : ℕ 
         unfolded true f h g view k = k
         unfolded false f h g view k = cc
 
-        by : (b : Bool) → flow.is_anonymous (full table t) ≡ b → stores_name y (Some (object_number s d)) value || gives_view y value ≡ true
-        by false plain = named (flow.is_anonymous (full table (object_at y (object_number s d)).of)) (is_name_of is_any value) (gives_view y value) (object_is ∙ plain)
+        by : (b : Bool) → flow.is_anonymous (full table t) ≡ b → Stored
+        by false plain =
+            named (flow.is_anonymous (full table (object_at y (object_number s d)).of)) (flow.is_formal y (object_number s d)) (is_name_of is_any value) (gives_view y value) (object_is ∙ plain)
         by true view =
-            either (flow.is_anonymous (full table (object_at y (object_number s d)).of)) (is_name_of is_any value) (gives_view y value)
-            (within (is_formal (entry_of known d)) (sym known_formal) view
-            (unfolded (is_anonymous (full table t)) (is_formal (entry_of known d)) refl refl (other_anonymous (full table t) view) none))
+            within (is_formal (entry_of known d)) (sym known_formal)
+            (unfolded (is_anonymous (full table t)) (is_formal (entry_of known d)) refl refl (other_anonymous (full table t) view) none)
 
-    pub assign_fit : (target e : Tree) → Uses IsRootPlain target → IsMeant s y target → IsMeant s y e → target_faults z target ≡ [] → assign_faults z target e ≡ [] → IsStored target e
+    pub assign_fit : (target e : Tree) → Uses IsRootFormal target → IsMeant s y target → IsMeant s y e → target_faults z target ≡ [] → assign_faults z target e ≡ [] → IsStored target e
     unfolding all_fit Uses IsMeant typed_steps along AreSuffixes
     assign_fit (Named p d rest) e uses meant value_meant none stored =
         let read = target_read p d rest none in

@@ -8,7 +8,7 @@ use Rattle.resolved_tree.specs.Trees.{Code, Incomplete, Private, TypeDecl, Subty
 use Rattle.type_definitions.specs.declared.table.Known.{Known}
 use Rattle.type_definitions.specs.Names.{Context}
 use Rattle.type_definitions.specs.Gathered.{declared_number, declared_text, in_subprogram, in_visible, in_hidden}
-use Rattle.type_definitions.specs.Declarations.{in_package, in_body, body_faults, code_faults}
+use Rattle.type_definitions.specs.Declarations.{in_package, in_body, body_faults, code_faults, front_faults}
 use Rattle.type_definitions.specs.Whole.{outside}
 use Rattle.typed_tree.specs.declared.object.Object.{Object}
 use Rattle.typed_tree.specs.Expressions.{Site}
@@ -42,7 +42,7 @@ module _ (s : Site) (objects : List Object) (subs : List Signature) (made : ℕ 
   AreLocal os = AllByRecursion (IsLocalView s.context.known.table) os
 
   abbrev Rooted : Code → Type 0
-  Rooted c = AreDenoted (source.IsRootPlain s objects subs made laws) c
+  Rooted c = AreDenoted (source.IsRootFormal s objects subs made laws) c
 
   abbrev Bodies : ℕ → Code → Type 0
   Bodies n c = AllByRecursion (IsSourced y) (subs_in s n c)
@@ -61,7 +61,8 @@ module _ (s : Site) (objects : List Object) (subs : List Signature) (made : ℕ 
       let fs : List DeclaredObject = flat_map (formals_of (local h) m) (front_formals front) in
       let first : List DeclaredObject = objects_in units (local h) m (m + 1) items in
       let second : List DeclaredObject = objects_in units (local h) m (m + 1 + scope_count items) stmts in
-      let front_is = source.front_local s objects subs made laws (local h) same m front are.0 in (
+      let front_is = source.front_local s objects subs made laws marks (local h) same m front are.0
+      (nil_left (front_faults s.context front) _ (nil_left (body_faults s.context front) _ none)) in (
         (went.0, tt),
         all_both (IsLocalView s.context.known.table) (fs ++ first) second (all_both (IsLocalView s.context.known.table) fs first front_is (left first second went.1)) (right first second went.1),
       )
@@ -150,7 +151,7 @@ module _ (known : Known) (units : List Code) (objects : List Object) (subs : Lis
   typing = about s objects subs
 
   abbrev Rooted_unit : Code → Type 0
-  Rooted_unit u = AreDenoted (source.IsRootPlain s objects subs made laws) u
+  Rooted_unit u = AreDenoted (source.IsRootFormal s objects subs made laws) u
 
   abbrev Unit_went : Home → ℕ → ℕ → Code → Type 0
   Unit_went h n m u =

@@ -46,7 +46,7 @@ module _ (s : Site) (objects : List Object) (subs : List Signature) (made : ℕ 
 
   -- No name in code denotes a formal of an anonymous access type.
   abbrev pub Rooted : Code → Type 0
-  Rooted c = AreDenoted (source.IsRootPlain s objects subs made laws) c
+  Rooted c = AreDenoted (source.IsRootFormal s objects subs made laws) c
 
   abbrev Sourced : TypedCode → Type 0
   Sourced c = all_fit (has_source y) c ≡ true

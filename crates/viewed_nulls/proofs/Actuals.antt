@@ -1,6 +1,6 @@
 -- The actuals of a call lead to the same in memories that agree: values, scalar places in variables, and
 -- other places in variables, of which nothing is moved.
-use Rattle.std.proofs.Common.{◌≡◌, refl, sym, ap, ◌∙◌, subst, ◌⊎◌, inl, inr, ℕ, Bool, true, false, ◌&&◌, List, [], ◌∷◌, map, arith, length, if◌then◌else◌, Some, ◌<◌}
+use Rattle.std.proofs.Common.{◌≡◌, refl, sym, ap, ◌∙◌, subst, ◌⊎◌, inl, inr, ℕ, Bool, true, false, ◌&&◌, List, [], ◌∷◌, map, arith, length, if◌then◌else◌, Some}
 use Rattle.spark_base.specs.Lists.{Has}
 use Rattle.place_names.specs.declared.act.Act.{Act}
 use Rattle.place_names.specs.declared.act.Act.TheVariants as act
@@ -39,7 +39,7 @@ use Rattle.soundness.proofs.Stays.{Quiet}
 use Rattle.soundness.proofs.Taking.{Takes, takes_both}
 use Rattle.soundness.proofs.Passing.{AreReads, reads_keep, plain_type}
 use Rattle.soundness.proofs.Lasting.{keeps}
-use Rattle.owned_loans.specs.Views.{Around, Views, IsForeign}
+use Rattle.owned_loans.specs.Views.{Around, Views}
 use Rattle.owned_loans.proofs.Allowed.{cleared_open, cleared_whole}
 use Rattle.viewed_soundness.specs.Holds.{IsNamed, PartsAreNamed, sees_only, is_fixed, IsOwners, IsAccess, KeepsObserved, AllKeep}
 use Rattle.viewed_soundness.proofs.Names.{Starts, true_false, view_access, not_view, plain_sees, both_no, plain_named}
@@ -47,7 +47,7 @@ use Rattle.viewed_soundness.proofs.Stays.{Goes}
 use Rattle.viewed_soundness.proofs.Evaluated.{matches_named, live_trunk}
 use Rattle.viewed_steps.specs.Sound.{IsKindOfFormal, IsReachedBack}
 use Rattle.viewed_steps.specs.Ready.{IsOwnPlace, IsSeen, IsCopyOf, IsActualTo, AreActualsTo}
-use Rattle.viewed_steps.proofs.Seeing.{IsClear, AreOpenTo}
+use Rattle.viewed_steps.proofs.Seeing.{IsClear, AreClear}
 use Rattle.viewed_steps.proofs.LaidOut.{IsOpenActual, AreOpenActuals}
 use Rattle.viewed_steps.proofs.Called.{way_to, head_of, head_values_are, head_of_reads, IsGiven, one_given}
 use Rattle.viewed_steps.proofs.Copies.{copies_read}
@@ -66,8 +66,8 @@ use Rattle.viewed_steps.proofs.Views.{AreAccess, AreUnseen}
 use Rattle.viewed_steps.specs.Ready.{is_shown_type}
 use Rattle.viewed_steps.specs.Traversals.{TraversalCall}
 use Rattle.viewed_steps.proofs.Traversing.{first_actual}
-use Rattle.viewed_steps.proofs.Seeing.{IsOpenTo}
 use Rattle.viewed_steps.proofs.Called.{shown_given}
+use Rattle.viewed_soundness.proofs.Given.{IsLow}
 use Rattle.viewed_steps.proofs.Reading.{index_reads}
 use Rattle.viewed_soundness.specs.Holds.{is_given}
 use Rattle.std.proofs.Common.{◌||◌}
@@ -99,7 +99,7 @@ module _ (h : Here) (settled : IsSettled h.typing.table) (leaks : List Leak) (ot
     (own_law : OwnsByShape h.typing.table) (v : Views) (parts_named : PartsAreNamed h.typing.table) (m : Memory) (hands : List Waiting) (facts : List Fact)
     (ready : IsReadyIn h settled leaks other alone in_formals index_law own_law v parts_named m hands facts)
     (only : OnlyOwners h.typing m)
-    (formals_low : (x : ℕ) (w : Way) → v.way x ≡ Some w → is_view_formal h.typing x ≡ true → (foreign : IsForeign (home h.typing h.frame) w) × (foreign.0 < h.frame) × (0 < foreign.0))
+    (formals_low : (x : ℕ) (w : Way) → v.way x ≡ Some w → IsLow h.typing h.frame w)
     (procedure : Bool) where
   abbrev at : List (List machine.Word) → Now
   at ws = record { memory = m; waits = ws }
@@ -248,7 +248,7 @@ module _ (h : Here) (settled : IsSettled h.typing.table) (leaks : List Leak) (ot
       → SameTo h.typing (followed_by (viewed h e (at before)) value_passed) (followed_by (viewed h e n') value_passed)
   unfolding Compares evaluate waiting has_call
   shown_same before on x typed.Null is seen_there takes compares allowed clears n' same = (refl, same)
-  shown_same before on x (Name p y path u) is (lead, fits, showable) takes compares allowed clears n' same =
+  shown_same before on x (Name p y path u) is (lead, fits) takes compares allowed clears n' same =
       simply h.typing (viewed h (Name p y path u) (at before)) (viewed h (Name p y path u) n') value_passed value_passed
       (place_then h settled own_law asks m hands facts law before on y u path (held_or_taken h AsView) (held_or_taken h AsView) (IsWholeAt h asks m hands facts u)
       (λ way goes. finds way goes of_access)
@@ -379,7 +379,7 @@ module _ (h : Here) (settled : IsSettled h.typing.table) (leaks : List Leak) (ot
 
   -- They are read under the facts before the call; the acts of those that are copied back come after them.
   pub all_same : (before on : List (List machine.Word)) (known : List Fact) (done : List PlaceName) (formals : List ℕ) (actuals : TypedTree) → IsKnown known done formals actuals
-      → ((x : ℕ) → Has formals x → Kind x) → AreUnseen h.typing formals → AreActualsTo h.typing formals actuals → AreOpenTo h.typing h.frame v facts formals actuals → AreOpenActuals h.typing h.frame facts formals actuals → Takes (waiting actuals) before on
+      → ((x : ℕ) → Has formals x → Kind x) → AreUnseen h.typing formals → AreActualsTo h.typing formals actuals → AreClear h.typing facts formals actuals → AreOpenActuals h.typing h.frame facts formals actuals → Takes (waiting actuals) before on
       → Compares h.typing actuals → AllowsAll facts (acts (actual_values h.typing (map (way_to h.typing own_law procedure) formals) actuals))
       → AllowsAll known (acts (actual_acts (map (way_to h.typing own_law procedure) formals) actuals))
       → (n' : Now) → SameNow h.typing (record { memory = m; waits = before }) n'
@@ -401,7 +401,7 @@ module _ (h : Here) (settled : IsSettled h.typing.table) (leaks : List Leak) (ot
       (subst (AllowsAll facts) (acts_append head others) (subst (λ z. AllowsAll facts (acts z)) (head_values_are h.typing own_law procedure x e (map (way_to h.typing own_law procedure) formals) rest) allowed)) in
       let still : after (acts head) facts ≡ facts = reads_keep head (head_of_reads h.typing own_law procedure parts_named x mode_of owning e refl (unseen x (inl refl)) stay.0) facts in
       let each_copy = allows_both known (acts copy) (acts copies_left) (subst (AllowsAll known) (acts_append copy copies_left) copies) in
-      let first = one_same mode_of owning access x e refl refl (unseen x (inl refl)) kind stay.0 (λ formal. (clears.0 formal).0) copied.0 before two.0 two.1 compares.0 each.0
+      let first = one_same mode_of owning access x e refl refl (unseen x (inl refl)) kind stay.0 clears.0 copied.0 before two.0 two.1 compares.0 each.0
       (is_spared mode_of owning access x e formals rest known done refl spares each_copy.0) in
       let given = one_given h settled hands leaks m [] other facts v ready.kept ready.viewed ready.holds alone live in_formals index_law own_law parts_named formals_low procedure before two.0 mode_of owning access x e
       refl refl (unseen x (inl refl)) kind stay.0 clears.0 copied.0 two.1 each.0 in
@@ -422,9 +422,9 @@ module _ (h : Here) (settled : IsSettled h.typing.table) (leaks : List Leak) (ot
 
   -- those of the call of a traversal function: the first one is seen, and all formals are of mode `in`
   pub traversed_same : (before on : List (List machine.Word)) (known : List Fact) (f : ℕ) (c : TraversalCall) (formals : List ℕ)
-      → IsAccess h.typing f → is_shown_type h.typing f ≡ true → IsSeen h.typing f (first_actual h.typing own_law c) → IsOpenTo h.typing h.frame v facts (first_actual h.typing own_law c)
+      → IsAccess h.typing f → is_shown_type h.typing f ≡ true → IsSeen h.typing f (first_actual h.typing own_law c) → IsClear h.typing facts (first_actual h.typing own_law c)
       → ((x : ℕ) → Has formals x → (object_at h.typing x).mode ≡ mode.In) → ((x : ℕ) → Has formals x → Kind x) → AreUnseen h.typing formals
-      → AreActualsTo h.typing formals c.others → AreOpenTo h.typing h.frame v facts formals c.others → AreOpenActuals h.typing h.frame facts formals c.others
+      → AreActualsTo h.typing formals c.others → AreClear h.typing facts formals c.others → AreOpenActuals h.typing h.frame facts formals c.others
       → Takes (waiting (More (first_actual h.typing own_law c) c.others)) before on → Compares h.typing (More (first_actual h.typing own_law c) c.others)
       → AllowsAll facts (acts (actual_values h.typing (objects.Traversed ∷ (map (way_to h.typing own_law procedure) formals)) (More (first_actual h.typing own_law c) c.others)))
       → AllowsAll known (acts (actual_acts (map (way_to h.typing own_law procedure) formals) c.others))
@@ -447,7 +447,7 @@ module _ (h : Here) (settled : IsSettled h.typing.table) (leaks : List Leak) (ot
       (λ y. Quiet (at two.0) (λ a. IsGiven h settled hands leaks m [] other facts v ready.kept ready.viewed ready.holds alone live in_formals index_law own_law parts_named formals_low procedure f mode.In
       (first_actual h.typing own_law c) a) y)
       (passed h objects.Traversed f (first_actual h.typing own_law c) (at before)) (passed h objects.Traversed f (first_actual h.typing own_law c) n') next next given
-      (shown_same before two.0 f (first_actual h.typing own_law c) access seen_first two.1 compares.0 each.0 opens.0 n' same)
+      (shown_same before two.0 f (first_actual h.typing own_law c) access seen_first two.1 compares.0 each.0 opens n' same)
       (λ a n n'' q now. subst (λ z. SameTo h.typing (next a z) (next a n'')) (sym q.0)
       (simply h.typing (all_passed h (map (way_to h.typing own_law procedure) formals) formals c.others (at two.0)) (all_passed h (map (way_to h.typing own_law procedure) formals) formals c.others n'')
       (λ more now. Done (a ∷ more) now) (λ more now. Done (a ∷ more) now)

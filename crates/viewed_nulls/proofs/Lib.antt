@@ -9,5 +9,6 @@ pub mod Spared
 pub mod Actuals
 pub mod Passed
 pub mod Instructions
+pub mod Taken
 pub mod Steps
 pub mod Runs

@@ -19,7 +19,7 @@ use Rattle.soundness.specs.Seen.{seen, home, is_view_formal}
 use Rattle.soundness.specs.Changes.{leaks_at}
 use Rattle.soundness.specs.Typed.{OwnsByShape, Kept, Spot, IsFixed}
 use Rattle.soundness.proofs.Returning.{formal_fixed}
-use Rattle.owned_loans.specs.Views.{Around, Views, ExcusedBy, IsForeign, Viewed}
+use Rattle.owned_loans.specs.Views.{Around, Views, ExcusedBy, IsOuter, Viewed}
 use Rattle.owned_loans.proofs.Moves.{same_viewed}
 use Rattle.viewed_steps.specs.Taken.{IsInside, IsTaken, AreTaken, Lodge, IsPlainPlace, IsCopiedTo}
 use Rattle.viewed_steps.proofs.Between.{more_gone, same_reaches, IsHomed}
@@ -177,13 +177,13 @@ module _ (s : Typing) (settled : IsSettled s.table) (own_law : OwnsByShape s.tab
       let mine = entering.still_checks s settled own_law in_formals hands depth v far sees facts scope cells begins x k to one pos leaks before m at_first
       (still out (subst (λ z. Has z out) (sym same) (inl refl))) in
       let gone_then : Way → Type 0 = (outs_also (away other to) later).gone in
-      let gone_apart : (y : ℕ) (w z : Way) → v.way y ≡ Some w → IsForeign (home s depth) w → (outs_also (away other to) later).gone z → Under z w ⊎ Under w z → ⊥ =
+      let gone_apart : (y : ℕ) (w z : Way) → v.way y ≡ Some w → IsOuter (home s depth) v y w → (outs_also (away other to) later).gone z → Under z w ⊎ Under w z → ⊥ =
       λ y w z has foreign o meets. elim o [
         | inr (other_one, has_one, under) ↦ viewed.whole y w z has foreign (inr (other_one, subst (λ z. Has z other_one) (sym same) (inr has_one), under)) meets
         | inl at_first ↦ elim at_first [
           | inl gone ↦ viewed.whole y w z has foreign (inl gone) meets
-          | inr at ↦ entering.below_apart s settled own_law in_formals hands depth v far sees facts scope cells begins to root y w z has foreign
-              (entering.along_under s settled own_law in_formals hands depth v far sees facts scope cells begins to z at) meets
+          | inr at ↦ viewed.whole y w z has foreign
+              (inr (out, subst (λ z. Has z out) (sym same) (inl refl), entering.along_under s settled own_law in_formals hands depth v far sees facts scope cells begins to z at)) meets
         ]
       ] in
       subst (λ z. AreWhollyPassed s (suc depth) (x ∷ formals) (z ∷ passed) m) (sym is) (

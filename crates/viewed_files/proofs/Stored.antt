@@ -1,0 +1,160 @@
+-- What is declared, or assigned as a whole, and is of an anonymous access type is a variable: formals aren't declared, and no
+-- formal of mode `in` is assigned in a program without reports.
+use Rattle.std.specs.Prelude.{IsTrue}
+use Rattle.std.proofs.Common.{◌≡◌, refl, sym, ap, ◌∙◌, subst, ◌⊎◌, inl, inr, ℕ, Bool, true, false, not, ◌&&◌, ◌||◌, List, ◌++◌, map, None, Some}
+use Rattle.spark_base.specs.Lists.{Has}
+use Rattle.spark_base.proofs.Lists.{Has-append_right, Has-map_from}
+use Rattle.spark_base.specs.declared.position.Pos.{Pos}
+use Rattle.place_names.specs.declared.act.Act.TheVariants as act
+use Rattle.place_names.specs.declared.act.Placed.{Placed}
+use Rattle.place_names.specs.declared.rule.Rule.TheVariants as rule
+use Rattle.place_names.specs.Names.{Name as PlaceName}
+use Rattle.type_definitions.specs.Types.{Table}
+use Rattle.typed_tree.specs.declared.object.ObjectKind.{ObjectKind}
+use Rattle.typed_tree.specs.declared.object.ObjectKind.TheVariants as object_kind
+use Rattle.typed_tree.specs.Trees.{TypedTree, Name, NoMore}
+use Rattle.typed_tree.specs.Programs.{TypedSub, TypedProgram}
+use Rattle.flow_paths.specs.declared.report.Effects.{Effects}
+use Rattle.flow_paths.specs.Instructions.{Instruction, Declare, Assign}
+use Rattle.flow_paths.specs.Objects.{Typing, object_at, is_variable, is_formal, is_formal_kind, is_borrower, is_observer, is_borrowing, is_observing, is_named_access, is_anonymous, is_package_object, view_of}
+use Rattle.flow_paths.specs.Names.{name_of, selectors}
+use Rattle.flow_paths.specs.Acts.{placed, acts_of, before_write, whole_acts}
+use Rattle.flow_paths.specs.Points.{NamedPoint, FlowPoint}
+use Rattle.flow_paths.specs.Laid.{FlowSub, FlowProgram, NamedSub, all_named, declared_within, unnumbered, kept_roots, sub_facts, flow_sub, typing_of, flow_typing, flow_program, flow_named}
+use Rattle.flow_paths.specs.Reports.{on_views}
+use Rattle.flow_paths.specs.Views.{ConstantView, of_formal, in_function, changed, is_function, is_in_mode, has_selector, text_report}
+use Rattle.machine.specs.Owners.{is_in, is_in_formal}
+use Rattle.soundness.specs.Sound.{Accepted}
+use Rattle.soundness.proofs.Points.{flow_at}
+use Rattle.soundness.proofs.Typings.{Agree, flow_agrees, formal_same}
+use Rattle.scope_laws.proofs.Begun.{Begins, sub_begun, package_begun}
+use Rattle.ready_laws.specs.InOrder.{IsInOrder}
+use Rattle.ready_laws.proofs.Subs.{setting_from, named_cases}
+use Rattle.viewed_steps.specs.Sound.{IsStoredAt}
+
+true_is : {A : Type 0} → true ≡ false → A
+true_is e = cc
+
+both_first : (a b : Bool) → a && b ≡ true → a ≡ true
+both_first true b e = refl
+both_first false b e = cc
+
+both_second : (a b : Bool) → a && b ≡ true → b ≡ true
+both_second true b e = e
+both_second false b e = cc
+
+no_variable : (k : ObjectKind) → is_formal_kind k ≡ true → is_variable k ≡ false
+no_variable object_kind.Formal e = refl
+no_variable k e = cc
+
+-- A formal of mode `in` of an anonymous access type isn't changed as a whole.
+changed_here : (function formal inn access whole : Bool) → formal ≡ true → inn ≡ true → access ≡ false
+    → (IsTrue (not function && (formal && (inn && (not access || not whole)))) → ⊥) → (IsTrue (function && formal) → ⊥) → ⊥
+changed_here true true true false whole is also none procedure function = function refl
+changed_here false true true false whole is also none procedure function = procedure refl
+changed_here function formal inn true whole is also none procedure never = cc
+changed_here function true false false whole is also none procedure never = cc
+changed_here function false inn false whole is also none procedure never = cc
+
+outer : (a b c : Bool) → IsTrue (a && b) → IsTrue (a && (b || c))
+outer true true c h = h
+outer true false c h = (let no : false ≡ true = h in cc)
+outer false b c h = h
+
+access_none : (named constant : Bool) → (not named && not constant) || (not named && constant) ≡ true → named && not constant ≡ false
+access_none false constant e = refl
+access_none true constant e = cc
+
+module _ (table : Table) (typed : TypedProgram) (effects : Effects) (accepted : Accepted table typed effects) (order : IsInOrder table typed)
+    (declared : (sub : TypedSub) → Has typed.subs sub → (x : ℕ) → Has (declared_within sub.body) x → is_formal (typing_of table typed) x ≡ false)
+    (plain : (x : ℕ) → is_anonymous (view_of (flow_typing (flow_program table typed)) x) ≡ true → is_named_access (view_of (flow_typing (flow_program table typed)) x) ≡ false)
+    (local : (x : ℕ) → is_anonymous (view_of (flow_typing (flow_program table typed)) x) ≡ true
+    → (is_variable (object_at (flow_typing (flow_program table typed)) x).kind ≡ true) ⊎ (is_in_formal (flow_typing (flow_program table typed)) x ≡ true)) where
+  abbrev program : FlowProgram
+  program = flow_program table typed
+
+  abbrev s : Typing
+  s = flow_typing program
+
+  abbrev own : Typing
+  own = typing_of table typed
+
+  alike : Agree s own
+  alike = flow_agrees table typed
+
+  abbrev IsNone : ℕ → Type 0
+  IsNone x = is_formal s x ≡ false
+
+  -- ---- what points declare
+
+  begun_named : (named : NamedSub) → Has (flow_named table typed) named → (p : NamedPoint) → Has named.points p → Begins IsNone p.instr
+  begun_named named has p there = elim (named_cases own order.first order.rest named (subst (λ subs. Has (all_named own subs) named) order.subs has)) [
+    | inl e ↦ package_begun (unnumbered own) IsNone order.first
+        (λ x within. formal_same s own alike x ∙ declared order.first (subst (λ subs. Has subs order.first) (sym order.subs) (inl refl)) x within)
+        p (subst (λ (z : NamedSub). Has z.points p) (sym e) there)
+    | inr body ↦
+        sub_begun (setting_from own body.2 body.0) IsNone body.0
+        (λ x within. formal_same s own alike x ∙ declared body.0 (subst (λ subs. Has subs body.0) (sym order.subs) (inr body.1)) x within)
+        p (subst (λ (z : NamedSub). Has z.points p) (sym body.4) there)
+  ]
+
+  -- ---- what points assign
+
+  module _ (named : NamedSub) (has : Has (flow_named table typed) named) (p : NamedPoint) (there : Has named.points p) (in_program : Has program.subs (flow_sub own named))
+      (in_sub : Has (flow_sub own named).points (flow_at own named p)) where
+    abbrev sub : FlowSub
+    sub = flow_sub own named
+
+    unwritten : (q : Pos) (x u : ℕ) (e : TypedTree) → p.instr ≡ Assign (Name q x NoMore u) e → is_in_formal s x ≡ true → is_anonymous (view_of s x) ≡ true → ⊥
+    unfolding selectors
+    unwritten q x u e is formal view =
+        changed_here (is_function sub) (is_formal s x) (is_in_mode (object_at s x).mode) (is_named_access (view_of s x)) (has_selector m)
+        (both_first (is_formal s x) (is_in (object_at s x).mode) formal) (both_second (is_formal s x) (is_in (object_at s x).mode) formal) (plain x view)
+        (λ h. no_view (of_formal h)) (λ h. no_view (in_function (outer (is_function sub) (is_formal s x) (is_package_object s x) h)))
+      where
+        m : PlaceName
+        m = name_of x NoMore
+
+        a : Placed
+        a = placed q (act.Write m)
+
+        kept : List ℕ
+        kept = kept_roots own 0 own.objects (sub_facts own named.sub named.points)
+
+        none_variable : is_variable (object_at own x).kind ≡ false
+        none_variable = no_variable (object_at own x).kind (sym (formal_same s own alike x) ∙ both_first (is_formal s x) (is_in (object_at s x).mode) formal)
+
+        written_there : (b o : Bool) → is_borrower own x ≡ b → is_observer own x ≡ o → b ≡ false → o ≡ false → Has (whole_acts own p.pos x (Name q x NoMore u) e) a
+        written_there false false borrows observes none also =
+            rw borrows (rw observes (Has-append_right (before_write own (Name q x NoMore u) e) _ a (inl refl)))
+        written_there true o borrows observes none also = cc
+        written_there b true borrows observes none also = cc
+
+        there_acts : Has (acts_of (record { typing = own; result = named.sub.result; roots = kept }) p.pos (Assign (Name q x NoMore u) e)) a
+        there_acts =
+            written_there (is_borrower own x) (is_observer own x) refl refl (ap (λ b. b && is_borrowing (view_of own x)) none_variable)
+            (ap (λ b. b && is_observing (view_of own x)) none_variable)
+
+        in_point : Has (flow_at own named p).acts a
+        in_point = subst (λ i. Has (acts_of (record { typing = own; result = named.sub.result; roots = kept }) p.pos i) a) (sym is) there_acts
+
+        no_view : ConstantView s sub m → ⊥
+        no_view view = accepted.no_reports.complete (text_report q rule.V1 m) (on_views sub in_program (changed (flow_at own named p) a m (in_sub, in_point) refl view))
+
+  -- ---- the law
+
+  pub are_stored : (sub : FlowSub) → Has program.subs sub → (p : FlowPoint) → Has sub.points p → (x : ℕ) → IsStoredAt p.instr x → is_anonymous (view_of s x) ≡ true
+      → is_variable (object_at s x).kind ≡ true
+  unfolding flow_program
+  are_stored sub has p there x stored view =
+      let named = Has-map_from (flow_sub own) (flow_named table typed) sub has in
+      let q = Has-map_from (λ (z : NamedPoint). flow_at own named.0 z) (named.0).points p (subst (λ (z : FlowSub). Has z.points p) (sym named.2) there) in
+      let same : (q.0).instr ≡ p.instr = ap (λ (z : FlowPoint). z.instr) q.2 in
+      elim (local x view) [
+        | inl variable ↦ variable
+        | inr formal ↦ absurd (elim stored [
+          | inl (v, is) ↦ true_is (sym (both_first (is_formal s x) (is_in (object_at s x).mode) formal) ∙ subst (Begins IsNone) (same ∙ is) (begun_named named.0 named.1 q.0 q.1))
+          | inr (at, u, e, is) ↦ unwritten named.0 named.1 q.0 q.1 (subst (Has program.subs) (sym named.2) has)
+              (subst (λ (z : FlowPoint). Has (flow_sub own named.0).points z) (sym q.2) (subst (λ (z : FlowSub). Has z.points p) (sym named.2) there)) at x u e (same ∙ is) formal view
+        ])
+      ]
