@@ -536,6 +536,8 @@ module _ (table : Table) (typed : TypedProgram) (effects : Effects) (input : Lis
               shown = was.shown;
               apart = was.apart;
               written = was.written;
+              goes = was.goes;
+              off = was.off;
               uses = was.uses;
               clear = was.clear;
               views = was.views;
