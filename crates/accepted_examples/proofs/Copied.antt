@@ -37,6 +37,7 @@ use Rattle.flow_paths.specs.Laid.{FlowSub}
 use Rattle.flow_paths.specs.Effects.{asks_for_end, path_points}
 use Rattle.flow_paths.specs.Aliases.{alias_reports}
 use Rattle.flow_paths.specs.Views.{encloses_within}
+use Rattle.viewed_soundness.specs.Taken.{GivesPlainly}
 use Rattle.soundness.specs.Sound.{calls_procedures, goes_through_none}
 use Rattle.program_check.specs.Sources.{flow_of}
 use Rattle.file_positions.specs.Texts.{AreParsed}
@@ -145,16 +146,16 @@ abbrev laid : Typing
 laid = laid_in (program_of files)
 
 pub passed : PassFitActuals (program_of files)
-unfolding computes naming typing lowering Calls CodeCalls goes_through_none
+unfolding computes naming typing lowering Calls CodeCalls goes_through_none GivesPlainly
 passed =
     of_three (λ sub. CodeCalls (λ n actuals. AreFitActuals laid (sub_at laid n).formals actuals) sub.body) _ _ _ tt (tt, tt)
-    (tt, ((((λ is. inr (inr (refl, refl))), tt), (tt, tt)), tt))
+    (tt, ((((λ is. inr (inr (refl, tt))), tt), (tt, tt)), ((((λ is. inr (inr (refl, (tt, tt)))), tt), ((tt, tt), tt)), tt)))
 
 pub shown : ShowOwners (program_of files)
 unfolding computes naming typing lowering Calls CodeCalls
 shown =
     of_three (λ sub. CodeCalls (λ n actuals. AreOwnersShown laid (sub_at laid n).formals actuals) sub.body) _ _ _ tt (tt, tt)
-    (tt, ((((λ view y has. absurd (true≢false (sym view))), tt), (tt, tt)), tt))
+    (tt, ((((λ view y has. absurd (true≢false (sym view))), tt), (tt, tt)), ((((λ view y has. absurd (true≢false (sym view))), tt), ((tt, tt), tt)), tt)))
 
 pub class : AreInSecondViewClass files
 class = record { main = 2; is_main = is_main; calls = record { results = results_fit (program_of files) (inl calls); formals = formals; passed = passed; shown = inl shown } }

@@ -1,7 +1,7 @@
 -- Code in which what functions give is as asked: in names, scalar expressions and actuals, and where a value is made of it.
 use Rattle.std.specs.Prelude.{◌≡◌, ◌⊎◌, ℕ, true, false, Some, None}
 use Rattle.spark_base.specs.declared.position.Pos.{Pos}
-use Rattle.type_definitions.specs.Types.{full, is_scalar}
+use Rattle.type_definitions.specs.Types.{full, is_scalar, is_owning}
 use Rattle.typed_tree.specs.Trees.{TypedTree, Name, Component, Designated, Element, Image, Parens, Unary, Binary, Short, IsNull, Aggregate, Alike, New, NoMore, TypedCode, Declare, Assign, Output, Input, Release, If, Branch, Case, When, Loop, While, For, Exit, Return, Block}
 use Rattle.typed_tree.specs.Trees as typed
 use Rattle.flow_paths.specs.Instructions.{Instruction}
@@ -120,15 +120,19 @@ InstructionFits ask passed alone single i = Unit {0}
 abbrev pub GivesScalar : Typing → ℕ → Type 0
 GivesScalar s n = (t : ℕ) → (sub_at s n).result ≡ Some t → is_scalar (full s.table t) ≡ true
 
--- or of no anonymous access type.
+-- or of no anonymous access type;
 abbrev pub GivesNamed : Typing → ℕ → Type 0
 GivesNamed s n = (t : ℕ) → (sub_at s n).result ≡ Some t → is_anonymous (full s.table t) ≡ false
 
--- or of one.
+-- or it owns nothing, and is of no such type;
+abbrev pub GivesOwnless : Typing → ℕ → Type 0
+GivesOwnless s n = (t : ℕ) → (sub_at s n).result ≡ Some t → (is_owning s.table t ≡ false) × (is_anonymous (full s.table t) ≡ false)
+
+-- or it is of one.
 abbrev pub GivesSeen : Typing → ℕ → Type 0
 GivesSeen s n = (t : ℕ) × ((sub_at s n).result ≡ Some t) × (is_anonymous (full s.table t) ≡ true)
 
--- What functions give in code is of scalar types; or a value is made of it, and it is of no anonymous access type; or it is of
--- one and stands alone.
+-- What functions give in code is of scalar types; or it is passed, and owns nothing; or a value is made of it, and it is of no
+-- anonymous access type; or it is of one and stands alone.
 abbrev pub ResultsFit : Typing → TypedCode → Type 0
-ResultsFit s c = CodeFits (GivesScalar s) (GivesScalar s) (GivesNamed s) (GivesSeen s) c
+ResultsFit s c = CodeFits (GivesScalar s) (GivesOwnless s) (GivesNamed s) (GivesSeen s) c

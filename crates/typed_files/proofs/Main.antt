@@ -20,7 +20,7 @@ use Rattle.type_definitions.specs.Entries.{entry_of}
 use Rattle.type_definitions.specs.Whole.{outside, known_of, type_fault}
 use Rattle.typing_steps.specs.Programs.{program_of}
 use Rattle.typed_tree.specs.Expressions.{object_number, object_type}
-use Rattle.typed_tree.specs.Programs.{DeclaredObject, program_objects}
+use Rattle.typed_tree.specs.Programs.{TypedSub, DeclaredObject, program_objects}
 use Rattle.type_sizes.specs.Formed.{all_formed}
 use Rattle.type_rules.proofs.Formed.{files_formed}
 use Rattle.settled_types.specs.Orderly.{at_start, IsOrderly}
@@ -72,12 +72,12 @@ use Rattle.typed_laws.specs.Fine.{Denotes, Laws}
 use Rattle.typed_laws.specs.Needed.{AreFine}
 use Rattle.typed_points.proofs.Numbers.{object_numbered, denotes}
 use Rattle.typed_steps.specs.Steps.{AreTyped, AreCounted}
-use Rattle.typed_runs.specs.Code.{IsTypedUse}
+use Rattle.typed_runs.specs.Code.{IsTypedUse, IsTypedCode}
 use Rattle.typed_runs.specs.Formals.{AreProfiled}
 use Rattle.typed_runs.specs.Meant.{typed_in, laid_in, site_in, typing_laid}
 use Rattle.typed_runs.proofs.Laid.{laid_typing}
 use Rattle.typed_texts.specs.Meant.{IsMeant}
-use Rattle.typed_texts.proofs.Main.{text_typed, text_used, text_fine, text_counted, text_is_typed}
+use Rattle.typed_texts.proofs.Main.{text_typed, text_used, text_code, text_fine, text_counted, text_is_typed}
 use Rattle.typed_files.proofs.Profiled.{are_profiled}
 use Rattle.typed_files.proofs.Traversed.{firsts_there, first_in}
 use Rattle.typed_files.proofs.Denoted.{same_object, laid_object, denotes_laid}
@@ -200,6 +200,9 @@ module _ (files : List (List SourceUnit)) where
         (laid_typing (known_of p).table (typed_in p))
         (first_in p formed orderly none (files_apart files up named) (IsMade p.units) laws once (laid_object p) object_named (units_faultless p none) declared
         (formals_are_apart (identified files) files named))
+
+    pub files_code : (sub : TypedSub) → Has (typed_in p).subs sub → IsTypedCode (typing_laid p) sub.result sub.body
+    files_code = text_code p none are_meant
 
     -- Instructions are as soundness needs them.
     pub files_fine : AreFine (laid_in p)

@@ -2,6 +2,7 @@
 pub mod Words
 -- actuals, and what stands within expressions
 pub mod Owners
+pub mod Given
 pub mod Actuals
 pub mod Images
 pub mod Within
@@ -19,3 +20,4 @@ pub mod Points
 pub mod Laid
 pub mod Main
 pub mod Programs
+pub mod Results

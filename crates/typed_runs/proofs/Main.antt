@@ -148,6 +148,12 @@ program_typed p made laws text none sub has =
           (λ n u there. bodies_typed s y.objects y.subs made laws text.profiled text.bounds n u (text.bodies u there) (none u there))) more
     ]
 
+-- So is the code of its subprograms.
+pub code_used : (p : Program) (made : ℕ → Type 0) → type_fault p ≡ None → Laws (known_of p) made → IsMeantText p made → (sub : TypedSub) → Has (typed_in p).subs sub
+    → IsTypedCode (typing_laid p) sub.result sub.body
+unfolding sentence_faults
+code_used p made none laws text = program_typed p made laws text (unit_none (known_of p) p.units (no_fault p none))
+
 -- The law, with what stands within the steps. `made` says of which numbers stand for types.
 pub are_used : (p : Program) (made : ℕ → Type 0) → type_fault p ≡ None → Laws (known_of p) made → IsMeantText p made → (sub : FlowSub) → Has (laid_in p).subs sub
     → (q : FlowPoint) → Has sub.points q → IsTypedUse (flow_typing (laid_in p)) sub.result q.instr

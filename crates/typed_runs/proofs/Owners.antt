@@ -1,14 +1,11 @@
 -- An actual that owns is null, or a name.
-use Rattle.std.proofs.Common.{◌≡◌, refl, sym, ap, ◌∙◌, subst, ◌⊎◌, inl, inr, ℕ, Bool, true, false, not, ◌&&◌, ◌||◌, List, [], ◌++◌, nat_eq, ℤ, negsuc, if◌then◌else◌}
+use Rattle.std.proofs.Common.{◌≡◌, refl, sym, ◌∙◌, ℕ, Bool, true, false, List, negsuc, if◌then◌else◌}
 use Rattle.spark_base.specs.declared.position.Pos.{Pos}
-use Rattle.place_names.specs.declared.act.Mode.{Mode}
-use Rattle.place_names.specs.declared.act.Mode.TheVariants as mode
 use Rattle.resolved_tree.specs.declared.operator.Operator.{Operator}
 use Rattle.resolved_tree.specs.declared.operator.Operator.TheVariants as operator
 use Rattle.resolved_tree.specs.declared.operator.UnaryOperator.{UnaryOperator}
 use Rattle.resolved_tree.specs.declared.operator.UnaryOperator.TheVariants as unary
 use Rattle.resolved_tree.specs.Trees.{Tree, Number, Text, Null, Named, Parens, Unary, Binary, Aggregate, Others, New, position}
-use Rattle.type_definitions.specs.declared.table.FormalInfo.{FormalInfo}
 use Rattle.type_definitions.specs.declared.judgement.Reading.{Reading}
 use Rattle.type_definitions.specs.declared.judgement.Reading.TheVariants as reading
 use Rattle.type_definitions.specs.declared.judgement.Where.TheVariants as stands
@@ -16,18 +13,16 @@ use Rattle.type_definitions.specs.declared.table.Shape.{Shape}
 use Rattle.type_definitions.specs.declared.table.Shape.TheVariants as shape
 use Rattle.type_definitions.specs.Types.{Table, full, shape_of, view_of, is_owning, owns_of}
 use Rattle.type_definitions.specs.Entries.{entry_of, integer, boolean}
-use Rattle.type_definitions.specs.Faults.{demand, K6}
-use Rattle.type_definitions.specs.Names.{Context, seen, reading_of}
+use Rattle.type_definitions.specs.Names.{Context, reading_of}
 use Rattle.type_definitions.specs.Statics.{is_alone}
-use Rattle.type_definitions.specs.Expressions.{own_of, around, inside, suits, allowed, unary_type, operand_type, is_arithmetic, is_null, is_in, is_anonymous, is_object, is_object_name, around_formal, around_traversed, around_variable, traversed_anonymous, traversed_name, traversed_value, traversed_fits, reading_access, own_owning}
+use Rattle.type_definitions.specs.Expressions.{allowed, unary_type, operand_type, is_arithmetic, is_null, is_anonymous, is_object, is_object_name}
 use Rattle.typed_tree.specs.Trees.{TypedTree}
 use Rattle.typed_tree.specs.Trees as typed
 use Rattle.typed_tree.specs.declared.object.Object.{Object}
 use Rattle.typed_tree.specs.Expressions.{Site, typed_expression, typed_name, typed_steps, typed_actuals, typed_imaged, called_function, object_type, operands}
-use Rattle.flow_paths.specs.Objects.{Typing, Signature, object_at}
-use Rattle.typed_laws.specs.Fine.{Agree, Has, Laws, IsMeant, counts, lists}
-use Rattle.typed_laws.proofs.Agreeing.{holds, nil_left, nil_right, either_left, either_right, agree_counts, agree_lists, agree_owns, scalar_owns}
-use Rattle.typed_laws.proofs.Main.{has_type}
+use Rattle.flow_paths.specs.Objects.{Typing, Signature}
+use Rattle.typed_laws.specs.Fine.{Agree, Has, Laws, counts, lists}
+use Rattle.typed_laws.proofs.Agreeing.{either_left, either_right, agree_counts, agree_lists, scalar_owns}
 use Rattle.typed_runs.specs.Code.{IsName, IsNamedOwner}
 
 module _ (s : Site) (objects : List Object) (subs : List Signature) (made : ℕ → Type 0) (laws : Laws s.context.known made) where

@@ -16,7 +16,6 @@ use Rattle.typed_tree.specs.declared.object.Object.{Object}
 use Rattle.typed_tree.specs.Trees.{TypedTree}
 use Rattle.typed_tree.specs.Expressions.{Site, typed_expression, typed_name, typed_steps, typed_actuals, typed_imaged, called_function, object_type}
 use Rattle.flow_paths.specs.Objects.{Typing, Signature}
-use Rattle.flow_paths.specs.Objects as flow
 use Rattle.typed_laws.specs.Fine.{Has, Laws, IsMeant}
 use Rattle.typed_laws.proofs.Agreeing.{holds, nil_left, nil_right, and_left}
 use Rattle.typed_points.proofs.Flags.{flagged, at_flags, typed_same, meant_same}
@@ -114,7 +113,7 @@ module _ (s : Site) (objects : List Object) (subs : List Signature) (made : ℕ 
     form want (Null p) meant none = tt
     form want (Named p d rest) meant none =
         by (reading_of c d rest) refl (typed_steps z (object_type (entry_of c.known d)) rest) (typed_actuals z (called_function (reading_of c d rest)) rest) (typed_imaged z rest)
-            (nil_left (source_name c want p (reading_of c d rest)) _ none)
+        (nil_left (source_name c want p (reading_of c d rest)) _ none)
       where
         by : (r : Reading) → reading_of c d rest ≡ r → (steps actuals imaged : TypedTree) → source_name c want p r ≡ [] → IsViewSource y (typed_name z p d r steps actuals imaged)
         by reading.Off is steps actuals imaged h = tt

@@ -12,7 +12,7 @@ use Rattle.gathered_laws.specs.Made.{IsMade}
 use Rattle.gathered_laws.proofs.Laws.{program_laws}
 use Rattle.gathered_laws.proofs.Main.{are_types, certain}
 use Rattle.spark_base.specs.Lists.{Has}
-use Rattle.typed_tree.specs.Programs.{typed_program}
+use Rattle.typed_tree.specs.Programs.{TypedSub, typed_program}
 use Rattle.flow_paths.specs.Points.{FlowPoint}
 use Rattle.flow_paths.specs.Laid.{FlowSub, flow_typing, flow_program}
 use Rattle.machine.specs.Typed.{sorts, sorts_of, is_typed}
@@ -26,10 +26,10 @@ use Rattle.typed_points.proofs.Main.{all_fine}
 use Rattle.run_codes.specs.Related.{IsTable}
 use Rattle.table_laws.proofs.Tables.{is_table}
 use Rattle.typed_steps.specs.Steps.{IsTypedStep, AreTyped, AreCounted}
-use Rattle.typed_runs.specs.Code.{IsTypedUse}
-use Rattle.typed_runs.specs.Meant.{laid_in, IsMeantText}
+use Rattle.typed_runs.specs.Code.{IsTypedUse, IsTypedCode}
+use Rattle.typed_runs.specs.Meant.{typed_in, laid_in, typing_laid, IsMeantText}
 use Rattle.typed_runs.proofs.Words.{SortsLaw}
-use Rattle.typed_runs.proofs.Main.{are_typed, are_used}
+use Rattle.typed_runs.proofs.Main.{are_typed, are_used, code_used}
 use Rattle.typed_runs.proofs.Programs.{FirstNone, is_typed_program}
 use Rattle.typed_texts.specs.Meant.{IsMeant}
 use Rattle.typed_texts.proofs.Bounds.{have_bounds}
@@ -78,6 +78,9 @@ module _ (p : Program) (none : type_fault p ≡ None) (text : IsMeant p) where
 
   pub text_used : (sub : FlowSub) → Has (laid_in p).subs sub → (q : FlowPoint) → Has sub.points q → IsTypedUse (flow_typing (laid_in p)) sub.result q.instr
   text_used = are_used p (IsMade p.units) none laws is_meant
+
+  pub text_code : (sub : TypedSub) → Has (typed_in p).subs sub → IsTypedCode (typing_laid p) sub.result sub.body
+  text_code = code_used p (IsMade p.units) none laws is_meant
 
   -- Each point has the successors that its instruction leads to.
   pub text_counted : AreCounted (laid_in p).subs

@@ -9,7 +9,7 @@ use Rattle.place_names.specs.declared.act.Placed.{Placed}
 use Rattle.type_definitions.specs.Types.{full, is_owning}
 use Rattle.typed_tree.specs.Trees.{TypedTree, Name, More}
 use Rattle.flow_paths.specs.Instructions.{Instruction, Call}
-use Rattle.flow_paths.specs.Objects.{Typing, object_at, is_formal, is_variable, is_anonymous, is_package_object, traverses, view_of}
+use Rattle.flow_paths.specs.Objects.{Typing, object_at, is_formal, is_variable, is_anonymous, traverses, view_of}
 use Rattle.flow_paths.specs.Views.{traversed_formal}
 use Rattle.flow_paths.specs.Acts.{acts_of, index_acts, actual_values, actual_acts}
 use Rattle.flow_paths.specs.Points.{FlowPoint}
@@ -51,7 +51,6 @@ pub record IsThroughCall (program : FlowProgram) (n : ℕ) (actuals : TypedTree)
   pub actuals_are : actuals ≡ More (Name q y path u) more
   pub leads : Leads (flow_typing program) (object_at (flow_typing program) y).of path u
   pub lasts : is_owning program.table u || is_anonymous (full program.table u) ≡ true
-  pub own : is_package_object (flow_typing program) y ≡ false
 
 -- Formals of what is called are known as such and are of the class, and so are its actuals.
 pub record IsViewCall (program : FlowProgram) (owns : OwnsByShape (flow_typing program).table) (n : ℕ) (actuals : TypedTree) : Type 0 where

@@ -51,7 +51,7 @@ module _ (s : Typing) where
   plain_place x e plain (t, place, fits, which) = (t, place, scalar_back t (object_at s x).of fits plain)
 
   plain_actual : OwnsByShape s.table → (x : ℕ) (m : Mode) (e : TypedTree) → IsScalarObject s x → IsPassedTo s x m e → IsActualBy s m e
-  plain_actual owns x mode.In e plain actual = elim (actual.0 (both_no (is_owning s.table (object_at s x).of) (is_anonymous (view_of s x)) (plain_type s owns (object_at s x).of plain) (scalar_unseen s x plain))) [ inl value ↦ value.1 | inr (many, named, copy) ↦ absurd (let no : true ≡ false = sym plain ∙ many in cc) ]
+  plain_actual owns x mode.In e plain actual = elim (actual.0 (both_no (is_owning s.table (object_at s x).of) (is_anonymous (view_of s x)) (plain_type s owns (object_at s x).of plain) (scalar_unseen s x plain))).1 [ inl value ↦ value.1 | inr (many, named) ↦ absurd (let no : true ≡ false = sym plain ∙ many in cc) ]
   plain_actual owns x mode.Out e plain actual = plain_place x e plain actual
   plain_actual owns x mode.InOut e plain actual = plain_place x e plain actual
 

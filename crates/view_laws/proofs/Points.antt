@@ -21,7 +21,7 @@ use Rattle.typed_tree.specs.Trees.{Call as CallIn}
 use Rattle.typed_tree.specs.Programs.{TypedSub, TypedProgram}
 use Rattle.flow_paths.specs.declared.report.Effects.{Effects}
 use Rattle.flow_paths.specs.Instructions.{Instruction, Declare, Assign, EndScope}
-use Rattle.flow_paths.specs.Objects.{Typing, object_at, is_variable, is_borrower, is_observer, is_borrowing, is_observing, is_anonymous, is_formal, is_package_object, has_scope_end, view_of}
+use Rattle.flow_paths.specs.Objects.{traverses, sub_at, Typing, object_at, is_variable, is_borrower, is_observer, is_borrowing, is_observing, is_anonymous, is_formal, is_package_object, has_scope_end, view_of}
 use Rattle.flow_paths.specs.Names.{first, name_of, written, source}
 use Rattle.flow_paths.specs.Acts.{placed, observe, reborrow, target_pos, index_acts, source_acts, assigned_to, stored_acts, declared_acts, acts_in, acts_of}
 use Rattle.flow_paths.specs.Points.{PointName, same_place, same_point, NamedPoint, FlowPoint}
@@ -46,7 +46,7 @@ use Rattle.ready_laws.proofs.Ready.{seen_has}
 use Rattle.ready_laws.proofs.Subs.{setting_from}
 use Rattle.viewed_steps.specs.Traversals.{GivesView, IsSourceName}
 use Rattle.viewed_steps.specs.Sound.{IsStoredAt}
-use Rattle.view_laws.specs.InOrder.{is_name_of, is_list_end, is_one_name_of, is_any, is_call, gives_view, IsTraversed, NamesSource, fits}
+use Rattle.view_laws.specs.InOrder.{is_name_of, is_list_end, is_one_name_of, is_any, is_call, gives_view, gives_from, IsTraversed, NamesSource, fits}
 use Rattle.view_laws.specs.Program.{TakesView, IsViewProgram}
 use Rattle.view_laws.proofs.Acts.{source_lasts, leads_lasts}
 use Rattle.view_laws.proofs.Reports.{observed_encloses, reborrowed_own}
@@ -282,6 +282,15 @@ fading_at s (a ∷ rest) fading p (inr has) z y is there sees same =
     let found = fading_at s rest fading.1 p has z y is there sees same in
     (found.0, inr found.1, found.2, found.3, found.4, found.5)
 
+none_from : (s : Typing) (test : ℕ → Bool) (e : TypedTree) → is_call e ≡ false → gives_from test s e ≡ false
+none_from s test (Call p sub actuals) none = cc
+none_from s test e none = refl
+
+rooted_second : (a b c : Bool) → a ≡ true → not a || (b && c) ≡ true → c ≡ true
+rooted_second true true c is e = e
+rooted_second true false c is e = cc
+rooted_second false b c is e = cc
+
 no_other : (a f b : Bool) → f ≡ false → (a || f) || b ≡ true → a || b ≡ true
 no_other true f b none e = refl
 no_other false false b none e = e
@@ -450,8 +459,8 @@ module _ (table : Table) (typed : TypedProgram) (effects : Effects) (given : IsV
       declared_named x e is anonymous silent =
           let test : ℕ → Bool = λ y. is_observer own x || nat_lt y x in
           let mine : is_anonymous (view_of own x) ≡ true = sym (anonymous_same x (lasts_here x (inl (e, is)) anonymous)) ∙ anonymous in
-          let found = one_name_is test e (or_first (is_one_name_of test e) (gives_view own (first e)) (ap not (no_view own (first e) silent))
-          (not_test (is_anonymous (view_of own x)) (is_one_name_of test e || gives_view own (first e)) mine (sym (ap (fits own) is) ∙ above.declared x e is))) in
+          let found = one_name_is test e (or_first (is_one_name_of test e) (gives_from test own (first e)) (ap not (none_from own test (first e) silent))
+          (not_test (is_anonymous (view_of own x)) (is_one_name_of test e || gives_from test own (first e)) mine (sym (ap (fits own) is) ∙ above.declared x e is))) in
           let value : TypedTree = More (Name found.0 found.1 found.2 found.3) NoMore in
           let whole_is : p.instr ≡ Declare x value = is ∙ ap (Declare x) found.4 in
           let fine : IsFine s named.sub.result (Declare x value) = subst (IsFine s named.sub.result) whole_is (fine_there named has p there) in (
@@ -488,10 +497,10 @@ module _ (table : Table) (typed : TypedProgram) (effects : Effects) (given : IsV
                   (act_has (Declare x (More call NoMore)) whole_is (placed t.name_pos (act.Borrow x (name_of t.root t.path)))
                   (borrow_called s x t.pos t.sub t.name_pos t.root t.path t.of t.others (borrows x (stored_here x (inl (e, is)) anonymous) anonymous none)))
                   names,
-              elim (seen_there t.root names) [
-                | inl shared ↦ absurd (true_false (is_package_object s t.root) shared t.own)
-                | inr within ↦ ltb-true t.root x (and_first (nat_lt t.root x) (encloses typed.scopes (scope_of own t.root) (scope_of own x)) (above.declares x e is t.root (within_has t.root left within)))
-              ],
+              ltb-true t.root x (or_other (is_observer own x) (nat_lt t.root x) (sym (observer_same x) ∙ none)
+                  (rooted_second (is_anonymous (view_of own x)) (traverses own.table (sub_at own t.sub).result) (is_observer own x || nat_lt t.root x)
+                  (sym (anonymous_same x (lasts_here x (inl (e, is)) anonymous)) ∙ anonymous)
+                  (sym (ap (fits own) whole_is) ∙ above.declared x (More call NoMore) whole_is))),
             ),
           )
 

@@ -122,7 +122,6 @@ module _ (table : Table) (typed : TypedProgram) (effects : Effects) (given : IsV
     modes = given.modes;
     procedures = given.procedures;
     copied = given.copied;
-    shown = given.shown;
   }
 
   pub views_ready : IsReady table typed effects

@@ -1,6 +1,6 @@
 -- Of an accepted program with borrowers and observers whose subprograms are in order: that no fact speaks of an
 -- object that is declared, beside what `ready_laws` says of any program in order.
-use Rattle.std.proofs.Common.{◌≡◌, refl, sym, ap, ◌∙◌, subst, ◌⊎◌, inl, inr, ℕ, suc, Bool, true, false, not, ◌&&◌, ◌||◌, List, [], ◌∷◌, map, get_or, Option, None, Some}
+use Rattle.std.proofs.Common.{◌≡◌, refl, sym, ap, ◌∙◌, subst, ◌⊎◌, inl, inr, ℕ, suc, Bool, true, false, not, ◌&&◌, ◌||◌, List, [], ◌∷◌, map, get_or, nat_lt, Option, None, Some}
 use Rattle.std.specs.Prelude.{reverse}
 use Rattle.std.specs.List.{AllByRecursion}
 use Rattle.spark_base.specs.declared.position.Pos.{Pos}
@@ -26,8 +26,8 @@ use Rattle.typed_tree.specs.declared.object.ObjectKind.TheVariants as object_kin
 use Rattle.typed_tree.specs.Programs.{TypedSub, TypedProgram, text_io}
 use Rattle.flow_paths.specs.declared.report.Effects.{Effects}
 use Rattle.flow_paths.specs.Instructions.{Instruction, Declare, Assign, Call}
-use Rattle.flow_paths.specs.Names.{has_call, whole_object}
-use Rattle.flow_paths.specs.Objects.{Typing, Signature, object_at, sub_at, is_variable, is_anonymous, is_formal, is_formal_kind, is_package_object, traverses, has_scope_end, view_of}
+use Rattle.flow_paths.specs.Names.{has_call, first, whole_object}
+use Rattle.flow_paths.specs.Objects.{Typing, Signature, object_at, sub_at, is_variable, is_anonymous, is_observer, is_formal, is_formal_kind, is_package_object, traverses, has_scope_end, view_of}
 use Rattle.flow_paths.specs.Acts.{acts_of}
 use Rattle.flow_paths.specs.Points.{NamedPoint, FlowPoint}
 use Rattle.flow_paths.specs.Laid.{FlowSub, FlowProgram, NamedSub, temporary_object, declared_within, unnumbered, elaborated, kept_roots, sub_facts, flow_sub, typing_of, flow_typing, flow_program, flow_named}
@@ -44,7 +44,7 @@ use Rattle.soundness.proofs.Points.{IsLaid, flow_at}
 use Rattle.soundness.proofs.Typings.{Agree, flow_agrees, instruction_same, package_same}
 use Rattle.soundness.proofs.Contents.{bool_cases}
 use Rattle.soundness.proofs.Passing.{plain_type, signature_there, signature_is as signature_of}
-use Rattle.scope_laws.specs.Alone.{GivesScalar, GivesNamed, GivesSeen}
+use Rattle.scope_laws.specs.Alone.{GivesScalar, GivesOwnless, GivesNamed, GivesSeen}
 use Rattle.scope_laws.proofs.Followed.{IsFollowed, sub_followed}
 use Rattle.scope_laws.proofs.Given.{Takes, sub_given}
 use Rattle.scope_laws.specs.Code.{roots, objects_of}
@@ -69,7 +69,7 @@ use Rattle.viewed_steps.specs.Ready.{AreDifferent, IsAccessAs, IsSeen as IsSeenB
 use Rattle.viewed_steps.specs.Sound.{IsKindOfFormal, IsStoredAt}
 use Rattle.viewed_steps.proofs.Followed.{is_traversing}
 use Rattle.viewed_steps.proofs.Views.{given_formal, given_type, scalar_unseen}
-use Rattle.view_laws.specs.InOrder.{no_views, IsTraversed, NamesSource, fits}
+use Rattle.view_laws.specs.InOrder.{no_views, is_rooted_in, IsTraversed, NamesSource, fits}
 use Rattle.view_laws.specs.Program.{IsPassedTo, ArePassedTo, IsViewProgram}
 use Rattle.view_laws.proofs.Passing as passing
 use Rattle.view_laws.proofs.Same as same
@@ -89,9 +89,10 @@ not_both true b is e = cc
 not_both false b is e = cc
 
 -- a view that is declared or assigned with no name gets what a traversal function gives
-source_gives : (a b : Bool) → a ≡ true → not a || b ≡ true → b ≡ true
-source_gives true b is e = e
-source_gives false b is e = cc
+source_gives : (a b c : Bool) → a ≡ true → not a || (b && c) ≡ true → b ≡ true
+source_gives true true c is e = refl
+source_gives true false c is e = cc
+source_gives false b c is e = cc
 
 silent_end : has_call NoMore ≡ false
 unfolding has_call
@@ -311,7 +312,6 @@ module _ (table : Table) (typed : TypedProgram) (effects : Effects) (given : IsV
           actuals_are = named.5;
           leads = seen.0;
           lasts = seen_lasts f named.3 access seen.1;
-          own = named.6;
         }
       where
         by_kind : (x : ℕ) (b : Bool) → is_anonymous (view_of s x) ≡ b → (is_anonymous (view_of s x) ≡ true → ⊥) → is_anonymous (view_of s x) ≡ false
@@ -351,7 +351,7 @@ module _ (table : Table) (typed : TypedProgram) (effects : Effects) (given : IsV
     | inl e ↦ absurd (valued.no_call table typed effects given named e p there n actuals (Some t) is)
     | inr inside ↦ (
         let body = valued.body table typed effects given named has inside in
-        elim (sub_followed (setting_from own body.2 body.0) body.0 (GivesScalar own) (GivesScalar own) (GivesNamed own) (GivesSeen own) (valued.weaker table typed effects given) (valued.weaker table typed effects given)
+        elim (sub_followed (setting_from own body.2 body.0) body.0 (GivesScalar own) (GivesOwnless own) (GivesNamed own) (GivesSeen own) (valued.weaker table typed effects given) (valued.wider table typed effects given)
         (given.results body.0 body.1)
         p (subst (λ (z : NamedSub). Has z.points p) (sym body.4) there) n actuals t is) [
           | inl plain ↦ absurd (not_plain plain)
@@ -415,7 +415,6 @@ module _ (table : Table) (typed : TypedProgram) (effects : Effects) (given : IsV
             gives = gives;
             leads = through.leads;
             lasts = through.lasts;
-            own = through.own;
           })
     ]
 
@@ -447,7 +446,7 @@ module _ (table : Table) (typed : TypedProgram) (effects : Effects) (given : IsV
             let none : rest ≡ NoMore = (subst (IsFine s named.sub.result) is fine_there).0 in
             let fit = sym (ap (fits own) is) ∙ above.declared x (typed_tree.More (typed_tree.Call q n a) rest) is in
             inr (traversed_there q n a (inl (x, is ∙ ap (λ z. Declare x (typed_tree.More (typed_tree.Call q n a) z)) none))
-            (in_layout n (source_gives (is_anonymous (view_of own x)) (traverses own.table (sub_at own n).result)
+            (in_layout n (source_gives (is_anonymous (view_of own x)) (traverses own.table (sub_at own n).result) (is_rooted_in (λ y. is_observer own x || nat_lt y x) (first a))
             (sym (anonymous_same x (stored_lasts x (inl (typed_tree.More (typed_tree.Call q n a) rest, is)) anonymous)) ∙ anonymous) fit)))
         body_source (Declare x (typed_tree.More e rest)) is above = λ anonymous. inl refl
         body_source (Declare x v) is above = λ anonymous. inl refl

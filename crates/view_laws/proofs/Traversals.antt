@@ -261,7 +261,6 @@ module _ (table : Table) (typed : TypedProgram) (effects : Effects) (known : IsV
           record {
             call = c;
             actuals_are = through.actuals_are;
-            own = through.own;
             taker = λ k next q at_q. subst (λ (z : NamedPoint). IsViewTaker s n c named.sub.result z.instr) (same_point follows k next q at_q)
                 (taken_by named has taker follows.1 n c gives_at body takes);
             borrows = λ lends. (
@@ -290,6 +289,7 @@ module _ (table : Table) (typed : TypedProgram) (effects : Effects) (known : IsV
     returned = λ n entered named of_named p there e last is of result view.
         known.returned (flow_sub own named) (scoped.in_program table typed effects known named (named_has n named of_named)) (flow_at own named p)
         (scoped.in_sub table typed effects known named (named_has n named of_named) p there) e last is of result view;
+    spared = known.spared;
     followed = followed_call;
     ending = ordered.are_closed table typed effects known.accepted known.owns known.order known.answered known.passed known.still;
   }

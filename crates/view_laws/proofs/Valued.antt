@@ -6,8 +6,8 @@ use Rattle.std.specs.List.{AllByRecursion}
 use Rattle.spark_base.specs.declared.position.Pos.{Pos}
 use Rattle.spark_base.specs.Lists.{Has}
 use Rattle.spark_base.proofs.Lists.{Has-append_right, Has-filter, Has-map}
-use Rattle.type_definitions.specs.Entries.{boolean}
-use Rattle.type_definitions.specs.Types.{Table, full, is_scalar}
+use Rattle.type_definitions.specs.Entries.{boolean, integer}
+use Rattle.type_definitions.specs.Types.{Table, full, is_scalar, is_owning}
 use Rattle.typed_tree.specs.Trees.{TypedTree, Name, Component, Designated, Element, Image, Parens, Unary, Binary, Short, IsNull, NoMore, Aggregate, Alike, New}
 use Rattle.typed_tree.specs.Trees as typed_tree
 use Rattle.typed_tree.specs.declared.object.Object.{Object}
@@ -18,16 +18,16 @@ use Rattle.typed_tree.specs.Programs.{TypedProgram, text_io}
 use Rattle.flow_paths.specs.declared.report.Effects.{Effects}
 use Rattle.flow_paths.specs.Instructions.{Instruction, Declare, Assign, Call, Output, Input, Release, Test, Choose, Start, Evaluate, LeaveLoop, Hold}
 use Rattle.flow_paths.specs.Objects.{Typing, Signature, object_at, sub_at, traverses, is_variable, is_formal, is_formal_kind, is_anonymous, is_observer, is_package_object, has_scope_end, view_of}
-use Rattle.flow_paths.specs.Names.{has_call, whole_object}
+use Rattle.flow_paths.specs.Names.{has_call, first, whole_object}
 use Rattle.flow_paths.specs.Points.{NamedPoint}
 use Rattle.flow_paths.specs.Laid.{FlowProgram, NamedSub, temporary_object, result_of, named_subs, all_named, sub_points, flow_sub, typing_of, flow_typing, flow_program, flow_named}
 use Rattle.flow_paths.specs.Scopes.{taken, is_temporary}
 use Rattle.machine.specs.States.{sub_of}
 use Rattle.typed_laws.specs.Needed.{IsFine, FirstSource, IsPlace, Returns}
-use Rattle.soundness.specs.Sound.{calls_procedures, is_temporary_object, IsEntered, IsNamedSub}
+use Rattle.soundness.specs.Sound.{calls_procedures, is_temporary_object, IsEntered, IsNamedSub, IsNoCall}
 use Rattle.soundness.specs.Ready.{stored_at, Fills}
 use Rattle.soundness.proofs.Points.{flow_at, named_has}
-use Rattle.soundness.proofs.Passing.{signature_is}
+use Rattle.soundness.proofs.Passing.{plain_type, signature_is}
 use Rattle.soundness.proofs.Successors.{not_true}
 use Rattle.soundness.proofs.Typings.{Agree, flow_agrees, formal_same}
 use Rattle.soundness.proofs.Waits.{no_waits}
@@ -35,7 +35,7 @@ use Rattle.viewed_soundness.specs.Taken.{GivesPlainly, type_given, types_taken, 
 use Rattle.viewed_soundness.proofs.Evaluated.{gives_plainly}
 use Rattle.viewed_soundness.proofs.Outcomes.{named_plain}
 use Rattle.scope_laws.specs.Code.{roots}
-use Rattle.scope_laws.specs.Alone.{CallsFit, CallsOnly, SourceFits, InstructionFits, GivesScalar, GivesNamed, GivesSeen}
+use Rattle.scope_laws.specs.Alone.{CallsFit, CallsOnly, PassedFit, SourceFits, InstructionFits, GivesScalar, GivesOwnless, GivesNamed, GivesSeen}
 use Rattle.scope_laws.specs.Fitted.{types, types_at, Pairs, FillsFit, RightFits, IsFitted}
 use Rattle.scope_laws.specs.Supplied.{IsKept}
 use Rattle.scope_laws.specs.Order.{named_in}
@@ -52,12 +52,12 @@ use Rattle.ready_laws.specs.InOrder.{IsBody}
 use Rattle.ready_laws.proofs.Subs.{setting_from, IsOfBody, subs_of}
 use Rattle.ready_laws.proofs.Ready as ordered
 use Rattle.ready_laws.proofs.Ready.{seen_has, stored_named}
-use Rattle.viewed_steps.specs.Awaited.{is_held, Fits, AreScalar, TakesScalars, IsMadeFor, types_for, AreFilled, StoresNone, IsTaken, TakesAlone, FillsTyped}
+use Rattle.viewed_steps.specs.Awaited.{is_held, Fits, AreScalar, TakesScalars, IsMadeFor, types_for, AreFilled, StoresNone, IsTaken, AreOwnless, TakesPassed, IsTakenAt, TakesAlone, FillsTyped}
 use Rattle.viewed_steps.proofs.Sources.{leads_or}
 use Rattle.viewed_steps.specs.Sound.{IsScalarObject}
 use Rattle.viewed_steps.specs.Traversals.{GivesView}
 use Rattle.viewed_steps.specs.Ready.{roots_passed}
-use Rattle.view_laws.specs.InOrder.{is_name_of, is_list_end, is_any, stores_name, gives_view, fits}
+use Rattle.view_laws.specs.InOrder.{is_name_of, is_list_end, is_any, stores_name, gives_view, is_rooted_in, gives_from, fits}
 use Rattle.view_laws.specs.Program.{IsViewProgram}
 use Rattle.view_laws.proofs.Acts.{no_anonymous}
 use Rattle.view_laws.proofs.Formals.{passed_named}
@@ -108,6 +108,19 @@ declared_fit true false l true view e = refl
 declared_fit true false l false view e = cc
 declared_fit false n l g view e = cc
 
+-- what a traversal function gives that is called with such a name
+pub from_gives : (s : Typing) (test : ℕ → Bool) (e : TypedTree) → gives_from test s e ≡ true → gives_view s e ≡ true
+from_gives s test (typed_tree.Call p sub actuals) is = first_of (traverses s.table (sub_at s sub).result) (is_rooted_in test (first actuals)) is
+  where
+    first_of : (a b : Bool) → a && b ≡ true → a ≡ true
+    first_of true b e = refl
+    first_of false b e = cc
+from_gives s test e is = cc
+
+gives_so : (n g h : Bool) → (g ≡ true → h ≡ true) → n || g ≡ true → n || h ≡ true
+gives_so true g h so e = refl
+gives_so false g h so e = so e
+
 stored_fit : (a f n g : Bool) → a ≡ true → f ≡ false → ((not a || f) || n) || g ≡ true → n || g ≡ true
 stored_fit true false n g view none e = e
 stored_fit true true n g view none e = cc
@@ -135,15 +148,18 @@ module _ (table : Table) (typed : TypedProgram) (effects : Effects) (given : IsV
   abbrev pub Asked : ℕ → Type 0
   Asked n = GivesScalar own n
 
-  -- what functions give within actuals
-  abbrev Passed : ℕ → Type 0
-  Passed n = Asked n
+  -- those with results that own nothing, within actuals
+  abbrev pub Passed : ℕ → Type 0
+  Passed n = GivesOwnless own n
 
   abbrev pub May : ℕ → Type 0
   May n = GivesNamed own n
 
   pub weaker : (n : ℕ) → Asked n → May n
   weaker n scalar t is = no_anonymous (full own.table t) (scalar t is)
+
+  pub wider : (n : ℕ) → Passed n → May n
+  wider n passed t is = (passed t is).1
 
   -- what is taken alone
   abbrev pub Single : ℕ → Type 0
@@ -185,6 +201,9 @@ module _ (table : Table) (typed : TypedProgram) (effects : Effects) (given : IsV
       by None scalar = given.integers
       by (Some t) scalar = scalar t refl
 
+  abbrev AreOwnlessTypes : List ℕ → Type 0
+  AreOwnlessTypes ts = AllByRecursion (λ t. is_owning s.table t ≡ false) ts
+
   -- ---- what is taken
 
   -- where functions with scalar results alone are called, the types are scalar
@@ -212,15 +231,52 @@ module _ (table : Table) (typed : TypedProgram) (effects : Effects) (given : IsV
   taken_scalar : (e : TypedTree) → CallsOnly Asked Passed e → AreScalarTypes s (types_taken s e)
   taken_scalar e asked = subst (AreScalarTypes s) (types_same s e) (calls_scalar e asked)
 
-  takes_fit : (e : TypedTree) → SourceFits Asked Passed May e → TakesFit s e
+  takes_fit : (kind : ℕ → Type 0) (e : TypedTree) → CallsFit Asked Passed kind e → TakesFit s e
   unfolding CallsFit TakesFit
-  takes_fit (typed_tree.Call p n actuals) asked = tt
-  takes_fit (Parens e) asked = takes_fit e asked
-  takes_fit (Aggregate t es) asked = takes_fit es asked
-  takes_fit (Alike t e) asked = takes_fit e asked
-  takes_fit (New t v) asked = takes_fit v asked
-  takes_fit (typed_tree.More e rest) (first, second) = (takes_fit e first, takes_fit rest second)
-  takes_fit e asked = taken_scalar e asked
+  takes_fit kind (typed_tree.Call p n actuals) asked = tt
+  takes_fit kind (Parens e) asked = takes_fit kind e asked
+  takes_fit kind (Aggregate t es) asked = takes_fit kind es asked
+  takes_fit kind (Alike t e) asked = takes_fit kind e asked
+  takes_fit kind (New t v) asked = takes_fit kind v asked
+  takes_fit kind (typed_tree.More e rest) (first, second) = (takes_fit kind e first, takes_fit kind rest second)
+  takes_fit kind e asked = taken_scalar e asked
+
+  -- what is passed owns nothing
+  ownless_given : (n : ℕ) → Passed n → is_owning s.table (given_type n) ≡ false
+  ownless_given n passed = by (sub_at s n).result (ap (λ (z : Signature). z.result) (sub_same n))
+    where
+      by : (r : Option ℕ) → r ≡ (sub_at own n).result → is_owning s.table (type_given r) ≡ false
+      by None is = plain_type s given.owns integer given.integers
+      by (Some t) is = ap (λ (rows : Table). is_owning rows t) alike.table ∙ (passed t (sym is)).0
+
+  ownless_both : (ts us : List ℕ) → AreOwnlessTypes ts → AreOwnlessTypes us → AreOwnlessTypes (ts ++ us)
+  ownless_both [] us h g = g
+  ownless_both (t ∷ ts) us h g = (h.0, ownless_both ts us h.1 g)
+
+  scalar_ownless_types : (ts : List ℕ) → AreScalarTypes s ts → AreOwnlessTypes ts
+  scalar_ownless_types [] scalar = tt
+  scalar_ownless_types (t ∷ ts) scalar = (plain_type s given.owns t scalar.0, scalar_ownless_types ts scalar.1)
+
+  calls_ownless : (e : TypedTree) → PassedFit Asked Passed e → AreOwnlessTypes (types given_type boolean e)
+  unfolding CallsFit types
+  calls_ownless (typed_tree.Call p n actuals) asked = (ownless_given n asked.0, tt)
+  calls_ownless (Parens e) asked = calls_ownless e asked
+  calls_ownless (Aggregate t parts) asked = calls_ownless parts asked
+  calls_ownless (Alike t e) asked = calls_ownless e asked
+  calls_ownless (New t v) asked = calls_ownless v asked
+  calls_ownless (typed_tree.More e rest) (first, second) = ownless_both (types given_type boolean rest) (types given_type boolean e) (calls_ownless rest second) (calls_ownless e first)
+  calls_ownless (Name p x steps t) asked = scalar_ownless_types (types given_type boolean steps) (calls_scalar steps asked)
+  calls_ownless (Component i rest) asked = scalar_ownless_types (types given_type boolean rest) (calls_scalar rest asked)
+  calls_ownless (Designated rest) asked = scalar_ownless_types (types given_type boolean rest) (calls_scalar rest asked)
+  calls_ownless (Element index low high rest) asked =
+      scalar_ownless_types (types given_type boolean rest ++ types given_type boolean index) (calls_scalar (Element index low high rest) asked)
+  calls_ownless (Image t e) asked = scalar_ownless_types (types given_type boolean e) (calls_scalar e asked)
+  calls_ownless (Unary op e) asked = scalar_ownless_types (types given_type boolean e) (calls_scalar e asked)
+  calls_ownless (Binary op a b) asked = scalar_ownless_types (types given_type boolean b ++ types given_type boolean a) (calls_scalar (Binary op a b) asked)
+  calls_ownless (Short op p a q b) asked =
+      scalar_ownless_types (if has_call b then boolean ∷ [] else types given_type boolean b ++ types given_type boolean a) (calls_scalar (Short op p a q b) asked)
+  calls_ownless (IsNull equal e) asked = scalar_ownless_types (types given_type boolean e) (calls_scalar e asked)
+  calls_ownless _ asked = tt
 
   gives_only : (e : TypedTree) → CallsOnly Asked Passed e → GivesPlainly s e
   unfolding CallsFit GivesPlainly
@@ -251,29 +307,38 @@ module _ (table : Table) (typed : TypedProgram) (effects : Effects) (given : IsV
       subst (AreScalar s) (sym (held_first x xs pairs.0.1))
       (elim pairs.0.0 [ inl both ↦ both.1 | inr same ↦ ap (λ k. is_scalar (full s.table k)) (sym same) ∙ scalar.0 ], pairs_scalar ts xs pairs.1 scalar.1)
 
+  pairs_ownless : (ts xs : List ℕ) → Pairs FitsHeld ts xs → AreOwnlessTypes ts → AreOwnless s (filter (is_temporary_object s) xs)
+  pairs_ownless [] [] pairs none = tt
+  pairs_ownless [] (x ∷ xs) pairs none = absurd pairs
+  pairs_ownless (t ∷ ts) [] pairs none = absurd pairs
+  pairs_ownless (t ∷ ts) (x ∷ xs) pairs none =
+      subst (AreOwnless s) (sym (held_first x xs pairs.0.1)) (
+        elim pairs.0.0 [ inl both ↦ plain_type s given.owns (object_at s x).of both.1 | inr same ↦ ap (is_owning s.table) (sym same) ∙ none.0 ],
+        pairs_ownless ts xs pairs.1 none.1,
+      )
+
   pairs_filled : (ts xs : List ℕ) → Pairs FitsHeld ts xs → AreFilled s ts (filter (is_temporary_object s) xs)
   pairs_filled [] [] pairs = tt
   pairs_filled [] (x ∷ xs) pairs = absurd pairs
   pairs_filled (t ∷ ts) [] pairs = absurd pairs
   pairs_filled (t ∷ ts) (x ∷ xs) pairs = subst (AreFilled s (t ∷ ts)) (sym (held_first x xs pairs.0.1)) (pairs.0.0, pairs_filled ts xs pairs.1)
 
-  -- an instruction that stores no value takes scalar ones
-  plain_types : (i : Instruction) → StoresNone i → InstructionFits Asked Passed May Single i → AreScalarTypes s (types_at given_type boolean i)
-  plain_types (Call n actuals (Some t)) none (may, asked) = calls_scalar actuals asked
-  plain_types (Call n actuals None) none asked = calls_scalar actuals asked
-  plain_types (Output text line) none asked = calls_scalar text asked
-  plain_types (Input target) none asked = calls_scalar target asked
-  plain_types (Release m) none asked = calls_scalar m asked
-  plain_types (Test e) none asked = calls_scalar e asked
-  plain_types (Choose e choices) none asked = calls_scalar e asked
-  plain_types (Start x reversed low high) none (first, second) =
+  -- an instruction that stores no value and is no call takes scalar ones
+  plain_types : (i : Instruction) → IsNoCall i → StoresNone i → InstructionFits Asked Passed May Single i → AreScalarTypes s (types_at given_type boolean i)
+  plain_types (Call n actuals r) no_call none asked = absurd (no_call n actuals r refl)
+  plain_types (Output text line) no_call none asked = calls_scalar text asked
+  plain_types (Input target) no_call none asked = calls_scalar target asked
+  plain_types (Release m) no_call none asked = calls_scalar m asked
+  plain_types (Test e) no_call none asked = calls_scalar e asked
+  plain_types (Choose e choices) no_call none asked = calls_scalar e asked
+  plain_types (Start x reversed low high) no_call none (first, second) =
       scalar_both s (types given_type boolean high) (types given_type boolean low) (calls_scalar high second) (calls_scalar low first)
-  plain_types (Evaluate t e left) none asked = calls_scalar e asked
-  plain_types (LeaveLoop e) none asked = calls_scalar e asked
-  plain_types (Declare x v) none asked = absurd none
-  plain_types (Assign target e) none asked = absurd none
-  plain_types (Hold v) none asked = absurd none
-  plain_types i none asked = tt
+  plain_types (Evaluate t e left) no_call none asked = calls_scalar e asked
+  plain_types (LeaveLoop e) no_call none asked = calls_scalar e asked
+  plain_types (Declare x v) no_call none asked = absurd none
+  plain_types (Assign target e) no_call none asked = absurd none
+  plain_types (Hold v) no_call none asked = absurd none
+  plain_types i no_call none asked = tt
 
   plain_stores : (i : Instruction) → StoresNone i → TakesScalars s i
   plain_stores (Declare x v) none = absurd none
@@ -360,7 +425,7 @@ module _ (table : Table) (typed : TypedProgram) (effects : Effects) (given : IsV
     pub fitted_there : (p : NamedPoint) → Has named.points p → IsFitted FitsHeld given_type boolean Asked Passed May Single p
     fitted_there p there =
         all_has (IsFitted FitsHeld given_type boolean Asked Passed May Single) laid_points p
-        (sub_fit FitsHeld given_type boolean Asked Passed May Single weaker weaker (setting_from own (body.2) (body.0)) (body.0) (given.results (body.0) (body.1))
+        (sub_fit FitsHeld given_type boolean Asked Passed May Single weaker wider (setting_from own (body.2) (body.0)) (body.0) (given.results (body.0) (body.1))
         (all_there (λ (r : NamedPoint). FillsFit FitsHeld given_type boolean r.instr) laid_points (λ r at. filling r (in_points r at))))
         (in_laid p there)
 
@@ -460,13 +525,15 @@ module _ (table : Table) (typed : TypedProgram) (effects : Effects) (given : IsV
     pub no_call : (n : ℕ) (actuals : TypedTree) (r : Option ℕ) → p.instr ≡ Call n actuals r → ⊥
     no_call n actuals r is = (let both : Declare (declared.0) (declared.1) ≡ Call n actuals r = sym (declared.2) ∙ is in cc)
 
-    package_takes : IsTaken s named.sub.result p
-    package_takes =
-        inl (
-          subst (λ xs. AreScalar s (filter (is_temporary_object s) xs))
-              (sym (take_none (taken p.instr) p.scope (ap taken (declared.2) ∙ no_waits (declared.1) (declared.3)))) tt,
-          subst (TakesScalars s) (sym (declared.2)) (gives_plainly s (declared.1) (inl (declared.3))),
-        )
+    package_takes : IsTakenAt s named.sub.result p
+    package_takes = (
+      λ none. inl (
+        subst (λ xs. AreScalar s (filter (is_temporary_object s) xs))
+            (sym (take_none (taken p.instr) p.scope (ap taken (declared.2) ∙ no_waits (declared.1) (declared.3)))) tt,
+        subst (TakesScalars s) (sym (declared.2)) (gives_plainly s (declared.1) (inl (declared.3))),
+      ),
+      λ n actuals r is. absurd (no_call n actuals r is),
+    )
 
     package_fills : FillsTyped program p.instr (drop (taken p.instr) p.scope)
     package_fills = subst (λ i. FillsTyped program i (drop (taken p.instr) p.scope)) (sym (declared.2)) tt
@@ -533,7 +600,7 @@ module _ (table : Table) (typed : TypedProgram) (effects : Effects) (given : IsV
         inr (inr (
           e,
           made,
-          takes_fit e source,
+          takes_fit May e source,
           subst (λ z. AreFilled s z (filter (is_temporary_object s) (take (taken p.instr) p.scope))) (same ∙ sym (ap (types_for s) is))
               (pairs_filled ts (take (taken p.instr) p.scope) pairs),
         ))
@@ -552,8 +619,11 @@ module _ (table : Table) (typed : TypedProgram) (effects : Effects) (given : IsV
 
         fit_here : is_anonymous (view_of s x) ≡ true → is_name_of (λ y. is_observer own x || nat_lt y x) e || gives_view own e ≡ true
         fit_here view =
-            declared_fit (is_anonymous (view_of own x)) (is_name_of (λ y. is_observer own x || nat_lt y x) e) (is_list_end rest) (gives_view own e) (sym (view_same x lasts_here) ∙ view)
-            (sym (ap (fits own) is) ∙ above.declared x (typed_tree.More e rest) is)
+            gives_so (is_name_of (λ y. is_observer own x || nat_lt y x) e) (gives_from (λ y. is_observer own x || nat_lt y x) own e) (gives_view own e)
+            (from_gives own (λ y. is_observer own x || nat_lt y x) e)
+            (declared_fit (is_anonymous (view_of own x)) (is_name_of (λ y. is_observer own x || nat_lt y x) e) (is_list_end rest) (gives_from (λ y. is_observer own x || nat_lt y x) own e)
+            (sym (view_same x lasts_here) ∙ view)
+            (sym (ap (fits own) is) ∙ above.declared x (typed_tree.More e rest) is))
 
         calls_here : is_anonymous (view_of s x) ≡ true → CallsOnly Asked Passed (typed_tree.More e rest)
         calls_here view = (name_only (λ y. is_observer own x || nat_lt y x) e (fit_here view) asked.0, subst (CallsOnly Asked Passed) (sym last) tt)
@@ -641,30 +711,48 @@ module _ (table : Table) (typed : TypedProgram) (effects : Effects) (given : IsV
     found_here : Found p.instr
     found_here = (let all = fitted_there named has inside p there in (all.0, all.1))
 
-    others : (i : Instruction) → p.instr ≡ i → StoresNone i → Found i → Goal
-    others i is none found = plainly (types_at given_type boolean i) found.1 (plain_types i none found.0) (subst (TakesScalars s) (sym is) (plain_stores i none))
+    others : (i : Instruction) → p.instr ≡ i → IsNoCall i → StoresNone i → Found i → Goal
+    others i is no_call none found = plainly (types_at given_type boolean i) found.1 (plain_types i no_call none found.0) (subst (TakesScalars s) (sym is) (plain_stores i none))
 
-    takes_by : (i : Instruction) → p.instr ≡ i → IsFine s named.sub.result i → Found i → Goal
-    takes_by (Declare x v) is fine found = elim found.0 [
+    takes_by : (i : Instruction) → p.instr ≡ i → IsNoCall i → IsFine s named.sub.result i → Found i → Goal
+    takes_by (Declare x v) is no_call fine found = elim found.0 [
       | inl source ↦ declared_takes x v is fine source found.1
       | inr (q, m, a, same, single, calls) ↦ lone_takes q m a (inl (x, is ∙ ap (Declare x) same)) single
     ]
-    takes_by (Assign target e) is (t, place, source) found = elim found.0.1 [
+    takes_by (Assign target e) is no_call (t, place, source) found = elim found.0.1 [
       | inl asked ↦ assigned_takes target e is t place found.0.0 asked found.1
       | inr (q, m, a, same, single, calls, r, x, path, u, target_is, none) ↦
           lone_takes q m a (inr (inl (r, x, path, u, is ∙ (λ j. Assign (target_is j) (same j)), none))) single
     ]
-    takes_by (Hold v) is fine found = elim found.0 [
+    takes_by (Hold v) is no_call fine found = elim found.0 [
       | inl source ↦ returned_takes v is named.sub.result refl fine source found.1
       | inr (q, m, a, same, single, calls) ↦ lone_takes q m a (inr (inr (is ∙ ap Hold same))) single
     ]
-    takes_by i is fine found = others i is tt found
+    takes_by i is no_call fine found = others i is no_call tt found
 
-    pub body_takes : Goal
-    body_takes = takes_by p.instr refl (fine_there named has inside p there) found_here
+    -- actuals
+    passed_takes : (actuals : TypedTree) → PassedFit Asked Passed actuals → Takes (types given_type boolean actuals)
+        → TakesPassed s actuals (filter (is_temporary_object s) (take (taken p.instr) p.scope))
+    passed_takes actuals fit pairs = (
+      pairs_ownless (types given_type boolean actuals) (take (taken p.instr) p.scope) pairs (calls_ownless actuals fit),
+      takes_fit Passed actuals fit,
+      subst (λ z. AreFilled s z (filter (is_temporary_object s) (take (taken p.instr) p.scope))) (types_same s actuals)
+          (pairs_filled (types given_type boolean actuals) (take (taken p.instr) p.scope) pairs),
+    )
+
+    call_takes : (n : ℕ) (actuals : TypedTree) (r : Option ℕ) → Found (Call n actuals r)
+        → TakesPassed s actuals (filter (is_temporary_object s) (take (taken p.instr) p.scope))
+    call_takes n actuals (Some t) (fit, pairs) = passed_takes actuals fit.1 pairs
+    call_takes n actuals None (fit, pairs) = passed_takes actuals fit pairs
+
+    pub body_takes : IsTakenAt s named.sub.result p
+    body_takes = (
+      λ no_call. takes_by p.instr refl no_call (fine_there named has inside p there) found_here,
+      λ n actuals r is. call_takes n actuals r (subst Found is found_here),
+    )
 
   pub takes_there : (n : ℕ) → IsEntered program n → (named : NamedSub) → IsNamedSub (flow_named table typed) n named → (p : NamedPoint) → Has named.points p
-      → IsTaken s named.sub.result p
+      → IsTakenAt s named.sub.result p
   takes_there n entered named stands p there =
       let has : Has (flow_named table typed) named = named_has (flow_named table typed) n named stands in
       elim (where_is named has) [ inl e ↦ package_takes named e p there | inr inside ↦ body_takes named has inside n entered stands p there ]

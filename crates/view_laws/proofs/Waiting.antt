@@ -118,8 +118,8 @@ module _ (table : Table) (typed : TypedProgram) (effects : Effects) (given : IsV
 
     body_lone : (p : NamedPoint) → Has named.points p → IsLone (valued.Single table typed effects given) IsPlain p
     body_lone p there =
-        sub_lone (setting_from own body.2 body.0) body.0 (valued.Asked table typed effects given) (valued.Asked table typed effects given) (valued.May table typed effects given) (valued.Single table typed effects given) IsPlain
-        (valued.weaker table typed effects given) (valued.weaker table typed effects given)
+        sub_lone (setting_from own body.2 body.0) body.0 (valued.Asked table typed effects given) (valued.Passed table typed effects given) (valued.May table typed effects given) (valued.Single table typed effects given) IsPlain
+        (valued.weaker table typed effects given) (valued.wider table typed effects given)
         (λ r at n a t is may temporary.
         (let found = valued.call_type table typed effects given named has inside r (valued.in_points table typed effects given named has inside r at) n a t is in
         (λ j. is_anonymous (full (alike.table j) (found.2 j))) ∙ may found.0 found.1))

@@ -49,14 +49,23 @@ abbrev pub gives_view : Typing → TypedTree → Bool
 gives_view s (Call p sub actuals) = traverses s.table (sub_at s sub).result
 gives_view s e = false
 
+-- Where its first actual is a name, that is rooted in an object as asked.
+abbrev pub is_rooted_in : (ℕ → Bool) → TypedTree → Bool
+is_rooted_in test (Name p y steps t) = test y
+is_rooted_in test e = true
+
+abbrev pub gives_from : (ℕ → Bool) → Typing → TypedTree → Bool
+gives_from test s (Call p sub actuals) = traverses s.table (sub_at s sub).result && is_rooted_in test (first actuals)
+gives_from test s e = false
+
 -- A view is declared with a name, and a borrower with one that is rooted in an older object; a view that is no
 -- formal is assigned a name. Or what a traversal function gives.
 abbrev pub fits : Typing → Instruction → Bool
-fits s (Declare x v) = not (is_anonymous (view_of s x)) || (is_one_name_of (λ y. is_observer s x || nat_lt y x) v || gives_view s (first v))
+fits s (Declare x v) = not (is_anonymous (view_of s x)) || (is_one_name_of (λ y. is_observer s x || nat_lt y x) v || gives_from (λ y. is_observer s x || nat_lt y x) s (first v))
 fits s (Assign target e) = stores_name s (whole target) e || gives_view s e
 fits s i = true
 
--- The call of a traversal function whose first actual is a name of an access value that is rooted in no package object.
+-- The call of a traversal function whose first actual is a name of an access value.
 pub record IsTraversed (s : Typing) (e : TypedTree) : Type 0 where
   pub pos : Pos
   pub sub : ℕ
@@ -69,7 +78,6 @@ pub record IsTraversed (s : Typing) (e : TypedTree) : Type 0 where
   pub gives : traverses s.table (sub_at s sub).result ≡ true
   pub leads : Leads s (object_at s root).of path of
   pub lasts : is_owning s.table of || is_anonymous (full s.table of) ≡ true
-  pub own : is_package_object s root ≡ false
 
 -- What a view is declared or assigned with isn't what a function gives; or it is such a call.
 abbrev pub NamesSource : Typing → Instruction → Type 0

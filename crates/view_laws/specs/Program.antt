@@ -18,13 +18,13 @@ use Rattle.flow_paths.specs.Laid.{FlowSub, FlowProgram, typing_of, flow_typing, 
 use Rattle.machine.specs.States.{sub_of}
 use Rattle.soundness.specs.Typed.{OwnsByShape}
 use Rattle.typed_laws.specs.Needed.{Matches, IsPlace}
-use Rattle.soundness.specs.Sound.{Accepted, goes_through_none}
+use Rattle.soundness.specs.Sound.{Accepted, Uses, goes_through_none}
 use Rattle.scope_laws.specs.Alone.{ResultsFit}
 use Rattle.ready_laws.specs.InOrder.{IsInOrder, AreAnswered, AreStill, ArePassed}
 use Rattle.soundness.specs.Seen.{is_view_formal}
 use Rattle.viewed_soundness.specs.Holds.{PartsAreNamed, is_given, is_exclusive, lends_first}
 use Rattle.viewed_steps.specs.Traversals.{GivesView, IsSourceName}
-use Rattle.viewed_steps.specs.Sound.{IsScalarObject, IsKindOfFormal, AreKeptPlaces, LendsShared, AreShownOwn, IsStoredAt}
+use Rattle.viewed_steps.specs.Sound.{IsScalarObject, IsKindOfFormal, AreKeptPlaces, IsStoredAt}
 use Rattle.viewed_steps.specs.Ready.{IsOwnPlace, IsActualTo}
 use Rattle.view_laws.specs.InOrder.{AreViewsInOrder}
 
@@ -47,13 +47,20 @@ PassActuals program =
 
 -- ---- traversal functions
 
--- In each call of one, the first actual is a name that is rooted in no package object.
+-- In each call of one, the first actual is a name.
 abbrev pub TraversesNames : FlowProgram → Type 0
 TraversesNames program =
     (sub : FlowSub) → Has program.subs sub → (p : FlowPoint) → Has sub.points p → (n : ℕ) (actuals : TypedTree) (result : Option ℕ)
     → p.instr ≡ Call n actuals result → traverses program.table (sub_of program n).result ≡ true
     → (q : Pos) × (y : ℕ) × (path : TypedTree) × (u : ℕ) × (more : TypedTree) × (actuals ≡ More (Name q y path u) more)
-    × (is_package_object (flow_typing program) y ≡ false)
+
+-- One that gives a borrower doesn't use the package object that this name is rooted in.
+abbrev pub SparesPackages : FlowProgram → Effects → Type 0
+SparesPackages program effects =
+    (sub : FlowSub) → Has program.subs sub → (p : FlowPoint) → Has sub.points p → (n : ℕ) (actuals : TypedTree) (result : Option ℕ)
+    → p.instr ≡ Call n actuals result → gives_variable (flow_typing program) (sub_at (flow_typing program) n).result ≡ true
+    → (q : Pos) (y : ℕ) (path : TypedTree) (u : ℕ) (more : TypedTree) → actuals ≡ More (Name q y path u) more
+    → is_package_object (flow_typing program) y ≡ true → Uses effects n y → ⊥
 
 -- What one gives is taken by a view, or returned by another one; a borrower is taken by a borrower.
 abbrev pub TakesView : Typing → Option ℕ → Instruction → Type 0
@@ -96,9 +103,6 @@ pub record IsViewProgram (table : Table) (typed : TypedProgram) (effects : Effec
       (result : Option ℕ) → p.instr ≡ Call n actuals result
       → ((x : ℕ) → Has (sub_of (flow_program table typed) n).formals x → is_formal (flow_typing (flow_program table typed)) x ≡ true)
       → AreKeptPlaces (flow_typing (flow_program table typed)) (sub_of (flow_program table typed) n).formals actuals
-  pub shown : (sub : FlowSub) → Has (flow_program table typed).subs sub → (p : FlowPoint) → Has sub.points p → (n : ℕ) (actuals : TypedTree)
-      (result : Option ℕ) → p.instr ≡ Call n actuals result
-      → AreShownOwn (flow_typing (flow_program table typed)) (LendsShared (flow_typing (flow_program table typed)) sub) (sub_of (flow_program table typed) n).formals actuals
   -- formals of anonymous access types are the first ones of traversal functions, whose first formals see
   pub firsts : (n x : ℕ) → Has (sub_at (flow_typing (flow_program table typed)) n).formals x → is_anonymous (view_of (flow_typing (flow_program table typed)) x) ≡ true
       → traversed_of (traverses (flow_program table typed).table (sub_at (flow_typing (flow_program table typed)) n).result)
@@ -106,6 +110,7 @@ pub record IsViewProgram (table : Table) (typed : TypedProgram) (effects : Effec
   pub first : (n : ℕ) → traverses (flow_program table typed).table (sub_at (flow_typing (flow_program table typed)) n).result ≡ true
       → (f : ℕ) × (rest : List ℕ) × ((sub_at (flow_typing (flow_program table typed)) n).formals ≡ f ∷ rest) × (is_given (flow_typing (flow_program table typed)) f ≡ true)
   pub traverse : TraversesNames (flow_program table typed)
+  pub spared : SparesPackages (flow_program table typed) effects
   pub take : (sub : FlowSub) → Has (flow_program table typed).subs sub → (p : FlowPoint) → Has sub.points p
       → TakesView (flow_typing (flow_program table typed)) sub.result p.instr
   pub returned : (sub : FlowSub) → Has (flow_program table typed).subs sub → (p : FlowPoint) → Has sub.points p → (e last : TypedTree) → p.instr ≡ Hold (More e last)

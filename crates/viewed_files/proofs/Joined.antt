@@ -9,7 +9,7 @@ use Rattle.spark_base.proofs.Lists.{Has-append_left, Has-append_right}
 use Rattle.typed_tree.specs.Trees.{TypedTree, TypedCode, Name, More}
 use Rattle.typed_tree.specs.Trees as typed
 use Rattle.flow_paths.specs.Instructions.{Instruction, Declare}
-use Rattle.flow_paths.specs.Objects.{Typing, is_anonymous, is_observer, view_of}
+use Rattle.flow_paths.specs.Objects.{Typing, sub_at, traverses, is_anonymous, is_observer, view_of}
 use Rattle.flow_paths.specs.Names.{first}
 use Rattle.flow_paths.specs.Layout.{declared}
 use Rattle.flow_paths.specs.Laid.{declared_within}
@@ -18,7 +18,7 @@ use Rattle.flow_paths.specs.Views.{encloses, scope_of}
 use Rattle.scope_laws.specs.Code.{roots, are_seen, is_seen, is_each_seen}
 use Rattle.scope_laws.proofs.Lists.{within_has, and_first, and_second, both_true}
 use Rattle.layered_scopes.specs.Layered.{is_older, are_of_scope, are_apart, is_layered, is_each_layered}
-use Rattle.view_laws.specs.InOrder.{gives_view, is_list_end, is_one_name_of, is_any, fits}
+use Rattle.view_laws.specs.InOrder.{gives_view, is_rooted_in, gives_from, is_list_end, is_one_name_of, is_any, fits}
 use Rattle.viewed_files.specs.Sources.{has_source, all_fit}
 
 either : (a b : Bool) → a || b ≡ true → (a ≡ true) ⊎ (b ≡ true)
@@ -41,6 +41,19 @@ unfolding roots
 one_name_so test (More (Name p y steps t) rest) so is =
     both_true (test y) (is_list_end rest) (so y (inl refl)) (and_second true (is_list_end rest) is)
 one_name_so test v so is = cc
+
+actual_so : (test : ℕ → Bool) (actuals : TypedTree) → ((y : ℕ) → Has (roots actuals) y → test y ≡ true) → is_rooted_in test (first actuals) ≡ true
+unfolding roots
+actual_so test (More (Name p y steps t) rest) so = so y (inl refl)
+actual_so test (More e rest) so = refl
+actual_so test actuals so = refl
+
+gives_first : (s : Typing) (test : ℕ → Bool) (v : TypedTree) → ((y : ℕ) → Has (roots v) y → test y ≡ true) → gives_view s (first v) ≡ true → gives_from test s (first v) ≡ true
+unfolding roots
+gives_first s test (More (typed.Call p sub actuals) rest) so gives =
+    both_true (traverses s.table (sub_at s sub).result) (is_rooted_in test (first actuals)) gives
+    (actual_so test actuals (λ y has. so y (Has-append_left (roots actuals) (roots rest) y has)))
+gives_first s test v so gives = cc
 
 module _ (s : Typing) (scopes : List ℕ) (k : ℕ) where
   abbrev older : ℕ → ℕ → Bool
@@ -78,15 +91,17 @@ module _ (s : Typing) (scopes : List ℕ) (k : ℕ) where
       test : ℕ → Bool
       test y = is_observer s x || nat_lt y x
 
-      source : (is_one_name_of is_any v ≡ true) ⊎ (gives_view s (first v) ≡ true) → is_one_name_of test v || gives_view s (first v) ≡ true
+      source : (is_one_name_of is_any v ≡ true) ⊎ (gives_view s (first v) ≡ true) → is_one_name_of test v || gives_from test s (first v) ≡ true
       source (inl name) =
-          or_left (is_one_name_of test v) (gives_view s (first v))
+          or_left (is_one_name_of test v) (gives_from test s (first v))
           (one_name_so test v (λ y has. or_right (is_observer s x) (nat_lt y x) (seen_older x sc (roots v) low all seen y has)) name)
-      source (inr calls) = or_right (is_one_name_of test v) (gives_view s (first v)) calls
+      source (inr calls) =
+          or_right (is_one_name_of test v) (gives_from test s (first v))
+          (gives_first s test v (λ y has. or_right (is_observer s x) (nat_lt y x) (seen_older x sc (roots v) low all seen y has)) calls)
 
       by : (not (is_anonymous (view_of s x)) ≡ true) ⊎ (is_one_name_of is_any v || gives_view s (first v) ≡ true) → fits s (Declare x v) ≡ true
-      by (inl named) = or_left (not (is_anonymous (view_of s x))) (is_one_name_of test v || gives_view s (first v)) named
-      by (inr has) = or_right (not (is_anonymous (view_of s x))) (is_one_name_of test v || gives_view s (first v)) (source (either (is_one_name_of is_any v) (gives_view s (first v)) has))
+      by (inl named) = or_left (not (is_anonymous (view_of s x))) (is_one_name_of test v || gives_from test s (first v)) named
+      by (inr has) = or_right (not (is_anonymous (view_of s x))) (is_one_name_of test v || gives_from test s (first v)) (source (either (is_one_name_of is_any v) (gives_view s (first v)) has))
 
   abbrev AreHigh : TypedCode → Type 0
   AreHigh c = (x : ℕ) → Has (declared_within c) x → k ≤ x

@@ -27,9 +27,9 @@ use Rattle.flow_paths.specs.Acts.{gives_variable}
 use Rattle.flow_paths.specs.Acts as flow
 use Rattle.flow_paths.specs.Points.{NamedPoint}
 use Rattle.flow_paths.specs.Laid.{FlowProgram, NamedSub, flow_sub, typing_of, flow_typing, flow_program, flow_named}
-use Rattle.flow_paths.specs.Names.{Written, written}
+use Rattle.flow_paths.specs.Names.{written}
 use Rattle.flow_paths.specs.Paths.{ControlPath, facts_before}
-use Rattle.flow_paths.specs.Effects.{path_points, globals_of, called_acts}
+use Rattle.flow_paths.specs.Effects.{written_by, path_points, globals_of, called_acts}
 use Rattle.flow_paths.specs.Scopes.{taken, scope_behind, Leads}
 use Rattle.flow_paths.specs.Views.{traversed_formal, traversed_of}
 use Rattle.machine.specs.States.{Frame, State, sub_of}
@@ -42,7 +42,7 @@ use Rattle.owned_ways.specs.Ways.{Step, Way, after, AllowsAll, Past}
 use Rattle.owned_ways.specs.Ways as ways
 use Rattle.soundness.specs.Seen.{is_view_formal, IsNear, content, seen, home, trunk}
 use Rattle.soundness.specs.Typed.{Kept}
-use Rattle.soundness.specs.Sound.{Stage, facts_of, AreStages, IsRunnable, InScope, IsNamedSub, IsAtPoint, view_of as view_here}
+use Rattle.soundness.specs.Sound.{Uses, Stage, facts_of, AreStages, IsRunnable, InScope, IsNamedSub, IsAtPoint, view_of as view_here}
 use Rattle.soundness.proofs.Numbers.{index_law}
 use Rattle.soundness.proofs.Lasting.{keeps}
 use Rattle.soundness.proofs.Passing.{AreReads, reads_keep, signature_is}
@@ -58,8 +58,8 @@ use Rattle.owned_loans.specs.Views.{Around, known_gone, Views, Viewed, ViewedAlo
 use Rattle.viewed_soundness.specs.Holds.{Holds, is_view, sees_only, IsOwners, is_exclusive, AllKeep, is_fixed, is_given, lends_first, is_first}
 use Rattle.viewed_soundness.proofs.Given.{IsLow}
 use Rattle.viewed_soundness.proofs.Evaluated.{live_trunk, keep_both}
-use Rattle.viewed_steps.specs.Awaited.{temporaries_of, lasting_of, AreAwaited, AreScalar, TakesScalars, StoresNone}
-use Rattle.viewed_steps.specs.Sound.{IsCopiedBack, IsBeyond, HoldsAt, ArePlaced, NoneAbove, ViewStage, stages_of, GoneElsewhere, AreWaiting, IsResting, IsKindOfFormal, HasTraversals}
+use Rattle.viewed_steps.specs.Awaited.{temporaries_of, lasting_of, AreAwaited, AreOwnless, TakesPassed}
+use Rattle.viewed_steps.specs.Sound.{Disturbs, IsCopiedBack, IsBeyond, HoldsAt, ArePlaced, NoneAbove, ViewStage, stages_of, GoneElsewhere, AreWaiting, IsResting, IsKindOfFormal, HasTraversals}
 use Rattle.viewed_steps.specs.Ready.{IsReady, IsCalled, IsTraversalCall, IsSeen, AreActualsTo}
 use Rattle.owned_loans.proofs.Allowed.{Cleared}
 use Rattle.owned_loans.proofs.Safe.{Unlent}
@@ -84,6 +84,7 @@ use Rattle.viewed_steps.proofs.Followed.{IsTraversing}
 use Rattle.viewed_steps.proofs.Lending.{named_has}
 use Rattle.viewed_steps.proofs.Traversing.{first_actual, first_reads}
 use Rattle.viewed_soundness.proofs.Names.{true_false}
+use Rattle.viewed_steps.proofs.Apart.{written_disturbs}
 use Rattle.viewed_steps.proofs.Exclusive.{first_true, second_true, mode_in, sees_shown, AreLent, are_lent, lent_clears}
 use Rattle.viewed_steps.proofs.Globals.{shown_act}
 
@@ -159,10 +160,7 @@ module _ (table : Table) (typed : TypedProgram) (effects : Effects) (input : Lis
     viewed = innermost.viewed table typed effects input ready state top below more_frames rest named p frames deep stages running awaiting of_sub at_point path views viewed_before kept scope holds placed_before above
 
     abbrev Plain : Type 0
-    Plain = AreScalar s (temporaries_of s (take (taken p.instr) p.scope))
-
-    abbrev plain_here : StoresNone p.instr → Plain × TakesScalars s p.instr
-    plain_here = innermost.plain_here table typed effects input ready state top below more_frames rest named p frames deep stages running awaiting of_sub at_point path views viewed_before kept scope holds placed_before above
+    Plain = AreOwnless s (temporaries_of s (take (taken p.instr) p.scope))
 
     abbrev named_there : Has (flow_named table typed) named
     named_there = innermost.named_there table typed effects input ready state top below more_frames rest named p frames deep stages running awaiting of_sub at_point path views viewed_before kept scope holds placed_before above
@@ -177,7 +175,7 @@ module _ (table : Table) (typed : TypedProgram) (effects : Effects) (input : Lis
     easy = eased main_turn
 
     abbrev viewed_easy : Plain → Viewed (home s depth) (sees_only s) other views (view_here s easy.state) facts_now × Kept s state.memory (waiting_in easy.state)
-    viewed_easy = innermost.viewed_easy table typed effects input ready state top below more_frames rest named p frames deep stages running awaiting of_sub at_point path views viewed_before kept scope holds placed_before above
+    viewed_easy = innermost.ownless_easy table typed effects input ready state top below more_frames rest named p frames deep stages running awaiting of_sub at_point path views viewed_before kept scope holds placed_before above
 
     module _ (n : ℕ) (actuals : TypedTree) (result : Option ℕ) (e : p.instr ≡ Call n actuals result) where
       pub called : IsCalled table typed n actuals result
@@ -210,9 +208,9 @@ module _ (table : Table) (typed : TypedProgram) (effects : Effects) (input : Lis
           by_kind true is =
               let never : None ≡ Some x = sym (ap (λ b. traversed_of b (sub_of program n).formals) none) ∙ ready.traversing.firsts n (called.runs).entered x has is in cc
 
-      -- what a call takes is of scalar types
-      pub plain_there : Plain × TakesScalars s p.instr
-      plain_there = plain_here (subst StoresNone (sym e) tt)
+      -- what a call takes owns nothing
+      pub plain_there : TakesPassed s actuals (temporaries_of s (take (taken p.instr) p.scope))
+      plain_there = innermost.taken_call table typed effects input ready state top below more_frames rest named p frames deep stages running awaiting of_sub at_point path views viewed_before kept scope holds placed_before above n actuals result e
 
       abbrev pub procedure : Bool
       procedure = not (is_some (sub_of program n).result)
@@ -264,30 +262,33 @@ module _ (table : Table) (typed : TypedProgram) (effects : Effects) (input : Lis
             among = inr (sym copies_are);
           }
 
-      -- nothing that overlaps an object of the frame itself is handed on
-      clear_now : (u : Way) → is_package_object s (ways.number_of u) ≡ false → Cleared own_facts u → Cleared facts_now u
-      clear_now u local_root clear = (
+      -- what overlaps an object of the frame itself isn't handed on, nor what is borrowed of a package object that it uses, nor
+      -- what is lent of one that it writes
+      handed_root : (l : Loan) (h : ℕ) (m : PlaceName) → Has handed_on (Lent l h m) → (u : Way) → overlaps m (ways.name_of u) ≡ true
+          → (is_package_object s (ways.number_of u) ≡ true → Disturbs effects l top.frame.sub (ways.number_of u)) → ⊥
+      handed_root l h m there u over disturbs =
+          let lent = lent_handed table typed effects unmoved_stage local state depth older between l h m there in
+          let root : m.root ≡ ways.number_of u = same_root m (ways.name_of u) over in
+          innermost.spared_here table typed effects input ready state top below more_frames rest named p frames deep stages running awaiting of_sub at_point path views viewed_before kept scope holds placed_before above l m lent.1
+          (subst (Disturbs effects l top.frame.sub) (sym root) (disturbs (ap (is_package_object s) (sym root) ∙ (lent.1).5)))
+
+      clear_now : (u : Way) → (is_package_object s (ways.number_of u) ≡ true → Uses effects top.frame.sub (ways.number_of u)) → Cleared own_facts u → Cleared facts_now u
+      clear_now u uses clear = (
         λ h m has over. elim (Has-append_cases own_facts handed_on (Lent Borrowed h m) has) [
           | inl mine ↦ clear.0 h m mine over
-          | inr there ↦ not_there Borrowed h m there over
+          | inr there ↦ handed_root Borrowed h m there u over uses
         ],
         λ m has over. elim (Has-append_cases own_facts handed_on (Moved m) has) [
           | inl mine ↦ clear.1 m mine over
           | inr there ↦ innermost.not_handed table typed effects input ready state top below more_frames rest named p frames deep stages running awaiting of_sub at_point path views viewed_before kept scope holds placed_before above m there
         ],
       )
-        where
-          not_there : (l : Loan) (h : ℕ) (m : PlaceName) → Has handed_on (Lent l h m) → overlaps m (ways.name_of u) ≡ true → ⊥
-          not_there l h m there over =
-              let lent = lent_handed table typed effects unmoved_stage local state depth older between l h m there in
-              true_false (is_package_object s m.root) (lent.1).5 (ap (is_package_object s) (same_root m (ways.name_of u) over) ∙ local_root)
 
-      unlent_now : (u : Way) → is_package_object s (ways.number_of u) ≡ false → Unlent own_facts u → Unlent facts_now u
-      unlent_now u local_root free l h m has over = elim (Has-append_cases own_facts handed_on (Lent l h m) has) [
+      unlent_now : (u : Way) → (is_package_object s (ways.number_of u) ≡ true → Has (written_by effects top.frame.sub) (ways.number_of u)) → Unlent own_facts u → Unlent facts_now u
+      unlent_now u writes free l h m has over = elim (Has-append_cases own_facts handed_on (Lent l h m) has) [
         | inl mine ↦ free l h m mine over
-        | inr there ↦ (
-            let lent = lent_handed table typed effects unmoved_stage local state depth older between l h m there in
-            true_false (is_package_object s m.root) (lent.1).5 (ap (is_package_object s) (same_root m (ways.name_of u) over) ∙ local_root))
+        | inr there ↦ handed_root l h m there u over
+            (λ shared. written_disturbs table typed effects ready.accepted.effects_are l top.frame.sub (ways.number_of u) (writes shared))
       ]
 
       joined : (facts : List Fact) (a b : List Act) → AllowsAll facts a → AllowsAll (after a facts) b → AllowsAll facts (a ++ b)
@@ -330,8 +331,24 @@ module _ (table : Table) (typed : TypedProgram) (effects : Effects) (input : Lis
         copies_are : copies ≡ first_acts ++ others
         copies_are = λ j. flow.actual_acts (map (passing s (no_procedure j)) (traversing.formals j)) (made.actuals_are j)
 
-        root_there : (u : Way) → ways.name_of u ≡ traversed_name made.call → is_package_object s (ways.number_of u) ≡ false
-        root_there u called_so = ap (λ (m : PlaceName). is_package_object s m.root) called_so ∙ made.own
+        root_there : (u : Way) → ways.name_of u ≡ traversed_name made.call → (made.call).root ≡ ways.number_of u
+        root_there u called_so = ap (λ (m : PlaceName). m.root) (sym called_so)
+
+        -- the frame uses a package object that the first actual is rooted in, and writes it where a borrower is given
+        pub uses_first : is_package_object s (made.call).root ≡ true → Uses effects top.frame.sub (made.call).root
+        uses_first shared =
+            let found = followed.names_root table typed effects input ready state top older outer named p frames of_sub at_point path n actuals result e f traversed
+            call_point.0 call_point.2 next_at.0 next_at.1 (innermost.borrower_local table typed effects input ready state top below more_frames rest named p frames deep stages running awaiting of_sub at_point path views viewed_before kept scope holds placed_before above) shared in
+            innermost.act_uses table typed effects input ready state top below more_frames rest named p frames deep stages running awaiting of_sub at_point path views viewed_before kept scope holds placed_before above
+            (made.call).root shared (flow_at own named next_at.0) found.0 (found.1).0 (found.1).1 (found.1).2
+
+        pub writes_first : gives_variable s (sub_at s n).result ≡ true → is_package_object s (made.call).root ≡ true → Has (written_by effects top.frame.sub) (made.call).root
+        writes_first borrows shared =
+            let found = followed.writes_root table typed effects input ready state top older outer named p frames of_sub at_point path n actuals result e f traversed
+            call_point.0 call_point.2 next_at.0 next_at.1 (innermost.borrower_local table typed effects input ready state top below more_frames rest named p frames deep stages running awaiting of_sub at_point path views viewed_before kept scope holds placed_before above) shared
+            (running.0).entered local borrows in
+            innermost.act_writes_it table typed effects input ready state top below more_frames rest named p frames deep stages running awaiting of_sub at_point path views viewed_before kept scope holds placed_before above
+            (made.call).root shared (flow_at own named next_at.0) found.0 (found.1).0 (found.1).1 (found.1).2
 
         pub clear_own : (u : Way) → ways.name_of u ≡ traversed_name made.call → Cleared own_facts u
         clear_own u called_so =
@@ -339,11 +356,13 @@ module _ (table : Table) (typed : TypedProgram) (effects : Effects) (input : Lis
             call_point.0 call_point.2 next_at.0 next_at.1 u called_so
 
         pub clear_first : (u : Way) → ways.name_of u ≡ traversed_name made.call → Cleared facts_now u
-        clear_first u called_so = clear_now u (root_there u called_so) (clear_own u called_so)
+        clear_first u called_so =
+            clear_now u (λ shared. subst (Uses effects top.frame.sub) (root_there u called_so) (uses_first (ap (is_package_object s) (root_there u called_so) ∙ shared)))
+            (clear_own u called_so)
 
         pub free_first : gives_variable s (sub_at s n).result ≡ true → (u : Way) → ways.name_of u ≡ traversed_name made.call → Unlent facts_now u
         free_first borrows u called_so =
-            unlent_now u (root_there u called_so)
+            unlent_now u (λ shared. subst (Has (written_by effects top.frame.sub)) (root_there u called_so) (writes_first borrows (ap (is_package_object s) (root_there u called_so) ∙ shared)))
             (followed.unlent_at_call table typed effects input ready state top older outer named p frames of_sub at_point path n actuals result e f traversed
             call_point.0 call_point.2 next_at.0 next_at.1 ((made.borrows borrows).1 call_point.0 call_point.2 next_at.0 next_at.1) u called_so)
 
@@ -453,83 +472,72 @@ module _ (table : Table) (typed : TypedProgram) (effects : Effects) (input : Lis
         second_true (is_in_formal s x) (is_owning s.table (object_at s x).of) formal,
       )
 
-      -- what the first formal of a traversal function is shown belongs to no package
-      pub first_own : (f : ℕ) → traversed_formal s (sub_of program n) ≡ Some f → (b : alias.Passed) → Has (alias.passed formals actuals) b → b.formal ≡ f
-          → is_package_object s b.actual.name.root ≡ false
-      first_own f traversed b has only =
-          elim (Has-append_cases (alias.passed_as f (written (first f traversed))) (alias.passed (traversing f traversed).rest ((made f traversed).call).others) b
-          (subst (λ z. Has z b) (λ j. alias.passed ((traversing f traversed).formals j) ((made f traversed).actuals_are j)) has)) [
-            | inl here ↦ by_place here
-            | inr later ↦ absurd ((followed.differ table typed effects input ready state top older outer named p frames of_sub at_point path n actuals result e f traversed).0
-                b.formal (named_has (traversing f traversed).rest ((made f traversed).call).others b later) only)
-          ]
+      -- a formal that is given, of no anonymous access type, owns by its type
+      given_owns : (x : ℕ) → is_anonymous (view_of s x) ≡ false → is_given s x ≡ true → is_view_formal s x ≡ true
+      given_owns x unseen given = elim (given_cases s x given) [ inl formal ↦ formal | inr anonymous ↦ absurd (true_false (is_anonymous (view_of s x)) anonymous unseen) ]
+
+      no_borrower : (r : Option ℕ) → traverses s.table r ≡ false → gives_variable s r ≡ true → ⊥
+      no_borrower None none borrows = cc
+      no_borrower (Some t) none borrows = true_false (traverses s.table (Some t)) (ap (λ b. b || is_observing (full s.table t)) borrows) none
+
+      first_is : (xs : List ℕ) (x f : ℕ) {rest : List ℕ} → xs ≡ f ∷ rest → is_first x xs ≡ true → x ≡ f
+      first_is (y ∷ xs) x f same first_one = (let is : y ≡ f = cc in sym (eqb-true y x first_one) ∙ is)
+      first_is [] x f same first_one = cc
+
+      -- What is shown of a package object is shown by an act of the call, or to the first formal of a traversal function.
+      pub record IsPlainlyShown (b : alias.Passed) : Type 0 where
+        pub formal : is_view_formal s b.formal ≡ true
+        pub none : lends_first s b.formal (sub_at s n) ≡ false
+        pub placed : Placed
+        pub there : Has (standing.acts_by table typed effects input ready state top older outer named p frames of_sub at_point s p.instr) placed
+        pub is : placed.act ≡ act.Actual b.actual.name mode.In true (procedure && is_named_access (view_of s b.formal))
+
+      pub shown_there : (b : alias.Passed) → Has (alias.passed formals actuals) b → is_given s b.formal ≡ true
+          → IsPlainlyShown b ⊎ ((f : ℕ) × (traversed : traversed_formal s (sub_of program n) ≡ Some f) × (b.formal ≡ f) × (b.actual.name ≡ traversed_name (made f traversed).call))
+      shown_there b has given = elim traverses_or [
+        | inl none ↦ inl (by_call none (view_formal_in b.formal (given_owns b.formal (unseen_plain none b.formal (named_has formals actuals b has)) given)))
+        | inr (f, traversed) ↦ elim (Has-append_cases (alias.passed_as f (written (first f traversed))) (alias.passed (traversing f traversed).rest ((made f traversed).call).others) b
+            (subst (λ z. Has z b) (λ j. alias.passed ((traversing f traversed).formals j) ((made f traversed).actuals_are j)) has)) [
+              | inl here ↦ (let same = by_place f traversed here in inr (f, traversed, same.0, same.1))
+              | inr later ↦ inl (by_other f traversed later)
+            ]
+      ]
         where
-          by_place : Has (alias.passed_as f (written (first f traversed))) b → is_package_object s b.actual.name.root ≡ false
-          by_place (inl same) = ap (λ (z : alias.Passed). is_package_object s z.actual.name.root) (sym same) ∙ (made f traversed).own
-          by_place (inr none) = absurd none
+          by_place : (f : ℕ) (traversed : traversed_formal s (sub_of program n) ≡ Some f) → Has (alias.passed_as f (written (first f traversed))) b
+              → (b.formal ≡ f) × (b.actual.name ≡ traversed_name (made f traversed).call)
+          by_place f traversed (inl same) = (ap (λ (z : alias.Passed). z.formal) (sym same), ap (λ (z : alias.Passed). z.actual.name) (sym same))
+          by_place f traversed (inr none) = absurd none
 
-      -- what is shown of a package object isn't shown to such a formal
-      pub plainly_shown : (b : alias.Passed) → Has (alias.passed formals actuals) b → is_given s b.formal ≡ true → is_package_object s b.actual.name.root ≡ true
-          → (is_view_formal s b.formal ≡ true) × (lends_first s b.formal (sub_at s n) ≡ false)
-      plainly_shown b has given shared = (
-        elim (given_cases s b.formal given) [
-          | inl formal ↦ formal
-          | inr anonymous ↦ absurd (not_first b.formal (ready.traversing.firsts n (called.runs).entered b.formal (named_has formals actuals b has) anonymous) refl)
-        ],
-        elim (bool_cases (lends_first s b.formal (sub_at s n))) [
-          | inr none ↦ none
-          | inl lends ↦ elim traverses_or [
-            | inl none ↦ absurd (no_borrower (sub_at s n).result (ap (λ z. traverses s.table z) (ap (λ (z : Signature). z.result) (signature_is program n)) ∙ none)
-                (first_true (gives_variable s (sub_at s n).result) (is_first b.formal (sub_at s n).formals) lends))
-            | inr (f, traversed) ↦ absurd (not_first f traversed (first_is (sub_at s n).formals b.formal f
-                (ap (λ (z : Signature). z.formals) (signature_is program n) ∙ (traversing f traversed).formals)
-                (second_true (gives_variable s (sub_at s n).result) (is_first b.formal (sub_at s n).formals) lends)))
-          ]
-        ],
-      )
-        where
-          not_first : (f : ℕ) → traversed_formal s (sub_of program n) ≡ Some f → b.formal ≡ f → ⊥
-          not_first f traversed only = true_false (is_package_object s b.actual.name.root) shared (first_own f traversed b has only)
+          not_lends : (lends_first s b.formal (sub_at s n) ≡ true → ⊥) → lends_first s b.formal (sub_at s n) ≡ false
+          not_lends never = elim (bool_cases (lends_first s b.formal (sub_at s n))) [ inr none ↦ none | inl lends ↦ absurd (never lends) ]
 
-          no_borrower : (r : Option ℕ) → traverses s.table r ≡ false → gives_variable s r ≡ true → ⊥
-          no_borrower None none borrows = cc
-          no_borrower (Some t) none borrows = true_false (traverses s.table (Some t)) (ap (λ b. b || is_observing (full s.table t)) borrows) none
+          by_call : traverses s.table (sub_of program n).result ≡ false → ((object_at s b.formal).mode ≡ mode.In) × (is_owning s.table (object_at s b.formal).of ≡ true) → IsPlainlyShown b
+          by_call none shape =
+              let one = shown_act s procedure formals actuals b has shape.0 shape.1 in record {
+                formal = given_owns b.formal (unseen_plain none b.formal (named_has formals actuals b has)) given;
+                none = not_lends (λ lends. no_borrower (sub_at s n).result (ap (λ z. traverses s.table z) (ap (λ (z : Signature). z.result) (signature_is program n)) ∙ none)
+                    (first_true (gives_variable s (sub_at s n).result) (is_first b.formal (sub_at s n).formals) lends));
+                placed = one.0;
+                there = subst (λ z. Has z one.0) (sym values_are) (Has-append_right values true_copies one.0
+                    (subst (λ z. Has (flow.actual_acts z actuals) one.0) (sym (passes_to program n none)) one.1));
+                is = one.2;
+              }
 
-          first_is : (xs : List ℕ) (x f : ℕ) {rest : List ℕ} → xs ≡ f ∷ rest → is_first x xs ≡ true → x ≡ f
-          first_is (y ∷ xs) x f same first_one = (let is : y ≡ f = cc in sym (eqb-true y x first_one) ∙ is)
-          first_is [] x f same first_one = cc
-
-      -- the act of what is shown is one of the call
-      pub shown_there : (b : alias.Passed) → Has (alias.passed formals actuals) b → is_view_formal s b.formal ≡ true → is_package_object s b.actual.name.root ≡ true
-          → (a : Placed) × Has (standing.acts_by table typed effects input ready state top older outer named p frames of_sub at_point s p.instr) a
-          × (a.act ≡ act.Actual b.actual.name mode.In true (procedure && is_named_access (view_of s b.formal)))
-      shown_there b has formal shared =
-          let shape = view_formal_in b.formal formal in
-          elim traverses_or [
-            | inl none ↦ (
-                let one = shown_act s procedure formals actuals b has shape.0 shape.1 in (
-                  one.0,
-                  subst (λ z. Has z one.0) (sym values_are) (Has-append_right values true_copies one.0
-                      (subst (λ z. Has (flow.actual_acts z actuals) one.0) (sym (passes_to program n none)) one.1)),
-                  one.2,
-                ))
-            | inr (f, traversed) ↦ elim (Has-append_cases (alias.passed_as f (written (first f traversed))) (alias.passed (traversing f traversed).rest ((made f traversed).call).others) b
-                (subst (λ z. Has z b) (λ j. alias.passed ((traversing f traversed).formals j) ((made f traversed).actuals_are j)) has)) [
-                  | inl here ↦ absurd (true_false (is_package_object s b.actual.name.root) shared (first_own f traversed b has (first_formal (written (first f traversed)) here)))
-                  | inr later ↦ (
-                      let one = shown_act s false (traversing f traversed).rest ((made f traversed).call).others b later shape.0 shape.1 in (
-                        one.0,
-                        subst (λ z. Has z one.0) (sym values_are) (Has-append_right values true_copies one.0
-                            (subst (λ z. Has z one.0) (sym (true_are f traversed)) one.1)),
-                        one.2 ∙ ap (λ z. act.Actual b.actual.name mode.In true (z && is_named_access (view_of s b.formal))) (sym (no_procedure f traversed)),
-                      ))
-                ]
-          ]
-        where
-          first_formal : {f : ℕ} (w : Option Written) → Has (alias.passed_as f w) b → b.formal ≡ f
-          first_formal None none = absurd none
-          first_formal (Some w) (inl same) = ap (λ (z : alias.Passed). z.formal) (sym same)
-          first_formal (Some w) (inr none) = absurd none
+          by_other : (f : ℕ) (traversed : traversed_formal s (sub_of program n) ≡ Some f) → Has (alias.passed (traversing f traversed).rest ((made f traversed).call).others) b → IsPlainlyShown b
+          by_other f traversed later =
+              let formal = given_owns b.formal (unseen_others f traversed b.formal (named_has (traversing f traversed).rest ((made f traversed).call).others b later)) given in
+              let shape = view_formal_in b.formal formal in
+              let one = shown_act s false (traversing f traversed).rest ((made f traversed).call).others b later shape.0 shape.1 in record {
+                formal = formal;
+                none = not_lends (λ lends. (followed.differ table typed effects input ready state top older outer named p frames of_sub at_point path n actuals result e f traversed).0
+                    b.formal (named_has (traversing f traversed).rest ((made f traversed).call).others b later)
+                    (first_is (sub_at s n).formals b.formal f (ap (λ (z : Signature). z.formals) (signature_is program n) ∙ (traversing f traversed).formals)
+                    (second_true (gives_variable s (sub_at s n).result) (is_first b.formal (sub_at s n).formals) lends)));
+                placed = one.0;
+                there = subst (λ z. Has z one.0) (sym values_are) (Has-append_right values true_copies one.0
+                    (subst (λ z. Has z one.0) (sym (true_are f traversed)) one.1));
+                is = one.2 ∙ ap (λ z. act.Actual b.actual.name mode.In true (z && is_named_access (view_of s b.formal))) (sym (no_procedure f traversed));
+              }
 
       -- the call adds no fact
       pub adds_none : (f : Fact) → Has facts_called f → Has own_facts f
@@ -592,10 +600,6 @@ module _ (table : Table) (typed : TypedProgram) (effects : Effects) (input : Lis
           (keep_both (is_fixed s) (acts values) (acts true_copies) (subst (AllKeep (is_fixed s)) (acts_append values true_copies)
           (subst (λ z. AllKeep (is_fixed s) (acts z)) values_are
           (standing.keeps_there table typed effects input ready state top older outer named p frames of_sub at_point)))).1
-
-      -- a formal that is given, of no anonymous access type, owns by its type
-      given_owns : (x : ℕ) → is_anonymous (view_of s x) ≡ false → is_given s x ≡ true → is_view_formal s x ≡ true
-      given_owns x unseen given = elim (given_cases s x given) [ inl formal ↦ formal | inr anonymous ↦ absurd (true_false (is_anonymous (view_of s x)) anonymous unseen) ]
 
       -- what formals of a procedure that own nothing are lent
       pub lent_there : (sub_of program n).result ≡ None → AreLent s facts_now formals actuals

@@ -47,7 +47,7 @@ use Rattle.soundness.specs.Sound.{Stage, facts_of, AreStages, Uses, IsRunnable, 
 use Rattle.soundness.proofs.Stays.{Quiet}
 use Rattle.soundness.proofs.Numbers.{index_law}
 use Rattle.soundness.proofs.Lasting.{keeps}
-use Rattle.soundness.proofs.Passing.{entered, TakesAll, signature_is}
+use Rattle.soundness.proofs.Passing.{entered, signature_is}
 use Rattle.soundness.proofs.Points.{path_there}
 use Rattle.soundness.proofs.Used.{called_used}
 use Rattle.soundness.proofs.Around.{IsFar, package_named}
@@ -59,9 +59,9 @@ use Rattle.owned_loans.proofs.Moves.{expand_under, view_on, reached}
 use Rattle.viewed_soundness.proofs.Names.{true_false, given_view}
 use Rattle.viewed_soundness.specs.Holds.{Holds, is_view, sees_only, IsOwners, is_given}
 use Rattle.viewed_soundness.proofs.Given.{IsLow, low_there, low_begins}
-use Rattle.viewed_steps.specs.Awaited.{temporaries_of, lasting_of, awaited, WaitsAt, AreAwaited, AreScalar, TakesScalars}
+use Rattle.viewed_steps.specs.Awaited.{temporaries_of, lasting_of, awaited, WaitsAt, AreAwaited, AreOwnless, TakesPassed}
 use Rattle.viewed_steps.proofs.Waited.{within_lasting, Shares, plain_unheld}
-use Rattle.viewed_steps.specs.Sound.{IsCopiedBack, IsBeyond, AreUnmet, HoldsAt, ArePlaced, NoneAbove, ViewStage, stages_of, GoneElsewhere, Disturbs, IsWaiting, AreWaiting, calls_one, LeadsAlong, IsResting, IsKindOfFormal, AreReturned, withheld, KeptBy, IsWayOf, IsBareOf, HasTraversals, NoneGiven, IsTraversal, passed_roots, lent_to, shown_at, shown_one, known_at, LentBy}
+use Rattle.viewed_steps.specs.Sound.{IsCopiedBack, IsBeyond, AreUnmet, HoldsAt, ArePlaced, NoneAbove, ViewStage, stages_of, GoneElsewhere, Disturbs, IsWaiting, AreWaiting, calls_one, LeadsAlong, IsResting, IsKindOfFormal, AreReturned, withheld, KeptBy, IsWayOf, IsBareOf, HasTraversals, NoneGiven, IsTraversal, passed_roots, shown_at, shown_one, known_at, LentBy}
 use Rattle.viewed_steps.specs.Ready.{IsReady, IsCalled}
 use Rattle.viewed_steps.specs.Taken.{TakenBy, AreTaken, AreCarried, Lodge}
 use Rattle.viewed_steps.proofs.Apart.{moved_same}
@@ -96,6 +96,7 @@ use Rattle.viewed_steps.proofs.CallShows as shows
 use Rattle.viewed_steps.proofs.Seeing.{named_written}
 use Rattle.viewed_steps.proofs.Lending.{actual_named}
 use Rattle.viewed_steps.proofs.Stilled.{still}
+use Rattle.viewed_steps.proofs.Supplied.{SuppliesAll}
 
 module _ (table : Table) (typed : TypedProgram) (effects : Effects) (input : List ℕ) (ready : IsReady table typed effects) where
   abbrev program : FlowProgram
@@ -181,13 +182,13 @@ module _ (table : Table) (typed : TypedProgram) (effects : Effects) (input : Lis
     given_words = (start main_turn).waits
 
     abbrev Plain : Type 0
-    Plain = AreScalar s (temporaries_of s (take (taken p.instr) p.scope))
+    Plain = AreOwnless s (temporaries_of s (take (taken p.instr) p.scope))
 
     abbrev easy : Turn
     easy = eased main_turn
 
     abbrev viewed_easy : Plain → Viewed (home s depth) (sees_only s) other views (view_here s easy.state) facts_now × Kept s state.memory (waiting_in easy.state)
-    viewed_easy = innermost.viewed_easy table typed effects input ready state top below more_frames rest named p frames deep stages running awaiting of_sub at_point path views viewed_before kept scope holds placed_before above
+    viewed_easy = innermost.ownless_easy table typed effects input ready state top below more_frames rest named p frames deep stages running awaiting of_sub at_point path views viewed_before kept scope holds placed_before above
 
     abbrev others_await : returns_value p.instr ≡ false → AreAwaited table typed (awaited (sub_of program top.frame.sub) (top.frame.next ∷ top.before)) (stages_of older)
     others_await = innermost.others_await table typed effects input ready state top below more_frames rest named p frames deep stages running awaiting of_sub at_point path views viewed_before kept scope holds placed_before above
@@ -209,7 +210,7 @@ module _ (table : Table) (typed : TypedProgram) (effects : Effects) (input : Lis
       abbrev kinds : (x : ℕ) → Has formals x → IsKindOfFormal s x
       kinds = calling.kinds table typed effects input ready state top below more_frames rest named p frames deep stages running awaiting of_sub at_point path views viewed_before kept scope holds placed_before above n actuals result e
 
-      abbrev plain_there : Plain × TakesScalars s p.instr
+      abbrev plain_there : TakesPassed s actuals (temporaries_of s (take (taken p.instr) p.scope))
       plain_there = calling.plain_there table typed effects input ready state top below more_frames rest named p frames deep stages running awaiting of_sub at_point path views viewed_before kept scope holds placed_before above n actuals result e
 
       abbrev procedure : Bool
@@ -239,7 +240,7 @@ module _ (table : Table) (typed : TypedProgram) (effects : Effects) (input : Lis
       abbrev Given : List Passed → Type 0
       Given = calling.Given table typed effects input ready state top below more_frames rest named p frames deep stages running awaiting of_sub at_point path views viewed_before kept scope holds placed_before above n actuals result e
 
-      abbrev taken_there : (on : List (List machine.Word)) × TakesAll formals actuals given_words on
+      abbrev taken_there : (on : List (List machine.Word)) × SuppliesAll s state.memory formals actuals given_words on
       taken_there = calling.taken_there table typed effects input ready state top below more_frames rest named p frames deep stages running awaiting of_sub at_point path views viewed_before kept scope holds placed_before above n actuals result e
 
       abbrev then_now : Now
@@ -476,10 +477,10 @@ module _ (table : Table) (typed : TypedProgram) (effects : Effects) (input : Lis
             ]) q taken r k held
 
         -- what is shown
-        shown_here : (f : Fact) → Has (shown_at program waits_stage) f → IsShownOf s (lent_to result) (alias.passed formals actuals) f
+        shown_here : (f : Fact) → Has (shown_at program waits_stage) f → IsShownOf s (alias.passed formals actuals) f
         shown_here f has = shows.shown_of table typed effects input ready state top below more_frames rest named p frames deep stages running awaiting of_sub at_point path views viewed_before kept scope holds placed_before above n actuals result e f (subst (λ z. Has z f) (shows.shown_is table typed effects input ready state top below more_frames rest named p frames deep stages running awaiting of_sub at_point path views viewed_before kept scope holds placed_before above n actuals result e all_passed_ways.0) has)
 
-        known_is : known_at program effects waits_stage ≡ facts_called ++ flat_map (shown_one s (lent_to result)) (alias.passed formals actuals)
+        known_is : known_at program effects waits_stage ≡ facts_called ++ flat_map (shown_one s) (alias.passed formals actuals)
         known_is = λ j. facts_there j ++ shows.shown_is table typed effects input ready state top below more_frames rest named p frames deep stages running awaiting of_sub at_point path views viewed_before kept scope holds placed_before above n actuals result e all_passed_ways.0 j
 
         same_loan : {l k : Loan} {h b : ℕ} {m q : PlaceName} → Lent l h m ≡ Lent k b q → (l ≡ k) × (m ≡ q)
@@ -842,7 +843,7 @@ module _ (table : Table) (typed : TypedProgram) (effects : Effects) (input : Lis
                 (subst (λ d. SeesFirst s d (at_successor.0).instr n views (callee_views.way f)) (sym deep)
                 (opened_first (steps.here main_turn) ready.accepted.settled (waiting_in easy.state) state.leaks state.memory [] other facts_now views (viewed_easy plain_there.0).1
                 (viewed_easy plain_there.0).0 holds_now alone live_now in_formals index_law ready.owns ready.class.parts_named formals_low procedure formals actuals passed callee_views opened.1 f traversing.rest made.call traversing.formals made.actuals_are (followed.differ table typed effects input ready state top older outer named p frames of_sub at_point path n actuals result e f traversed) n (at_successor.0).instr
-                (taker_takes s n made.call named.sub.result (at_successor.0).instr (made.taker call_point.0 call_point.2 at_successor.0 at_successor.1)) made.own))
+                (taker_takes s n made.call named.sub.result (at_successor.0).instr (made.taker call_point.0 call_point.2 at_successor.0 at_successor.1))))
                 f traversed
 
             formal_lasts : (k : ObjectKind) → is_formal_kind k ≡ true → is_temporary k ≡ false

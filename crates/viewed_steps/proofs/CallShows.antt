@@ -14,7 +14,7 @@ use Rattle.typed_tree.specs.Trees.{TypedTree, More}
 use Rattle.typed_tree.specs.Programs.{TypedProgram}
 use Rattle.flow_paths.specs.declared.report.Effects.{Effects}
 use Rattle.flow_paths.specs.Instructions.{Call}
-use Rattle.flow_paths.specs.Objects.{Typing, object_at, is_anonymous, is_package_object, view_of, is_observer}
+use Rattle.flow_paths.specs.Objects.{Typing, object_at, is_package_object, view_of, is_observer, is_observing, is_variable, is_formal, is_formal_kind}
 use Rattle.flow_paths.specs.Aliases.{overlap_reports, passed_reports, call_reports}
 use Rattle.flow_paths.specs.Aliases as alias
 use Rattle.flow_paths.specs.Points.{NamedPoint}
@@ -39,7 +39,7 @@ use Rattle.soundness.proofs.Around.{package_named}
 use Rattle.owned_loans.specs.Views.{expand, Around, known_gone, Views, ViewedAlone, IsThrough, IsShared, on}
 use Rattle.owned_loans.proofs.Ways.{under_on, Lifted, lifted_way, stands_alone, on_named, on_under}
 use Rattle.viewed_soundness.proofs.Names.{true_false}
-use Rattle.viewed_soundness.specs.Holds.{is_view, sees_only, is_given, is_exclusive}
+use Rattle.viewed_soundness.specs.Holds.{is_view, sees_only, is_given, is_exclusive, lends_first, is_first}
 use Rattle.viewed_steps.specs.Awaited.{lasting_of, AreAwaited}
 use Rattle.viewed_steps.specs.Sound.{IsBeyond, HoldsAt, ArePlaced, NoneAbove, ViewStage, stages_of, GoneElsewhere, Disturbs, AreWaiting, IsResting, HasTraversals, passed_roots, LentBy, known_at}
 use Rattle.viewed_steps.specs.Ready.{IsReady, IsCalled}
@@ -50,10 +50,14 @@ use Rattle.viewed_steps.proofs.Standing.{or_right}
 use Rattle.viewed_steps.proofs.Standing as standing
 use Rattle.viewed_steps.proofs.Packages as packages
 use Rattle.viewed_steps.proofs.Innermost as innermost
-use Rattle.viewed_steps.proofs.Views.{AreAccess}
+use Rattle.viewed_steps.proofs.Views.{AreAccess, given_formal}
+use Rattle.typed_tree.specs.declared.object.ObjectKind.{ObjectKind}
+use Rattle.typed_tree.specs.declared.object.ObjectKind.TheVariants as object_kind
+use Rattle.flow_paths.specs.Acts.{gives_variable}
+use Rattle.machine.specs.Owners.{is_in}
 use Rattle.viewed_steps.proofs.Seeing.{AreClear}
 use Rattle.viewed_steps.proofs.Lending.{named_has}
-use Rattle.viewed_steps.proofs.Exclusive.{sees_shown}
+use Rattle.viewed_steps.proofs.Exclusive.{IsLentAs}
 use Rattle.viewed_steps.proofs.CallActs as acting
 use Rattle.viewed_steps.proofs.Withheld.{kept_fact, kept_root}
 use Rattle.std.specs.Prelude.{flat_map, is_some}
@@ -69,7 +73,6 @@ use Rattle.flow_paths.specs.Objects.{sub_at, Signature, is_named_access, is_vari
 use Rattle.flow_paths.specs.Names.{written}
 use Rattle.flow_paths.specs.Views.{is_in_mode}
 use Rattle.flow_paths.specs.Effects.{act_writes, act_reads}
-use Rattle.machine.specs.Owners.{is_in_formal}
 use Rattle.soundness.proofs.Passing.{signature_is}
 use Rattle.owned_loans.specs.Views.{AreClear as FactsAreClear}
 use Rattle.owned_loans.proofs.Allowed.{Cleared}
@@ -100,6 +103,39 @@ clear_named s facts (x ∷ formals) (More e rest) clear b has given plain w name
     first e has clears = absurd has
 clear_named s facts [] actuals clear b has given plain w named = absurd has
 clear_named s facts (x ∷ formals) _ clear b has given plain w named = absurd has
+
+both_first : (a b : Bool) → a && b ≡ true → a ≡ true
+both_first true b e = refl
+both_first false b e = cc
+
+-- a formal that is given and isn't seen only changes what it sees
+exclusive_shown : (s : Typing) (x : ℕ) → is_given s x ≡ true → sees_only s x ≡ false → is_exclusive s x ≡ true
+exclusive_shown s x given changes = by (is_observer s x) (is_given s x) (is_exclusive s x) given changes
+  where
+    by : (a b c : Bool) → b ≡ true → a || (b && not c) ≡ false → c ≡ true
+    by true b c is e = cc
+    by false true true is e = refl
+    by false true false is e = cc
+    by false false c is e = cc
+
+changes_shown : (s : Typing) (x : ℕ) → is_given s x ≡ true → is_exclusive s x ≡ true → sees_only s x ≡ false
+changes_shown s x given exclusive = by (is_observer s x) (is_given s x) (is_exclusive s x) (unobserved (object_at s x).kind) exclusive
+  where
+    by : (a b c : Bool) → a ≡ false → c ≡ true → a || (b && not c) ≡ false
+    by true b c none is = cc
+    by false true true none is = refl
+    by false true false none is = cc
+    by false false c none is = refl
+
+    formal : is_formal_kind (object_at s x).kind ≡ true
+    formal = both_first (is_formal s x) (is_in (object_at s x).mode) (given_formal s x given)
+
+    no_variable : (k : ObjectKind) → is_formal_kind k ≡ true → is_variable k ≡ false
+    no_variable object_kind.Formal is = refl
+    no_variable k is = cc
+
+    unobserved : (k : ObjectKind) → is_observer s x ≡ false
+    unobserved k = ap (λ b. b && is_observing (view_of s x)) (no_variable (object_at s x).kind formal)
 
 module _ (table : Table) (typed : TypedProgram) (effects : Effects) (input : List ℕ) (ready : IsReady table typed effects) where
   abbrev program : FlowProgram
@@ -183,11 +219,11 @@ module _ (table : Table) (typed : TypedProgram) (effects : Effects) (input : Lis
 
       -- what the call shows
       pub shown_is : (returns : List Way) → shown_at program (calling.waits_with table typed effects input ready state top below more_frames rest named p frames deep stages running awaiting of_sub at_point path views viewed_before kept scope holds placed_before above n actuals result e returns)
-          ≡ flat_map (shown_one s (lent_to result)) passed_all
+          ≡ flat_map (shown_one s) passed_all
       shown_is returns = ap (shown_by program) (innermost.instr_there table typed effects input ready state top below more_frames rest named p frames deep stages running awaiting of_sub at_point path views viewed_before kept scope holds placed_before above ∙ e)
 
-      pub shown_of : (f : Fact) → Has (flat_map (shown_one s (lent_to result)) passed_all) f → IsShownOf s (lent_to result) passed_all f
-      shown_of f has = all_are s (lent_to result) passed_all f has
+      pub shown_of : (f : Fact) → Has (flat_map (shown_one s) passed_all) f → IsShownOf s passed_all f
+      shown_of f has = all_are s passed_all f has
 
       -- by whether a function is called
       by_answer : (sub_of program n).result ≡ None ⊎ ((t : ℕ) × ((sub_of program n).result ≡ Some t))
@@ -197,14 +233,31 @@ module _ (table : Table) (typed : TypedProgram) (effects : Effects) (input : Lis
           by_result None is = inl refl
           by_result (Some t) is = inr (t, refl)
 
-      lent_none : (sub_of program n).result ≡ None → lent_to result ≡ Borrowed
-      lent_none is = by_test (is_some result) (sym called.answers ∙ ap is_some is)
-        where
-          by_test : (b : Bool) → b ≡ false → (if b then Observed else Borrowed) ≡ Borrowed
-          by_test b is = ap (λ z. if z then Observed else Borrowed) is
+      -- what a formal is lent that sees only is observed
+      lent_seen : (x : ℕ) → is_exclusive s x ≡ false → lent_to s x ≡ Observed
+      lent_seen x none = ap (λ z. if z then Borrowed else Observed) none
 
-      lent_some : (t : ℕ) → (sub_of program n).result ≡ Some t → lent_to result ≡ Observed
-      lent_some t is = ap (λ z. if z then Observed else Borrowed) (sym called.answers ∙ ap is_some is)
+      lent_exclusive : (x : ℕ) → lent_to s x ≡ Borrowed → is_exclusive s x ≡ true
+      lent_exclusive x is = by_test (is_exclusive s x) is
+        where
+          by_test : (b : Bool) → (if b then Borrowed else Observed) ≡ Borrowed → b ≡ true
+          by_test true is = refl
+          by_test false is = cc
+
+      -- a formal of a function that changes what it sees is the first one, and a borrower is given
+      given_first : (t : ℕ) → (sub_of program n).result ≡ Some t → (b : alias.Passed) → Has passed_all b → is_given s b.formal ≡ true → is_exclusive s b.formal ≡ true
+          → lends_first s b.formal (sub_at s n) ≡ true
+      given_first t is b has given exclusive = elim (bool_cases (lends_first s b.formal (sub_at s n))) [
+        | inl lends ↦ lends
+        | inr none ↦ (
+            let x_has = named_has formals actuals b has in
+            absurd (true_false (is_exclusive s b.formal) exclusive
+            (ready.class.functions n t (result_there (Some t) is) b.formal (there_formals b.formal x_has) (called.formals b.formal x_has) given none)))
+      ]
+
+      gives_first : (t : ℕ) → (sub_of program n).result ≡ Some t → (b : alias.Passed) → Has passed_all b → is_given s b.formal ≡ true → is_exclusive s b.formal ≡ true
+          → gives_variable s (sub_at s n).result ≡ true
+      gives_first t is b has given exclusive = both_first (gives_variable s (sub_at s n).result) (is_first b.formal (sub_at s n).formals) (given_first t is b has given exclusive)
 
       formal_named : (b : alias.Passed) → Has passed_all b → is_view_formal s b.formal ≡ true → (sub_of program n).result ≡ None → is_named_access (view_of s b.formal) ≡ true
       formal_named b has formal is =
@@ -212,19 +265,25 @@ module _ (table : Table) (typed : TypedProgram) (effects : Effects) (input : Lis
           ready.class.procedures n (result_there None is) b.formal (there_formals b.formal x_has) (called.formals b.formal x_has) formal
 
       -- what is called doesn't disturb it
-      pub shown_spared : (b : alias.Passed) → Has passed_all b → is_view_formal s b.formal ≡ true → is_package_object s b.actual.name.root ≡ true
-          → Disturbs effects (lent_to result) n b.actual.name.root → ⊥
-      shown_spared b has formal shared disturbs = elim by_answer [
-        | inl is ↦ changed_unused program effects ready.accepted.no_reports (flow_sub own named)
-            (standing.in_program table typed effects input ready state top older outer named p frames of_sub at_point) main_turn.point
-            (standing.in_sub table typed effects input ready state top older outer named p frames of_sub at_point) n actuals result e called.answers is b has
-            (not_immutable is) shared (subst (λ l. Disturbs effects l n b.actual.name.root) (lent_none is) disturbs)
-        | inr (t, is) ↦ function_writes table typed effects ready.accepted.no_reports ready.accepted.effects_are called.text_io
-            (innermost.borrower_local table typed effects input ready state top below more_frames rest named p frames deep stages running awaiting of_sub at_point path views viewed_before kept scope holds placed_before above)
-            (λ sub in_program q in_sub k more answer call_is. (let other_call = ready.called sub in_program q in_sub k more answer call_is in
-            ((other_call.runs).named, (other_call.runs).stands, other_call.answers, other_call.local)))
-            n (called.runs).named (called.runs).stands (ap is_some is) called.local b.actual.name.root shared
-            (subst (λ l. Disturbs effects l n b.actual.name.root) (lent_some t is) disturbs)
+      pub shown_spared : (b : alias.Passed) → Has passed_all b → is_given s b.formal ≡ true → is_package_object s b.actual.name.root ≡ true
+          → Disturbs effects (lent_to s b.formal) n b.actual.name.root → ⊥
+      shown_spared b has given shared disturbs = elim (acting.shown_there table typed effects input ready state top below more_frames rest named p frames deep stages running awaiting of_sub at_point path views viewed_before kept scope holds placed_before above n actuals result e b has given) [
+        | inl plain ↦ elim by_answer [
+          | inl is ↦ changed_unused program effects ready.accepted.no_reports (flow_sub own named)
+              (standing.in_program table typed effects input ready state top older outer named p frames of_sub at_point) main_turn.point
+              (standing.in_sub table typed effects input ready state top older outer named p frames of_sub at_point) n actuals result e called.answers is b has
+              (not_immutable plain.formal is) shared (disturbs_uses (lent_to s b.formal) disturbs)
+          | inr (t, is) ↦ unwritten t is (λ exclusive. true_false (lends_first s b.formal (sub_at s n)) (given_first t is b has given exclusive) plain.none)
+        ]
+        | inr (f, traversed, first_is, name_is) ↦ elim by_answer [
+          | inl is ↦ absurd (let never : None ≡ Some (acting.traversing table typed effects input ready state top below more_frames rest named p frames deep stages running awaiting of_sub at_point path views viewed_before kept scope holds placed_before above n actuals result e f traversed).of = sym is ∙ (acting.traversing table typed effects input ready state top below more_frames rest named p frames deep stages running awaiting of_sub at_point path views viewed_before kept scope holds placed_before above n actuals result e f traversed).result in cc)
+          | inr (t, is) ↦ unwritten t is (λ exclusive. (let made = acting.made table typed effects input ready state top below more_frames rest named p frames deep stages running awaiting of_sub at_point path views viewed_before kept scope holds placed_before above n actuals result e f traversed in
+              ready.traversing.spared (flow_sub own named) (standing.in_program table typed effects input ready state top older outer named p frames of_sub at_point) main_turn.point
+              (standing.in_sub table typed effects input ready state top older outer named p frames of_sub at_point) n actuals result e (gives_first t is b has given exclusive)
+              (made.call).name_pos (made.call).root (made.call).path (made.call).of (made.call).others made.actuals_are
+              (ap (λ (m : PlaceName). is_package_object s m.root) (sym name_is) ∙ shared)
+              (subst (λ (m : PlaceName). Uses effects n m.root) name_is (disturbs_uses (lent_to s b.formal) disturbs))))
+        ]
       ]
         where
           variable_named : (w : TypeView) → is_named_access w ≡ true → is_variable_access w ≡ true
@@ -239,33 +298,42 @@ module _ (table : Table) (typed : TypedProgram) (effects : Effects) (input : Lis
           mutable true b is = (λ j. not (not (is j)))
           mutable false b is = refl
 
-          not_immutable : (sub_of program n).result ≡ None → not (alias.is_immutable s b.formal) ≡ true
-          not_immutable is =
+          not_immutable : is_view_formal s b.formal ≡ true → (sub_of program n).result ≡ None → not (alias.is_immutable s b.formal) ≡ true
+          not_immutable formal is =
               mutable (is_in_mode (object_at s b.formal).mode) (is_variable_access (view_of s b.formal)) (variable_named (view_of s b.formal) (formal_named b has formal is))
 
-      -- the frame names it, and changes it where a procedure is called
-      pub shown_used : (b : alias.Passed) → Has passed_all b → is_view_formal s b.formal ≡ true → is_package_object s b.actual.name.root ≡ true
-          → Uses effects top.frame.sub b.actual.name.root × (lent_to result ≡ Borrowed → Has (written_by effects top.frame.sub) b.actual.name.root)
-      shown_used b has formal shared =
-          let act_there = acting.shown_there table typed effects input ready state top below more_frames rest named p frames deep stages running awaiting of_sub at_point path views viewed_before kept scope holds placed_before above n actuals result e b has formal shared in
-          let in_point = subst (λ z. Has z act_there.0) (standing.acts_agree table typed effects input ready state top older outer named p frames of_sub at_point) act_there.1 in
-          let in_sub = standing.in_sub table typed effects input ready state top older outer named p frames of_sub at_point in (
-            innermost.act_uses table typed effects input ready state top below more_frames rest named p frames deep stages running awaiting of_sub at_point path views viewed_before kept scope holds placed_before above
-                b.actual.name.root shared main_turn.point in_sub act_there.0 in_point
-                (subst (λ z. (act_writes b.actual.name.root z ≡ true) ⊎ (act_reads b.actual.name.root z ≡ true)) (sym act_there.2)
-                (writes_or_reads b.actual.name (procedure && is_named_access (view_of s b.formal)))),
-            λ borrowed. elim by_answer [
-              | inr (t, is) ↦ absurd (borrowed_observed (sym borrowed ∙ lent_some t is))
-              | inl is ↦ innermost.act_writes_it table typed effects input ready state top below more_frames rest named p frames deep stages running awaiting of_sub at_point path views viewed_before kept scope holds placed_before above
-                  b.actual.name.root shared main_turn.point in_sub act_there.0 in_point
-                  (subst (λ z. act_writes b.actual.name.root z ≡ true) (sym act_there.2)
-                  (writes_then b.actual.name (procedure && is_named_access (view_of s b.formal)) (λ j. not (is_some (is j)) && formal_named b has formal is j)))
-            ],
-          )
-        where
-          borrowed_observed : Borrowed ≡ Observed → ⊥
-          borrowed_observed is = cc
+          disturbs_uses : (l : Loan) → Disturbs effects l n b.actual.name.root → Uses effects n b.actual.name.root
+          disturbs_uses Borrowed uses = uses
+          disturbs_uses Observed writes = inr writes
 
+          -- a function writes no package object
+          unwritten : (t : ℕ) → (sub_of program n).result ≡ Some t → (is_exclusive s b.formal ≡ true → ⊥) → ⊥
+          unwritten t is seen = elim (bool_cases (is_exclusive s b.formal)) [
+            | inl exclusive ↦ seen exclusive
+            | inr none ↦ function_writes table typed effects ready.accepted.no_reports ready.accepted.effects_are called.text_io
+                (innermost.borrower_local table typed effects input ready state top below more_frames rest named p frames deep stages running awaiting of_sub at_point path views viewed_before kept scope holds placed_before above)
+                (λ sub in_program q in_sub k more answer call_is. (let other_call = ready.called sub in_program q in_sub k more answer call_is in
+                ((other_call.runs).named, (other_call.runs).stands, other_call.answers, other_call.local)))
+                n (called.runs).named (called.runs).stands (ap is_some is) called.local b.actual.name.root shared
+                (subst (λ l. Disturbs effects l n b.actual.name.root) (lent_seen b.formal none) disturbs)
+          ]
+
+      -- the frame names it, and changes it where it is lent to be changed
+      pub shown_used : (b : alias.Passed) → Has passed_all b → is_given s b.formal ≡ true → is_package_object s b.actual.name.root ≡ true
+          → Uses effects top.frame.sub b.actual.name.root × (lent_to s b.formal ≡ Borrowed → Has (written_by effects top.frame.sub) b.actual.name.root)
+      shown_used b has given shared = elim (acting.shown_there table typed effects input ready state top below more_frames rest named p frames deep stages running awaiting of_sub at_point path views viewed_before kept scope holds placed_before above n actuals result e b has given) [
+        | inl plain ↦ by_call plain
+        | inr (f, traversed, first_is, name_is) ↦ (
+            let root : b.actual.name.root ≡ ((acting.made table typed effects input ready state top below more_frames rest named p frames deep stages running awaiting of_sub at_point path views viewed_before kept scope holds placed_before above n actuals result e f traversed).call).root = ap (λ (m : PlaceName). m.root) name_is in
+            let shared_there = ap (is_package_object s) (sym root) ∙ shared in (
+              subst (Uses effects top.frame.sub) (sym root) (acting.uses_first table typed effects input ready state top below more_frames rest named p frames deep stages running awaiting of_sub at_point path views viewed_before kept scope holds placed_before above n actuals result e f traversed shared_there),
+              λ borrowed. subst (Has (written_by effects top.frame.sub)) (sym root)
+                  (acting.writes_first table typed effects input ready state top below more_frames rest named p frames deep stages running awaiting of_sub at_point path views viewed_before kept scope holds placed_before above n actuals result e f traversed
+                  (gives_first (acting.traversing table typed effects input ready state top below more_frames rest named p frames deep stages running awaiting of_sub at_point path views viewed_before kept scope holds placed_before above n actuals result e f traversed).of (acting.traversing table typed effects input ready state top below more_frames rest named p frames deep stages running awaiting of_sub at_point path views viewed_before kept scope holds placed_before above n actuals result e f traversed).result b has given (lent_exclusive b.formal borrowed))
+                  shared_there),
+            ))
+      ]
+        where
           writes_then : (m : PlaceName) (access : Bool) → access ≡ true → act_writes m.root (act.Actual m mode.In true access) ≡ true
           writes_then m access is = (λ j. eq-eqb m.root m.root refl j && is j)
 
@@ -273,51 +341,80 @@ module _ (table : Table) (typed : TypedProgram) (effects : Effects) (input : Lis
           writes_or_reads m true = inl (λ j. eq-eqb m.root m.root refl j && true)
           writes_or_reads m false = inr (λ j. eq-eqb m.root m.root refl j && true)
 
+          by_call : acting.IsPlainlyShown table typed effects input ready state top below more_frames rest named p frames deep stages running awaiting of_sub at_point path views viewed_before kept scope holds placed_before above n actuals result e b
+              → Uses effects top.frame.sub b.actual.name.root × (lent_to s b.formal ≡ Borrowed → Has (written_by effects top.frame.sub) b.actual.name.root)
+          by_call plain =
+              let in_point = subst (λ z. Has z plain.placed) (standing.acts_agree table typed effects input ready state top older outer named p frames of_sub at_point) plain.there in
+              let in_sub = standing.in_sub table typed effects input ready state top older outer named p frames of_sub at_point in (
+                innermost.act_uses table typed effects input ready state top below more_frames rest named p frames deep stages running awaiting of_sub at_point path views viewed_before kept scope holds placed_before above
+                    b.actual.name.root shared main_turn.point in_sub plain.placed in_point
+                    (subst (λ z. (act_writes b.actual.name.root z ≡ true) ⊎ (act_reads b.actual.name.root z ≡ true)) (sym plain.is)
+                    (writes_or_reads b.actual.name (procedure && is_named_access (view_of s b.formal)))),
+                λ borrowed. elim by_answer [
+                  | inr (t, is) ↦ absurd (true_false (lends_first s b.formal (sub_at s n)) (given_first t is b has given (lent_exclusive b.formal borrowed)) plain.none)
+                  | inl is ↦ innermost.act_writes_it table typed effects input ready state top below more_frames rest named p frames deep stages running awaiting of_sub at_point path views viewed_before kept scope holds placed_before above
+                      b.actual.name.root shared main_turn.point in_sub plain.placed in_point
+                      (subst (λ z. act_writes b.actual.name.root z ≡ true) (sym plain.is)
+                      (writes_then b.actual.name (procedure && is_named_access (view_of s b.formal)) (λ j. not (is_some (is j)) && formal_named b has plain.formal is j)))
+                ],
+              )
+
       -- nothing that the frame knows as moved or borrowed overlaps what is observed
       module _ (clear : AreClear s facts_now formals actuals) where
-        clears : (b : alias.Passed) → Has passed_all b → is_view_formal s b.formal ≡ true → is_package_object s b.actual.name.root ≡ true
+        clears : (b : alias.Passed) → Has passed_all b → is_given s b.formal ≡ true → is_package_object s b.actual.name.root ≡ true
             → (w : Way) → ways.name_of w ≡ b.actual.name → Cleared facts_now w
-        clears b has formal shared w named_so =
-            clear_named s facts_now formals actuals clear b has (ap (λ z. z || (is_in_formal s b.formal && is_anonymous (view_of s b.formal))) formal)
+        clears b has given shared w named_so =
+            clear_named s facts_now formals actuals clear b has given
             (innermost.package_owns table typed effects input ready state top below more_frames rest named p frames deep stages running awaiting of_sub at_point path views viewed_before kept scope holds placed_before above b.actual.name.root shared) w named_so
 
         less_now : (f : Fact) → Has facts_called f → Has facts_now f
         less_now f has =
             Has-append_left own_facts handed_on f (acting.adds_none table typed effects input ready state top below more_frames rest named p frames deep stages running awaiting of_sub at_point path views viewed_before kept scope holds placed_before above n actuals result e f has)
 
-        pub shown_apart : FactsAreClear (sees_only s) facts_called → (f : Fact) (h : ℕ) (name : PlaceName) → Has (facts_called ++ flat_map (shown_one s (lent_to result)) passed_all) f
-            → loan_by f ≡ Borrowed → Has (facts_called ++ flat_map (shown_one s (lent_to result)) passed_all) (Lent Observed h name) → overlaps (place f) name ≡ true → ⊥
+        pub shown_apart : FactsAreClear (sees_only s) facts_called → (f : Fact) (h : ℕ) (name : PlaceName) → Has (facts_called ++ flat_map (shown_one s) passed_all) f
+            → loan_by f ≡ Borrowed → Has (facts_called ++ flat_map (shown_one s) passed_all) (Lent Observed h name) → overlaps (place f) name ≡ true → ⊥
         shown_apart own_clear f h name has borrowed seen over =
-            elim (Has-append_cases facts_called (flat_map (shown_one s (lent_to result)) passed_all) f has) [
-              | inl fact ↦ elim (Has-append_cases facts_called (flat_map (shown_one s (lent_to result)) passed_all) (Lent Observed h name) seen) [
+            elim (Has-append_cases facts_called (flat_map (shown_one s) passed_all) f has) [
+              | inl fact ↦ elim (Has-append_cases facts_called (flat_map (shown_one s) passed_all) (Lent Observed h name) seen) [
                 | inl also ↦ both_facts f borrowed fact also over
                 | inr shown ↦ (
                     let b = shown_of (Lent Observed h name) shown in
-                    let is = same_loan Observed (lent_to result) h (b.passed).formal name (b.passed).actual.name b.is in
+                    let is = same_loan Observed (lent_to s (b.passed).formal) h (b.passed).formal name (b.passed).actual.name b.is in
                     let u = way_named (b.passed).actual.name in
                     cleared_off f borrowed (less_now f fact) u.0 (clears b.passed b.has b.formal b.shared u.0 u.1)
                     (subst (λ (z : PlaceName). overlaps (place f) z ≡ true) (is.1 ∙ sym u.1) over))
               ]
-              | inr shown ↦ elim by_answer [
-                | inr (t, some) ↦ (let b = shown_of f shown in borrowed_observed (sym borrowed ∙ ap loan_by b.is ∙ lent_some t some))
-                | inl none ↦ elim (Has-append_cases facts_called (flat_map (shown_one s (lent_to result)) passed_all) (Lent Observed h name) seen) [
-                  | inr also ↦ (let b = shown_of (Lent Observed h name) also in
-                      borrowed_observed (sym (lent_none none) ∙ sym (same_loan Observed (lent_to result) h (b.passed).formal name (b.passed).actual.name b.is).0))
-                  | inl fact ↦ (
-                      let b = shown_of f shown in
-                      let lent = acting.lent_there table typed effects input ready state top below more_frames rest named p frames deep stages running awaiting of_sub at_point path views viewed_before kept scope holds placed_before above n actuals result e none (b.passed).formal
-                      (named_has formals actuals b.passed b.has) (ap (λ z. z || (is_in_formal s (b.passed).formal && is_anonymous (view_of s (b.passed).formal))) b.formal) (b.passed).actual b.has in
-                      lent.clear (Lent Observed h name) (less_now (Lent Observed h name) fact)
-                      (overlaps-sym name (b.passed).actual.name ∙ subst (λ (z : PlaceName). overlaps z name ≡ true) (ap place b.is) over))
-                ]
-              ]
+              | inr shown ↦ (
+                  let b = shown_of f shown in
+                  let exclusive : is_exclusive s (b.passed).formal ≡ true = lent_exclusive (b.passed).formal (sym (ap loan_by b.is) ∙ borrowed) in
+                  let given : is_given s (b.passed).formal ≡ true = b.formal in
+                  let x_has = named_has formals actuals b.passed b.has in
+                  elim (acting.by_callee table typed effects input ready state top below more_frames rest named p frames deep stages running awaiting of_sub at_point path views viewed_before kept scope holds placed_before above n actuals result e) [
+                    | inl modes ↦ true_false (sees_only s (b.passed).formal) (modes.2 (b.passed).formal x_has given) (changes_shown s (b.passed).formal given exclusive)
+                    | inr lent ↦ by_lent b exclusive (lent (b.passed).formal x_has given (b.passed).actual b.has)
+                        (Has-append_cases facts_called (flat_map (shown_one s) passed_all) (Lent Observed h name) seen)
+                  ])
             ]
           where
-            borrowed_observed : Borrowed ≡ Observed → ⊥
-            borrowed_observed is = cc
-
             same_loan : (l k : Loan) (h b : ℕ) (n m : PlaceName) → Lent l h n ≡ Lent k b m → (l ≡ k) × (n ≡ m)
             same_loan l k h b n m e = (cc, cc)
+
+            observed_borrowed : Observed ≡ Borrowed → ⊥
+            observed_borrowed is = cc
+
+            -- what is lent to be changed meets nothing that is observed
+            by_lent : (b : IsShownOf s passed_all f) → is_exclusive s (b.passed).formal ≡ true → IsLentAs s facts_now passed_all (b.passed).formal (b.passed).actual
+                → Has facts_called (Lent Observed h name) ⊎ Has (flat_map (shown_one s) passed_all) (Lent Observed h name) → ⊥
+            by_lent b exclusive lent (inl fact) =
+                lent.clear (Lent Observed h name) (less_now (Lent Observed h name) fact)
+                (overlaps-sym name (b.passed).actual.name ∙ subst (λ (z : PlaceName). overlaps z name ≡ true) (ap place b.is) over)
+            by_lent b exclusive lent (inr also) =
+                let c = shown_of (Lent Observed h name) also in
+                let is = same_loan Observed (lent_to s (c.passed).formal) h (c.passed).formal name (c.passed).actual.name c.is in
+                lent.apart c.passed c.has
+                (λ same. observed_borrowed (is.0 ∙ ap (λ z. if z then Borrowed else Observed) (ap (is_exclusive s) (sym same) ∙ exclusive)))
+                (inr c.formal)
+                (subst (λ (z : PlaceName). overlaps (b.passed).actual.name z ≡ true) is.1 (subst (λ (z : PlaceName). overlaps z name ≡ true) (ap place b.is) over))
 
             both_facts : (f : Fact) → loan_by f ≡ Borrowed → Has facts_called f → Has facts_called (Lent Observed h name) → overlaps (place f) name ≡ true → ⊥
             both_facts (Moved m) is fact also met = own_clear.moved Observed h m name fact also met
@@ -377,18 +474,9 @@ module _ (table : Table) (typed : TypedProgram) (effects : Effects) (input : Lis
           (lent.0, inr lent.1, lent.2, lent.3, lent.4, lent.5, lent.6, lent.7),
         )
 
-        -- a formal that changes what it sees is one of a procedure, or is shown nothing of a package object
-        lent_changed : (b : alias.Passed) → Has passed_all b → is_given s b.formal ≡ true → is_package_object s b.actual.name.root ≡ true → sees_only s b.formal ≡ false
-            → lent_to result ≡ Borrowed
-        lent_changed b has is_given_formal shared changes = elim by_answer [
-          | inl none ↦ lent_none none
-          | inr (t, some) ↦ (
-              let x_has = named_has formals actuals b has in
-              absurd (true_false (sees_only s b.formal)
-              (sees_shown (is_observer s b.formal) (is_given s b.formal) (is_exclusive s b.formal) is_given_formal
-              (ready.class.functions n t (result_there (Some t) some) b.formal (there_formals b.formal x_has) (called.formals b.formal x_has) is_given_formal
-              (acting.plainly_shown table typed effects input ready state top below more_frames rest named p frames deep stages running awaiting of_sub at_point path views viewed_before kept scope holds placed_before above n actuals result e b has is_given_formal shared).1)) changes))
-        ]
+        -- what a formal is lent that changes what it sees is borrowed
+        lent_changed : (x : ℕ) → is_given s x ≡ true → sees_only s x ≡ false → lent_to s x ≡ Borrowed
+        lent_changed x given changes = ap (λ z. if z then Borrowed else Observed) (exclusive_shown s x given changes)
 
         pub shared_at : (b : alias.Passed) → Has passed_all b → is_given s b.formal ≡ true → (from : Way) → ways.Named (home s depth) from → b.actual.name ≡ ways.name_of from
             → (is_view s (ways.number_of from) ≡ true → (l : Lifted views (ways.All from)) × (l.object ≡ ways.number_of from))
@@ -411,13 +499,12 @@ module _ (table : Table) (typed : TypedProgram) (effects : Effects) (input : Lis
             by_owner none =
                 let itself : w ≡ ways.All from = leads ∙ stands_alone views (ways.All from) none in
                 let root : is_package_object s b.actual.name.root ≡ true = ap (λ (z : PlaceName). is_package_object s z.root) named_so ∙ ap (λ z. is_package_object s (ways.number_of z)) (sym itself) ∙ shared in
-                let formal = (acting.plainly_shown table typed effects input ready state top below more_frames rest named p frames deep stages running awaiting of_sub at_point path views viewed_before kept scope holds placed_before above n actuals result e b has is_given_formal root).0 in
-                let f : Fact = Lent (lent_to result) b.formal b.actual.name in
+                let f : Fact = Lent (lent_to s b.formal) b.formal b.actual.name in
                 let shown : Has (shown_at program waits_there.stage) f =
-                subst (λ z. Has z f) (sym (shown_is waits_there.stage.returns)) (all_shown s (lent_to result) passed_all b has formal root) in
+                subst (λ z. Has z f) (sym (shown_is waits_there.stage.returns)) (all_shown s passed_all b has is_given_formal root) in
                 elim (known_lent f from w (Has-append_right (facts_of program effects waits_there.stage) (shown_at program waits_there.stage) f shown) named_so at_home
                 (subst (ways.Under from) (sym itself) (inr (under_itself from))) shared) [
-                  | inl through ↦ (lent_to result, through, λ changes. lent_changed b has is_given_formal root changes)
+                  | inl through ↦ (lent_to s b.formal, through, λ changes. lent_changed b.formal is_given_formal changes)
                   | inr through ↦ (Borrowed, through, λ changes. refl)
                 ]
 

@@ -27,28 +27,30 @@ use Rattle.part_offsets.specs.Parts.{IsSettled}
 use Rattle.soundness.specs.Seen.{IsNear, content, trunk, seen, home}
 use Rattle.soundness.specs.Typed.{Matches, OwnsByShape, Kept}
 use Rattle.soundness.specs.Sound.{goes_through_none}
-use Rattle.typed_laws.specs.Needed.{Stays, IndexLaw, IsPlace as IsPlaceOf}
+use Rattle.typed_laws.specs.Needed.{Gives, Stays, IndexLaw, IsPlace as IsPlaceOf}
 use Rattle.soundness.proofs.Contents.{bool_cases}
 use Rattle.soundness.proofs.Fixed.{matches_scalar}
 use Rattle.soundness.proofs.Scalars.{acts, acts_append, allows_both}
 use Rattle.soundness.proofs.Stays.{One, Quiet, quiet_then, quiet_from}
 use Rattle.soundness.proofs.Taking.{Takes}
-use Rattle.soundness.proofs.Passing.{IsRead, AreReads, AddNone, IsValue, TakesAll, plain_type, reads_keep, read_adds_none, signature_is}
+use Rattle.soundness.proofs.Passing.{IsRead, AreReads, AddNone, IsValue, plain_type, reads_keep, read_adds_none, signature_is}
 use Rattle.owned_loans.specs.Views.{Around, Views, Viewed}
 use Rattle.viewed_soundness.specs.Holds.{IsNamed, IsAccess, PartsAreNamed, Holds, sees_only, IsOwners, is_given}
 use Rattle.viewed_soundness.proofs.Names.{true_false, both_no, plain_named}
 use Rattle.viewed_soundness.proofs.Evaluated.{matches_named}
 use Rattle.viewed_steps.specs.Sound.{IsScalarObject}
-use Rattle.viewed_steps.specs.Ready.{is_shown_type, IsOwnPlace, IsSeen, IsActualTo, AreActualsTo, IsCopyOf}
+use Rattle.viewed_steps.specs.Ready.{is_shown_type, IsOwnPlace, IsSeen, IsActualTo, AreActualsTo}
 use Rattle.viewed_steps.proofs.Views.{AreAccess, AreUnseen}
 use Rattle.viewed_steps.proofs.Seeing.{IsSeenAs, IsClear, AreClear, seen_given}
 use Rattle.viewed_steps.proofs.LaidOut.{IsOwnPut, IsOpenActual, AreOpenActuals, IsHousedPut}
 use Rattle.viewed_steps.proofs.Entered.{IsFit}
 use Rattle.viewed_steps.proofs.Lent.{ends, Spare, spare_both, spare_naming}
 use Rattle.viewed_steps.proofs.Copies.{copies_read}
-use Rattle.viewed_steps.proofs.Reading.{no_reads, both_reads, naming_adds, index_reads, reads_in}
+use Rattle.viewed_steps.proofs.Reading.{no_reads, both_reads, naming_adds, index_reads}
 use Rattle.viewed_steps.proofs.Puts as puts
 use Rattle.viewed_soundness.proofs.Given.{IsLow}
+use Rattle.viewed_soundness.specs.Taken.{types_taken, TakesFit}
+use Rattle.viewed_steps.proofs.Supplied.{Supplies, SuppliesAll, takes_supplied, scalar_types, place_types, seen_types}
 
 module _ (s : Typing) (own_law : OwnsByShape s.table) (procedure : Bool) where
   abbrev pub way_to : ℕ → Passing
@@ -80,7 +82,8 @@ module _ (s : Typing) (own_law : OwnsByShape s.table) (procedure : Bool) where
 
   pub head_of_reads : PartsAreNamed s.table → (x : ℕ) (m : Mode) (owning : Bool) (e : TypedTree) → owning_of x ≡ owning → is_anonymous (view_of s x) ≡ false → IsActualTo s x m e → AreReads (head_of m owning e)
   head_of_reads parts_named x mode.In false e is unseen stays =
-      elim (stays.0 (both_no (owning_of x) (is_anonymous (view_of s x)) is unseen)) [ inl plain ↦ reads_in s own_law e plain.1 | inr copy ↦ copies_read s own_law parts_named e (object_at s x).of copy.2.0 is copy.1 copy.2.1 ]
+      copies_read s own_law parts_named e (object_at s x).of (stays.0 (both_no (owning_of x) (is_anonymous (view_of s x)) is unseen)).0 is
+      (plain_named s.table (object_at s x).of unseen)
   head_of_reads parts_named x mode.In true e is unseen stays = seen_reads x e (stays.1 (ap (λ b. b || is_anonymous (view_of s x)) is))
   head_of_reads parts_named x mode.Out owning e is unseen place = index_reads s own_law e place.0 place.1
   head_of_reads parts_named x mode.InOut owning e is unseen place = index_reads s own_law e place.0 place.1
@@ -200,7 +203,7 @@ module _ (h : Here) (settled : IsSettled h.typing.table) (hands : List Waiting) 
   IsCopied = puts.IsCopied h settled hands leaks m waits other facts v kept well holds alone live in_formals index_law own_law parts_named formals_low procedure
 
   abbrev copy_given : (before on : List (List machine.Word)) (x : ℕ) (e : TypedTree) → is_owning h.typing.table (object_at h.typing x).of ≡ false → IsNamed h.typing.table (object_at h.typing x).of
-      → IsCopyOf h.typing x e → Takes (waits_in e) before on → AllowsAll facts (acts (acts_in h.typing e)) → Quiet (at on) (IsCopied x) (passed h ByValue x e (at before))
+      → Gives h.typing (object_at h.typing x).of e → TakesFit h.typing e → Supplies h.typing m (types_taken h.typing e) before on → AllowsAll facts (acts (acts_in h.typing e)) → Quiet (at on) (IsCopied x) (passed h ByValue x e (at before))
   copy_given = puts.copy_given h settled hands leaks m waits other facts v kept well holds alone live in_formals index_law own_law parts_named formals_low procedure
 
   abbrev IsPut : TypedTree → Place → Type 0
@@ -324,36 +327,38 @@ module _ (h : Here) (settled : IsSettled h.typing.table) (hands : List Waiting) 
   pub one_given : (before on : List (List machine.Word)) (mode_of : Mode) (owning access : Bool) (x : ℕ) (e : TypedTree) → (object_at h.typing x).mode ≡ mode_of
       → is_owning h.typing.table (object_at h.typing x).of ≡ owning → is_anonymous (view_of h.typing x) ≡ false → IsKind x → IsActualTo h.typing x mode_of e
       → (is_given h.typing x ≡ true → IsClear h.typing facts e)
-      → IsCopiedName x mode_of e → Takes (waits_in e) before on
+      → IsCopiedName x mode_of e → TakesFit h.typing e → Supplies h.typing m (types_taken h.typing e) before on
       → AllowsAll facts (acts (head_of h.typing own_law procedure mode_of owning e)) → Quiet (at on) (λ a. IsGiven x mode_of e a) (passed h (passing_by mode_of owning access) x e (at before))
-  one_given before on mode.In false access x e is fits unseen kind actual clears copied takes allowed =
+  one_given before on mode.In false access x e is fits unseen kind actual clears copied fit takes allowed =
       let plain_type_there = both_no (is_owning h.typing.table (object_at h.typing x).of) (is_anonymous (view_of h.typing x)) fits unseen in
-      elim (actual.0 plain_type_there) [
-        | inl (plain, stays) ↦ value_is on x e plain_type_there plain (passed h ByValue x e (at before)) (value_given before on x e stays takes allowed)
-        | inr (many, named, copy) ↦ copy_is on x e plain_type_there (passed h ByValue x e (at before)) (copy_given before on x e fits named copy takes allowed)
+      let value_there = actual.0 plain_type_there in
+      elim value_there.1 [
+        | inl (plain, stays) ↦ value_is on x e plain_type_there plain (passed h ByValue x e (at before))
+            (value_given before on x e stays (takes_supplied h.typing settled m e before on (scalar_types h.typing e (object_at h.typing x).of plain value_there.0 fit) takes) allowed)
+        | inr (many, named) ↦ copy_is on x e plain_type_there (passed h ByValue x e (at before)) (copy_given before on x e fits named value_there.0 fit takes allowed)
       ]
-  one_given before on mode.In true access x e is fits unseen kind actual clears copied takes allowed = elim kind [
+  one_given before on mode.In true access x e is fits unseen kind actual clears copied fit takes allowed = elim kind [
     | inl plain ↦ absurd (true_false (is_owning h.typing.table (object_at h.typing x).of) fits (plain_type h.typing own_law (object_at h.typing x).of plain))
     | inr other_kind ↦ elim other_kind [
       | inl back ↦ absurd (back.0 is)
       | inr (inl shown) ↦ (
           let shown_type = ap (λ b. b || is_anonymous (view_of h.typing x)) fits in
-          shown_given before on x e shown.1 shown_type (actual.1 shown_type) takes allowed (clears shown.0))
+          shown_given before on x e shown.1 shown_type (actual.1 shown_type) (takes_supplied h.typing settled m e before on (seen_types h.typing x e (actual.1 shown_type) fit) takes) allowed (clears shown.0))
       | inr (inr plain) ↦ absurd (true_false (is_owning h.typing.table (object_at h.typing x).of) fits plain.1)
     ]
   ]
-  one_given before on mode.Out owning access x e is fits unseen kind actual clears copied takes allowed =
+  one_given before on mode.Out owning access x e is fits unseen kind actual clears copied fit takes allowed =
       quiet_then (at on) (λ k. IsBackGiven x e k) (λ a. IsGiven x mode.Out e a) (place_of h e (at before)) (λ k now. Done (To k) now)
-      (back_given before on x e unseen actual (copied refl) takes allowed) (λ k put. (refl, put))
-  one_given before on mode.InOut owning access x e is fits unseen kind actual clears copied takes allowed =
-      from_given before on x e (back_given before on x e unseen actual (copied refl) takes allowed)
+      (back_given before on x e unseen actual (copied refl) (takes_supplied h.typing settled m e before on (place_types h.typing e actual.0 actual.1 fit) takes) allowed) (λ k put. (refl, put))
+  one_given before on mode.InOut owning access x e is fits unseen kind actual clears copied fit takes allowed =
+      from_given before on x e (back_given before on x e unseen actual (copied refl) (takes_supplied h.typing settled m e before on (place_types h.typing e actual.0 actual.1 fit) takes) allowed)
 
   pub all_given : (before on : List (List machine.Word)) (formals : List ℕ) (actuals : TypedTree) → ((x : ℕ) → Has formals x → IsKind x) → AreUnseen h.typing formals → AreActualsTo h.typing formals actuals
-      → AreClear h.typing facts formals actuals → AreOpenActuals h.typing h.frame facts formals actuals → TakesAll formals actuals before on
+      → AreClear h.typing facts formals actuals → AreOpenActuals h.typing h.frame facts formals actuals → SuppliesAll h.typing m formals actuals before on
       → AllowsAll facts (acts (actual_values h.typing (ways_of formals) actuals))
       → Quiet (at on) (λ passed. AreGiven formals actuals passed) (all_passed h (ways_of formals) formals actuals (at before))
   all_given before on [] actuals kinds unseen stay clears copied takes allowed = ((ap at takes), refl)
-  all_given before on (x ∷ formals) (More e rest) kinds unseen stay clears copied (mid, takes, more) allowed =
+  all_given before on (x ∷ formals) (More e rest) kinds unseen stay clears copied (mid, fit, takes, more) allowed =
       let mode_of : Mode = (object_at h.typing x).mode in
       let owning : Bool = is_owning h.typing.table (object_at h.typing x).of in
       let kind = kinds x (inl refl) in
@@ -365,7 +370,7 @@ module _ (h : Here) (settled : IsSettled h.typing.table) (hands : List Waiting) 
       reads_keep (head_of h.typing own_law procedure mode_of owning e) (head_of_reads h.typing own_law procedure parts_named x mode_of owning e refl (unseen x (inl refl)) stay.0) facts in
       quiet_from (at mid) (at on) (λ a. IsGiven x mode_of e a) (λ passed. AreGiven (x ∷ formals) (More e rest) passed) refl (passed h (way_to h.typing own_law procedure x) x e (at before))
       (λ a now. followed_by (all_passed h (ways_of formals) formals rest now) (λ more now. Done (a ∷ more) now))
-      (one_given before mid mode_of owning (procedure && is_named_access (view_of h.typing x)) x e refl refl (unseen x (inl refl)) kind stay.0 clears.0 copied.0 takes each.0)
+      (one_given before mid mode_of owning (procedure && is_named_access (view_of h.typing x)) x e refl refl (unseen x (inl refl)) kind stay.0 clears.0 copied.0 fit takes each.0)
       (λ a is. quiet_then (at on) (λ passed. AreGiven formals rest passed) (λ passed. AreGiven (x ∷ formals) (More e rest) passed)
       (all_passed h (ways_of formals) formals rest (at mid)) (λ more now. Done (a ∷ more) now)
       (all_given mid on formals rest (λ y has. kinds y (inr has)) (λ y has. unseen y (inr has)) stay.1 clears.1 copied.1 more

@@ -14,7 +14,7 @@ use Rattle.type_definitions.specs.Types.{Table, full, is_scalar, is_owning}
 use Rattle.typed_tree.specs.Trees.{TypedTree, More}
 use Rattle.typed_tree.specs.Programs.{TypedProgram}
 use Rattle.flow_paths.specs.declared.report.Effects.{Effects}
-use Rattle.flow_paths.specs.Instructions.{Instruction, Call}
+use Rattle.flow_paths.specs.Instructions.{Call}
 use Rattle.flow_paths.specs.Objects.{Typing, object_at, is_anonymous, is_package_object, view_of, Passing}
 use Rattle.place_names.specs.Reports.{Report}
 use Rattle.flow_paths.specs.Aliases.{overlap_reports, passed_reports, call_reports}
@@ -48,13 +48,11 @@ use Rattle.soundness.specs.Typed.{Kept}
 use Rattle.soundness.specs.Sound.{Stage, facts_of, AreStages, Uses, IsRunnable, InScope, IsNamedSub, IsAtPoint, view_of as view_here}
 use Rattle.soundness.proofs.Stays.{Quiet}
 use Rattle.soundness.proofs.Numbers.{index_law}
-use Rattle.soundness.proofs.Passing.{TakesAll, takes_each}
 use Rattle.soundness.proofs.Scalars.{acts}
 use Rattle.soundness.proofs.Points.{flow_at, sub_in_range, one_named, one_point}
 use Rattle.soundness.proofs.Inherited.{after_splits, AreGlobal, global_after, global_allowed, global_apart, Splits}
 use Rattle.soundness.proofs.Used.{used_global, globals_are}
 use Rattle.soundness.proofs.Around.{IsFar}
-use Rattle.soundness.proofs.Taking.{Takes}
 use Rattle.soundness.proofs.Eased.{eased}
 use Rattle.soundness.proofs.Scoped.{Inside}
 use Rattle.owned_loans.specs.Views.{expand, Around, known_gone, Views, Viewed, AreViews, AreClear as FactsAreClear, IsMovedBy, on, ViewedAlone}
@@ -65,7 +63,7 @@ use Rattle.owned_loans.proofs.Meeting.{stands}
 use Rattle.viewed_soundness.proofs.Names.{true_false}
 use Rattle.viewed_soundness.specs.Holds.{Holds, is_view, sees_only, is_given, IsOwners}
 use Rattle.soundness.specs.Ready.{IsSupplied, Fills}
-use Rattle.viewed_steps.specs.Awaited.{AreValuesBut, temporaries_of, lasting_of, awaited, WaitsAt, AreAwaited, AreScalar, FillsTyped, TakesScalars}
+use Rattle.viewed_steps.specs.Awaited.{AreValuesBut, temporaries_of, lasting_of, awaited, WaitsAt, AreAwaited, AreOwnless, TakesPassed, FillsTyped}
 use Rattle.viewed_steps.proofs.Waited.{late_scope, within_lasting, lasting_more, Shares}
 use Rattle.viewed_steps.specs.Sound.{IsCopiedBack, IsBeyond, HoldsAt, ArePlaced, NoneAbove, ViewStage, stages_of, GoneElsewhere, Disturbs, AreWaiting, IsResting, IsKindOfFormal, IsScalarObject, HasTraversals, passed_roots}
 use Rattle.viewed_steps.specs.Ready.{IsReady, roots_passed, IsCalled, IsTraversalCall}
@@ -110,6 +108,7 @@ use Rattle.viewed_steps.proofs.Handed.{gone_lent, with_gone, without_loans}
 use Rattle.viewed_steps.proofs.Inherited.{after_more}
 use Rattle.spark_base.proofs.Lists.{Has-append_left, Has-append_right}
 use Rattle.viewed_steps.proofs.Stilled.{still, lent_only, still_viewed}
+use Rattle.viewed_steps.proofs.Supplied.{SuppliesAll, supplies_each}
 
 module _ (table : Table) (typed : TypedProgram) (effects : Effects) (input : List ℕ) (ready : IsReady table typed effects) where
   abbrev program : FlowProgram
@@ -193,7 +192,7 @@ module _ (table : Table) (typed : TypedProgram) (effects : Effects) (input : Lis
     given_words = (start main_turn).waits
 
     abbrev Plain : Type 0
-    Plain = AreScalar s (temporaries_of s (take (taken p.instr) p.scope))
+    Plain = AreOwnless s (temporaries_of s (take (taken p.instr) p.scope))
 
     abbrev named_there : Has (flow_named table typed) named
     named_there = innermost.named_there table typed effects input ready state top below more_frames rest named p frames deep stages running awaiting of_sub at_point path views viewed_before kept scope holds placed_before above
@@ -201,14 +200,11 @@ module _ (table : Table) (typed : TypedProgram) (effects : Effects) (input : Lis
     abbrev point_there_now : Has named.points p
     point_there_now = innermost.point_there_now table typed effects input ready state top below more_frames rest named p frames deep stages running awaiting of_sub at_point path views viewed_before kept scope holds placed_before above
 
-    abbrev takes_of : Plain → (i : Instruction) → p.instr ≡ i → Takes (taken i) given_words []
-    takes_of = innermost.takes_of table typed effects input ready state top below more_frames rest named p frames deep stages running awaiting of_sub at_point path views viewed_before kept scope holds placed_before above
-
     abbrev easy : Turn
     easy = eased main_turn
 
     abbrev viewed_easy : Plain → Viewed (home s depth) (sees_only s) other views (view_here s easy.state) facts_now × Kept s state.memory (waiting_in easy.state)
-    viewed_easy = innermost.viewed_easy table typed effects input ready state top below more_frames rest named p frames deep stages running awaiting of_sub at_point path views viewed_before kept scope holds placed_before above
+    viewed_easy = innermost.ownless_easy table typed effects input ready state top below more_frames rest named p frames deep stages running awaiting of_sub at_point path views viewed_before kept scope holds placed_before above
 
     abbrev placed_left : (facts : List Fact) → ArePlaced program (suc (length rest)) facts views p.scope → ArePlaced program (suc (length rest)) facts views left_scope
     placed_left = innermost.placed_left table typed effects input ready state top below more_frames rest named p frames deep stages running awaiting of_sub at_point path views viewed_before kept scope holds placed_before above
@@ -234,7 +230,7 @@ module _ (table : Table) (typed : TypedProgram) (effects : Effects) (input : Lis
       abbrev pub kinds : (x : ℕ) → Has formals x → IsKindOfFormal s x
       kinds = acting.kinds table typed effects input ready state top below more_frames rest named p frames deep stages running awaiting of_sub at_point path views viewed_before kept scope holds placed_before above n actuals result e
 
-      abbrev pub plain_there : Plain × TakesScalars s p.instr
+      abbrev pub plain_there : TakesPassed s actuals (temporaries_of s (take (taken p.instr) p.scope))
       plain_there = acting.plain_there table typed effects input ready state top below more_frames rest named p frames deep stages running awaiting of_sub at_point path views viewed_before kept scope holds placed_before above n actuals result e
 
       abbrev pub procedure : Bool
@@ -297,8 +293,9 @@ module _ (table : Table) (typed : TypedProgram) (effects : Effects) (input : Lis
           index_law ready.owns ready.class.parts_named formals_low procedure formals actuals passed
 
       -- the values that the actuals take
-      pub taken_there : (on : List (List machine.Word)) × TakesAll formals actuals given_words on
-      taken_there = takes_each formals actuals given_words [] (takes_of plain_there.0 (Call n actuals result) e)
+      pub taken_there : (on : List (List machine.Word)) × SuppliesAll s state.memory formals actuals given_words on
+      taken_there = supplies_each s state.memory formals actuals given_words [] plain_there.1
+          (innermost.supplied_call table typed effects input ready state top below more_frames rest named p frames deep stages running awaiting of_sub at_point path views viewed_before kept scope holds placed_before above n actuals result e)
 
       abbrev pub then_now : Now
       then_now = record { memory = state.memory; waits = taken_there.0 }
@@ -323,9 +320,9 @@ module _ (table : Table) (typed : TypedProgram) (effects : Effects) (input : Lis
         pub back_these : AreOpenActuals s depth facts_now (f ∷ traversing.rest) (More first (made.call).others)
         back_these = subst (λ z. AreOpenActuals s depth facts_now z (More first (made.call).others)) traversing.formals (subst (AreOpenActuals s depth facts_now formals) made.actuals_are copied_there)
 
-        takes_these : TakesAll (f ∷ traversing.rest) (More first (made.call).others) given_words taken_there.0
-        takes_these = subst (λ z. TakesAll z (More first (made.call).others) given_words taken_there.0) traversing.formals
-            (subst (λ z. TakesAll formals z given_words taken_there.0) made.actuals_are taken_there.1)
+        takes_these : SuppliesAll s state.memory (f ∷ traversing.rest) (More first (made.call).others) given_words taken_there.0
+        takes_these = subst (λ z. SuppliesAll s state.memory z (More first (made.call).others) given_words taken_there.0) traversing.formals
+            (subst (λ z. SuppliesAll s state.memory formals z given_words taken_there.0) made.actuals_are taken_there.1)
 
         traversal_quiet : Quiet then_now Given (all_passed (steps.here main_turn) ways_there formals actuals (start main_turn))
         traversal_quiet =

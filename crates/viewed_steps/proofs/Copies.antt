@@ -12,13 +12,12 @@ use Rattle.type_definitions.specs.Types.{shape_of, full, is_scalar, is_owning, w
 use Rattle.typed_tree.specs.Trees.{TypedTree, Number, Literal, Text, Name, Component as IntoComponent, Designated, Element, Call, EndOfFile, Parens, Image, Unary, Binary, Short, IsNull, Aggregate, Alike, New, NoMore, More}
 use Rattle.owned_ways.specs.Ways.{Allows, AllowsAll, Loc, Object, OfVariable, Reaches, Step, Way, after}
 use Rattle.owned_loans.specs.Views.{Around, Viewed, Views, expand}
-use Rattle.machine.specs.Evaluate.{AsValue, ConstraintError, Done, Evaluated, Here, Now, Raises, Traps, checked, evaluate, followed_by, held_or_taken, part_type, parts_of, steps_of, variable_place, walked}
+use Rattle.machine.specs.Evaluate.{AsValue, ConstraintError, Done, Evaluated, Here, Now, Raises, Traps, checked, evaluate, followed_by, held_or_taken, part_type, parts_of, steps_of, variable_place, waited, walked}
 use Rattle.typed_laws.specs.Needed.{Gives, GivesParts, IndexLaw, Leads, Stays}
 use Rattle.viewed_soundness.proofs.Stays.{Goes as GoesAlong, name_quiet, steps_taking, taking}
 use Rattle.viewed_soundness.specs.Holds.{Holds, IsNamed, IsOwners, PartsAreNamed, sees_only}
-use Rattle.viewed_soundness.specs.Taken.{GivesPlainly}
+use Rattle.viewed_soundness.specs.Taken.{type_given, types_taken, TakesFit}
 use Rattle.viewed_soundness.proofs.Evaluated.{part_named}
-use Rattle.soundness.proofs.Fixed.{matches_scalar}
 use Rattle.viewed_steps.proofs.Entered.{IsFit}
 use Rattle.soundness.specs.Seen.{IsNear, content, home, in_hand, seen, trunk}
 use Rattle.part_offsets.specs.Parts.{IsSettled, has_part, offset_in, type_in}
@@ -27,7 +26,9 @@ use Rattle.machine.specs.States.{Leak, Waiting}
 use Rattle.machine.specs.Memory.{Memory, Place, Slot, moved_out, slots_of, words_of}
 use Rattle.soundness.proofs.Stays.{One, Quiet, quiet_then, quiet_from}
 use Rattle.spark_base.specs.declared.position.Pos.{Pos}
-use Rattle.soundness.proofs.Taking.{Takes, takes_both, takes_zero}
+use Rattle.soundness.proofs.Taking.{Takes}
+use Rattle.soundness.proofs.Waits.{drop_none}
+use Rattle.viewed_steps.proofs.Supplied.{Supplies, supplies_both, supplies_none, supplies_one, takes_supplied}
 use Rattle.flow_paths.specs.Objects.{Typing, object_at}
 use Rattle.soundness.proofs.Walks.{Walked, way_along}
 use Rattle.soundness.proofs.Scalars.{acts, acts_append, after_append, allows_both, read_effect}
@@ -89,39 +90,39 @@ no_cell s own_law want d constant by_name is named none =
 -- What gives a value that owns nothing reads alone.
 module _ (s : Typing) (own_law : OwnsByShape s.table) (parts_named : PartsAreNamed s.table) where
   mutual
-    unfolding Gives GivesParts GivesPlainly Stays acts_in
+    unfolding Gives GivesParts Stays acts_in
 
-    pub copies_read : (e : TypedTree) (want : ℕ) → Gives s want e → is_owning s.table want ≡ false → IsNamed s.table want → GivesPlainly s e → AreReads (acts_in s e)
-    copies_read (Number n) want gives none named plainly = no_reads
-    copies_read (Literal n) want gives none named plainly = no_reads
-    copies_read EndOfFile want gives none named plainly = no_reads
-    copies_read typed.Null want gives none named plainly = no_reads
-    copies_read (Call p n actuals) want gives none named plainly = no_reads
-    copies_read (Parens e) want gives none named plainly = copies_read e want gives none named plainly
-    copies_read (Unary op e) want gives none named plainly = reads_in s own_law (Unary op e) gives.1
-    copies_read (Binary op a b) want gives none named plainly = reads_in s own_law (Binary op a b) (gives.1, gives.2)
-    copies_read (Short op p a q b) want gives none named plainly = reads_in s own_law (Short op p a q b) (gives.1, gives.2)
-    copies_read (IsNull equal e) want gives none named plainly = reads_in s own_law (IsNull equal e) gives.1
-    copies_read (Name p x steps t) want (lead, fits) none named plainly =
+    pub copies_read : (e : TypedTree) (want : ℕ) → Gives s want e → is_owning s.table want ≡ false → IsNamed s.table want → AreReads (acts_in s e)
+    copies_read (Number n) want gives none named = no_reads
+    copies_read (Literal n) want gives none named = no_reads
+    copies_read EndOfFile want gives none named = no_reads
+    copies_read typed.Null want gives none named = no_reads
+    copies_read (Call p n actuals) want gives none named = no_reads
+    copies_read (Parens e) want gives none named = copies_read e want gives none named
+    copies_read (Unary op e) want gives none named = reads_in s own_law (Unary op e) gives.1
+    copies_read (Binary op a b) want gives none named = reads_in s own_law (Binary op a b) (gives.1, gives.2)
+    copies_read (Short op p a q b) want gives none named = reads_in s own_law (Short op p a q b) (gives.1, gives.2)
+    copies_read (IsNull equal e) want gives none named = reads_in s own_law (IsNull equal e) gives.1
+    copies_read (Name p x steps t) want (lead, fits) none named =
         both_reads (acts_in s steps) (placed p (used s (name_of x steps) t) ∷ []) (index_reads s own_law (Name p x steps t) t (lead, refl))
         (one_read (placed p (used s (name_of x steps) t)) (name_of x steps, inl (unowned_read s own_law (name_of x steps) t want fits none)))
-    copies_read (Aggregate t es) want (fits, made, count, gives) none named plainly =
-        parts_read es t 0 gives (unowned s own_law t want fits none) plainly (omega (arith, count)) made
-    copies_read (Alike t e) want (fits, array, plain, gives) none named plainly =
+    copies_read (Aggregate t es) want (fits, made, count, gives) none named =
+        parts_read es t 0 gives (unowned s own_law t want fits none) (omega (arith, count)) made
+    copies_read (Alike t e) want (fits, array, plain, gives) none named =
         copies_read e (element_type s.table t) gives
-        (element_owns (is_owning s.table) (shape_of s.table t) array (sym (own_law t) ∙ unowned s own_law t want fits none)) (parts_named.element t) plainly
-    copies_read (New t v) want (d, constant, by_name, is, fits, gives) none named plainly = absurd (no_cell s own_law want d constant by_name is named none)
-    copies_read e want gives none named plainly = absurd gives
+        (element_owns (is_owning s.table) (shape_of s.table t) array (sym (own_law t) ∙ unowned s own_law t want fits none)) (parts_named.element t)
+    copies_read (New t v) want (d, constant, by_name, is, fits, gives) none named = absurd (no_cell s own_law want d constant by_name is named none)
+    copies_read e want gives none named = absurd gives
 
-    parts_read : (es : TypedTree) (t i : ℕ) → GivesParts s t i es → is_owning s.table t ≡ false → GivesPlainly s es
+    parts_read : (es : TypedTree) (t i : ℕ) → GivesParts s t i es → is_owning s.table t ≡ false
         → i + tree_count es ≡ field_count (shape_of s.table t) → is_record (shape_of s.table t) || is_array (shape_of s.table t) ≡ true → AreReads (acts_in s es)
-    parts_read (More e rest) t i gives none plainly count made =
+    parts_read (More e rest) t i gives none count made =
         let sh : Shape = shape_of s.table t in
         both_reads (acts_in s e) (acts_in s rest)
-        (copies_read e (part_type sh i) gives.0 (part_owns (is_owning s.table) sh i (omega (arith, count)) made (sym (own_law t) ∙ none)) (part_named s.table parts_named t i sh refl made) plainly.0)
-        (parts_read rest t (suc i) gives.1 none plainly.1 (omega (arith, count)) made)
-    parts_read NoMore t i gives none plainly count made = no_reads
-    parts_read es t i gives none plainly count made = absurd gives
+        (copies_read e (part_type sh i) gives.0 (part_owns (is_owning s.table) sh i (omega (arith, count)) made (sym (own_law t) ∙ none)) (part_named s.table parts_named t i sh refl made))
+        (parts_read rest t (suc i) gives.1 none (omega (arith, count)) made)
+    parts_read NoMore t i gives none count made = no_reads
+    parts_read es t i gives none count made = absurd gives
 
 module _ (h : Here) (settled : IsSettled h.typing.table) (hands : List Waiting) (leaks : List Leak) (m : Memory) (waits : List (List machine.Word))
     (other : Around (home h.typing h.frame)) (facts : List Fact) (v : Views)
@@ -238,17 +239,24 @@ module _ (h : Here) (settled : IsSettled h.typing.table) (hands : List Waiting) 
       let both = taking h settled hands leaks m waits other facts v kept well holds alone live index_law own_law parts_named AsValue e stays before on takes allowed in
       (quiet_as on One (Fits want) (λ ws one. plain_fits want ws plain one) (evaluate h AsValue e (at before)) both.0, both.1)
 
-  mutual
-    unfolding Gives GivesParts GivesPlainly Stays evaluate parts_of acts_in waits_in
+  -- what a function gave
+  waited_fits : (t want : ℕ) → Matches s.table t want → (before on : List (List machine.Word)) → Supplies s m (t ∷ []) before on
+      → Quiet (at on) (Fits want) (waited (at before))
+  waited_fits t want fits before on supplied =
+      let one = supplies_one s settled m t before on supplied in
+      subst (λ z. Quiet (at on) (Fits want) (waited (at z))) (sym one.1) (ap at (drop_none on), retyped t want one.0 fits one.2)
 
-    pub copy_quiet : (e : TypedTree) (want : ℕ) → Gives s want e → is_owning s.table want ≡ false → IsNamed s.table want → GivesPlainly s e → (before on : List (List machine.Word)) → Takes (waits_in e) before on
+  mutual
+    unfolding Gives GivesParts TakesFit types_taken Stays evaluate parts_of acts_in
+
+    pub copy_quiet : (e : TypedTree) (want : ℕ) → Gives s want e → is_owning s.table want ≡ false → IsNamed s.table want → TakesFit s e → (before on : List (List machine.Word)) → Supplies s m (types_taken s e) before on
         → AllowsAll facts (acts (acts_in s e)) → Quiet (at on) (Fits want) (evaluate h AsValue e (at before)) × Stay (acts_in s e)
-    copy_quiet (Number n) want plain none named copied before on takes allowed = scalar_fits (Number n) want plain tt before on takes allowed
-    copy_quiet (Literal n) want plain none named copied before on takes allowed = scalar_fits (Literal n) want plain tt before on takes allowed
-    copy_quiet EndOfFile want plain none named copied before on takes allowed = scalar_fits EndOfFile want plain tt before on takes allowed
+    copy_quiet (Number n) want plain none named copied before on takes allowed = scalar_fits (Number n) want plain tt before on (takes_supplied s settled m (Number n) before on copied takes) allowed
+    copy_quiet (Literal n) want plain none named copied before on takes allowed = scalar_fits (Literal n) want plain tt before on (takes_supplied s settled m (Literal n) before on copied takes) allowed
+    copy_quiet EndOfFile want plain none named copied before on takes allowed = scalar_fits EndOfFile want plain tt before on (takes_supplied s settled m EndOfFile before on copied takes) allowed
     copy_quiet typed.Null want one none named copied before on takes allowed = (
       (
-        ap at (takes_zero before on takes),
+        ap at (supplies_none s m before on takes),
         (
           sym one,
           top_points s settled m (record { of = want; words = machine.Null ∷ [] }) hands
@@ -258,11 +266,11 @@ module _ (h : Here) (settled : IsSettled h.typing.table) (hands : List Waiting) 
       refl,
     )
     copy_quiet (Parens e) want gives none named copied before on takes allowed = copy_quiet e want gives none named copied before on takes allowed
-    copy_quiet (Unary op e) want (plain, stays) none named copied before on takes allowed = scalar_fits (Unary op e) want plain stays before on takes allowed
-    copy_quiet (Binary op a b) want (plain, stays, stays') none named copied before on takes allowed = scalar_fits (Binary op a b) want plain (stays, stays') before on takes allowed
-    copy_quiet (Short op p a q b) want (plain, stays, stays') none named copied before on takes allowed = scalar_fits (Short op p a q b) want plain (stays, stays') before on takes allowed
-    copy_quiet (IsNull equal e) want (plain, stays) none named copied before on takes allowed = scalar_fits (IsNull equal e) want plain stays before on takes allowed
-    copy_quiet (Name p x steps t) want (lead, fits) none named copied before on takes allowed = name_fits p x t want steps lead fits none before on takes allowed
+    copy_quiet (Unary op e) want (plain, stays) none named copied before on takes allowed = scalar_fits (Unary op e) want plain stays before on (takes_supplied s settled m (Unary op e) before on copied takes) allowed
+    copy_quiet (Binary op a b) want (plain, stays, stays') none named copied before on takes allowed = scalar_fits (Binary op a b) want plain (stays, stays') before on (takes_supplied s settled m (Binary op a b) before on copied takes) allowed
+    copy_quiet (Short op p a q b) want (plain, stays, stays') none named copied before on takes allowed = scalar_fits (Short op p a q b) want plain (stays, stays') before on (takes_supplied s settled m (Short op p a q b) before on copied takes) allowed
+    copy_quiet (IsNull equal e) want (plain, stays) none named copied before on takes allowed = scalar_fits (IsNull equal e) want plain stays before on (takes_supplied s settled m (IsNull equal e) before on copied takes) allowed
+    copy_quiet (Name p x steps t) want (lead, fits) none named copied before on takes allowed = name_fits p x t want steps lead fits none before on (takes_supplied s settled m (Name p x steps t) before on copied takes) allowed
     copy_quiet (Aggregate t es) want (fits, made, count, gives) none named copied before on takes allowed =
         let inner = parts_quiet es t 0 gives (unowned s own_law t want fits none) copied (omega (arith, count)) made before on takes []
         (sym (words_none (words s.table) (shape_of s.table t)))
@@ -281,18 +289,18 @@ module _ (h : Here) (settled : IsSettled h.typing.table) (hands : List Waiting) 
     copy_quiet (New t e) want (d, constant, by_name, is, fits, gives) none named copied before on takes allowed =
         absurd (no_cell s own_law want d constant by_name is named none)
     copy_quiet (Call p n actuals) want (t, is, fits) none named copied before on takes allowed =
-        scalar_fits (Call p n actuals) want (matches_scalar s t want fits (copied t is)) tt before on takes allowed
+        (waited_fits t want fits before on (subst (λ r. Supplies s m (type_given r ∷ []) before on) is takes), refl)
     copy_quiet e want gives none named copied before on takes allowed = absurd gives
 
-    parts_quiet : (es : TypedTree) (t i : ℕ) → GivesParts s t i es → is_owning s.table t ≡ false → GivesPlainly s es
+    parts_quiet : (es : TypedTree) (t i : ℕ) → GivesParts s t i es → is_owning s.table t ≡ false → TakesFit s es
         → i + tree_count es ≡ field_count (shape_of s.table t) → is_record (shape_of s.table t) || is_array (shape_of s.table t) ≡ true
-        → (before on : List (List machine.Word)) → Takes (waits_in es) before on → (acc : List machine.Word)
+        → (before on : List (List machine.Word)) → Supplies s m (types_taken s es) before on → (acc : List machine.Word)
         → length acc ≡ words_to (words s.table) (shape_of s.table t) i → Points s m (in_hand (record { of = t; words = acc }))
         → AllowsAll facts (acts (acts_in s es)) → Quiet (at on) (λ ws. Fits t (acc ++ ws)) (parts_of h t i es (at before)) × Stay (acts_in s es)
     parts_quiet (More e rest) t i gives none copied count made before on takes acc long points allowed =
         let sh : Shape = shape_of s.table t in
         let u : ℕ = part_type sh i in
-        let lt : i < field_count sh = omega (arith, count) in let two = takes_both (waits_in e) (waits_in rest) before on takes in
+        let lt : i < field_count sh = omega (arith, count) in let two = supplies_both s m (types_taken s e) (types_taken s rest) before on takes in
         let each = both_allowed (acts_in s e) (acts_in s rest) allowed in
         let first = copy_quiet e u gives.0 (part_owns (is_owning s.table) sh i lt made (sym (own_law t) ∙ none)) (part_named s.table parts_named t i sh refl made) copied.0 before two.0 two.1 each.1 in
         let allowed_rest = each.0 first.1 in
@@ -314,7 +322,7 @@ module _ (h : Here) (settled : IsSettled h.typing.table) (hands : List Waiting) 
         let sh : Shape = shape_of s.table t in
         let end : i ≡ field_count sh = omega (arith, count) in (
           (
-            ap at (takes_zero before on takes),
+            ap at (supplies_none s m before on takes),
             (
               ap (λ (z : List machine.Word). length z) (append-nil acc) ∙ long ∙ ap (words_to (words s.table) sh) end ∙ words_whole (words s.table) sh made ∙ sym (settled.word_law t),
               subst (λ z. Points s m (in_hand (record { of = t; words = z }))) (sym (append-nil acc)) points,
@@ -325,12 +333,12 @@ module _ (h : Here) (settled : IsSettled h.typing.table) (hands : List Waiting) 
     parts_quiet es t i gives none copied count made before on takes acc long points allowed = absurd gives
 
     -- the acts of parts read
-    parts_stay : (es : TypedTree) (t i : ℕ) → GivesParts s t i es → is_owning s.table t ≡ false → GivesPlainly s es
+    parts_stay : (es : TypedTree) (t i : ℕ) → GivesParts s t i es → is_owning s.table t ≡ false → TakesFit s es
         → i + tree_count es ≡ field_count (shape_of s.table t) → is_record (shape_of s.table t) || is_array (shape_of s.table t) ≡ true
-        → (before on : List (List machine.Word)) → Takes (waits_in es) before on → AllowsAll facts (acts (acts_in s es)) → Stay (acts_in s es)
+        → (before on : List (List machine.Word)) → Supplies s m (types_taken s es) before on → AllowsAll facts (acts (acts_in s es)) → Stay (acts_in s es)
     parts_stay (More e rest) t i gives none copied count made before on takes allowed =
         let sh : Shape = shape_of s.table t in
-        let lt : i < field_count sh = omega (arith, count) in let two = takes_both (waits_in e) (waits_in rest) before on takes in
+        let lt : i < field_count sh = omega (arith, count) in let two = supplies_both s m (types_taken s e) (types_taken s rest) before on takes in
         let each = both_allowed (acts_in s e) (acts_in s rest) allowed in
         let first = copy_quiet e (part_type sh i) gives.0 (part_owns (is_owning s.table) sh i lt made (sym (own_law t) ∙ none)) (part_named s.table parts_named t i sh refl made) copied.0 before two.0 two.1 each.1 in
         both_stay (acts_in s e) (acts_in s rest) first.1

@@ -1,8 +1,9 @@
 -- A step that takes values which wait is like one at a point that takes none, once the values are
--- out of the frame. They are of scalar types, and neither owners nor views see them.
-use Rattle.std.proofs.Common.{◌≡◌, refl, sym, ap, ◌∙◌, subst, ℕ, zero, suc, Bool, List, [], ◌∷◌, ◌++◌, flat_map, take, drop, append_assoc}
+-- out of the frame. They own nothing, and neither owners nor views see them.
+use Rattle.std.proofs.Common.{false, ◌≡◌, refl, sym, ap, ◌∙◌, subst, ℕ, zero, suc, Bool, List, [], ◌∷◌, ◌++◌, flat_map, take, drop, append_assoc}
 use Rattle.std.specs.List.{AllByRecursion}
 use Rattle.place_names.specs.declared.fact.Fact.{Fact}
+use Rattle.type_definitions.specs.Types.{is_owning}
 use Rattle.flow_paths.specs.Objects.{Typing}
 use Rattle.flow_paths.specs.Scopes.{taken}
 use Rattle.machine.specs.Memory.{Memory}
@@ -12,11 +13,9 @@ use Rattle.owned_ways.specs.Ways.{IsSame}
 use Rattle.owned_ways.specs.Ways as ways
 use Rattle.part_offsets.specs.Parts.{IsSettled}
 use Rattle.soundness.specs.Seen.{in_hand, seen}
-use Rattle.soundness.specs.Typed.{Kept}
-use Rattle.soundness.specs.Sound.{IsPlainValue}
+use Rattle.soundness.specs.Typed.{Kept, OwnsByShape}
 use Rattle.soundness.proofs.Contents.{word_no}
-use Rattle.soundness.proofs.Steps.{no_leaf}
-use Rattle.soundness.proofs.Lasting.{less_kept}
+use Rattle.soundness.proofs.Lasting.{less_kept, ownerless}
 use Rattle.soundness.proofs.Waits.{waits_of}
 use Rattle.soundness.proofs.Evaluated.{blank_hand}
 use Rattle.soundness.proofs.Eased.{eased}
@@ -37,10 +36,10 @@ split_waits zero (v ∷ vs) = refl
 split_waits (suc n) [] = refl
 split_waits (suc n) (v ∷ vs) = ap (λ z. v ∷ z) (split_waits n vs)
 
-module _ (s : Typing) (settled : IsSettled s.table) (m : Memory) (leaks : List Leak) (at_home : ℕ → ℕ) (observer : ℕ → Bool) (other : Around at_home) (views : Views)
+module _ (s : Typing) (settled : IsSettled s.table) (own_law : OwnsByShape s.table) (m : Memory) (leaks : List Leak) (at_home : ℕ → ℕ) (observer : ℕ → Bool) (other : Around at_home) (views : Views)
     (facts : List Fact) where
   -- without them
-  without_values : (vs hands : List Waiting) → AllByRecursion (IsPlainValue s) vs
+  without_values : (vs hands : List Waiting) → AllByRecursion (λ (v : Waiting). is_owning s.table v.of ≡ false) vs
       → Viewed at_home observer other views (seen s m (vs ++ hands) leaks) facts → Kept s m (vs ++ hands)
       → Viewed at_home observer other views (seen s m hands leaks) facts × Kept s m hands
   without_values [] hands plain viewed kept = (viewed, kept)
@@ -48,21 +47,21 @@ module _ (s : Typing) (settled : IsSettled s.table) (m : Memory) (leaks : List L
       without_values vs hands plain.1
       (same_viewed at_home observer other views (seen s m (v ∷ (vs ++ hands)) leaks) (seen s m (vs ++ hands) leaks) facts
       (same_back (seen s m (vs ++ hands) leaks) (seen s m (v ∷ (vs ++ hands)) leaks)
-      (blank_hand s m leaks v (vs ++ hands) (λ p. word_no s.table (in_hand v) p (no_leaf s.table settled v.of (plain.0).0 p)))) viewed)
+      (blank_hand s m leaks v (vs ++ hands) (λ p. word_no s.table (in_hand v) p (ownerless s.table own_law v.of plain.0 p)))) viewed)
       (less_kept s settled m v (vs ++ hands) kept)
 
--- Sound with views and typed, before a step that takes values of scalar types.
-pub eased_viewed : (t : Turn) (settled : IsSettled (typing t).table) (at_home : ℕ → ℕ) (observer : ℕ → Bool) (other : Around at_home) (views : Views) (facts : List Fact)
-    → t.state.frames ≡ t.frame ∷ t.outer → AllByRecursion (IsPlainValue (typing t)) (take (taken t.point.instr) t.frame.waits)
+-- Sound with views and typed, before a step that takes values that own nothing.
+pub eased_viewed : (t : Turn) (settled : IsSettled (typing t).table) (own_law : OwnsByShape (typing t).table) (at_home : ℕ → ℕ) (observer : ℕ → Bool) (other : Around at_home) (views : Views) (facts : List Fact)
+    → t.state.frames ≡ t.frame ∷ t.outer → AllByRecursion (λ (v : Waiting). is_owning (typing t).table v.of ≡ false) (take (taken t.point.instr) t.frame.waits)
     → Viewed at_home observer other views (seen (typing t) t.state.memory (flat_map waits_of t.state.frames) t.state.leaks) facts
     → Kept (typing t) t.state.memory (flat_map waits_of t.state.frames)
     → Viewed at_home observer other views (seen (typing t) t.state.memory (flat_map waits_of (eased t).state.frames) t.state.leaks) facts
     × Kept (typing t) t.state.memory (flat_map waits_of (eased t).state.frames)
-eased_viewed t settled at_home observer other views facts frames plain viewed kept =
+eased_viewed t settled own_law at_home observer other views facts frames plain viewed kept =
     let n : ℕ = taken t.point.instr in
     let rest : List Waiting = flat_map waits_of t.outer in
     let hands : flat_map waits_of t.state.frames ≡ take n t.frame.waits ++ (waiting t ++ rest) =
     ap (flat_map waits_of) frames ∙ ap (λ z. z ++ rest) (sym (split_waits n t.frame.waits)) ∙ append_assoc (take n t.frame.waits) (waiting t) rest in
-    without_values (typing t) settled t.state.memory t.state.leaks at_home observer other views facts (take n t.frame.waits) (waiting t ++ rest) plain
+    without_values (typing t) settled own_law t.state.memory t.state.leaks at_home observer other views facts (take n t.frame.waits) (waiting t ++ rest) plain
     (subst (λ z. Viewed at_home observer other views (seen (typing t) t.state.memory z t.state.leaks) facts) hands viewed)
     (subst (Kept (typing t) t.state.memory) hands kept)

@@ -2,8 +2,9 @@
 use Rattle.viewed_steps.proofs.Standing as standing
 use Rattle.viewed_steps.proofs.Successor as next
 use Rattle.viewed_steps.proofs.Traversing.{first_actual, traversal_keeps}
-use Rattle.viewed_soundness.specs.Holds.{is_given, IsAccess}
-use Rattle.viewed_soundness.proofs.Names.{given_view}
+use Rattle.viewed_soundness.specs.Holds.{is_given, is_view, IsAccess}
+use Rattle.viewed_soundness.proofs.Names.{given_view, true_false}
+use Rattle.viewed_steps.proofs.Rooted.{own_root}
 use Rattle.viewed_steps.proofs.Views.{AreUnseen, given_type, view_access}
 use Rattle.viewed_steps.specs.Ready.{IsReady, IsCalled, IsTraversalCall, IsSeen, IsActualTo, AreActualsTo, AreDifferent, is_shown_type}
 use Rattle.viewed_steps.specs.Sound.{ViewStage}
@@ -13,9 +14,11 @@ use Rattle.soundness.proofs.Scalars.{acts, acts_append, after_append}
 use Rattle.soundness.proofs.Inherited.{global_after}
 use Rattle.soundness.proofs.Used.{globals_are, called_are}
 use Rattle.soundness.proofs.Passing.{signature_is}
-use Rattle.soundness.specs.Sound.{Stage, IsNamedSub, IsAtPoint}
-use Rattle.std.proofs.Common.{◌≡◌, refl, sym, ap, ◌∙◌, subst, inl, inr, ℕ, Bool, true, false, List, [], ◌∷◌, ◌++◌, map, Option, Some, None, if◌then◌else◌}
+use Rattle.soundness.specs.Sound.{Stage, IsNamedSub, IsAtPoint, IsEntered}
+use Rattle.std.proofs.Common.{◌≡◌, refl, sym, ap, ◌∙◌, subst, ◌⊎◌, inl, inr, ℕ, Bool, true, false, List, [], ◌∷◌, ◌++◌, map, Option, Some, None, if◌then◌else◌}
 use Rattle.spark_base.specs.Lists.{Has}
+use Rattle.spark_base.proofs.Lists.{Has-map}
+use Rattle.place_names.specs.declared.act.Act.TheVariants as act
 use Rattle.place_names.specs.declared.act.Mode.TheVariants as mode
 use Rattle.place_names.specs.declared.act.Placed.{Placed}
 use Rattle.place_names.specs.declared.fact.Fact.{Fact}
@@ -24,14 +27,14 @@ use Rattle.typed_tree.specs.Programs.{TypedProgram}
 use Rattle.flow_paths.specs.Objects.{Signature}
 use Rattle.type_definitions.specs.Types.{Table}
 use Rattle.flow_paths.specs.declared.report.Effects.{Effects}
-use Rattle.flow_paths.specs.Acts.{actual_values, actual_acts}
-use Rattle.flow_paths.specs.Effects.{path_points, globals_of, called_acts}
+use Rattle.flow_paths.specs.Acts.{actual_values, actual_acts, gives_variable}
+use Rattle.flow_paths.specs.Effects.{path_points, globals_of, called_acts, act_writes, act_reads}
 use Rattle.flow_paths.specs.Instructions.{Call}
-use Rattle.flow_paths.specs.Laid.{NamedSub, FlowProgram, flow_program, flow_named, typing_of, flow_typing}
-use Rattle.flow_paths.specs.Objects.{Typing, passing, passings, first_traversed, traverses, sub_at, object_at, is_anonymous, view_of}
+use Rattle.flow_paths.specs.Laid.{NamedSub, FlowSub, FlowProgram, flow_sub, flow_program, flow_named, typing_of, flow_typing}
+use Rattle.flow_paths.specs.Objects.{Typing, passing, passings, first_traversed, traverses, sub_at, object_at, is_anonymous, is_borrower, is_package_object, view_of}
 use Rattle.flow_paths.specs.Paths.{ControlPath, facts_before}
 use Rattle.flow_paths.specs.Points.{NamedPoint}
-use Rattle.flow_paths.specs.Views.{traversed_formal, traversed_of}
+use Rattle.flow_paths.specs.Views.{traversed_formal, traversed_of, sub_acts}
 use Rattle.machine.specs.States.{State, Frame, sub_of}
 use Rattle.owned_ways.specs.Ways.{Way, after}
 use Rattle.owned_ways.specs.Ways as ways
@@ -185,3 +188,46 @@ module _ (table : Table) (typed : TypedProgram) (effects : Effects) (input : Lis
   unlent_at_call k has q at_q borrows u called =
       next.unlent_here table typed effects input ready state top older outer named p frames of_sub at_point path k has q at_q own_facts facts_stay n made.call
       (made.taker k has q at_q) borrows u called
+
+  -- there the object that the first actual is rooted in is named, if it is of a package, and written where a borrower is given
+  module _ (k : ℕ) (has : Has (flow_at (typing_of table typed) named p).next k) (q : NamedPoint) (at_q : IsAtPoint named.points k q)
+      (borrower_local : (x : ℕ) → is_borrower s x ≡ true → is_package_object s x ≡ false) (shared : is_package_object s made.call.root ≡ true) where
+    pub names_root : Has (flow_sub (typing_of table typed) named).points (flow_at (typing_of table typed) named q) × ((a : Placed) × Has (flow_at (typing_of table typed) named q).acts a
+        × ((act_writes made.call.root a.act ≡ true) ⊎ (act_reads made.call.root a.act ≡ true)))
+    names_root = (
+      next.in_next table typed effects input ready state top older outer named p frames of_sub at_point path k has q at_q,
+      next.names_next table typed effects input ready state top older outer named p frames of_sub at_point path k has q at_q n made.call borrower_local shared
+          (made.taker k has q at_q),
+    )
+
+    pub writes_root : IsEntered program top.frame.sub → ((x : ℕ) → is_view s x ≡ true → is_package_object s x ≡ false) → gives_variable s (sub_at s n).result ≡ true
+        → Has (flow_sub (typing_of table typed) named).points (flow_at (typing_of table typed) named q)
+        × ((a : Placed) × Has (flow_at (typing_of table typed) named q).acts a × (act_writes made.call.root a.act ≡ true))
+    writes_root entered local borrows = (
+      next.in_next table typed effects input ready state top older outer named p frames of_sub at_point path k has q at_q,
+      elim (next.writes_next table typed effects input ready state top older outer named p frames of_sub at_point path k has q at_q n made.call borrower_local shared
+          ((made.borrows borrows).1 k has q at_q)) [
+            | inl writes ↦ writes
+            | inr (a, there, gives) ↦ absurd (never_given a there gives)
+          ],
+    )
+      where
+        plain : is_view s made.call.root ≡ false
+        plain = by (is_view s made.call.root) refl
+          where
+            by : (b : Bool) → is_view s made.call.root ≡ b → b ≡ false
+            by false same = refl
+            by true same = absurd (true_false (is_package_object s made.call.root) shared (local made.call.root same))
+
+        -- what is given is rooted in the first formal alone
+        never_given : (a : Placed) → Has (flow_at (typing_of table typed) named q).acts a → a.act ≡ act.Give (traversed_name made.call) true → ⊥
+        never_given a there gives =
+            ready.traversing.given (flow_sub (typing_of table typed) named)
+            (standing.in_program table typed effects input ready state top older outer named p frames of_sub at_point) (flow_at (typing_of table typed) named q)
+            (next.in_next table typed effects input ready state top older outer named p frames of_sub at_point path k has q at_q) (traversed_name made.call) true
+            (subst (Has (acts (flow_at (typing_of table typed) named q).acts)) gives (Has-map (λ (z : Placed). z.act) (flow_at (typing_of table typed) named q).acts a there))
+            (λ g traversed_own only.
+            (let root_is : made.call.root ≡ g = only.1 made.call.root (own_root s (sub_acts (flow_sub (typing_of table typed) named)) g None made.call.root plain) in
+            let first_own = ready.traversing.first top.frame.sub g entered
+            (subst (λ (z : FlowSub). traversed_formal s z ≡ Some g) (sym (standing.sub_is table typed effects input ready state top older outer named p frames of_sub at_point)) traversed_own) in
+            true_false (is_view s g) (given_view s g first_own.1) (ap (is_view s) (sym root_is) ∙ plain)))

@@ -540,17 +540,17 @@ module _ (table : Table) (typed : TypedProgram) (effects : Effects) (input : Lis
 
       pub returns_quietly : GivesQuietly
       returns_quietly = elim (ready.traversing.returned top.frame.sub (running.0).entered named of_sub p (innermost.point_there_now table typed effects input ready state top below more_frames rest named p frames deep stages running awaiting of_sub at_point path views viewed_before kept scope holds placed_before above) e last is of result view) [
-        | inl null ↦ elim (innermost.taken_there table typed effects input ready state top below more_frames rest named p frames deep stages running awaiting of_sub at_point path views viewed_before kept scope holds placed_before above) [
+        | inl null ↦ elim (innermost.taken_there table typed effects input ready state top below more_frames rest named p frames deep stages running awaiting of_sub at_point path views viewed_before kept scope holds placed_before above no_call_then) [
           | inl plain ↦ by_null plain null
           | inr (inr within) ↦ absurd (not_together within)
           | inr (inl alone_taken) ↦ absurd (not_alone alone_taken (λ a b actuals call. (let never : TypedNull ≡ CallIn a b actuals = sym null ∙ call in cc)))
         ]
-        | inr (q, y, steps_there, u, inl name) ↦ elim (innermost.taken_there table typed effects input ready state top below more_frames rest named p frames deep stages running awaiting of_sub at_point path views viewed_before kept scope holds placed_before above) [
+        | inr (q, y, steps_there, u, inl name) ↦ elim (innermost.taken_there table typed effects input ready state top below more_frames rest named p frames deep stages running awaiting of_sub at_point path views viewed_before kept scope holds placed_before above no_call_then) [
           | inl plain ↦ by_name plain q y steps_there u name
           | inr (inr within) ↦ absurd (not_together within)
           | inr (inl alone_taken) ↦ absurd (not_alone alone_taken (λ a b actuals call. (let never : Name q y steps_there u ≡ CallIn a b actuals = sym name ∙ call in cc)))
         ]
-        | inr (q, y, steps_there, u, inr (r, n, more, call, gives)) ↦ elim (innermost.taken_there table typed effects input ready state top below more_frames rest named p frames deep stages running awaiting of_sub at_point path views viewed_before kept scope holds placed_before above) [
+        | inr (q, y, steps_there, u, inr (r, n, more, call, gives)) ↦ elim (innermost.taken_there table typed effects input ready state top below more_frames rest named p frames deep stages running awaiting of_sub at_point path views viewed_before kept scope holds placed_before above no_call_then) [
           | inl plain ↦ absurd (not_plain r n (More (Name q y steps_there u) more) call gives plain.1)
           | inr (inr within) ↦ absurd (not_together within)
           | inr (inl alone_taken) ↦ by_call alone_taken q y steps_there u r n more call gives
@@ -563,6 +563,9 @@ module _ (table : Table) (typed : TypedProgram) (effects : Effects) (input : Lis
     pub return_step : (e last : TypedTree) → p.instr ≡ Hold (More e last) → Along (turn main_turn (Hold (More e last)))
     return_step e last is = by_result named.sub.result refl (subst (IsFine s named.sub.result) is (standing.fine table typed effects input ready state top older outer named p frames of_sub at_point))
       where
+        no_call_holding : IsNoCall p.instr
+        no_call_holding n actuals r same = (let never : Hold (More e last) ≡ Call n actuals r = sym is ∙ same in cc)
+
         by_result : (r : Option ℕ) → named.sub.result ≡ r → Returns s r (More e last) → Along (steps.hold main_turn (More e last))
         by_result None none never = cc
         by_result (Some of) result (value_there, same, source) =
@@ -571,7 +574,7 @@ module _ (table : Table) (typed : TypedProgram) (effects : Effects) (input : Lis
             let last_is : last ≡ NoMore = cc in
             elim (bool_cases (is_anonymous (full s.table of))) [
               | inl view ↦ view_returned e last is of result source_here last_is view
-              | inr plain_result ↦ results.value_step table typed effects input ready state top below more_frames rest named p frames deep stages running awaiting of_sub at_point path views viewed_before kept scope holds placed_before above e last is of result source_here last_is plain_result (elim (innermost.taken_there table typed effects input ready state top below more_frames rest named p frames deep stages running awaiting of_sub at_point path views viewed_before kept scope holds placed_before above) [
+              | inr plain_result ↦ results.value_step table typed effects input ready state top below more_frames rest named p frames deep stages running awaiting of_sub at_point path views viewed_before kept scope holds placed_before above e last is of result source_here last_is plain_result (elim (innermost.taken_there table typed effects input ready state top below more_frames rest named p frames deep stages running awaiting of_sub at_point path views viewed_before kept scope holds placed_before above no_call_holding) [
                 | inl plain ↦ results.plain_given table typed effects input ready state top below more_frames rest named p frames deep stages running awaiting of_sub at_point path views viewed_before kept scope holds placed_before above e last is of result source_here last_is plain_result plain
                 | inr (inl alone_taken) ↦ results.alone_given table typed effects input ready state top below more_frames rest named p frames deep stages running awaiting of_sub at_point path views viewed_before kept scope holds placed_before above e last is of result source_here last_is plain_result alone_taken
                 | inr (inr within) ↦ results.within_given table typed effects input ready state top below more_frames rest named p frames deep stages running awaiting of_sub at_point path views viewed_before kept scope holds placed_before above e last is of result source_here last_is plain_result within

@@ -9,7 +9,7 @@ use Rattle.soundness.proofs.Lasting.{ownerless}
 use Rattle.typed_tree.specs.declared.object.ObjectKind.{ObjectKind}
 use Rattle.typed_tree.specs.declared.object.ObjectKind.TheVariants as object_kind
 use Rattle.std.specs.List.{AllByRecursion}
-use Rattle.std.proofs.Common.{◌≡◌, refl, sym, ap, ◌∙◌, subst, ◌⊎◌, inl, inr, ℕ, suc, ◌<◌, Bool, true, false, ◌&&◌, ◌||◌, ◌==◌, eq-eqb, List, [], ◌∷◌, ◌++◌, map, take, drop, length, get_or, arith, Some, None, if◌then◌else◌}
+use Rattle.std.proofs.Common.{Option, append_assoc, flat_map, ◌≡◌, refl, sym, ap, ◌∙◌, subst, ◌⊎◌, inl, inr, ℕ, suc, ◌<◌, Bool, true, false, ◌&&◌, ◌||◌, ◌==◌, eq-eqb, List, [], ◌∷◌, ◌++◌, map, take, drop, length, get_or, arith, Some, None, if◌then◌else◌}
 use Rattle.spark_base.specs.Lists.{Has}
 use Rattle.spark_base.proofs.Lists.{Has-append_left, Has-append_cases, Has-map_from}
 use Rattle.place_names.specs.declared.act.Act.{Act}
@@ -21,9 +21,10 @@ use Rattle.place_names.specs.declared.rule.Loan.TheVariants.{Borrowed, Observed}
 use Rattle.place_names.specs.Names.{Name as PlaceName, overlaps}
 use Rattle.place_names.specs.Facts.{place}
 use Rattle.type_definitions.specs.Types.{Table, is_owning}
+use Rattle.typed_tree.specs.Trees.{TypedTree}
 use Rattle.typed_tree.specs.Programs.{TypedProgram}
 use Rattle.flow_paths.specs.declared.report.Effects.{Effects}
-use Rattle.flow_paths.specs.Instructions.{Instruction, EndScope}
+use Rattle.flow_paths.specs.Instructions.{Call, Instruction, EndScope}
 use Rattle.flow_paths.specs.Objects.{Typing, object_at, is_anonymous, is_package_object, is_variable, is_borrower, is_observer, is_borrowing, is_observing, has_scope_end, view_of}
 use Rattle.flow_paths.specs.Points.{NamedPoint, FlowPoint}
 use Rattle.flow_paths.specs.Laid.{FlowSub, FlowProgram, NamedSub, number_in, flow_sub, typing_of, flow_typing, flow_program, flow_named}
@@ -52,15 +53,15 @@ use Rattle.soundness.proofs.Scoped.{MayHold, Inside}
 use Rattle.soundness.proofs.Inherited.{Splits, after_splits, allowed_beside}
 use Rattle.soundness.proofs.Used.{writes_used, reads_used, fact_added}
 use Rattle.soundness.proofs.Around.{IsFar}
-use Rattle.soundness.proofs.Waits.{drop_none}
+use Rattle.soundness.proofs.Waits.{waits_of, drop_none}
 use Rattle.soundness.proofs.Taking.{Takes}
 use Rattle.soundness.proofs.Waited.{within_left, FillsNone}
 use Rattle.soundness.proofs.Eased.{eased, takes_all}
 use Rattle.soundness.proofs.Raised.{raised_owned}
 use Rattle.owned_loans.specs.Views.{Around, known_gone, Views, Viewed, ViewedAlone}
 use Rattle.viewed_soundness.proofs.Names.{true_false, given_view}
-use Rattle.viewed_steps.specs.Awaited.{AreFor, AreValues, temporaries_of, is_held, lasting_of, awaited, AreAwaited, AreScalar, TakesScalars, StoresNone, IsTaken}
-use Rattle.viewed_steps.proofs.Waited.{plain_unheld, ended_held, lasting_within, within_lasting, lasting_more, brought_temporaries, Shares, shares, scalar_values}
+use Rattle.viewed_steps.specs.Awaited.{TakesPassed, IsTakenAt, AreOwnless, AreFor, AreValues, temporaries_of, is_held, lasting_of, awaited, AreAwaited, AreScalar, TakesScalars, StoresNone, IsTaken}
+use Rattle.viewed_steps.proofs.Waited.{split_list, plain_unheld, ended_held, lasting_within, within_lasting, lasting_more, brought_temporaries, Shares, shares, scalar_values}
 use Rattle.viewed_steps.specs.Sound.{IsBeyond, HoldsAt, ArePlaced, NoneAbove, Lasts, ViewStage, stages_of, GoneElsewhere, Disturbs, AreWaiting, LeadsOn, IsResting, HasTraversals}
 use Rattle.viewed_steps.specs.Ready.{AreOrderly, IsReady, AreNamedIn}
 use Rattle.viewed_steps.proofs.Lent.{ends, Spare, spare_has}
@@ -77,6 +78,9 @@ use Rattle.viewed_steps.proofs.Packages as packages
 use Rattle.viewed_steps.proofs.Views.{anonymous_view, view_ends}
 use Rattle.viewed_soundness.proofs.Names.{borrower_sees}
 use Rattle.viewed_steps.proofs.Handed.{AreApart, with_them, without_them}
+use Rattle.viewed_soundness.specs.Taken.{types_taken}
+use Rattle.viewed_soundness.proofs.Hands.{words_first}
+use Rattle.viewed_steps.proofs.Supplied.{Supplies, scalar_ownless, ownless_values, of_types, points_there}
 
 unless : (b : Bool) → (b ≡ true → ⊥) → b ≡ false
 unless true e = absurd (e refl)
@@ -387,9 +391,12 @@ module _ (table : Table) (typed : TypedProgram) (effects : Effects) (input : Lis
     abbrev pub given_words : List (List machine.Word)
     given_words = (start main_turn).waits
 
-    -- what is taken is of scalar types
+    -- what is taken is of scalar types, or owns nothing
     abbrev pub Plain : Type 0
     Plain = AreScalar s (temporaries_of s (take count p.scope))
+
+    abbrev pub Ownless : Type 0
+    Ownless = AreOwnless s (temporaries_of s (take count p.scope))
 
     plain_values : Plain → AllByRecursion (IsPlainValue s) (take count top.frame.waits)
     plain_values plain = scalar_values s ready.accepted.settled (take count top.frame.waits) (temporaries_of s (take count p.scope)) shared.taken plain
@@ -400,19 +407,48 @@ module _ (table : Table) (typed : TypedProgram) (effects : Effects) (input : Lis
     pub takes_of : Plain → (i : Instruction) → p.instr ≡ i → Takes (taken i) given_words []
     takes_of plain i e = subst (λ z. Takes (taken z) given_words []) e (takes_here plain)
 
+    plain_ownless : Plain → Ownless
+    plain_ownless plain = scalar_ownless s ready.owns (temporaries_of s (take count p.scope)) plain
+
     -- the step without the values that it takes
     abbrev pub easy : Turn
     easy = eased main_turn
 
-    pub viewed_easy : Plain → Viewed (home s depth) (sees_only s) other views (view_here s easy.state) facts_now × Kept s state.memory (waiting_in easy.state)
-    viewed_easy plain = eased_viewed main_turn ready.accepted.settled (home s depth) (sees_only s) other views facts_now frames (plain_values plain) viewed kept
+    pub ownless_easy : Ownless → Viewed (home s depth) (sees_only s) other views (view_here s easy.state) facts_now × Kept s state.memory (waiting_in easy.state)
+    ownless_easy none =
+        eased_viewed main_turn ready.accepted.settled ready.owns (home s depth) (sees_only s) other views facts_now frames
+        (ownless_values s ready.owns (take count top.frame.waits) (temporaries_of s (take count p.scope)) shared.taken none) viewed kept
 
-    pub taken_there : IsTaken s named.sub.result p
-    taken_there = ready.valued.takes top.frame.sub (running.0).entered named of_sub p point_there_now
+    pub viewed_easy : Plain → Viewed (home s depth) (sees_only s) other views (view_here s easy.state) facts_now × Kept s state.memory (waiting_in easy.state)
+    viewed_easy plain = ownless_easy (plain_ownless plain)
+
+    taken_at : IsTakenAt s named.sub.result p
+    taken_at = ready.valued.takes top.frame.sub (running.0).entered named of_sub p point_there_now
+
+    pub taken_there : IsNoCall p.instr → IsTaken s named.sub.result p
+    taken_there = taken_at.0
+
+    -- where a subprogram is called
+    pub taken_call : (n : ℕ) (actuals : TypedTree) (r : Option ℕ) → p.instr ≡ Call n actuals r → TakesPassed s actuals (temporaries_of s (take count p.scope))
+    taken_call = taken_at.1
+
+    waits_split : waiting_in state ≡ take count top.frame.waits ++ waiting_in easy.state
+    waits_split =
+        ap (flat_map waits_of) frames ∙ ap (λ z. z ++ flat_map waits_of outer) (sym (split_list count top.frame.waits))
+        ∙ append_assoc (take count top.frame.waits) (steps.waiting main_turn) (flat_map waits_of outer)
+
+    pub supplied_call : (n : ℕ) (actuals : TypedTree) (r : Option ℕ) → p.instr ≡ Call n actuals r → Supplies s state.memory (types_taken s actuals) given_words []
+    supplied_call n actuals r e =
+        let there = taken_call n actuals r e in record {
+          values = take count top.frame.waits;
+          is = words_first (take count top.frame.waits);
+          fit = of_types s (types_taken s actuals) (temporaries_of s (take count p.scope)) (take count top.frame.waits) there.2 shared.taken;
+          points = points_there s ready.accepted.settled state.memory (take count top.frame.waits) (waiting_in easy.state) (subst (Kept s state.memory) waits_split kept);
+        }
 
     -- and so it is, where a call alone isn't taken
-    pub plain_here : StoresNone p.instr → Plain × TakesScalars s p.instr
-    plain_here stores_none = elim taken_there [
+    pub plain_here : IsNoCall p.instr → StoresNone p.instr → Plain × TakesScalars s p.instr
+    plain_here no_call stores_none = elim (taken_there no_call) [
       | inl plain ↦ plain
       | inr (inl (x, rest_scope, is, q, n, actuals, result, large, by)) ↦ absurd (elim by [
         | inl (y, declares) ↦ subst StoresNone declares stores_none

@@ -46,6 +46,7 @@ pub mod Seeing
 pub mod Clear
 pub mod First
 pub mod Reading
+pub mod Supplied
 pub mod Copies
 pub mod Puts
 pub mod Called
@@ -82,6 +83,7 @@ pub mod CallEnds
 -- calls of traversal functions
 pub mod Unlent
 pub mod Taker
+pub mod TakerActs
 pub mod Traversing
 pub mod Successor
 pub mod Followed

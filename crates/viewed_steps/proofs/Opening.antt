@@ -331,13 +331,13 @@ module _ (h : Here) (settled : IsSettled h.typing.table) (hands : List Waiting) 
         by_kind k is = cc
 
     pub opened_first : (f : ℕ) (rest : List ℕ) (c : TraversalCall) → formals ≡ f ∷ rest → actuals ≡ More (Name c.name_pos c.root c.path c.of) c.others → AreDifferent (f ∷ rest)
-        → (n : ℕ) (i : Instruction) → IsTakenBy i (call_in n c) → is_package_object h.typing c.root ≡ false → SeesFirst h.typing h.frame i n v (t.way f)
-    opened_first f rest c formals_are actuals_are differ n i taken own = by_way (t.way f) refl
+        → (n : ℕ) (i : Instruction) → IsTakenBy i (call_in n c) → SeesFirst h.typing h.frame i n v (t.way f)
+    opened_first f rest c formals_are actuals_are differ n i taken = by_way (t.way f) refl
       where
         nothing : (first : Option Way) → first ≡ None → SeesFirst h.typing h.frame i n v first
         nothing first none =
             let place = way_at (home h.typing h.frame) (traversed_name c) in record {
-              traverses = record { call = c; taken = taken; own = own; place = place.0; named = place.1; called = place.2 };
+              traverses = record { call = c; taken = taken; place = place.0; named = place.1; called = place.2 };
               lifted = λ view w is. (let never : None ≡ Some w = sym none ∙ is in cc);
               leads = λ w is. (let never : None ≡ Some w = sym none ∙ is in cc);
             }
@@ -358,7 +358,7 @@ module _ (h : Here) (settled : IsSettled h.typing.table) (hands : List Waiting) 
             let called : ways.name_of sees.from ≡ traversed_name c =
             subst (λ a. IsCalledBy h settled hands leaks m waits other facts v kept well holds alone live index_law own_law parts_named formals_low a sees.from) (is_first (found.2).0 found.4) sees.called in
             let root : ways.number_of sees.from ≡ c.root = ap (λ (z : PlaceName). z.root) called in record {
-              traverses = record { call = c; taken = taken; own = own; place = sees.from; named = sees.from_named; called = called };
+              traverses = record { call = c; taken = taken; place = sees.from; named = sees.from_named; called = called };
               lifted = λ view z is. (let l = sees.lifted (ap (is_view h.typing) root ∙ view) in (l.0, l.1 ∙ root));
               leads = λ z is. sym sees.leads ∙ found.3 ∙ same_way w z is;
             }

@@ -26,7 +26,7 @@ use Rattle.part_offsets.specs.Parts.{type_in, offset_in, has_part, IsSettled}
 use Rattle.soundness.specs.Seen.{IsNear, content, trunk, steps_in, seen, home, is_view_formal}
 use Rattle.soundness.specs.Typed.{Matches, OwnsByShape, Kept, Spot, IsFixed, loc_of}
 use Rattle.soundness.specs.Sound.{goes_through_none}
-use Rattle.typed_laws.specs.Needed.{Stays, IndexLaw, IsPlace as IsPlaceOf, Leads}
+use Rattle.typed_laws.specs.Needed.{Stays, IndexLaw, IsPlace as IsPlaceOf, Leads, Gives}
 use Rattle.soundness.proofs.Joined.{steps_part}
 use Rattle.soundness.proofs.Fixed.{plain_word}
 use Rattle.soundness.proofs.Scalars.{acts, number_along, named_along}
@@ -43,7 +43,7 @@ use Rattle.viewed_soundness.proofs.Names.{Starts, true_false, no_parts_in, is_pl
 use Rattle.viewed_soundness.proofs.Stays.{Goes as GoesAlong, taking, steps_taking, name_quiet}
 use Rattle.viewed_steps.specs.Taken.{Lodge}
 use Rattle.viewed_steps.specs.Sound.{IsKindOfFormal}
-use Rattle.viewed_steps.specs.Ready.{IsOwnPlace, IsCopyOf}
+use Rattle.viewed_steps.specs.Ready.{IsOwnPlace}
 use Rattle.viewed_steps.proofs.Views.{AreAccess, formal_view, scalar_no_view}
 use Rattle.viewed_steps.proofs.Read.{scalar_named}
 use Rattle.viewed_steps.proofs.Between.{base_along, IsBegun}
@@ -59,8 +59,10 @@ use Rattle.place_names.specs.Names.{Name as PlaceName}
 use Rattle.owned_ways.proofs.Named.{longer}
 use Rattle.viewed_steps.proofs.Copies.{copy_quiet}
 use Rattle.viewed_soundness.proofs.Outcomes.{named_plain}
-use Rattle.soundness.proofs.Moments.{number_part}
+use Rattle.soundness.proofs.Keeping.{top_points, scalar}
 use Rattle.viewed_soundness.proofs.Given.{IsLow}
+use Rattle.viewed_soundness.specs.Taken.{types_taken, TakesFit}
+use Rattle.viewed_steps.proofs.Supplied.{Supplies}
 
 -- ---- names that go through access values
 
@@ -146,8 +148,8 @@ module _ (h : Here) (settled : IsSettled h.typing.table) (hands : List Waiting) 
   IsCopied x a = ⊥
 
   pub copy_given : (before on : List (List machine.Word)) (x : ℕ) (e : TypedTree) → is_owning h.typing.table (object_at h.typing x).of ≡ false → IsNamed h.typing.table (object_at h.typing x).of
-      → IsCopyOf h.typing x e → Takes (waits_in e) before on → AllowsAll facts (acts (acts_in h.typing e)) → Quiet (at on) (IsCopied x) (passed h ByValue x e (at before))
-  copy_given before on x e plain named copy takes allowed =
+      → Gives h.typing (object_at h.typing x).of e → TakesFit h.typing e → Supplies h.typing m (types_taken h.typing e) before on → AllowsAll facts (acts (acts_in h.typing e)) → Quiet (at on) (IsCopied x) (passed h ByValue x e (at before))
+  copy_given before on x e plain named gives fit takes allowed =
       quiet_then (at on) Fits (IsCopied x) (if is_anonymous (view_of h.typing x) then viewed h e (at before) else value h e (at before))
       (λ ws now. followed_by (checked h (type_of h x) ws now) value_passed)
       (by_kind (is_anonymous (view_of h.typing x)) (named_plain h.typing.table (object_at h.typing x).of named))
@@ -161,7 +163,7 @@ module _ (h : Here) (settled : IsSettled h.typing.table) (hands : List Waiting) 
       by_kind : (b : Bool) → b ≡ false → Quiet (at on) Fits (if b then viewed h e (at before) else value h e (at before))
       by_kind true e = cc
       by_kind false same =
-          (copy_quiet h settled hands leaks m waits other facts v kept well holds alone live index_law own_law parts_named e (object_at h.typing x).of copy.0 plain named copy.1
+          (copy_quiet h settled hands leaks m waits other facts v kept well holds alone live index_law own_law parts_named e (object_at h.typing x).of gives plain named fit
           before on takes allowed).0
 
   -- ---- places

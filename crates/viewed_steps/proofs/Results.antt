@@ -201,7 +201,7 @@ module _ (table : Table) (typed : TypedProgram) (effects : Effects) (input : Lis
     abbrev Plain : Type 0
     Plain = AreScalar s (temporaries_of s (take (taken p.instr) p.scope))
 
-    abbrev plain_here : StoresNone p.instr → Plain × TakesScalars s p.instr
+    abbrev plain_here : IsNoCall p.instr → StoresNone p.instr → Plain × TakesScalars s p.instr
     plain_here = innermost.plain_here table typed effects input ready state top below more_frames rest named p frames deep stages running awaiting of_sub at_point path views viewed_before kept scope holds placed_before above
 
     abbrev named_there : Has (flow_named table typed) named
@@ -288,17 +288,17 @@ module _ (table : Table) (typed : TypedProgram) (effects : Effects) (input : Lis
           by_operand (Some o) filled = filled.0
           by_operand None filled = filled.0
 
+      no_call_here : IsNoCall p.instr
+      no_call_here n actuals result same = (let never : Evaluate temporary e op ≡ Call n actuals result = sym is ∙ same in cc)
+
       plain_operand : Plain
-      plain_operand = (plain_here (subst StoresNone (sym is) tt)).0
+      plain_operand = (plain_here no_call_here (subst StoresNone (sym is) tt)).0
 
       evaluates : Stays s e
       evaluates = subst (IsFine s named.sub.result) is (standing.fine table typed effects input ready state top older outer named p frames of_sub at_point)
 
       going_here : (x : ℕ) → p.instr ≡ EndScope x → ⊥
       going_here x same = (let never : Evaluate temporary e op ≡ EndScope x = sym is ∙ same in cc)
-
-      no_call_here : IsNoCall p.instr
-      no_call_here n actuals result same = (let never : Evaluate temporary e op ≡ Call n actuals result = sym is ∙ same in cc)
 
       no_finish : p.instr ≡ Finish → ⊥
       no_finish same = (let never : Evaluate temporary e op ≡ Finish = sym is ∙ same in cc)

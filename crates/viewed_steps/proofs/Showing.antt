@@ -13,7 +13,7 @@ use Rattle.flow_paths.specs.Laid.{FlowSub, FlowProgram, flow_typing}
 use Rattle.flow_paths.specs.Aliases as alias
 use Rattle.machine.specs.States.{sub_of}
 use Rattle.machine.specs.Run.{no_point}
-use Rattle.soundness.specs.Seen.{is_view_formal}
+use Rattle.viewed_soundness.specs.Holds.{is_given}
 use Rattle.viewed_steps.specs.Sound.{lent_to, shown_one, shown_by, shown_after}
 use Rattle.viewed_steps.proofs.Whole.{flat_has}
 
@@ -22,40 +22,40 @@ both true b e = (refl, e)
 both false b e = cc
 
 -- What is shown: a name that is rooted in a package object, to such a formal.
-pub record IsShownOf (s : Typing) (l : Loan) (all : List alias.Passed) (f : Fact) : Type 0 where
+pub record IsShownOf (s : Typing) (all : List alias.Passed) (f : Fact) : Type 0 where
   pub passed : alias.Passed
   pub has : Has all passed
-  pub formal : is_view_formal s passed.formal ≡ true
+  pub formal : is_given s passed.formal ≡ true
   pub shared : is_package_object s passed.actual.name.root ≡ true
-  pub is : f ≡ Lent l passed.formal passed.actual.name
+  pub is : f ≡ Lent (lent_to s passed.formal) passed.formal passed.actual.name
 
-pub one_shown : (s : Typing) (l : Loan) (b : alias.Passed) → is_view_formal s b.formal ≡ true → is_package_object s b.actual.name.root ≡ true
-    → Has (shown_one s l b) (Lent l b.formal b.actual.name)
+pub one_shown : (s : Typing) (b : alias.Passed) → is_given s b.formal ≡ true → is_package_object s b.actual.name.root ≡ true
+    → Has (shown_one s b) (Lent (lent_to s b.formal) b.formal b.actual.name)
 unfolding shown_one
-one_shown s l b formal shared =
-    subst (λ z. Has (if z then Lent l b.formal b.actual.name ∷ [] else []) (Lent l b.formal b.actual.name)) (sym (λ j. formal j && shared j)) (inl refl)
+one_shown s b formal shared =
+    subst (λ z. Has (if z then Lent (lent_to s b.formal) b.formal b.actual.name ∷ [] else []) (Lent (lent_to s b.formal) b.formal b.actual.name)) (sym (λ j. formal j && shared j)) (inl refl)
 
-pub one_is : (s : Typing) (l : Loan) (b : alias.Passed) (f : Fact) → Has (shown_one s l b) f
-    → (is_view_formal s b.formal ≡ true) × (is_package_object s b.actual.name.root ≡ true) × (f ≡ Lent l b.formal b.actual.name)
+pub one_is : (s : Typing) (b : alias.Passed) (f : Fact) → Has (shown_one s b) f
+    → (is_given s b.formal ≡ true) × (is_package_object s b.actual.name.root ≡ true) × (f ≡ Lent (lent_to s b.formal) b.formal b.actual.name)
 unfolding shown_one
-one_is s l b f has = by_test (is_view_formal s b.formal && is_package_object s b.actual.name.root) refl has
+one_is s b f has = by_test (is_given s b.formal && is_package_object s b.actual.name.root) refl has
   where
-    by_test : (z : Bool) → is_view_formal s b.formal && is_package_object s b.actual.name.root ≡ z
-        → Has (if z then Lent l b.formal b.actual.name ∷ [] else []) f
-        → (is_view_formal s b.formal ≡ true) × (is_package_object s b.actual.name.root ≡ true) × (f ≡ Lent l b.formal b.actual.name)
-    by_test true e (inl same) = (let parts = both (is_view_formal s b.formal) (is_package_object s b.actual.name.root) e in (parts.0, parts.1, sym same))
+    by_test : (z : Bool) → is_given s b.formal && is_package_object s b.actual.name.root ≡ z
+        → Has (if z then Lent (lent_to s b.formal) b.formal b.actual.name ∷ [] else []) f
+        → (is_given s b.formal ≡ true) × (is_package_object s b.actual.name.root ≡ true) × (f ≡ Lent (lent_to s b.formal) b.formal b.actual.name)
+    by_test true e (inl same) = (let parts = both (is_given s b.formal) (is_package_object s b.actual.name.root) e in (parts.0, parts.1, sym same))
     by_test true e (inr none) = absurd none
     by_test false e none = absurd none
 
-pub all_shown : (s : Typing) (l : Loan) (all : List alias.Passed) (b : alias.Passed) → Has all b → is_view_formal s b.formal ≡ true
-    → is_package_object s b.actual.name.root ≡ true → Has (flat_map (shown_one s l) all) (Lent l b.formal b.actual.name)
-all_shown s l all b has formal shared = flat_has (shown_one s l) all b (Lent l b.formal b.actual.name) has (one_shown s l b formal shared)
+pub all_shown : (s : Typing) (all : List alias.Passed) (b : alias.Passed) → Has all b → is_given s b.formal ≡ true
+    → is_package_object s b.actual.name.root ≡ true → Has (flat_map (shown_one s) all) (Lent (lent_to s b.formal) b.formal b.actual.name)
+all_shown s all b has formal shared = flat_has (shown_one s) all b (Lent (lent_to s b.formal) b.formal b.actual.name) has (one_shown s b formal shared)
 
-pub all_are : (s : Typing) (l : Loan) (all : List alias.Passed) (f : Fact) → Has (flat_map (shown_one s l) all) f → IsShownOf s l all f
-all_are s l [] f has = absurd has
-all_are s l (b ∷ rest) f has = elim (Has-append_cases (shown_one s l b) (flat_map (shown_one s l) rest) f has) [
-  | inl first ↦ (let is = one_is s l b f first in record { passed = b; has = inl refl; formal = is.0; shared = is.1; is = is.2 })
-  | inr later ↦ (let found = all_are s l rest f later in
+pub all_are : (s : Typing) (all : List alias.Passed) (f : Fact) → Has (flat_map (shown_one s) all) f → IsShownOf s all f
+all_are s [] f has = absurd has
+all_are s (b ∷ rest) f has = elim (Has-append_cases (shown_one s b) (flat_map (shown_one s) rest) f has) [
+  | inl first ↦ (let is = one_is s b f first in record { passed = b; has = inl refl; formal = is.0; shared = is.1; is = is.2 })
+  | inr later ↦ (let found = all_are s rest f later in
       record { passed = found.passed; has = inr found.has; formal = found.formal; shared = found.shared; is = found.is })
 ]
 
@@ -65,8 +65,8 @@ IsLoan s f = (l : Loan) × (h : ℕ) × (n : PlaceName) × (f ≡ Lent l h n) ×
 
 by_are : (program : FlowProgram) (i : Instruction) (f : Fact) → Has (shown_by program i) f → IsLoan (flow_typing program) f
 by_are program (Call n actuals result) f has =
-    let found = all_are (flow_typing program) (lent_to result) (alias.passed (sub_of program n).formals actuals) f has in
-    (lent_to result, (found.passed).formal, (found.passed).actual.name, found.is, found.shared)
+    let found = all_are (flow_typing program) (alias.passed (sub_of program n).formals actuals) f has in
+    (lent_to (flow_typing program) (found.passed).formal, (found.passed).formal, (found.passed).actual.name, found.is, found.shared)
 by_are program i f has = absurd has
 
 pub after_are : (program : FlowProgram) (sub : FlowSub) (before : List ℕ) (f : Fact) → Has (shown_after program sub before) f → IsLoan (flow_typing program) f

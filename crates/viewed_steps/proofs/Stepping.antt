@@ -94,7 +94,7 @@ module _ (table : Table) (typed : TypedProgram) (effects : Effects) (input : Lis
         no_finish e = (let same = sym is ∙ e in cc)
 
         taken_there : IsTaken s named.sub.result p
-        taken_there = innermost.taken_there table typed effects input ready state top below more_frames rest named p frames deep stages running awaiting of_sub at_point path views viewed_before kept scope holds placed_before above
+        taken_there = innermost.taken_there table typed effects input ready state top below more_frames rest named p frames deep stages running awaiting of_sub at_point path views viewed_before kept scope holds placed_before above no_calls
 
     pub main_step : Along (step program input state)
     main_step =

@@ -2,21 +2,25 @@
 -- borrowed there; and if the call changes no fact, nothing of it is where the call stands.
 use Rattle.viewed_steps.proofs.Standing as standing
 use Rattle.viewed_steps.proofs.Taker.{taker_clears, taker_unlent}
+use Rattle.viewed_steps.proofs.TakerActs.{taker_names, taker_writes}
 use Rattle.viewed_steps.specs.Ready.{IsReady}
 use Rattle.viewed_steps.specs.Sound.{ViewStage}
 use Rattle.viewed_steps.specs.Traversals.{IsViewTaker, IsBorrowTaker, TraversalCall, call_in, traversed_name}
 use Rattle.soundness.proofs.Points.{flow_at, path_there}
 use Rattle.soundness.specs.Sound.{IsNoCall, Stage, IsNamedSub, IsAtPoint}
-use Rattle.std.proofs.Common.{◌≡◌, refl, sym, ◌∙◌, subst, inl, inr, ℕ, Option, List, ◌∷◌}
+use Rattle.std.proofs.Common.{◌≡◌, refl, sym, ◌∙◌, subst, ◌⊎◌, inl, inr, ℕ, true, false, Option, List, ◌∷◌}
 use Rattle.spark_base.specs.Lists.{Has}
+use Rattle.place_names.specs.declared.act.Act.TheVariants as act
+use Rattle.place_names.specs.declared.act.Placed.{Placed}
 use Rattle.place_names.specs.declared.fact.Fact.{Fact}
 use Rattle.typed_tree.specs.Trees.{NoMore, More, Name}
 use Rattle.typed_tree.specs.Programs.{TypedProgram}
 use Rattle.type_definitions.specs.Types.{Table}
 use Rattle.flow_paths.specs.declared.report.Effects.{Effects}
-use Rattle.flow_paths.specs.Effects.{path_points}
+use Rattle.flow_paths.specs.Effects.{path_points, act_writes, act_reads}
+use Rattle.flow_paths.specs.Objects.{is_borrower, is_package_object}
 use Rattle.flow_paths.specs.Instructions.{Instruction, Declare, Assign, Call, Hold}
-use Rattle.flow_paths.specs.Laid.{NamedSub, FlowSub, flow_program, flow_named, typing_of, flow_typing}
+use Rattle.flow_paths.specs.Laid.{NamedSub, FlowSub, flow_sub, flow_program, flow_named, typing_of, flow_typing}
 use Rattle.flow_paths.specs.Paths.{ControlPath, goes_on, path_point, facts_before}
 use Rattle.flow_paths.specs.Paths.{PathPoint}
 use Rattle.flow_paths.specs.Points.{NamedPoint}
@@ -58,9 +62,39 @@ module _ (table : Table) (typed : TypedProgram) (effects : Effects) (input : Lis
   abbrev facts_there : List Fact
   facts_there = facts_before (standing.points table typed effects input ready state top older outer named p frames of_sub at_point) (top.frame.next ∷ top.before)
 
+  -- its acts
+  pub in_next : Has (flow_sub (typing_of table typed) named).points (flow_at (typing_of table typed) named q)
+  in_next = standing.in_sub table typed effects input ready state_there there older outer named q refl of_sub at_q
+
+  abbrev pub acts_next : List Placed
+  acts_next = standing.acts_by table typed effects input ready state_there there older outer named q refl of_sub at_q (flow_typing (flow_program table typed)) q.instr
+
+  pub act_next : (a : Placed) → Has acts_next a → Has (flow_at (typing_of table typed) named q).acts a
+  act_next a has = subst (λ z. Has z a) (standing.acts_agree table typed effects input ready state_there there older outer named q refl of_sub at_q) has
+
   pub allowed_next : IsNoCall q.instr
       → AllowsAll facts_there (standing.acts_here table typed effects input ready state_there there older outer named q refl of_sub at_q q.instr)
   allowed_next plain = standing.allowed table typed effects input ready state_there there older outer named q refl of_sub at_q path_next plain
+
+  -- one of them names the object that the first actual is rooted in
+  module _ (n : ℕ) (c : TraversalCall) (local : (x : ℕ) → is_borrower (flow_typing (flow_program table typed)) x ≡ true → is_package_object (flow_typing (flow_program table typed)) x ≡ false)
+      (shared : is_package_object (flow_typing (flow_program table typed)) c.root ≡ true) where
+    abbrev roots_there : List ℕ
+    roots_there = standing.roots table typed effects input ready state_there there older outer named q refl of_sub at_q
+
+    pub names_next : IsViewTaker (flow_typing (flow_program table typed)) n c named.sub.result q.instr
+        → (a : Placed) × Has (flow_at (typing_of table typed) named q).acts a × ((act_writes c.root a.act ≡ true) ⊎ (act_reads c.root a.act ≡ true))
+    names_next taker =
+        let found = taker_names (flow_typing (flow_program table typed)) n c named.sub.result roots_there q.pos local shared q.instr taker in
+        (found.0, act_next found.0 found.1, found.2)
+
+    pub writes_next : IsBorrowTaker (flow_typing (flow_program table typed)) n c named.sub.result q.instr
+        → ((a : Placed) × Has (flow_at (typing_of table typed) named q).acts a × (act_writes c.root a.act ≡ true))
+        ⊎ ((a : Placed) × Has (flow_at (typing_of table typed) named q).acts a × (a.act ≡ act.Give (traversed_name c) true))
+    writes_next taker = elim (taker_writes (flow_typing (flow_program table typed)) n c named.sub.result roots_there q.pos local shared q.instr taker) [
+      | inl found ↦ inl (found.0, act_next found.0 found.1, found.2)
+      | inr found ↦ inr (found.0, act_next found.0 found.1, found.2)
+    ]
 
   -- nothing of the name is moved or borrowed
   pub clear_next : (n : ℕ) (c : TraversalCall) → IsViewTaker (flow_typing (flow_program table typed)) n c named.sub.result q.instr

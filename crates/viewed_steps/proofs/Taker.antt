@@ -24,7 +24,7 @@ module _ (s : Typing) (n : ℕ) (c : TraversalCall) where
   abbrev Sees : ℕ → Type 0
   Sees x = IsSeer s x
 
-  kind_of : (x : ℕ) → Sees x → (is_borrower s x ≡ true) ⊎ ((is_borrower s x ≡ false) × (is_observer s x ≡ true))
+  pub kind_of : (x : ℕ) → Sees x → (is_borrower s x ≡ true) ⊎ ((is_borrower s x ≡ false) × (is_observer s x ≡ true))
   kind_of x (variable, view) = elim (bool_cases (is_borrower s x)) [
     | inl borrows ↦ inl borrows
     | inr none ↦ inr (

@@ -19,7 +19,7 @@ use Rattle.part_offsets.specs.Parts.{IsSettled}
 use Rattle.soundness.specs.Seen.{IsNear, content, trunk, seen, home}
 use Rattle.soundness.specs.Typed.{Kept, OwnsByShape}
 use Rattle.typed_laws.specs.Needed.{Leads, IndexLaw}
-use Rattle.soundness.proofs.Passing.{AreReads, reads_keep, TakesAll}
+use Rattle.soundness.proofs.Passing.{AreReads, reads_keep}
 use Rattle.soundness.proofs.Scalars.{acts, acts_append, after_append, allows_both}
 use Rattle.soundness.proofs.Stays.{Quiet, quiet_then, quiet_from}
 use Rattle.owned_loans.specs.Views.{Around, Views, Viewed}
@@ -34,6 +34,7 @@ use Rattle.viewed_steps.proofs.Reading.{index_reads, both_reads}
 use Rattle.viewed_steps.proofs.Seeing.{IsClear, AreClear}
 use Rattle.viewed_steps.proofs.Views.{AreAccess, AreUnseen}
 use Rattle.viewed_soundness.proofs.Given.{IsLow}
+use Rattle.viewed_steps.proofs.Supplied.{SuppliesAll, takes_supplied, seen_types}
 
 module _ (s : Typing) (own_law : OwnsByShape s.table) where
   abbrev pub ways_to : List ℕ → List Passing
@@ -103,13 +104,13 @@ module _ (h : Here) (settled : IsSettled h.typing.table) (hands : List Waiting) 
   others = map (passing h.typing false) formals
 
   -- the first one as what it sees, and the others as any function is given them
-  pub all_traversed : (before on : List (List machine.Word)) → TakesAll (f ∷ formals) (More (first_actual h.typing own_law c) c.others) before on
+  pub all_traversed : (before on : List (List machine.Word)) → SuppliesAll h.typing m (f ∷ formals) (More (first_actual h.typing own_law c) c.others) before on
       → IsSeen h.typing f (first_actual h.typing own_law c) → ((x : ℕ) → Has formals x → IsKindOfFormal h.typing x) → AreUnseen h.typing formals → AreActualsTo h.typing formals c.others
       → IsClear h.typing facts (first_actual h.typing own_law c) → AreClear h.typing facts formals c.others → AreOpenActuals h.typing h.frame facts formals c.others
       → AllowsAll facts (acts (actual_values h.typing (Traversed ∷ others) (More (first_actual h.typing own_law c) c.others)))
       → Quiet (record { memory = m; waits = on }) AreAllGiven
       (all_passed h (Traversed ∷ others) (f ∷ formals) (More (first_actual h.typing own_law c) c.others) (record { memory = m; waits = before }))
-  all_traversed before on (mid, takes, more) seen_first kinds unseen stay opens opens_others back allowed =
+  all_traversed before on (mid, fit, takes, more) seen_first kinds unseen stay opens opens_others back allowed =
       let first_acts : List Placed = index_acts h.typing (first_actual h.typing own_law c) in
       let each = allows_both facts (acts first_acts) (acts (actual_values h.typing others c.others))
       (subst (AllowsAll facts) (acts_append first_acts (actual_values h.typing others c.others)) allowed) in
@@ -118,7 +119,7 @@ module _ (h : Here) (settled : IsSettled h.typing.table) (hands : List Waiting) 
       (passed h Traversed f (first_actual h.typing own_law c) (record { memory = m; waits = before }))
       (λ a now. followed_by (all_passed h others formals c.others now) (λ more now. Done (a ∷ more) now))
       (shown_given h settled hands leaks m waits other facts v kept well holds alone live in_formals index_law own_law parts_named formals_low false before mid f (first_actual h.typing own_law c)
-      access shown seen_first takes each.0 opens)
+      access shown seen_first (takes_supplied h.typing settled m (first_actual h.typing own_law c) before mid (seen_types h.typing f (first_actual h.typing own_law c) seen_first fit) takes) each.0 opens)
       (λ a is. quiet_then (record { memory = m; waits = on }) AreOthersGiven AreAllGiven
       (all_passed h others formals c.others (record { memory = m; waits = mid })) (λ more now. Done (a ∷ more) now)
       (all_given h settled hands leaks m waits other facts v kept well holds alone live in_formals index_law own_law parts_named formals_low false mid on formals c.others kinds unseen stay opens_others back more

@@ -14,7 +14,7 @@ use Rattle.place_names.specs.declared.act.Act.TheVariants as act
 use Rattle.place_names.specs.declared.fact.Fact.{Fact}
 use Rattle.place_names.specs.declared.fact.Fact.TheVariants.{Moved}
 use Rattle.place_names.specs.Names.{Name as PlaceName}
-use Rattle.type_definitions.specs.Types.{Table, full, is_scalar}
+use Rattle.type_definitions.specs.Types.{Table, full}
 use Rattle.typed_tree.specs.Trees.{TypedTree, NoMore, More, Name}
 use Rattle.typed_tree.specs.Programs.{TypedProgram}
 use Rattle.flow_paths.specs.declared.report.Effects.{Effects}
@@ -51,7 +51,7 @@ use Rattle.soundness.proofs.Eased.{eased, goes_same}
 use Rattle.owned_loans.specs.Views.{Around, known_gone, Views, Viewed, ViewedAlone}
 use Rattle.viewed_soundness.specs.Holds.{IsNamed, AllKeep, is_view, sees_only, is_fixed}
 use Rattle.viewed_soundness.proofs.Outcomes.{named_plain, Leads_on, stored_goes, not_views, assigned_acts}
-use Rattle.viewed_steps.specs.Awaited.{Fits, AreFor, AreValues, temporaries_of, lasting_of, AreAwaited, types_for, AreFilled, TakesTogether}
+use Rattle.viewed_steps.specs.Awaited.{AreValues, temporaries_of, lasting_of, AreAwaited, types_for, TakesTogether}
 use Rattle.viewed_steps.proofs.Waited.{Shares, split_list}
 use Rattle.viewed_steps.specs.Sound.{IsBeyond, IsResting, HoldsAt, ArePlaced, NoneAbove, ViewStage, stages_of, GoneElsewhere, AreWaiting, IsStoredAt, LeadsAlong, HasTraversals}
 use Rattle.viewed_steps.specs.Ready.{IsReady, AreOrderly}
@@ -99,22 +99,8 @@ use Rattle.soundness.proofs.Lasting.{keeps}
 use Rattle.viewed_soundness.proofs.Evaluated.{Given, GivenOn, Ready, checked_on, keep_both}
 use Rattle.viewed_steps.proofs.Declared.{declared_goes, first_fades}
 use Rattle.viewed_steps.proofs.EachInstruction as each
+use Rattle.viewed_steps.proofs.Supplied.{of_types}
 use Rattle.viewed_steps.proofs.Views.{AreAccess, all_held}
-
--- What temporaries are filled with has their types.
-pub of_types : (s : Typing) (types xs : List ℕ) (values : List Waiting) → AreFilled s types xs → AreFor s values xs → AreOfTypes s types values
-of_types s [] [] [] filled there = tt
-of_types s [] [] (v ∷ values) filled there = absurd there
-of_types s [] (x ∷ xs) values filled there = absurd filled
-of_types s (t ∷ types) [] values filled there = absurd filled
-of_types s (t ∷ types) (x ∷ xs) [] filled there = absurd there
-of_types s (t ∷ types) (x ∷ xs) (v ∷ values) filled there = ((one filled.0 there.0.0, there.0.1), of_types s types xs values filled.1 there.1)
-  where
-    one : Fits s t x → Fits s v.of x → ((is_scalar (full s.table t) ≡ true) × (is_scalar (full s.table v.of) ≡ true)) ⊎ (t ≡ v.of)
-    one (inl both) (inl mine) = inl (both.0, mine.0)
-    one (inl both) (inr same) = inl (both.0, ap (λ z. is_scalar (full s.table z)) same ∙ both.1)
-    one (inr is) (inl mine) = inl (ap (λ z. is_scalar (full s.table z)) is ∙ mine.1, mine.0)
-    one (inr is) (inr same) = inr (is ∙ sym same)
 
 module _ (table : Table) (typed : TypedProgram) (effects : Effects) (input : List ℕ) (ready : IsReady table typed effects) where
   abbrev program : FlowProgram

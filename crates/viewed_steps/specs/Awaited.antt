@@ -2,7 +2,7 @@
 use Rattle.std.specs.Prelude.{◌≡◌, ◌⊎◌, ℕ, Bool, true, false, not, ◌&&◌, List, [], ◌∷◌, ◌++◌, take, filter, length, Option, Some, None, if◌then◌else◌}
 use Rattle.std.specs.List.{AllByRecursion}
 use Rattle.type_definitions.specs.Entries.{boolean}
-use Rattle.type_definitions.specs.Types.{Table, words, full, is_scalar}
+use Rattle.type_definitions.specs.Types.{Table, words, full, is_scalar, is_owning}
 use Rattle.typed_tree.specs.Trees.{TypedTree, Name, Call as CallIn, NoMore, More}
 use Rattle.typed_tree.specs.Programs.{TypedProgram}
 use Rattle.spark_base.specs.declared.position.Pos.{Pos}
@@ -13,7 +13,7 @@ use Rattle.flow_paths.specs.Points.{NamedPoint}
 use Rattle.flow_paths.specs.Laid.{FlowSub, FlowProgram, NamedSub, flow_typing, flow_program, flow_named}
 use Rattle.flow_paths.specs.Scopes.{taken}
 use Rattle.machine.specs.States.{Waiting, sub_of}
-use Rattle.soundness.specs.Sound.{is_temporary_object, has_returned, IsNamedSub, IsAtPoint, Stage}
+use Rattle.soundness.specs.Sound.{is_temporary_object, has_returned, IsNamedSub, IsAtPoint, IsNoCall, Stage}
 use Rattle.viewed_soundness.specs.Taken.{GivesPlainly, types_taken, AreScalarTypes, TakesFit}
 
 -- ---- values
@@ -139,7 +139,21 @@ StoresNone (Assign target e) = ⊥
 StoresNone (Hold v) = ⊥
 StoresNone i = Unit {0}
 
--- What a point takes, of a subprogram with this result.
+-- What a point without a call takes, of a subprogram with this result.
 abbrev pub IsTaken : Typing → Option ℕ → NamedPoint → Type 0
 IsTaken s result p =
     (AreScalar s (filter (is_temporary_object s) (take (taken p.instr) p.scope)) × TakesScalars s p.instr) ⊎ (TakesAlone s p ⊎ TakesTogether s result p)
+
+-- What is taken for actuals owns nothing; names and scalar expressions take scalar values alone.
+abbrev pub AreOwnless : Typing → List ℕ → Type 0
+AreOwnless s xs = AllByRecursion (λ x. is_owning s.table (object_at s x).of ≡ false) xs
+
+abbrev pub TakesPassed : Typing → TypedTree → List ℕ → Type 0
+TakesPassed s actuals xs = AreOwnless s xs × TakesFit s actuals × AreFilled s (types_taken s actuals) xs
+
+-- What a point takes.
+abbrev pub IsTakenAt : Typing → Option ℕ → NamedPoint → Type 0
+IsTakenAt s result p =
+    (IsNoCall p.instr → IsTaken s result p)
+    × ((n : ℕ) (actuals : TypedTree) (r : Option ℕ) → p.instr ≡ Call n actuals r
+    → TakesPassed s actuals (temporaries_of s (take (taken p.instr) p.scope)))

@@ -26,13 +26,12 @@ use Rattle.flow_paths.specs.Views.{encloses, scope_of, traversed_formal, sub_act
 use Rattle.machine.specs.States.{sub_of}
 use Rattle.machine.specs.Owners.{is_in}
 use Rattle.soundness.specs.Typed.{OwnsByShape}
-use Rattle.soundness.specs.Sound.{Accepted, IsNamedSub, IsAtPoint, IsProcedure, IsRunnable, is_temporary_object, has_returned, IsEntered, goes_through_none}
+use Rattle.soundness.specs.Sound.{Accepted, IsNamedSub, IsAtPoint, IsProcedure, IsRunnable, is_temporary_object, has_returned, IsEntered, goes_through_none, Uses}
 use Rattle.soundness.specs.Ready.{root_of, stored_at, AreScoped, AreNew, AreElaborated, AreReturning}
 use Rattle.typed_laws.specs.Needed.{Matches, Leads, Stays, Gives, IsPlace}
 use Rattle.soundness.specs.Seen.{is_view_formal}
 use Rattle.viewed_soundness.specs.Holds.{sees_only, is_fixed, AllKeep, IsNamed, is_given}
-use Rattle.viewed_soundness.specs.Taken.{GivesPlainly}
-use Rattle.viewed_steps.specs.Awaited.{is_held, IsTaken, FillsTyped, TakesAlone}
+use Rattle.viewed_steps.specs.Awaited.{is_held, IsTakenAt, FillsTyped, TakesAlone}
 use Rattle.viewed_steps.specs.Traversals.{IsSourceName, TraversalCall, IsViewTaker, IsBorrowTaker}
 use Rattle.type_definitions.specs.declared.table.Shape.TheVariants as shape
 use Rattle.type_definitions.specs.Types.{shape_of}
@@ -63,14 +62,14 @@ abbrev pub AreNamedIn : Typing → List ℕ → Type 0
 AreNamedIn s xs = (x : ℕ) → Has xs x → is_temporary_object s x ≡ true → is_anonymous (view_of s x) ≡ false
 
 -- What waits: what is stored at or passed is no temporary that owns; what is taken is of scalar types, or
--- what a function gave, alone, or what a value is made of; and what is filled fits.
+-- what a function gave, alone, or what a value is made of, or for actuals and owns nothing; and what is filled fits.
 pub record AreValued (table : Table) (typed : TypedProgram) : Type 0 where
   pub lasting : (sub : NamedSub) → Has (flow_named table typed) sub → (p : NamedPoint) → Has sub.points p → (x : ℕ) → Has (stored_at p.instr) x
       → is_held (flow_typing (flow_program table typed)) x ≡ false
   pub passed : (sub : NamedSub) → Has (flow_named table typed) sub → (p : NamedPoint) → Has sub.points p → (n : ℕ) (actuals : TypedTree) (result : Option ℕ)
       → p.instr ≡ Call n actuals result → (x : ℕ) → Has (roots_passed actuals) x → is_held (flow_typing (flow_program table typed)) x ≡ false
   pub takes : (n : ℕ) → IsEntered (flow_program table typed) n → (sub : NamedSub) → IsNamedSub (flow_named table typed) n sub → (p : NamedPoint) → Has sub.points p
-      → IsTaken (flow_typing (flow_program table typed)) sub.sub.result p
+      → IsTakenAt (flow_typing (flow_program table typed)) sub.sub.result p
   -- what is of an anonymous access type is taken at once
   pub seen : (sub : NamedSub) → Has (flow_named table typed) sub → (p : NamedPoint) → Has sub.points p
       → AreNamedIn (flow_typing (flow_program table typed)) p.scope
@@ -96,15 +95,11 @@ IsSeen s x typed.Null = Unit {0}
 IsSeen s x (Name p y path u) = Leads s (object_at s y).of path u × IsAccessAs s u (object_at s x).of
 IsSeen s x e = ⊥
 
--- One of a type that owns nothing gets a scalar value, or another one of its type: a copy of what a name stands
--- for, or an aggregate, in which functions give scalar parts alone.
-abbrev pub IsCopyOf : Typing → ℕ → TypedTree → Type 0
-IsCopyOf s x e = Gives s (object_at s x).of e × GivesPlainly s e
-
+-- One of a type that owns nothing gets a value of its type, a scalar one or another one.
 abbrev pub IsValueTo : Typing → ℕ → TypedTree → Type 0
 IsValueTo s x e =
-    (IsScalarObject s x × Stays s e)
-    ⊎ ((is_scalar (full s.table (object_at s x).of) ≡ false) × IsNamed s.table (object_at s x).of × IsCopyOf s x e)
+    Gives s (object_at s x).of e
+    × ((IsScalarObject s x × Stays s e) ⊎ ((is_scalar (full s.table (object_at s x).of) ≡ false) × IsNamed s.table (object_at s x).of))
 
 -- What is passed for a formal of mode `in` is shown, where its type owns or is an anonymous access type.
 abbrev pub is_shown_type : Typing → ℕ → Bool
@@ -208,12 +203,11 @@ pub record ViewsAreOrderly (table : Table) (typed : TypedProgram) : Type 0 where
 
 -- ---- traversal functions
 
--- The call of one: its first actual is a name that is rooted in no package object; and the point that it leads to takes
--- the result, which borrows if a borrower is given.
+-- The call of one: its first actual is a name; and the point that it leads to takes the result, which borrows if a borrower
+-- is given.
 pub record IsTraversalCall (s : Typing) (sub : NamedSub) (next : List ℕ) (n : ℕ) (actuals : TypedTree) : Type 0 where
   pub call : TraversalCall
   pub actuals_are : actuals ≡ More (Name call.name_pos call.root call.path call.of) call.others
-  pub own : is_package_object s call.root ≡ false
   pub taker : (k : ℕ) → Has next k → (q : NamedPoint) → IsAtPoint sub.points k q → IsViewTaker s n call sub.sub.result q.instr
   pub borrows : gives_variable s (sub_at s n).result ≡ true → (sees_only s call.root ≡ false)
       × ((k : ℕ) → Has next k → (q : NamedPoint) → IsAtPoint sub.points k q → IsBorrowTaker s n call sub.sub.result q.instr)
@@ -238,6 +232,11 @@ pub record AreTraversing (table : Table) (typed : TypedProgram) (effects : Effec
       → (e last : TypedTree) → p.instr ≡ Hold (More e last)
       → (of : ℕ) → sub.sub.result ≡ Some of → is_anonymous (full (flow_program table typed).table of) ≡ true
       → (e ≡ Null) ⊎ ((q : Pos) × (y : ℕ) × (path : TypedTree) × (u : ℕ) × IsSourceName (flow_typing (flow_program table typed)) of e q y path u)
+  -- what is called that gives a borrower doesn't use the package object that its first actual is rooted in
+  pub spared : (sub : FlowSub) → Has (flow_program table typed).subs sub → (p : FlowPoint) → Has sub.points p → (n : ℕ) (actuals : TypedTree) (result : Option ℕ)
+      → p.instr ≡ Call n actuals result → gives_variable (flow_typing (flow_program table typed)) (sub_at (flow_typing (flow_program table typed)) n).result ≡ true
+      → (q : Pos) (y : ℕ) (path : TypedTree) (u : ℕ) (more : TypedTree) → actuals ≡ More (Name q y path u) more
+      → is_package_object (flow_typing (flow_program table typed)) y ≡ true → Uses effects n y → ⊥
   -- what is called is taken
   pub followed : (sub : NamedSub) → Has (flow_named table typed) sub → (p : NamedPoint) → Has sub.points p → (n : ℕ) (actuals : TypedTree) (result : Option ℕ)
       → p.instr ≡ Call n actuals result → (f : ℕ) → traversed_formal (flow_typing (flow_program table typed)) (sub_of (flow_program table typed) n) ≡ Some f

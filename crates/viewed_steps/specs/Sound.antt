@@ -174,17 +174,17 @@ abbrev pub loan_by : Fact → Loan
 loan_by (Moved n) = Borrowed
 loan_by (Lent l h n) = l
 
--- What a call shows of package objects to formals that own nothing: it is lent to them, to a function for
--- looking at it.
-abbrev pub lent_to : Option ℕ → Loan
-lent_to result = if is_some result then Observed else Borrowed
+-- What a call shows of package objects to formals that own nothing: it is lent to them, for looking at it where they see
+-- only.
+abbrev pub lent_to : Typing → ℕ → Loan
+lent_to s x = if is_exclusive s x then Borrowed else Observed
 
-unfoldable pub shown_one : Typing → Loan → alias.Passed → List Fact
-shown_one s l b =
-    if is_view_formal s b.formal && is_package_object s b.actual.name.root then Lent l b.formal b.actual.name ∷ [] else []
+unfoldable pub shown_one : Typing → alias.Passed → List Fact
+shown_one s b =
+    if is_given s b.formal && is_package_object s b.actual.name.root then Lent (lent_to s b.formal) b.formal b.actual.name ∷ [] else []
 
 abbrev pub shown_by : FlowProgram → Instruction → List Fact
-shown_by program (Call n actuals result) = flat_map (shown_one (flow_typing program) (lent_to result)) (alias.passed (sub_of program n).formals actuals)
+shown_by program (Call n actuals result) = flat_map (shown_one (flow_typing program)) (alias.passed (sub_of program n).formals actuals)
 shown_by program i = []
 
 abbrev pub shown_after : FlowProgram → FlowSub → List ℕ → List Fact

@@ -12,7 +12,7 @@ use Rattle.type_definitions.specs.declared.table.Shape.TheVariants as shape
 use Rattle.type_definitions.specs.Types.{shape_of, full}
 use Rattle.typed_tree.specs.Trees.{TypedTree, Name, NoMore, Call as CallIn, More}
 use Rattle.flow_paths.specs.Instructions.{Instruction, Declare, Assign, Hold}
-use Rattle.flow_paths.specs.Objects.{Typing, sub_at, object_at, is_variable, is_borrower, is_observer, view_of, traverses, is_anonymous, is_package_object}
+use Rattle.flow_paths.specs.Objects.{Typing, sub_at, object_at, is_variable, is_borrower, is_observer, view_of, traverses, is_anonymous}
 use Rattle.flow_paths.specs.Names.{name_of}
 use Rattle.flow_paths.specs.Views.{Roots}
 use Rattle.flow_paths.specs.Acts.{gives_variable}
@@ -99,11 +99,10 @@ IsBorrowTaker s n c result i =
     ⊎ (((p : Pos) × (x : ℕ) × (u : ℕ) × (i ≡ Assign (Name p x NoMore u) (call_in n c)) × (is_borrower s x ≡ true) × (c.root ≡ x))
     ⊎ ((i ≡ Hold (More (call_in n c) NoMore)) × (traverses s.table result ≡ true) × (gives_variable s result ≡ true)))
 
--- The first actual as a way of its frame. It is rooted in an object of the frame itself.
+-- The first actual as a way of its frame.
 pub record Traverses (s : Typing) (depth : ℕ) (i : Instruction) (n : ℕ) : Type 0 where
   pub call : TraversalCall
   pub taken : IsTakenBy i (call_in n call)
-  pub own : is_package_object s call.root ≡ false
   pub place : Way
   pub named : Named (home s depth) place
   pub called : ways.name_of place ≡ traversed_name call

@@ -1,0 +1,92 @@
+-- The point that takes the result of a traversal function has an act on what the first actual names: it reads that, or
+-- borrows it.
+use Rattle.std.proofs.Common.{◌≡◌, refl, sym, ap, ◌∙◌, subst, ◌⊎◌, inl, inr, ℕ, Bool, true, false, List, ◌++◌, Option, ◌==◌, eq-eqb, if◌then◌else◌}
+use Rattle.spark_base.specs.Lists.{Has}
+use Rattle.spark_base.specs.declared.position.Pos.{Pos}
+use Rattle.place_names.specs.declared.act.Act.{Act}
+use Rattle.place_names.specs.declared.act.Act.TheVariants as act
+use Rattle.place_names.specs.declared.act.Placed.{Placed}
+use Rattle.typed_tree.specs.Trees.{NoMore, More, Name}
+use Rattle.flow_paths.specs.Instructions.{Instruction}
+use Rattle.flow_paths.specs.Acts.{Frame, placed, acts_of, acts_in, source_acts, index_acts, reborrow, observe, stored_acts, gives_variable, target_pos}
+use Rattle.flow_paths.specs.Effects.{act_writes, act_reads}
+use Rattle.flow_paths.specs.Names.{written, source}
+use Rattle.flow_paths.specs.Objects.{Typing, is_borrower, is_observer, is_package_object}
+use Rattle.viewed_soundness.proofs.Names.{true_false}
+use Rattle.viewed_steps.proofs.Sources.{observer_only}
+use Rattle.viewed_steps.proofs.Taker.{kind_of}
+use Rattle.viewed_steps.specs.Traversals.{IsSeer, IsViewTaker, IsBorrowTaker, TraversalCall, call_in, traversed_name}
+
+module _ (s : Typing) (n : ℕ) (c : TraversalCall) (result : Option ℕ) (roots : List ℕ) (p : Pos) (local : (x : ℕ) → is_borrower s x ≡ true → is_package_object s x ≡ false)
+    (shared : is_package_object s c.root ≡ true) where
+  abbrev frame : Frame
+  frame = record { typing = s; result = result; roots = roots }
+
+  -- an act that names the object
+  abbrev IsNaming : Act → Type 0
+  IsNaming a = (act_writes c.root a ≡ true) ⊎ (act_reads c.root a ≡ true)
+
+  abbrev Acts : (Act → Type 0) → List Placed → Type 0
+  Acts is acts = (a : Placed) × Has acts a × is a.act
+
+  abbrev IsWriting : Act → Type 0
+  IsWriting a = act_writes c.root a ≡ true
+
+  abbrev IsGiving : Act → Type 0
+  IsGiving a = a ≡ act.Give (traversed_name c) true
+
+  itself : (c.root == c.root) ≡ true
+  itself = eq-eqb c.root c.root refl
+
+  by_declared : (x : ℕ) → IsSeer s x
+      → Acts IsNaming (if is_borrower s x then source_acts s (call_in n c) (act.Borrow x)
+      else (if is_observer s x then source_acts s (call_in n c) (observe s x) else acts_in s (More (call_in n c) NoMore)))
+  by_declared x view = by_kind (is_borrower s x) (is_observer s x) (kind_of s n c x view)
+    where
+      by_kind : (borrows observes : Bool) → (borrows ≡ true) ⊎ ((borrows ≡ false) × (observes ≡ true))
+          → Acts IsNaming (if borrows then source_acts s (call_in n c) (act.Borrow x)
+          else (if observes then source_acts s (call_in n c) (observe s x) else acts_in s (More (call_in n c) NoMore)))
+      by_kind true observes kind = (placed c.name_pos (act.Borrow x (traversed_name c)), inl refl, inl itself)
+      by_kind false true kind = (placed c.name_pos (observe s x (traversed_name c)), inl refl, inr itself)
+      by_kind false false (inl never) = cc
+      by_kind false false (inr (none, never)) = cc
+
+  -- a borrower isn't assigned what goes through a package object
+  not_itself : (x : ℕ) → is_borrower s x ≡ true → c.root ≡ x → ⊥
+  not_itself x borrows same = true_false (is_package_object s c.root) shared (ap (is_package_object s) same ∙ local x borrows)
+
+  by_assigned : (q : Pos) (x t : ℕ) → IsSeer s x → (is_observer s x ≡ false → c.root ≡ x)
+      → Acts IsNaming (if is_borrower s x then index_acts s (call_in n c) ++ reborrow (target_pos p (written (Name q x NoMore t))) x (source (call_in n c))
+      else (if is_observer s x then source_acts s (call_in n c) (observe s x) else stored_acts s (Name q x NoMore t) (call_in n c)))
+  by_assigned q x t view own = by_kind (is_borrower s x) (is_observer s x) (kind_of s n c x view) own (observer_only s x) (not_itself x)
+    where
+      by_kind : (borrows observes : Bool) → (borrows ≡ true) ⊎ ((borrows ≡ false) × (observes ≡ true)) → (observes ≡ false → c.root ≡ x)
+          → (observes ≡ true → borrows ≡ false) → (borrows ≡ true → c.root ≡ x → ⊥)
+          → Acts IsNaming (if borrows then index_acts s (call_in n c) ++ reborrow (target_pos p (written (Name q x NoMore t))) x (source (call_in n c))
+          else (if observes then source_acts s (call_in n c) (observe s x) else stored_acts s (Name q x NoMore t) (call_in n c)))
+      by_kind true false kind own only none = absurd (none refl (own refl))
+      by_kind true true kind own only none = absurd (let never : true ≡ false = only refl in cc)
+      by_kind false true kind own only none = (placed c.name_pos (observe s x (traversed_name c)), inl refl, inr itself)
+      by_kind false false (inl never) own only none = cc
+      by_kind false false (inr (none_there, never)) own only none = cc
+
+  pub taker_names : (i : Instruction) → IsViewTaker s n c result i → Acts IsNaming (acts_of frame p i)
+  taker_names i (inl (x, is, view)) = subst (λ z. Acts IsNaming (acts_of frame p z)) (sym is) (by_declared x view)
+  taker_names i (inr (inl (q, x, t, is, view, own))) = subst (λ z. Acts IsNaming (acts_of frame p z)) (sym is) (by_assigned q x t view own)
+  taker_names i (inr (inr (is, gives))) =
+      subst (λ z. Acts IsNaming (acts_of frame p z)) (sym is)
+      (subst (λ b. Acts IsNaming (if b then source_acts s (call_in n c) (λ m. act.Give m (gives_variable s result)) else acts_in s (More (call_in n c) NoMore))) (sym gives)
+      (placed c.name_pos (act.Give (traversed_name c) (gives_variable s result)), inl refl, inr itself))
+
+  -- what borrows writes it, or it is given
+  pub taker_writes : (i : Instruction) → IsBorrowTaker s n c result i → Acts IsWriting (acts_of frame p i) ⊎ Acts IsGiving (acts_of frame p i)
+  taker_writes i (inl (x, is, borrows)) =
+      inl (subst (λ z. Acts IsWriting (acts_of frame p z)) (sym is)
+      (subst (λ b. Acts IsWriting (if b then source_acts s (call_in n c) (act.Borrow x)
+      else (if is_observer s x then source_acts s (call_in n c) (observe s x) else acts_in s (More (call_in n c) NoMore)))) (sym borrows)
+      (placed c.name_pos (act.Borrow x (traversed_name c)), inl refl, itself)))
+  taker_writes i (inr (inl (q, x, t, is, borrows, own))) = absurd (not_itself x borrows own)
+  taker_writes i (inr (inr (is, gives, borrows))) =
+      inr (subst (λ z. Acts IsGiving (acts_of frame p z)) (sym is)
+      (subst (λ b. Acts IsGiving (if b then source_acts s (call_in n c) (λ m. act.Give m (gives_variable s result)) else acts_in s (More (call_in n c) NoMore))) (sym gives)
+      (placed c.name_pos (act.Give (traversed_name c) (gives_variable s result)), inl refl, ap (act.Give (traversed_name c)) borrows)))
