@@ -1,9 +1,9 @@
 -- The values that actuals take where a subprogram is called: they own nothing, and are of the types of what functions gave.
-use Rattle.std.proofs.Common.{false, ◌≡◌, refl, sym, ap, ◌∙◌, subst, ◌⊎◌, inl, inr, ℕ, Bool, true, ◌||◌, List, [], ◌∷◌, ◌++◌, length}
+use Rattle.std.proofs.Common.{false, ◌≡◌, refl, sym, ap, ◌∙◌, subst, ◌⊎◌, inl, inr, ℕ, Bool, true, ◌||◌, List, [], ◌∷◌, ◌++◌}
 use Rattle.std.specs.List.{AllByRecursion}
 use Rattle.type_definitions.specs.declared.table.Shape.{Shape}
 use Rattle.type_definitions.specs.declared.table.Shape.TheVariants as shape
-use Rattle.type_definitions.specs.Types.{shape_of, view_of, full, is_scalar, is_owning, words}
+use Rattle.type_definitions.specs.Types.{shape_of, view_of, full, is_scalar, is_owning}
 use Rattle.typed_tree.specs.Trees.{TypedTree, Number, Literal, Name, Call, EndOfFile, Parens, Unary, Binary, Short, IsNull, Aggregate, Alike, New, More}
 use Rattle.typed_tree.specs.Trees as typed
 use Rattle.flow_paths.specs.Names.{waiting as waits_in}

@@ -14,7 +14,7 @@ use Rattle.place_names.specs.declared.act.Act.TheVariants as act
 use Rattle.place_names.specs.declared.fact.Fact.{Fact}
 use Rattle.place_names.specs.declared.fact.Fact.TheVariants.{Moved}
 use Rattle.place_names.specs.Names.{Name as PlaceName}
-use Rattle.type_definitions.specs.Types.{Table, full, is_scalar}
+use Rattle.type_definitions.specs.Types.{Table, full}
 use Rattle.typed_tree.specs.Trees.{TypedTree, NoMore, More, Name}
 use Rattle.typed_tree.specs.Programs.{TypedProgram}
 use Rattle.flow_paths.specs.declared.report.Effects.{Effects}
@@ -51,7 +51,7 @@ use Rattle.soundness.proofs.Eased.{eased, goes_same}
 use Rattle.owned_loans.specs.Views.{Around, known_gone, Views, Viewed, ViewedAlone}
 use Rattle.viewed_soundness.specs.Holds.{IsNamed, AllKeep, is_view, sees_only, is_fixed}
 use Rattle.viewed_soundness.proofs.Outcomes.{named_plain, Leads_on, stored_goes, not_views, assigned_acts}
-use Rattle.viewed_steps.specs.Awaited.{Fits, AreFor, AreValues, temporaries_of, lasting_of, AreAwaited, types_for, AreFilled, TakesTogether}
+use Rattle.viewed_steps.specs.Awaited.{AreValues, temporaries_of, lasting_of, AreAwaited, types_for, TakesTogether}
 use Rattle.viewed_steps.proofs.Waited.{Shares, split_list}
 use Rattle.viewed_steps.specs.Sound.{IsBeyond, IsResting, HoldsAt, ArePlaced, NoneAbove, ViewStage, stages_of, GoneElsewhere, AreWaiting, IsStoredAt, LeadsAlong, HasTraversals}
 use Rattle.viewed_steps.specs.Ready.{IsReady, AreOrderly}
