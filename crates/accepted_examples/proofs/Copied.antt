@@ -45,7 +45,6 @@ use Rattle.file_positions.proofs.Cuts.{cut_in_order}
 use Rattle.called_subs.specs.Called.{Calls, CodeCalls}
 use Rattle.order_laws.specs.Orderly.{typed_of, typing_in}
 use Rattle.sound_files.specs.Class.{CallsProcedures, IsScalarAt, IsShownAt, FormalsAreKinds, laid_in, AreFitActuals, PassFitActuals, AreOwnersShown, ShowOwners}
-use Rattle.sound_files.proofs.Results.{results_fit}
 use Rattle.viewed_files.proofs.Files.{parsed_called_sound}
 use Rattle.accepted_runs.proofs.Runs.{RunsAreSound}
 use Rattle.accepted_runs.specs.Classes.{AreInSecondViewClass}
@@ -158,7 +157,7 @@ shown =
     (tt, ((((λ view y has. absurd (true≢false (sym view))), tt), (tt, tt)), ((((λ view y has. absurd (true≢false (sym view))), tt), ((tt, tt), tt)), tt)))
 
 pub class : AreInSecondViewClass files
-class = record { main = 2; is_main = is_main; calls = record { results = results_fit (program_of files) (inl calls); formals = formals; passed = passed; shown = inl shown } }
+class = record { main = 2; is_main = is_main; calls = record { formals = formals; passed = passed; shown = inl shown } }
 
 -- ---- nothing is reported of it
 

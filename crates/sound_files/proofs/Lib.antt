@@ -13,7 +13,6 @@ pub mod Main
 pub mod Called
 -- what the third class says as it is laid out
 pub mod Classes
-pub mod Results
 pub mod Mains
 pub mod Functions
 pub mod Shared

@@ -24,7 +24,7 @@ use Rattle.soundness.specs.Seen.{is_view_formal}
 use Rattle.soundness.specs.Sound.{AreCopied, calls_procedures}
 use Rattle.machine.specs.Run.{no_point}
 use Rattle.soundness.proofs.Passing.{signature_is}
-use Rattle.soundness.proofs.Typings.{Agree, flow_agrees}
+use Rattle.soundness.proofs.Typings.{Agree, flow_agrees, formal_same}
 use Rattle.viewed_steps.specs.Sound.{LendsShared}
 use Rattle.called_subs.specs.Called.{PointCalls, CodeCalls}
 use Rattle.called_subs.proofs.Main.{points_asked_at}
@@ -35,7 +35,6 @@ use Rattle.sound_files.specs.Class.{IsScalarAt, IsFitActual, AreFitActuals, AreS
 use Rattle.sound_files.proofs.Functions.{FunctionsTakeIn}
 use Rattle.sound_files.proofs.Weaker.{code_weaker}
 use Rattle.sound_files.proofs.Called.{at_number}
-use Rattle.sound_files.proofs.Results.{results_fit}
 use Rattle.sound_files.proofs.Classes.{all_of, signature_at, signature_same, signature_there, mode_same, scalar_results}
 
 module _ (p : Program) where
@@ -94,6 +93,19 @@ module _ (p : Program) where
   modes_there all n t result x has =
       mode_there x
       ∙ modes_own all n t x (sym (ap (λ (z : Signature). z.result) (signature_same p n)) ∙ result) (subst (λ (z : Signature). Has z.formals x) (signature_same p n) has)
+
+  -- What is a formal of a subprogram with a body is one.
+  pub formals_wide : ((sub : TypedSub) → Has (bodies_of p) sub → (x : ℕ) → Has sub.formals x → is_formal own x ≡ true) → (n x : ℕ)
+      → Has (sub_at wide n).formals x → is_formal wide x ≡ true
+  unfolding typed_program
+  formals_wide all n x has = formal_same wide own alike x ∙ by (subst (λ (z : Signature). Has z.formals x) (signature_same p n) has)
+    where
+      by : Has (sub_at own n).formals x → is_formal own x ≡ true
+      by here = elim (signature_at (typed_of p).subs n) [
+        | inl none ↦ absurd (subst (λ (z : Signature). Has z.formals x) none here)
+        | inr (sub, inl first, at) ↦ absurd (subst (λ (fs : List ℕ). Has fs x) (ap (λ (z : Signature). z.formals) at ∙ sym (ap (λ (z : TypedSub). z.formals) first)) here)
+        | inr (sub, inr there, at) ↦ all sub there x (subst (λ (z : Signature). Has z.formals x) at here)
+      ]
 
   -- The main procedure has none.
   pub main_there : (n : ℕ) (sub : TypedSub) → IsSub (bodies_of p) n sub → sub.formals ≡ [] → (x : ℕ) → Has (sub_at wide (suc n)).formals x → IsScalarAt wide x
@@ -198,7 +210,6 @@ module _ (p : Program) where
   -- It is a part of this one.
   pub calls_functions : CallsFunctions p → CallsWithOwners p
   calls_functions calls = record {
-    results = results_fit p calls.results;
     formals = λ x is. inl (view_scalar calls.formals x is);
     passed = code_passed calls.formals calls.copied;
     shown = inr (λ sub has q there n actuals result is. scalar_shown calls.formals (LendsShared wide sub) (sub_of flow n).formals actuals);

@@ -24,7 +24,6 @@ use Rattle.flow_paths.specs.Acts.{gives_variable}
 use Rattle.viewed_soundness.specs.Holds.{is_given, lends_first}
 use Rattle.viewed_soundness.specs.Taken.{GivesPlainly}
 use Rattle.viewed_steps.specs.Ready.{is_shown_type}
-use Rattle.scope_laws.specs.Alone.{ResultsFit}
 use Rattle.viewed_steps.specs.Sound.{LendsShared}
 use Rattle.called_subs.specs.Called.{CodeCalls}
 use Rattle.order_laws.specs.Orderly.{typed_of, typing_in, bodies_of}
@@ -168,12 +167,7 @@ abbrev pub TakeBorrowers : Program → Type 0
 TakeBorrowers p =
     (sub : FlowSub) → Has (flow_program (known_of p).table (typed_of p)).subs sub → (q : FlowPoint) → Has sub.points q → TakesBorrower (laid_in p) sub.result q.instr
 
--- What a function gives is of a scalar type; or a value is made of it, and it is of no anonymous access type.
-abbrev pub AllResultsFit : Program → Type 0
-AllResultsFit p = (sub : TypedSub) → Has (bodies_of p) sub → ResultsFit (typing_in p) sub.body
-
 pub record CallsWithOwners (p : Program) : Type 0 where
-  pub results : AllResultsFit p
   pub formals : FormalsAreAccess p
   pub passed : PassFitActuals p
   pub shown : ShowOwners p ⊎ ShowsFit p

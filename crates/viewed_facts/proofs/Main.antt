@@ -51,6 +51,7 @@ use Rattle.viewed_steps.proofs.LaidOut.{AreLaidOut}
 use Rattle.viewed_steps.proofs.Passed.{after_less}
 use Rattle.viewed_steps.proofs.Standing as standing
 use Rattle.viewed_steps.proofs.Calling as calling
+use Rattle.viewed_steps.proofs.Innermost as innermost
 use Rattle.viewed_steps.proofs.CallActs as acting
 use Rattle.viewed_steps.proofs.Followed as followed
 use Rattle.viewed_steps.proofs.Followed.{IsTraversing}
@@ -238,7 +239,7 @@ module _ (table : Table) (typed : TypedProgram) (effects : Effects) (input : Lis
             by_room false full = subst (λ z. NoneFails Excused spots (checks_of z)) (sym (enters.full passed state.memory full)) (none_made Excused spots)
             by_room true fits =
                 subst (λ z. NoneFails Excused spots (checks_of z)) (sym (enters.fits passed state.memory fits))
-                (outs_hold s ready.accepted.settled depth views elsewhere_here state.memory (waiting_in (here.easy table typed effects input ready state top below more_frames rest named p frames deep stages running awaiting of_sub at_point path views viewed_before kept scope holds placed_before above exact_before).state) state.leaks facts_here variables_here (here.exact table typed effects input ready state top below more_frames rest named p frames deep stages running awaiting of_sub at_point path views viewed_before kept scope holds placed_before above exact_before) (here.viewed_easy table typed effects input ready state top below more_frames rest named p frames deep stages running awaiting of_sub at_point path views viewed_before kept scope holds placed_before above exact_before
+                (outs_hold s ready.accepted.settled depth views elsewhere_here state.memory (waiting_in (here.easy table typed effects input ready state top below more_frames rest named p frames deep stages running awaiting of_sub at_point path views viewed_before kept scope holds placed_before above exact_before).state) state.leaks facts_here variables_here (here.exact table typed effects input ready state top below more_frames rest named p frames deep stages running awaiting of_sub at_point path views viewed_before kept scope holds placed_before above exact_before) (innermost.ownless_easy table typed effects input ready state top below more_frames rest named p frames deep stages running awaiting of_sub at_point path views viewed_before kept scope holds placed_before above
                 (calling.plain_there table typed effects input ready state top below more_frames rest named p frames deep stages running awaiting of_sub at_point path views viewed_before kept scope holds placed_before above n actuals result e).0).1 holds.only Excused p.pos procedure
                 (values ++ copies) knows_there formals actuals passed laid called.actuals_stay values refl)
 

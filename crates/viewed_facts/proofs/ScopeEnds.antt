@@ -177,11 +177,11 @@ module _ (table : Table) (typed : TypedProgram) (effects : Effects) (input : Lis
     -- ---- the end of a scope
 
     module _ (y : ℕ) (is : p.instr ≡ EndScope y) where
-      plain_end : Plainly
-      plain_end = innermost.plain_here table typed effects input ready state top below more_frames rest named p frames deep stages running awaiting of_sub at_point path views viewed_before kept scope holds placed_before above (subst StoresNone (sym is) tt)
-
       no_call_there : IsNoCall p.instr
       no_call_there n actuals result same = (let never : EndScope y ≡ Call n actuals result = sym is ∙ same in cc)
+
+      plain_end : Plainly
+      plain_end = innermost.plain_here table typed effects input ready state top below more_frames rest named p frames deep stages running awaiting of_sub at_point path views viewed_before kept scope holds placed_before above no_call_there (subst StoresNone (sym is) tt)
 
       not_shared : is_package_object s y ≡ false
       not_shared = ready.scoped.ends named (innermost.named_there table typed effects input ready state top below more_frames rest named p frames deep stages running awaiting of_sub at_point path views viewed_before kept scope holds placed_before above) p (innermost.point_there_now table typed effects input ready state top below more_frames rest named p frames deep stages running awaiting of_sub at_point path views viewed_before kept scope holds placed_before above) y is

@@ -742,7 +742,7 @@ module _ (table : Table) (typed : TypedProgram) (effects : Effects) (input : Lis
       allowed_there end = innermost.allowed_now table typed effects input ready state top below more_frames rest named p frames deep stages running awaiting of_sub at_point path views viewed_before kept scope holds placed_before above (each.spares table typed effects input ready state top below more_frames rest named p frames deep stages running awaiting of_sub at_point path views viewed_before kept scope holds placed_before above going no_calls end) (standing.allowed table typed effects input ready state top older outer named p frames of_sub at_point path no_calls)
 
       instruction_exact : (p.instr ≡ Finish → ⊥) → Exacts p.instr
-      instruction_exact end = elim (innermost.taken_there table typed effects input ready state top below more_frames rest named p frames deep stages running awaiting of_sub at_point path views viewed_before kept scope holds placed_before above) [
+      instruction_exact end = elim (innermost.taken_there table typed effects input ready state top below more_frames rest named p frames deep stages running awaiting of_sub at_point path views viewed_before kept scope holds placed_before above no_calls) [
         | inl plain ↦ each_instruction plain p.instr refl end fine_here (allowed_there end) (standing.keeps_there table typed effects input ready state top older outer named p frames of_sub at_point)
         | inr (inl taken_alone) ↦ alone_exact taken_alone end (allowed_there end) (standing.keeps_there table typed effects input ready state top older outer named p frames of_sub at_point)
         | inr (inr taken_within) ↦ within_value.within_exact table typed effects input ready state top below more_frames rest named p frames deep stages running awaiting of_sub at_point path views viewed_before kept scope holds placed_before above exact_before going no_calls taken_within end (allowed_there end)

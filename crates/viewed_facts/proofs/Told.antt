@@ -208,7 +208,7 @@ module _ (table : Table) (typed : TypedProgram) (effects : Effects) (input : Lis
       plain_there : (q : Pos) (x u : ℕ) (e : TypedTree) (k : Pos) (z : ℕ) (path_of : TypedTree) (o : ℕ) → e ≡ Name k z path_of o → p.instr ≡ Assign (Name q x NoMore u) e
           → is_anonymous (full s.table u) ≡ true → Plainly
       plain_there q x u e k z path_of o named_so is view =
-          elim (innermost.taken_there table typed effects input ready state top below more_frames rest named p frames deep stages running awaiting of_sub at_point path views viewed_before kept scope holds placed_before above) [
+          elim (innermost.taken_there table typed effects input ready state top below more_frames rest named p frames deep stages running awaiting of_sub at_point path views viewed_before kept scope holds placed_before above no_calls) [
             | inl plain ↦ plain
             | inr (inr together) ↦ absurd (elim together.1 [
               | inl (y, other_instr, owner) ↦ (let never : Assign (Name q x NoMore u) e ≡ Declare y (More together.0 NoMore) = sym is ∙ other_instr in cc)

@@ -1,6 +1,7 @@
 -- Borrowers and observers of files that break no rule are in order, and the runs of their program are sound where
 -- nothing is reported, results are of scalar types or stand alone, and formals are of scalar types or of mode `in out`.
-use Rattle.std.proofs.Common.{◌≡◌, refl, sym, ap, ◌∙◌, subst, inl, inr, ℕ, Bool, true, false, ◌&&◌, List, [], ◌∷◌, Some, None}
+use Rattle.std.proofs.Common.{◌≡◌, refl, sym, ap, ◌∙◌, subst, ◌⊎◌, inl, inr, ℕ, Bool, true, false, ◌&&◌, ◌||◌, List, [], ◌∷◌, Option, Some, None}
+use Rattle.spark_base.specs.declared.position.Pos.{Pos}
 use Rattle.spark_base.specs.Lists.{Has}
 use Rattle.place_names.specs.declared.act.Mode.{Mode}
 use Rattle.place_names.specs.declared.act.Mode.TheVariants as mode
@@ -17,16 +18,24 @@ use Rattle.type_definitions.specs.declared.table.Shape.{Shape}
 use Rattle.type_definitions.specs.declared.table.Shape.TheVariants as shape
 use Rattle.type_definitions.specs.declared.judgement.View.{View}
 use Rattle.type_definitions.specs.declared.judgement.View.TheVariants as view
-use Rattle.type_definitions.specs.Types.{Table, full, view_of, is_scalar, is_owning, shape_of, words, words_of}
+use Rattle.type_definitions.specs.Types.{Table, full, view_of, is_scalar, is_owning, owns_of, shape_of, words, words_of}
 use Rattle.type_definitions.specs.Entries.{integer, boolean, marked}
 use Rattle.type_definitions.specs.Expressions.{is_anonymous}
 use Rattle.type_definitions.specs.Whole.{outside, known_of, type_fault}
 use Rattle.type_rules.proofs.Formed.{files_formed}
+use Rattle.typed_tree.specs.declared.object.Object.{Object}
+use Rattle.typed_tree.specs.declared.object.ObjectKind.{ObjectKind}
+use Rattle.typed_tree.specs.declared.object.ObjectKind.TheVariants as object_kind
+use Rattle.typed_tree.specs.Trees.{TypedTree, Name, Call as CallIn, NoMore, More}
+use Rattle.typed_tree.specs.Trees as typed_tree
 use Rattle.typed_tree.specs.Programs.{TypedSub, site_of, elaboration, typed_program}
 use Rattle.flow_paths.specs.declared.report.Effects.{Effects}
 use Rattle.flow_paths.specs.Effects.{AreEffects}
+use Rattle.flow_paths.specs.Instructions.{Instruction, Declare, Assign, Hold}
+use Rattle.flow_paths.specs.Objects.{Typing}
 use Rattle.flow_paths.specs.Objects as flow
-use Rattle.flow_paths.specs.Laid.{FlowProgram, flow_typing, flow_program}
+use Rattle.flow_paths.specs.Points.{FlowPoint}
+use Rattle.flow_paths.specs.Laid.{FlowSub, FlowProgram, flow_typing, flow_program}
 use Rattle.flow_paths.specs.Reports.{AreReports}
 use Rattle.settled_types.specs.Orderly.{at_start, IsOrderly as IsInOrderText}
 use Rattle.orderly_files.specs.Apart.{AreApart}
@@ -52,7 +61,8 @@ use Rattle.soundness.specs.Typed.{OwnsByShape}
 use Rattle.soundness.proofs.Passing.{plain_type, signature_is}
 use Rattle.soundness.specs.Sound.{Accepted, RunIsSound}
 use Rattle.soundness.proofs.Points.{flow_table}
-use Rattle.viewed_soundness.specs.Holds.{PartsAreNamed, is_exclusive}
+use Rattle.soundness.proofs.Typings.{Agree, flow_agrees}
+use Rattle.viewed_soundness.specs.Holds.{PartsAreNamed, is_given, lends_first}
 use Rattle.ready_laws.specs.InOrder.{IsInOrder, IsSub, AreAnswered, AreStill, ArePassed}
 use Rattle.ready_laws.proofs.Actuals.{typed_passed}
 use Rattle.order_laws.specs.Orderly.{typed_of, typing_in, bodies_of, IsOrderly}
@@ -68,27 +78,48 @@ use Rattle.meant_files.proofs.Main.{files_denote}
 use Rattle.meant_files.proofs.Main as meant
 use Rattle.meant_files.proofs.Codes as codes
 use Rattle.scope_laws.proofs.Lists.{and_first, and_second}
-use Rattle.sound_files.specs.Class.{CallsWithOwners}
+use Rattle.sound_files.specs.Class.{IsFitActual, AreFitActuals, TakesBorrower, CallsWithOwners}
 use Rattle.sound_files.proofs.Laws.{table_laws, files_declared, integers_scalar, truths_scalar}
 use Rattle.sound_files.proofs.Called.{files_bodies}
 use Rattle.sound_files.proofs.Mains.{main_formless}
 use Rattle.sound_files.proofs.Functions.{functions_in}
-use Rattle.sound_files.proofs.Shared.{functions_see}
+use Rattle.sound_files.proofs.Shared.{functions_see, formals_differ}
 use Rattle.sound_files.proofs.Declared.{declared_known, formals_apart}
-use Rattle.sound_files.proofs.Owners.{kinds_there, modes_there, main_there, passed_there, owners_shown}
+use Rattle.sound_files.proofs.Owners.{modes_there, formals_wide, main_there, passed_there, owners_shown}
 use Rattle.sound_files.proofs.Classes.{are_answered}
-use Rattle.typed_runs.specs.Code.{NamesOwners, WithinStep}
-use Rattle.typed_files.proofs.Main.{files_fine, files_steps, files_used}
+use Rattle.typed_runs.specs.Code.{IsTypedUse}
+use Rattle.typed_runs.proofs.Results.{results_there}
+use Rattle.viewed_soundness.proofs.Outcomes.{named_plain}
+use Rattle.typed_files.proofs.Main.{files_code, files_fine, files_steps, files_used, files_firsts, files_first}
 use Rattle.sound_files.proofs.Main.{files_orderly}
 use Rattle.viewed_steps.specs.Ready.{IsReady}
 use Rattle.viewed_steps.proofs.Main.{ready_sound}
 use Rattle.view_laws.specs.InOrder.{AreViewsInOrder}
-use Rattle.viewed_steps.specs.Sound.{IsScalarObject, IsKindOfFormal, LendsShared}
-use Rattle.view_laws.specs.Program.{PassActuals, IsViewProgram}
+use Rattle.viewed_steps.specs.Traversals.{IsSourceName}
+use Rattle.viewed_steps.specs.Sound.{IsScalarObject, IsKindOfFormal, LendsShared, IsStoredAt}
+use Rattle.view_laws.specs.Program.{PassActuals, TraversesNames, TakesView, IsViewProgram}
 use Rattle.view_laws.proofs.Ready.{views_ready}
 use Rattle.viewed_files.proofs.Sources.{scalar_plain}
 use Rattle.viewed_files.proofs.Passed.{PassFit, actuals_passed, kept_places, owners_own, shown_own}
+use Rattle.viewed_files.proofs.Stored.{are_stored}
+use Rattle.viewed_files.proofs.Traversals.{shape_there, declares_view, assigns_view, holds_view, called_name, returns_source}
 use Rattle.viewed_files.proofs.Main.{IsGiven, views_in_order}
+
+unnamed_access : (w : View) → flow.is_anonymous w ≡ true → flow.is_named_access w ≡ false
+unnamed_access (view.Access d k true) e = unnamed k e
+  where
+    unnamed : (k : Bool) → flow.is_anonymous (view.Access d k true) ≡ true → flow.is_named_access (view.Access d k true) ≡ false
+    unnamed true e = cc
+    unnamed false e = cc
+unnamed_access (view.Access d k false) e = refl
+unnamed_access w e = cc
+
+is_mode_in : (m : Mode) → is_in m ≡ true → m ≡ mode.In
+is_mode_in mode.In e = refl
+is_mode_in m e = cc
+
+anonymous_shape : (z : Shape) → flow.is_anonymous (view_of z) ≡ true → (d : ℕ) × (c : Bool) × (n : Bool) × (z ≡ shape.Access d c n)
+anonymous_shape z view = (let here = shape_there z view in (here.0, here.1, here.2, here.3))
 
 heads : (x y : TypedSub) (xs ys : List TypedSub) → x ∷ xs ≡ y ∷ ys → x ≡ y
 heads x y xs ys e = cc
@@ -137,6 +168,9 @@ module _ (files : List (List SourceUnit)) where
 
   abbrev flow_of_files : FlowProgram
   flow_of_files = flow_program table (typed_of p)
+
+  abbrev wide : Typing
+  wide = flow_typing flow_of_files
 
   module _ (apart : AreApart (identified files)) (ended : AllEnded at_start p.units) (up : Ascends (event_positions (source_events files))) (named : name_fault files ≡ None)
       (no_fault : type_fault p ≡ None) where
@@ -267,6 +301,9 @@ module _ (files : List (List SourceUnit)) where
       parts_here : PartsAreNamed flow_of_files.table
       parts_here = subst PartsAreNamed same_table parts_named
 
+      still : AreStill table (typed_of p) order.first
+      still = subst (AreStill table (typed_of p)) first_is (packages_still p no_fault text_orderly.written)
+
       -- ---- objects of anonymous access types
 
       alike : Agree wide (typing_in p)
@@ -332,7 +369,7 @@ module _ (files : List (List SourceUnit)) where
             where
               by_view : (b : Bool) → flow.is_anonymous (flow.view_of wide x) ≡ b → flow.is_anonymous (flow.view_of wide x) ≡ false
               by_view false e = e
-              by_view true e = absurd (other (sym at ∙ in_mode (flow.object_at wide x).mode (and_second (flow.is_formal wide x) (is_in (flow.object_at wide x).mode) (no_back x is e))))
+              by_view true e = absurd (other (sym at ∙ is_mode_in (flow.object_at wide x).mode (and_second (flow.is_formal wide x) (is_in (flow.object_at wide x).mode) (no_back x is e))))
 
           by : (m : Mode) → (flow.object_at wide x).mode ≡ m → IsKindOfFormal wide x
           by mode.In at = owner at (is_owning wide.table (flow.object_at wide x).of) refl (flow.is_anonymous (flow.view_of wide x)) refl
@@ -410,8 +447,8 @@ module _ (files : List (List SourceUnit)) where
           let from : flow.traverses wide.table (flow.sub_at wide n).result ≡ true
           = ap (λ (z : flow.Signature). flow.traverses wide.table z.result) (signature_is flow_of_files n) ∙ gives in
           let first = first_there n from in
-          let use = subst (λ i. IsTypedUse wide sub.result i) is (used sub has q there) in
-          let name = called_name wide sub.result n actuals result use from first.0 first.1 first.2 in
+          let taking = subst (λ i. IsTypedUse wide sub.result i) is (used sub has q there) in
+          let name = called_name wide sub.result n actuals result taking from first.0 first.1 first.2 in
           let formals : (sub_of flow_of_files n).formals ≡ first.0 ∷ first.1 = sym (ap (λ (z : flow.Signature). z.formals) (signature_is flow_of_files n)) ∙ first.2 in
           (name.0, name.1, name.2, name.3, name.4, name.5, own_root first.0 first.1 first.3 name.0 name.1 name.2 name.3 name.4
           (subst (λ fs. AreFitActuals wide fs (More (Name name.0 name.1 name.2 name.3) name.4)) formals (subst (AreFitActuals wide (sub_of flow_of_files n).formals) name.5 (fit sub has q there n actuals result is))))
@@ -437,7 +474,7 @@ module _ (files : List (List SourceUnit)) where
       stored : (sub : FlowSub) → Has flow_of_files.subs sub → (q : FlowPoint) → Has sub.points q → (x : ℕ) → IsStoredAt q.instr x → flow.is_anonymous (flow.view_of wide x) ≡ true
           → flow.is_variable (flow.object_at wide x).kind ≡ true
       stored = are_stored table (typed_of p) effects accepted order views_here.declared
-          (λ x view. unnamed_access (flow.view_of wide x) view) views_here.local
+          (λ x view. unnamed_access (flow.view_of wide x) view) (λ x view. (views_here.local x view).0) still
 
       take : (sub : FlowSub) → Has flow_of_files.subs sub → (q : FlowPoint) → Has sub.points q → TakesView wide sub.result q.instr
       take sub has q there = by q.instr refl (used sub has q there) (calls.borrowed sub has q there)
@@ -446,17 +483,18 @@ module _ (files : List (List SourceUnit)) where
           borrows x at view lends = ap (λ b. b && flow.is_borrowing (flow.view_of wide x)) (stored sub has q there x at view) ∙ lends
 
           by : (i : Instruction) → q.instr ≡ i → IsTypedUse wide sub.result i → TakesBorrower wide sub.result i → TakesView wide sub.result i
-          by (Declare x (More (CallIn k n a) rest)) is use borrow = λ gives.
-              (let found = declares_view wide parts_here sub.result x k n a rest use gives in
+          by (Declare x (More (CallIn k n a) rest)) is taking borrow = λ gives.
+              (let found = declares_view wide parts_here sub.result x k n a rest taking gives in
               (found.0, found.1, λ lends. borrows x (inl (More (CallIn k n a) rest, is)) found.0 (borrow lends)))
-          by (Assign (Name r x path u) (CallIn k n a)) is use borrow = λ gives.
-              (let found = assigns_view wide parts_here sub.result (Name r x path u) k n a use gives in
-              (found.0, found.1, found.2, found.3, found.4, found.5, λ lends. borrows found.1
-              (inr (found.0, found.2, CallIn k n a, subst (λ z. q.instr ≡ Assign z (CallIn k n a)) found.3 is)) found.4
-              (lent_type r x path u found.0 found.1 found.2 found.3 k n a use (borrow lends))))
-          by (Assign target (CallIn k n a)) is use borrow = λ gives. absurd (use.0.1)
-          by (Hold (More (CallIn k n a) rest)) is use borrow = λ gives. (holds_view wide parts_here sub.result k n a rest use gives, borrow)
-          by i is use borrow = tt
+          by (Assign (Name r x path u) (CallIn k n a)) is taking borrow = λ gives.
+              (let found = assigns_view wide parts_here sub.result r x path u k n a taking gives in
+              let target : Name r x path u ≡ Name r x NoMore u = ap (λ z. Name r x z u) found.0 in
+              (r, x, u, target, found.2, found.3, λ lends. borrows x
+              (inr (r, u, CallIn k n a, is ∙ ap (λ z. Assign z (CallIn k n a)) target)) found.2
+              (ap (λ z. flow.is_borrowing (full wide.table z)) found.1 ∙ borrow lends)))
+          by (Assign target (CallIn k n a)) is taking borrow = λ gives. absurd (taking.0.1)
+          by (Hold (More (CallIn k n a) rest)) is taking borrow = λ gives. (holds_view wide parts_here sub.result k n a rest taking gives, borrow)
+          by i is taking borrow = tt
 
       returned : (sub : FlowSub) → Has flow_of_files.subs sub → (q : FlowPoint) → Has sub.points q → (e last : TypedTree) → q.instr ≡ Hold (More e last)
           → (of : ℕ) → sub.result ≡ Some of → flow.is_anonymous (full flow_of_files.table of) ≡ true
@@ -488,13 +526,24 @@ module _ (files : List (List SourceUnit)) where
                   (fits sub has q there n actuals result is)
             ];
         order = order;
-        results = λ sub has. calls.results sub (subst (λ subs. Has subs sub) (sym rest_is) has);
+        results = λ sub has.
+            results_there p laws.owns integers truths (λ t i. named_plain table (component_type table t i) (component_named t i))
+            (λ t. named_plain table (element_type table t) (element_named t)) (λ t d c n is. named_plain table d (target_named t d c n is))
+            (files_firsts files apart ended up named no_fault) (formals_differ p text_orderly.once) (files_code files apart ended up named no_fault) sub
+            (subst (λ subs. Has subs sub) (sym order.subs) (inr has));
         answered = subst (AreAnswered table (typed_of p)) rest_is (are_answered p (files_bodies files up named) typed);
         passes = passes;
         passed = passed;
         main_plain = main_there p order.number order.main main_in (main_formless p no_fault text_orderly.written order.number order.main order.is_main main_in);
-        still = subst (AreStill table (typed_of p)) first_is (packages_still p no_fault text_orderly.written);
+        still = still;
         views = views_here;
+        lends = lends;
+        firsts = files_firsts files apart ended up named no_fault;
+        first = first_there;
+        traverse = traverse;
+        take = take;
+        returned = returned;
+        stored = stored;
       }
 
       pub files_called_ready : IsReady table (typed_of p) effects

@@ -328,12 +328,12 @@ module _ (s : Site) (objects : List Object) (subs : List Signature) (made : ℕ 
         let last = holds 6 (declared_pos d) (not (traversed && indicates_type known (Anonymous p k m)) || is_traversable s.context r how (indicated known (declared_number d) (Anonymous p k m)))
         (nil_right (demand 6 (declared_pos d) (not true || traversed)) _ late) in
         let denotes : indicates_type known (Anonymous p k m) ≡ true = holds 1 m.pos (denotes_type known m.decl) (nil_left _ _ none) in
-        in_mode how (both_first (is_in how) _ (open traversed (indicates_type known (Anonymous p k m)) _ through denotes last))
+        in_mode how (both_first (is_in how) _ (reached traversed (indicates_type known (Anonymous p k m)) _ through denotes last))
       where
-        open : (a b c : Bool) → not true || a ≡ true → b ≡ true → not (a && b) || c ≡ true → c ≡ true
-        open true true c e g h = h
-        open true false c e g h = cc
-        open false b c e g h = cc
+        reached : (a b c : Bool) → not true || a ≡ true → b ≡ true → not (a && b) || c ≡ true → c ≡ true
+        reached true true c e g h = h
+        reached true false c e g h = cc
+        reached false b c e g h = cc
 
         both_first : (a b : Bool) → a && b ≡ true → a ≡ true
         both_first true b e = refl
@@ -358,19 +358,18 @@ module _ (s : Site) (objects : List Object) (subs : List Signature) (made : ℕ 
     )
     each_formal f r traversed a how of ids are none faults = tt
 
+    group_local : (f : Bool) (r : Option ℕ) (traversed : Bool) (a : ℕ) (g : Code) → IsGroupTyped known g → formals_group s.context f r traversed g ≡ []
+        → AllByRecursion (IsLocalView table) (formals_of h a g)
+    group_local f r traversed a (Formals ids m of) are group =
+        each_formal f r traversed a m of ids are (nil_left (indication_faults known of) _ group) (nil_right (indication_faults known of) _ group)
+    group_local f r traversed a g are group = tt
+
     groups_local : (f : Bool) (r : Option ℕ) (traversed : Bool) (a : ℕ) (formals : Code) → AreGroupsTyped known formals → formals_faults s.context f r traversed formals ≡ []
         → AllByRecursion (IsLocalView table) (flat_map (formals_of h a) (code_items formals))
-    groups_local f r traversed a (More (Formals ids m of) rest) are faults =
-        let group = nil_left (formals_group s.context f r traversed (Formals ids m of)) _ faults in
-        all_both (IsLocalView table) (formals_of h a (Formals ids m of)) (flat_map (formals_of h a) (code_items rest))
-        (each_formal f r traversed a m of ids are.0 (nil_left (indication_faults known of) _ group) (nil_right (indication_faults known of) _ group))
-        (groups_local f r false a rest are.1 (nil_right (formals_group s.context f r traversed (Formals ids m of)) _ faults))
     groups_local f r traversed a (More group rest) are faults =
-        all_both (IsLocalView table) (formals_of h a group) (flat_map (formals_of h a) (code_items rest)) (none_of group)
+        all_both (IsLocalView table) (formals_of h a group) (flat_map (formals_of h a) (code_items rest))
+        (group_local f r traversed a group are.0 (nil_left (formals_group s.context f r traversed group) _ faults))
         (groups_local f r false a rest are.1 (nil_right (formals_group s.context f r traversed group) _ faults))
-      where
-        none_of : (g : Code) → AllByRecursion (IsLocalView table) (formals_of h a g)
-        none_of g = tt
     groups_local f r traversed a formals are faults = tt
 
     pub front_local : (a : ℕ) (front : Code) → IsFrontTyped known front → front_faults s.context front ≡ []

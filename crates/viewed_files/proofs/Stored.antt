@@ -1,26 +1,28 @@
 -- What is declared, or assigned as a whole, and is of an anonymous access type is a variable: formals aren't declared, and no
 -- formal of mode `in` is assigned in a program without reports.
 use Rattle.std.specs.Prelude.{IsTrue}
-use Rattle.std.proofs.Common.{◌≡◌, refl, sym, ap, ◌∙◌, subst, ◌⊎◌, inl, inr, ℕ, Bool, true, false, not, ◌&&◌, ◌||◌, List, ◌++◌, map, None, Some}
+use Rattle.std.proofs.Common.{◌≡◌, refl, sym, ap, ◌∙◌, subst, ◌⊎◌, inl, inr, ℕ, ◌<◌, Bool, true, false, not, ◌&&◌, ◌||◌, nat_lt, List, [], ◌∷◌, ◌++◌, map, length, filter}
+use Rattle.std.proofs.lemmas.Bool.{ltb-true, lt-ltb}
 use Rattle.spark_base.specs.Lists.{Has}
-use Rattle.spark_base.proofs.Lists.{Has-append_right, Has-map_from}
+use Rattle.spark_base.proofs.Lists.{Has-append_right, Has-map_from, Has-filter}
 use Rattle.spark_base.specs.declared.position.Pos.{Pos}
 use Rattle.place_names.specs.declared.act.Act.TheVariants as act
 use Rattle.place_names.specs.declared.act.Placed.{Placed}
 use Rattle.place_names.specs.declared.rule.Rule.TheVariants as rule
 use Rattle.place_names.specs.Names.{Name as PlaceName}
-use Rattle.type_definitions.specs.Types.{Table}
+use Rattle.type_definitions.specs.Types.{Table, full}
 use Rattle.typed_tree.specs.declared.object.ObjectKind.{ObjectKind}
 use Rattle.typed_tree.specs.declared.object.ObjectKind.TheVariants as object_kind
 use Rattle.typed_tree.specs.Trees.{TypedTree, Name, NoMore}
-use Rattle.typed_tree.specs.Programs.{TypedSub, TypedProgram}
+use Rattle.typed_tree.specs.declared.object.Object.{Object}
+use Rattle.typed_tree.specs.Programs.{TypedSub, TypedProgram, text_io}
 use Rattle.flow_paths.specs.declared.report.Effects.{Effects}
 use Rattle.flow_paths.specs.Instructions.{Instruction, Declare, Assign}
 use Rattle.flow_paths.specs.Objects.{Typing, object_at, is_variable, is_formal, is_formal_kind, is_borrower, is_observer, is_borrowing, is_observing, is_named_access, is_anonymous, is_package_object, view_of}
 use Rattle.flow_paths.specs.Names.{name_of, selectors}
 use Rattle.flow_paths.specs.Acts.{placed, acts_of, before_write, whole_acts}
 use Rattle.flow_paths.specs.Points.{NamedPoint, FlowPoint}
-use Rattle.flow_paths.specs.Laid.{FlowSub, FlowProgram, NamedSub, all_named, declared_within, unnumbered, kept_roots, sub_facts, flow_sub, typing_of, flow_typing, flow_program, flow_named}
+use Rattle.flow_paths.specs.Laid.{FlowSub, FlowProgram, NamedSub, all_named, sub_points, temporary_object, declared_within, unnumbered, kept_roots, sub_facts, flow_sub, typing_of, flow_typing, flow_program, flow_named}
 use Rattle.flow_paths.specs.Reports.{on_views}
 use Rattle.flow_paths.specs.Views.{ConstantView, of_formal, in_function, changed, is_function, is_in_mode, has_selector, text_report}
 use Rattle.machine.specs.Owners.{is_in, is_in_formal}
@@ -28,7 +30,15 @@ use Rattle.soundness.specs.Sound.{Accepted}
 use Rattle.soundness.proofs.Points.{flow_at}
 use Rattle.soundness.proofs.Typings.{Agree, flow_agrees, formal_same}
 use Rattle.scope_laws.proofs.Begun.{Begins, sub_begun, package_begun}
-use Rattle.ready_laws.specs.InOrder.{IsInOrder}
+use Rattle.scope_laws.specs.Code.{roots}
+use Rattle.scope_laws.specs.Order.{named_in}
+use Rattle.scope_laws.specs.Supplied.{IsKept}
+use Rattle.scope_laws.proofs.Kept.{sub_kept}
+use Rattle.scope_laws.proofs.Filled.{temporaries_of, object_before}
+use Rattle.scope_laws.proofs.Lists.{all_has, within_has}
+use Rattle.ready_laws.specs.InOrder.{IsInOrder, AreStill, own_nothing}
+use Rattle.ready_laws.proofs.Elaborated.{package_declares}
+use Rattle.ready_laws.proofs.Ready.{seen_has}
 use Rattle.ready_laws.proofs.Subs.{setting_from, named_cases}
 use Rattle.viewed_steps.specs.Sound.{IsStoredAt}
 
@@ -68,8 +78,9 @@ access_none true constant e = cc
 module _ (table : Table) (typed : TypedProgram) (effects : Effects) (accepted : Accepted table typed effects) (order : IsInOrder table typed)
     (declared : (sub : TypedSub) → Has typed.subs sub → (x : ℕ) → Has (declared_within sub.body) x → is_formal (typing_of table typed) x ≡ false)
     (plain : (x : ℕ) → is_anonymous (view_of (flow_typing (flow_program table typed)) x) ≡ true → is_named_access (view_of (flow_typing (flow_program table typed)) x) ≡ false)
-    (local : (x : ℕ) → is_anonymous (view_of (flow_typing (flow_program table typed)) x) ≡ true
-    → (is_variable (object_at (flow_typing (flow_program table typed)) x).kind ≡ true) ⊎ (is_in_formal (flow_typing (flow_program table typed)) x ≡ true)) where
+    (local : (x : ℕ) → is_anonymous (view_of (typing_of table typed) x) ≡ true
+    → (is_variable (object_at (typing_of table typed) x).kind ≡ true) ⊎ (is_in_formal (typing_of table typed) x ≡ true))
+    (still : AreStill table typed order.first) where
   abbrev program : FlowProgram
   program = flow_program table typed
 
@@ -82,21 +93,64 @@ module _ (table : Table) (typed : TypedProgram) (effects : Effects) (accepted : 
   alike : Agree s own
   alike = flow_agrees table typed
 
+  -- an object of the text
+  abbrev IsOfText : ℕ → Type 0
+  IsOfText x = object_at s x ≡ object_at own x
+
+  of_text : (x : ℕ) → x < length typed.objects → IsOfText x
+  unfolding flow_program
+  of_text x less = object_before typed.objects (map temporary_object (temporaries_of (flow_named table typed))) x text_io less
+
+  of_package : (x : ℕ) → is_package_object own x ≡ true → IsOfText x
+  of_package x shared = elim (alike.object x) [
+    | inl same ↦ same
+    | inr others ↦ absurd (true_is (sym shared ∙ others.1.2))
+  ]
+
   abbrev IsNone : ℕ → Type 0
-  IsNone x = is_formal s x ≡ false
+  IsNone x = (is_formal s x ≡ false) × IsOfText x
+
+  none_there : (sub : TypedSub) → Has typed.subs sub → (x : ℕ) → Has (declared_within sub.body) x → IsNone x
+  none_there sub among x within =
+      (formal_same s own alike x ∙ declared sub among x within, of_text x ((order.bodies sub among).numbered x (Has-append_right sub.formals (declared_within sub.body) x within)).1)
 
   -- ---- what points declare
 
   begun_named : (named : NamedSub) → Has (flow_named table typed) named → (p : NamedPoint) → Has named.points p → Begins IsNone p.instr
   begun_named named has p there = elim (named_cases own order.first order.rest named (subst (λ subs. Has (all_named own subs) named) order.subs has)) [
-    | inl e ↦ package_begun (unnumbered own) IsNone order.first
-        (λ x within. formal_same s own alike x ∙ declared order.first (subst (λ subs. Has subs order.first) (sym order.subs) (inl refl)) x within)
+    | inl e ↦ package_begun (unnumbered own) IsNone order.first (none_there order.first (subst (λ subs. Has subs order.first) (sym order.subs) (inl refl)))
         p (subst (λ (z : NamedSub). Has z.points p) (sym e) there)
     | inr body ↦
-        sub_begun (setting_from own body.2 body.0) IsNone body.0
-        (λ x within. formal_same s own alike x ∙ declared body.0 (subst (λ subs. Has subs body.0) (sym order.subs) (inr body.1)) x within)
+        sub_begun (setting_from own body.2 body.0) IsNone body.0 (none_there body.0 (subst (λ subs. Has subs body.0) (sym order.subs) (inr body.1)))
         p (subst (λ (z : NamedSub). Has z.points p) (sym body.4) there)
   ]
+
+  -- what they assign as a whole is of the text
+  assigned_text : (named : NamedSub) → Has (flow_named table typed) named → (p : NamedPoint) → Has named.points p → (q : Pos) (x u : ℕ) (e : TypedTree)
+      → p.instr ≡ Assign (Name q x NoMore u) e → IsOfText x
+  unfolding roots
+  assigned_text named has p there q x u e is = elim (named_cases own order.first order.rest named (subst (λ subs. Has (all_named own subs) named) order.subs has)) [
+    | inl same ↦ (
+        let here = subst (λ (z : NamedSub). Has z.points p) (sym same) there in
+        no_assign (package_declares own (unnumbered own) order.first order.declares order.unmoved p here (still p here)))
+    | inr body ↦ (
+        let among : Has typed.subs body.0 = subst (λ subs. Has subs body.0) (sym order.subs) (inr body.1) in
+        let kept = all_has (IsKept (is_package_object own) below) (sub_points (setting_from own body.2 body.0) body.0) p
+        (sub_kept (is_package_object own) below (setting_from own body.2 body.0) body.0
+        (λ z object. lt-ltb z (length typed.objects) ((order.bodies body.0 among).numbered z object).1) (order.local body.0 body.1).seen)
+        (subst (λ (z : NamedSub). Has z.points p) (sym body.4) there) in
+        elim (seen_has (is_package_object own) (filter below p.scope) (named_in p.instr) x kept
+        (subst (λ i. Has (named_in i) x) (sym is) (Has-append_right (roots e) (x ∷ []) x (inl refl)))) [
+          | inl outer ↦ of_package x outer
+          | inr within ↦ of_text x (ltb-true x (length typed.objects) (Has-filter below p.scope x (within_has x (filter below p.scope) within)).1)
+        ])
+  ]
+    where
+      below : ℕ → Bool
+      below z = nat_lt z (length typed.objects)
+
+      no_assign : ((y : ℕ) × (v : TypedTree) × (p.instr ≡ Declare y v) × (own_nothing own (roots v) ≡ true)) → IsOfText x
+      no_assign found = (let no : Declare found.0 found.1 ≡ Assign (Name q x NoMore u) e = sym found.2 ∙ is in cc)
 
   -- ---- what points assign
 
@@ -150,11 +204,24 @@ module _ (table : Table) (typed : TypedProgram) (effects : Effects) (accepted : 
       let named = Has-map_from (flow_sub own) (flow_named table typed) sub has in
       let q = Has-map_from (λ (z : NamedPoint). flow_at own named.0 z) (named.0).points p (subst (λ (z : FlowSub). Has z.points p) (sym named.2) there) in
       let same : (q.0).instr ≡ p.instr = ap (λ (z : FlowPoint). z.instr) q.2 in
-      elim (local x view) [
-        | inl variable ↦ variable
-        | inr formal ↦ absurd (elim stored [
-          | inl (v, is) ↦ true_is (sym (both_first (is_formal s x) (is_in (object_at s x).mode) formal) ∙ subst (Begins IsNone) (same ∙ is) (begun_named named.0 named.1 q.0 q.1))
-          | inr (at, u, e, is) ↦ unwritten named.0 named.1 q.0 q.1 (subst (Has program.subs) (sym named.2) has)
-              (subst (λ (z : FlowPoint). Has (flow_sub own named.0).points z) (sym q.2) (subst (λ (z : FlowSub). Has z.points p) (sym named.2) there)) at x u e (same ∙ is) formal view
-        ])
+      let here : (is_formal s x ≡ false) × IsOfText x ⊎ ((q : Pos) × (u : ℕ) × (e : TypedTree) × (p.instr ≡ Assign (Name q x NoMore u) e) × IsOfText x) = elim stored [
+        | inl (v, is) ↦ inl (subst (Begins IsNone) (same ∙ is) (begun_named named.0 named.1 q.0 q.1))
+        | inr (at, u, e, is) ↦ inr (at, u, e, is, assigned_text named.0 named.1 q.0 q.1 at x u e (same ∙ is))
+      ] in
+      elim here [
+        | inl (none, text) ↦ elim (variable_or x text view) [
+            | inl variable ↦ variable
+            | inr formal ↦ true_is (sym (both_first (is_formal s x) (is_in (object_at s x).mode) formal) ∙ none)
+          ]
+        | inr (at, u, e, is, text) ↦ elim (variable_or x text view) [
+            | inl variable ↦ variable
+            | inr formal ↦ absurd (unwritten named.0 named.1 q.0 q.1 (subst (Has program.subs) (sym named.2) has)
+                (subst (λ (z : FlowPoint). Has (flow_sub own named.0).points z) (sym q.2) (subst (λ (z : FlowSub). Has z.points p) (sym named.2) there)) at x u e (same ∙ is) formal view)
+          ]
+      ]
+    where
+      variable_or : (x : ℕ) → IsOfText x → is_anonymous (view_of s x) ≡ true → (is_variable (object_at s x).kind ≡ true) ⊎ (is_in_formal s x ≡ true)
+      variable_or x text view = elim (local x (sym (λ j. is_anonymous (full (alike.table j) (text j).of)) ∙ view)) [
+        | inl variable ↦ inl (ap (λ (o : Object). is_variable o.kind) text ∙ variable)
+        | inr formal ↦ inr (ap (λ (o : Object). is_formal_kind o.kind && is_in o.mode) text ∙ formal)
       ]

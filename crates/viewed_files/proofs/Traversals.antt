@@ -23,7 +23,10 @@ use Rattle.viewed_steps.specs.Traversals.{GivesView, IsSourceName}
 true_is : {A : Type 0} → true ≡ false → A
 true_is e = cc
 
-shape_there : (z : Shape) → is_anonymous (view_of z) ≡ true → (d : ℕ) × (c : Bool) × (n : Bool) × (z ≡ shape.Access d c n) × (n ≡ false)
+abbrev IsTree : TypedTree → TypedTree → Type 0
+IsTree a b = a ≡ b
+
+pub shape_there : (z : Shape) → is_anonymous (view_of z) ≡ true → (d : ℕ) × (c : Bool) × (n : Bool) × (z ≡ shape.Access d c n) × (n ≡ false)
 shape_there (shape.Access d c false) e = (d, c, false, refl, refl)
 shape_there (shape.Access d true true) e = cc
 shape_there (shape.Access d false true) e = cc
@@ -85,23 +88,20 @@ module _ (s : Typing) where
 
     pub declares_view : (result : Option ℕ) (x : ℕ) (q : Pos) (n : ℕ) (a rest : TypedTree) → IsTypedUse s result (Declare x (More (CallIn q n a) rest))
         → traverses s.table (sub_at s n).result ≡ true → (is_anonymous (full s.table (object_at s x).of) ≡ true) × GivesView s n (object_at s x).of
-    declares_view result x q n a rest use gives =
-        (source_view q n a (object_at s x).of use.1.0 gives, call_gives q n a (object_at s x).of use.0.1 gives)
+    declares_view result x q n a rest taking gives =
+        (source_view q n a (object_at s x).of taking.1.0 gives, call_gives q n a (object_at s x).of taking.0.1 gives)
 
-    pub assigns_view : (result : Option ℕ) (target : TypedTree) (q : Pos) (n : ℕ) (a : TypedTree) → IsTypedUse s result (Assign target (CallIn q n a))
-        → traverses s.table (sub_at s n).result ≡ true
-        → (r : Pos) × (x : ℕ) × (u : ℕ) × (target ≡ Name r x NoMore u) × (is_anonymous (full s.table (object_at s x).of) ≡ true) × GivesView s n (object_at s x).of
-    assigns_view result (Name r x path u) q n a ((t, place, taken), within) gives =
+    pub assigns_view : (result : Option ℕ) (r : Pos) (x : ℕ) (path : TypedTree) (u : ℕ) (q : Pos) (n : ℕ) (a : TypedTree)
+        → IsTypedUse s result (Assign (Name r x path u) (CallIn q n a)) → traverses s.table (sub_at s n).result ≡ true
+        → (path ≡ NoMore) × ((object_at s x).of ≡ u) × (is_anonymous (full s.table (object_at s x).of) ≡ true) × GivesView s n (object_at s x).of
+    assigns_view result r x path u q n a ((t, place, taken), within) gives =
         let view = source_view q n a u within.0 gives in
         let whole = whole_place path (object_at s x).of u place.0 view in (
-          r,
-          x,
-          u,
-          ap (λ k. Name r x k u) whole.0,
+          whole.0,
+          whole.1,
           ap (λ k. is_anonymous (full s.table k)) whole.1 ∙ view,
           call_gives q n a (object_at s x).of (subst (λ k. Taken s k (CallIn q n a)) (sym place.1 ∙ sym whole.1) taken) gives,
         )
-    assigns_view result target q n a ((t, place, taken), within) gives = absurd place
 
     pub holds_view : (result : Option ℕ) (q : Pos) (n : ℕ) (a rest : TypedTree) → IsTypedUse s result (Hold (More (CallIn q n a) rest)) → traverses s.table (sub_at s n).result ≡ true
         → traverses s.table result ≡ true
@@ -116,7 +116,7 @@ module _ (s : Typing) where
       → (q : Pos) × (y : ℕ) × (path : TypedTree) × (u : ℕ) × (more : TypedTree) × (actuals ≡ More (Name q y path u) more)
   first_name n given actuals call passed gives f rest formals = by actuals (subst (λ fs. ActualsTaken s fs actuals) formals call.0) passed.1
     where
-      named : (e more : TypedTree) → IsName e → (q : Pos) × (y : ℕ) × (path : TypedTree) × (u : ℕ) × (others : TypedTree) × (More e more ≡ More (Name q y path u) others)
+      named : (e more : TypedTree) → IsName e → (q : Pos) × (y : ℕ) × (path : TypedTree) × (u : ℕ) × (others : TypedTree) × IsTree (More e more) (More (Name q y path u) others)
       named (Name q y path u) more is = (q, y, path, u, more, refl)
       named e more is = absurd is
 
@@ -128,21 +128,21 @@ module _ (s : Typing) where
   pub called_name : (result : Option ℕ) (n : ℕ) (actuals : TypedTree) (r : Option ℕ) → IsTypedUse s result (Call n actuals r) → traverses s.table (sub_at s n).result ≡ true
       → (f : ℕ) (rest : List ℕ) → (sub_at s n).formals ≡ f ∷ rest
       → (q : Pos) × (y : ℕ) × (path : TypedTree) × (u : ℕ) × (more : TypedTree) × (actuals ≡ More (Name q y path u) more)
-  called_name result n actuals r use gives f rest formals = first_name n _ actuals use.0 use.1.0 gives f rest formals
+  called_name result n actuals r taking gives f rest formals = first_name n _ actuals taking.0 taking.1.0 gives f rest formals
 
   -- ---- what one returns
 
   pub returns_source : (result : Option ℕ) (e last : TypedTree) (of : ℕ) → IsTypedUse s result (Hold (More e last)) → result ≡ Some of → is_anonymous (full s.table of) ≡ true
       → ((n : ℕ) → traverses s.table (sub_at s n).result ≡ true → (f : ℕ) × (rest : List ℕ) × ((sub_at s n).formals ≡ f ∷ rest))
       → (e ≡ typed.Null) ⊎ ((q : Pos) × (y : ℕ) × (path : TypedTree) × (u : ℕ) × IsSourceName s of e q y path u)
-  returns_source None e last of use is view first = cc
+  returns_source None e last of taking is view first = cc
   returns_source (Some t) e last of (returned, within) is view first =
       by e (subst (λ k. Taken s k e) same (head_taken e last t returned)) (subst (λ k. WithinSource s k e) same within.0.0) (within.1 (ap (λ k. is_anonymous (full s.table k)) same ∙ view))
     where
       same : t ≡ of
       same = cc
 
-      head_taken : (e last : TypedTree) (t : ℕ) → ((z : TypedTree) × (More e last ≡ More z NoMore) × Taken s t z) → Taken s t e
+      head_taken : (e last : TypedTree) (t : ℕ) → ((z : TypedTree) × IsTree (More e last) (More z NoMore) × Taken s t z) → Taken s t e
       head_taken e last t (z, here, taken) = (let one : z ≡ e = cc in subst (Taken s t) one taken)
 
       by : (e : TypedTree) → Taken s of e → WithinSource s of e → IsViewSource s e

@@ -2,8 +2,6 @@
 -- other places in variables, of which nothing is moved.
 use Rattle.std.proofs.Common.{◌≡◌, refl, sym, ap, ◌∙◌, subst, ◌⊎◌, inl, inr, ℕ, Bool, true, false, ◌&&◌, List, [], ◌∷◌, map, arith, length, if◌then◌else◌, Some}
 use Rattle.spark_base.specs.Lists.{Has}
-use Rattle.place_names.specs.declared.act.Act.{Act}
-use Rattle.place_names.specs.declared.act.Act.TheVariants as act
 use Rattle.place_names.specs.declared.act.Mode.{Mode}
 use Rattle.place_names.specs.declared.act.Mode.TheVariants as mode
 use Rattle.place_names.specs.declared.act.Placed.{Placed}
@@ -12,56 +10,57 @@ use Rattle.place_names.specs.Names.{Name as PlaceName}
 use Rattle.place_names.specs.declared.rule.Loan.TheVariants.{Borrowed}
 use Rattle.type_definitions.specs.Types.{Table, shape_of, full, is_scalar, is_owning}
 use Rattle.typed_tree.specs.Trees.{TypedTree, Name, More}
-use Rattle.flow_paths.specs.Objects.{object_at, is_anonymous, is_observer, is_named_access, view_of, Passing, ByValue, passing_by}
+use Rattle.flow_paths.specs.Objects.{Typing, object_at, is_anonymous, is_named_access, view_of, Passing, ByValue, passing_by}
 use Rattle.flow_paths.specs.Objects as objects
-use Rattle.flow_paths.specs.Names.{has_call, waiting, written, name_of}
+use Rattle.flow_paths.specs.Names.{selectors, has_call, waiting, written, name_of}
 use Rattle.flow_paths.specs.Acts.{actual_act, actual_acts, actual_values, acts_in, index_acts}
 use Rattle.machine.specs.Words as machine
-use Rattle.machine.specs.Memory.{Memory, Place, slots_of}
-use Rattle.machine.specs.Evaluate.{Here, Now, Evaluated, Done, followed_by, variable_place, walked, evaluate, Raises, Traps, held_or_taken, AsView, AsValue, viewed, value, steps_of, checked}
+use Rattle.machine.specs.Memory.{Memory, Place}
+use Rattle.machine.specs.Evaluate.{Here, Now, Evaluated, Done, followed_by, variable_place, walked, evaluate, Raises, Traps, held_or_taken, AsView, AsValue, viewed, value, checked}
 use Rattle.machine.specs.Evaluate as run
 use Rattle.machine.specs.Calls.{type_of, Passed, passed, all_passed, value_passed}
 use Rattle.machine.specs.Owners.{is_in}
 use Rattle.machine.specs.States.{Waiting, Leak}
-use Rattle.owned_ways.specs.Ways.{OfVariable, Loc, Way, Object, All, Reaches, IsRooted, Past, Allows, AllowsAll, after}
+use Rattle.owned_ways.specs.Ways.{OfVariable, Loc, Way, Object, All, Reaches, Past, AllowsAll, after}
 use Rattle.owned_ways.specs.Ways as ways
 use Rattle.owned_ways.proofs.Locations.{under_itself}
 use Rattle.part_offsets.specs.Parts.{IsSettled}
 use Rattle.soundness.specs.Seen.{IsNear, content, trunk, seen, home, is_view_formal}
 use Rattle.soundness.specs.Typed.{OwnsByShape, Matches}
 use Rattle.soundness.specs.Sound.{goes_through_none}
-use Rattle.typed_laws.specs.Needed.{IndexLaw}
+use Rattle.typed_laws.specs.Needed.{Gives, IndexLaw, Leads}
 use Rattle.soundness.proofs.Contents.{bool_cases}
 use Rattle.soundness.proofs.Fixed.{matches_scalar}
 use Rattle.soundness.proofs.Walks.{way_along, past_along}
 use Rattle.soundness.proofs.Scalars.{named_along, acts, acts_append, allows_both, number_along}
 use Rattle.soundness.proofs.Stays.{Quiet}
-use Rattle.soundness.proofs.Taking.{Takes, takes_both}
-use Rattle.soundness.proofs.Passing.{AreReads, reads_keep, plain_type}
+use Rattle.soundness.proofs.Taking.{Takes}
+use Rattle.viewed_soundness.specs.Taken.{types_taken, TakesFit}
+use Rattle.viewed_steps.proofs.Supplied.{Supplies, supplies_both, takes_supplied, scalar_types, place_types, seen_types}
+use Rattle.viewed_nulls.proofs.Copied.{copies_same}
+use Rattle.soundness.proofs.Passing.{reads_keep, plain_type}
 use Rattle.soundness.proofs.Lasting.{keeps}
 use Rattle.owned_loans.specs.Views.{Around, Views}
 use Rattle.owned_loans.proofs.Allowed.{cleared_open, cleared_whole}
-use Rattle.viewed_soundness.specs.Holds.{IsNamed, PartsAreNamed, sees_only, is_fixed, IsOwners, IsAccess, KeepsObserved, AllKeep}
+use Rattle.viewed_soundness.specs.Holds.{IsNamed, PartsAreNamed, sees_only, IsOwners, IsAccess}
 use Rattle.viewed_soundness.proofs.Names.{Starts, true_false, view_access, not_view, plain_sees, both_no, plain_named}
 use Rattle.viewed_soundness.proofs.Stays.{Goes, no_selectors}
 use Rattle.viewed_soundness.proofs.Evaluated.{matches_named, live_trunk}
 use Rattle.viewed_steps.specs.Sound.{IsKindOfFormal}
-use Rattle.viewed_steps.specs.Ready.{IsOwnPlace, IsSeen, IsCopyOf, IsActualTo, AreActualsTo}
+use Rattle.viewed_steps.specs.Ready.{IsOwnPlace, IsSeen, IsActualTo, AreActualsTo}
 use Rattle.viewed_steps.proofs.Seeing.{IsClear, AreClear}
 use Rattle.viewed_steps.proofs.LaidOut.{IsOpenActual, AreOpenActuals}
 use Rattle.viewed_steps.proofs.Called.{way_to, head_of, head_values_are, head_of_reads, IsGiven, one_given}
-use Rattle.viewed_steps.proofs.Copies.{copies_read}
 use Rattle.viewed_nulls.proofs.Spared.{Spares, done_on, spares_on, spared_whole}
 use Rattle.owned_loans.proofs.Safe.{Unlent, Unmoved}
 use Rattle.null_places.specs.Compares.{Compares}
 use Rattle.null_places.proofs.Only.{OnlyOwners}
-use Rattle.null_places.proofs.Evaluated.{value_on}
 use Rattle.null_places.proofs.Direct.{has_deref, past_deref, selectors_direct}
 use Rattle.null_places.proofs.Walks.{SameNow, SameTo, then_same, simply}
 use Rattle.null_places.proofs.Laws.{Premises, Behaves, Finds, IsAt, IsWholeAt}
 use Rattle.null_places.proofs.Scalars.{scalar_none, value_passed_same, to_passed_same, from_passed_same, place_then, steps_on, view_same, none_there}
 use Rattle.viewed_nulls.proofs.Names.{name_same, access_found, view_whole, owner_found}
-use Rattle.viewed_nulls.proofs.Viewed.{viewed_premises, anonymous_access, IsReadyIn, leads, viewed_behaves, viewed_values}
+use Rattle.viewed_nulls.proofs.Viewed.{viewed_premises, anonymous_access, IsReadyIn, leads, viewed_behaves}
 use Rattle.viewed_steps.proofs.Views.{AreAccess, AreUnseen}
 use Rattle.viewed_steps.specs.Ready.{is_shown_type}
 use Rattle.viewed_steps.specs.Traversals.{TraversalCall}
@@ -212,19 +211,10 @@ module _ (h : Here) (settled : IsSettled h.typing.table) (leaks : List Leak) (ot
       (opens w (named_along (home h.typing h.frame) way (Object (OfVariable (home h.typing h.frame y) y)) refl)
       (λ j. record { root = number_along way (Object (OfVariable (home h.typing h.frame y) y)) j; sels = goes.sels (Object (OfVariable (home h.typing h.frame y) y)) j }))
 
-  -- what reads changes nothing
-  reads_kept : (ps : List Placed) → AreReads ps → AllKeep (is_fixed h.typing) (acts ps)
-  reads_kept [] reads = tt
-  reads_kept (p ∷ ps) reads = (one p.act (reads p (inl refl)).0 (reads p (inl refl)).1, reads_kept ps (λ q has. reads q (inr has)))
-    where
-      one : (a : Act) (m : PlaceName) → (a ≡ act.Read m) ⊎ (a ≡ act.Look m) → KeepsObserved (is_fixed h.typing) a
-      one a m (inl e) = subst (KeepsObserved (is_fixed h.typing)) (sym e) tt
-      one a m (inr e) = subst (KeepsObserved (is_fixed h.typing)) (sym e) tt
-
   -- a copy, of a type that owns nothing
   copied_same : (before on : List (List machine.Word)) (x : ℕ) (e : TypedTree) → is_owning h.typing.table (object_at h.typing x).of ≡ false → IsNamed h.typing.table (object_at h.typing x).of
-      → IsCopyOf h.typing x e → Takes (waiting e) before on → Compares h.typing e → AllowsAll facts (acts (acts_in h.typing e)) → SameFor before on ByValue x e
-  copied_same before on x e plain named (gives, plainly) takes compares allowed n' same =
+      → Gives h.typing (object_at h.typing x).of e → TakesFit h.typing e → Supplies h.typing m (types_taken h.typing e) before on → Compares h.typing e → AllowsAll facts (acts (acts_in h.typing e)) → SameFor before on ByValue x e
+  copied_same before on x e plain named gives fit takes compares allowed n' same =
       by_kind (is_anonymous (view_of h.typing x)) (named_plain h.typing.table (object_at h.typing x).of named)
     where
       of : ℕ
@@ -232,9 +222,7 @@ module _ (h : Here) (settled : IsSettled h.typing.table) (leaks : List Leak) (ot
 
       copied : SameTo h.typing (evaluate h AsValue e (at before)) (evaluate h AsValue e n')
       copied =
-          value_on h settled own_law asks (IsReadyIn h settled leaks other alone in_formals index_law own_law v parts_named)
-          (viewed_values h settled leaks other alone in_formals index_law own_law v parts_named) e of gives tt plainly before on takes compares m hands facts ready allowed only named
-          (reads_kept (acts_in h.typing e) (copies_read h.typing own_law parts_named e of gives plain named plainly)) n' same
+          copies_same h settled leaks other alone in_formals index_law own_law v parts_named m hands facts ready only e of gives plain named fit before on takes compares allowed n' same
 
       last : List machine.Word → Now → Evaluated Passed
       last ws now = followed_by (checked h (type_of h x) ws now) value_passed
@@ -303,33 +291,37 @@ module _ (h : Here) (settled : IsSettled h.typing.table) (leaks : List Leak) (ot
   one_same : (mode_of : Mode) (owning access : Bool) (x : ℕ) (e : TypedTree) → (object_at h.typing x).mode ≡ mode_of → is_owning h.typing.table (object_at h.typing x).of ≡ owning → is_anonymous (view_of h.typing x) ≡ false → Kind x
       → IsActualTo h.typing x mode_of e → (is_given h.typing x ≡ true → IsClear h.typing facts e)
       → (is_in mode_of ≡ false → IsOpenActual h.typing h.frame facts e)
-      → (before on : List (List machine.Word)) → Takes (waiting e) before on
+      → (before on : List (List machine.Word)) → TakesFit h.typing e → Supplies h.typing m (types_taken h.typing e) before on
       → Compares h.typing e → AllowsAll facts (acts (head_of h.typing own_law procedure mode_of owning e))
       → IsSpared x mode_of e → SameFor before on (passing_by mode_of owning access) x e
   unfolding Compares goes_through_none has_call waiting
-  one_same mode.In false access x e is fits unseen kind stays clears direct before on takes compares allowed spared = elim (stays.0 (both_no (is_owning h.typing.table (object_at h.typing x).of) (is_anonymous (view_of h.typing x)) fits unseen)) [
-    | inl (plain, stay) ↦ (value_passed_same h settled own_law asks m hands facts law before on x e stay takes tt compares allowed).0
-    | inr (many, named, copy) ↦ copied_same before on x e fits named copy takes compares allowed
-  ]
-  one_same mode.In true access x e is fits unseen kind stays clears direct before on takes compares allowed spared = elim kind [
+  one_same mode.In false access x e is fits unseen kind stays clears direct before on fit takes compares allowed spared =
+      let there = stays.0 (both_no (is_owning h.typing.table (object_at h.typing x).of) (is_anonymous (view_of h.typing x)) fits unseen) in
+      elim there.1 [
+        | inl (plain, stay) ↦ (value_passed_same h settled own_law asks m hands facts law before on x e stay
+            (takes_supplied h.typing settled m e before on (scalar_types h.typing e (object_at h.typing x).of plain there.0 fit) takes) tt compares allowed).0
+        | inr (many, named) ↦ copied_same before on x e fits named there.0 fit takes compares allowed
+      ]
+  one_same mode.In true access x e is fits unseen kind stays clears direct before on fit takes compares allowed spared = elim kind [
     | inl plain ↦ absurd (true_false (is_owning h.typing.table (object_at h.typing x).of) fits (plain_type h.typing own_law (object_at h.typing x).of plain))
     | inr other_kind ↦ elim other_kind [
       | inl back ↦ absurd (back.0 is)
-      | inr (inl shown) ↦ shown_same before on x e shown.1 (stays.1 (ap (λ b. b || is_anonymous (view_of h.typing x)) fits)) takes compares allowed (clears shown.0)
+      | inr (inl shown) ↦ (let seen_there = stays.1 (ap (λ b. b || is_anonymous (view_of h.typing x)) fits) in
+          shown_same before on x e shown.1 seen_there (takes_supplied h.typing settled m e before on (seen_types h.typing x e seen_there fit) takes) compares allowed (clears shown.0))
       | inr (inr plain) ↦ absurd (true_false (is_owning h.typing.table (object_at h.typing x).of) fits plain.1)
     ]
   ]
-  one_same mode.Out owning access x (Name p y path u) is fits unseen kind (t, (lead, type), match, which) clears direct before on takes compares allowed spared =
-      (to_passed_same h settled own_law asks m hands facts law before on owning access x p y u path lead takes tt compares allowed (IsAt h asks m hands facts u)
+  one_same mode.Out owning access x (Name p y path u) is fits unseen kind (t, (lead, type), match, which) clears direct before on fit takes compares allowed spared =
+      (to_passed_same h settled own_law asks m hands facts law before on owning access x p y u path lead (takes_supplied h.typing settled m (Name p y path u) before on (place_types h.typing (Name p y path u) t (lead, type) fit) takes) tt compares allowed (IsAt h asks m hands facts u)
       (place_finds on x p y u path (direct refl))).0
-  one_same mode.Out owning access x e is fits unseen kind (t, never, match, which) clears direct before on takes compares allowed spared = absurd never
-  one_same mode.InOut owning access x (Name p y path u) is fits unseen kind (t, (lead, type), match, which) clears direct before on takes compares allowed spared =
+  one_same mode.Out owning access x e is fits unseen kind (t, never, match, which) clears direct before on fit takes compares allowed spared = absurd never
+  one_same mode.InOut owning access x (Name p y path u) is fits unseen kind (t, (lead, type), match, which) clears direct before on fit takes compares allowed spared =
       elim (bool_cases (is_scalar (full h.typing.table (object_at h.typing x).of))) [
-        | inl plain ↦ (from_passed_same h settled own_law asks m hands facts law before on owning access x p y u path lead takes tt compares allowed (IsAt h asks m hands facts u)
+        | inl plain ↦ (from_passed_same h settled own_law asks m hands facts law before on owning access x p y u path lead (takes_supplied h.typing settled m (Name p y path u) before on (place_types h.typing (Name p y path u) t (lead, type) fit) takes) tt compares allowed (IsAt h asks m hands facts u)
             (λ k there. scalar_none h settled own_law asks m hands facts law k there.0 u there.1 there.2
             (subst (λ z. is_scalar (full h.typing.table z) ≡ true) (sym type) (scalar_type t (object_at h.typing x).of match plain)))
             (place_finds on x p y u path (direct refl))).0
-        | inr many ↦ (from_passed_same h settled own_law asks m hands facts law before on owning access x p y u path lead takes tt compares allowed (WholeAt u)
+        | inr many ↦ (from_passed_same h settled own_law asks m hands facts law before on owning access x p y u path lead (takes_supplied h.typing settled m (Name p y path u) before on (place_types h.typing (Name p y path u) t (lead, type) fit) takes) tt compares allowed (WholeAt u)
             (λ k there. there.3)
             (λ way goes. kept_finds many way goes (direct refl))).0
       ]
@@ -360,7 +352,7 @@ module _ (h : Here) (settled : IsSettled h.typing.table) (leaks : List Leak) (ot
         | inl none ↦ direct_finds many way goes none
         | inr some ↦ through_finds on y u path way goes sees (λ empty. some_selectors h.typing (object_at h.typing y).of u path lead some (no_selectors h.typing.table (object_at h.typing y).of u path way goes empty)) (spared many)
       ]
-  one_same mode.InOut owning access x e is fits unseen kind (t, never, match, which) clears direct before on takes compares allowed spared = absurd never
+  one_same mode.InOut owning access x e is fits unseen kind (t, never, match, which) clears direct before on fit takes compares allowed spared = absurd never
 
   -- ---- all of them
 
@@ -388,15 +380,15 @@ module _ (h : Here) (settled : IsSettled h.typing.table) (leaks : List Leak) (ot
 
   -- They are read under the facts before the call; the acts of those that are copied back come after them.
   pub all_same : (before on : List (List machine.Word)) (known : List Fact) (done : List PlaceName) (formals : List ℕ) (actuals : TypedTree) → IsKnown known done formals actuals
-      → ((x : ℕ) → Has formals x → Kind x) → AreUnseen h.typing formals → AreActualsTo h.typing formals actuals → AreClear h.typing facts formals actuals → AreOpenActuals h.typing h.frame facts formals actuals → Takes (waiting actuals) before on
+      → ((x : ℕ) → Has formals x → Kind x) → AreUnseen h.typing formals → AreActualsTo h.typing formals actuals → AreClear h.typing facts formals actuals → AreOpenActuals h.typing h.frame facts formals actuals → TakesFit h.typing actuals → Supplies h.typing m (types_taken h.typing actuals) before on
       → Compares h.typing actuals → AllowsAll facts (acts (actual_values h.typing (map (way_to h.typing own_law procedure) formals) actuals))
       → AllowsAll known (acts (actual_acts (map (way_to h.typing own_law procedure) formals) actuals))
       → (n' : Now) → SameNow h.typing (record { memory = m; waits = before }) n'
       → SameTo h.typing (all_passed h (map (way_to h.typing own_law procedure) formals) formals actuals (record { memory = m; waits = before }))
       (all_passed h (map (way_to h.typing own_law procedure) formals) formals actuals n')
-  unfolding Compares has_call waiting
-  all_same before on known done [] actuals spares kinds unseen stay clears copied takes compares allowed copies n' same = (refl, same)
-  all_same before on known done (x ∷ formals) (More e rest) spares kinds unseen stay clears copied takes compares allowed copies n' same =
+  unfolding Compares has_call waiting TakesFit types_taken
+  all_same before on known done [] actuals spares kinds unseen stay clears copied fit takes compares allowed copies n' same = (refl, same)
+  all_same before on known done (x ∷ formals) (More e rest) spares kinds unseen stay clears copied fit takes compares allowed copies n' same =
       let mode_of : Mode = (object_at h.typing x).mode in
       let owning : Bool = is_owning h.typing.table (object_at h.typing x).of in
       let access : Bool = access_for x in
@@ -405,15 +397,15 @@ module _ (h : Here) (settled : IsSettled h.typing.table) (leaks : List Leak) (ot
       let others : List Placed = actual_values h.typing (map (way_to h.typing own_law procedure) formals) rest in
       let copy : List Placed = actual_act (way_for x) e in
       let copies_left : List Placed = actual_acts (map (way_to h.typing own_law procedure) formals) rest in
-      let two = takes_both (waiting e) (waiting rest) before on takes in
+      let two = supplies_both h.typing m (types_taken h.typing e) (types_taken h.typing rest) before on takes in
       let each = allows_both facts (acts head) (acts others)
       (subst (AllowsAll facts) (acts_append head others) (subst (λ z. AllowsAll facts (acts z)) (head_values_are h.typing own_law procedure x e (map (way_to h.typing own_law procedure) formals) rest) allowed)) in
       let still : after (acts head) facts ≡ facts = reads_keep head (head_of_reads h.typing own_law procedure parts_named x mode_of owning e refl (unseen x (inl refl)) stay.0) facts in
       let each_copy = allows_both known (acts copy) (acts copies_left) (subst (AllowsAll known) (acts_append copy copies_left) copies) in
-      let first = one_same mode_of owning access x e refl refl (unseen x (inl refl)) kind stay.0 clears.0 copied.0 before two.0 two.1 compares.0 each.0
+      let first = one_same mode_of owning access x e refl refl (unseen x (inl refl)) kind stay.0 clears.0 copied.0 before two.0 fit.0 two.1 compares.0 each.0
       (is_spared mode_of owning access x e formals rest known done refl spares each_copy.0) in
       let given = one_given h settled hands leaks m [] other facts v ready.kept ready.viewed ready.holds alone live in_formals index_law own_law parts_named formals_low procedure before two.0 mode_of owning access x e
-      refl refl (unseen x (inl refl)) kind stay.0 clears.0 copied.0 two.1 each.0 in
+      refl refl (unseen x (inl refl)) kind stay.0 clears.0 copied.0 fit.0 two.1 each.0 in
       let next : Passed → Now → Evaluated (List Passed) =
       (λ a now. followed_by (all_passed h (map (way_to h.typing own_law procedure) formals) formals rest now) (λ more now. Done (a ∷ more) now)) in
       then_same h.typing
@@ -423,44 +415,45 @@ module _ (h : Here) (settled : IsSettled h.typing.table) (leaks : List Leak) (ot
       (simply h.typing (all_passed h (map (way_to h.typing own_law procedure) formals) formals rest (at two.0)) (all_passed h (map (way_to h.typing own_law procedure) formals) formals rest n'')
       (λ more now. Done (a ∷ more) now) (λ more now. Done (a ∷ more) now)
       (all_same two.0 on (after (acts copy) known) (done_on mode_of (written e) done) formals rest (is_known_on x e formals rest known done spares)
-      (λ y has. kinds y (inr has)) (λ y has. unseen y (inr has)) stay.1 clears.1 copied.1 two.2 compares.1
+      (λ y has. kinds y (inr has)) (λ y has. unseen y (inr has)) stay.1 clears.1 copied.1 fit.1 two.2 compares.1
       (subst (λ z. AllowsAll z (acts others)) still each.1) each_copy.1 n''
       (subst (λ z. SameNow h.typing z n'') q.0 now))
       (λ more k k' last. (refl, last))))
-  all_same before on known done (x ∷ formals) actuals spares kinds unseen stay clears copied takes compares allowed copies n' same = (refl, same)
+  all_same before on known done (x ∷ formals) actuals spares kinds unseen stay clears copied fit takes compares allowed copies n' same = (refl, same)
 
   -- those of the call of a traversal function: the first one is seen, and all formals are of mode `in`
   pub traversed_same : (before on : List (List machine.Word)) (known : List Fact) (f : ℕ) (c : TraversalCall) (formals : List ℕ)
       → IsAccess h.typing f → is_shown_type h.typing f ≡ true → IsSeen h.typing f (first_actual h.typing own_law c) → IsClear h.typing facts (first_actual h.typing own_law c)
       → ((x : ℕ) → Has formals x → (object_at h.typing x).mode ≡ mode.In) → ((x : ℕ) → Has formals x → Kind x) → AreUnseen h.typing formals
       → AreActualsTo h.typing formals c.others → AreClear h.typing facts formals c.others → AreOpenActuals h.typing h.frame facts formals c.others
-      → Takes (waiting (More (first_actual h.typing own_law c) c.others)) before on → Compares h.typing (More (first_actual h.typing own_law c) c.others)
+      → TakesFit h.typing (More (first_actual h.typing own_law c) c.others) → Supplies h.typing m (types_taken h.typing (More (first_actual h.typing own_law c) c.others)) before on → Compares h.typing (More (first_actual h.typing own_law c) c.others)
       → AllowsAll facts (acts (actual_values h.typing (objects.Traversed ∷ (map (way_to h.typing own_law procedure) formals)) (More (first_actual h.typing own_law c) c.others)))
       → AllowsAll known (acts (actual_acts (map (way_to h.typing own_law procedure) formals) c.others))
       → (n' : Now) → SameNow h.typing (record { memory = m; waits = before }) n'
       → SameTo h.typing (all_passed h (objects.Traversed ∷ (map (way_to h.typing own_law procedure) formals)) (f ∷ formals) (More (first_actual h.typing own_law c) c.others) (record { memory = m; waits = before }))
       (all_passed h (objects.Traversed ∷ (map (way_to h.typing own_law procedure) formals)) (f ∷ formals) (More (first_actual h.typing own_law c) c.others) n')
-  unfolding Compares has_call waiting
-  traversed_same before on known f c formals access shown seen_first opens modes kinds unseen stay opens_others copied takes compares allowed copies n' same =
+  unfolding Compares has_call waiting TakesFit types_taken
+  traversed_same before on known f c formals access shown seen_first opens modes kinds unseen stay opens_others copied fit takes compares allowed copies n' same =
       let first : TypedTree = first_actual h.typing own_law c in
       let first_acts : List Placed = index_acts h.typing (first_actual h.typing own_law c) in
       let others : List Placed = actual_values h.typing (map (way_to h.typing own_law procedure) formals) c.others in
-      let two = takes_both (waiting c.path) (waiting c.others) before on takes in
+      let two = supplies_both h.typing m (types_taken h.typing first) (types_taken h.typing c.others) before on takes in
+      let taken_first = takes_supplied h.typing settled m first before two.0 (seen_types h.typing f first seen_first fit.0) two.1 in
       let each = allows_both facts (acts first_acts) (acts others) (subst (AllowsAll facts) (acts_append first_acts others) allowed) in
       let still : after (acts first_acts) facts ≡ facts = reads_keep first_acts (index_reads h.typing own_law (first_actual h.typing own_law c) c.of (seen_first.0, refl)) facts in
       let given = shown_given h settled hands leaks m [] other facts v ready.kept ready.viewed ready.holds alone live in_formals index_law own_law parts_named formals_low procedure before two.0 f
-      (first_actual h.typing own_law c) access shown seen_first two.1 each.0 opens in
+      (first_actual h.typing own_law c) access shown seen_first taken_first each.0 opens in
       let next : Passed → Now → Evaluated (List Passed) =
       (λ a now. followed_by (all_passed h (map (way_to h.typing own_law procedure) formals) formals c.others now) (λ more now. Done (a ∷ more) now)) in
       then_same h.typing
       (λ y. Quiet (at two.0) (λ a. IsGiven h settled hands leaks m [] other facts v ready.kept ready.viewed ready.holds alone live in_formals index_law own_law parts_named formals_low procedure f mode.In
       (first_actual h.typing own_law c) a) y)
       (passed h objects.Traversed f (first_actual h.typing own_law c) (at before)) (passed h objects.Traversed f (first_actual h.typing own_law c) n') next next given
-      (shown_same before two.0 f (first_actual h.typing own_law c) access seen_first two.1 compares.0 each.0 opens n' same)
+      (shown_same before two.0 f (first_actual h.typing own_law c) access seen_first taken_first compares.0 each.0 opens n' same)
       (λ a n n'' q now. subst (λ z. SameTo h.typing (next a z) (next a n'')) (sym q.0)
       (simply h.typing (all_passed h (map (way_to h.typing own_law procedure) formals) formals c.others (at two.0)) (all_passed h (map (way_to h.typing own_law procedure) formals) formals c.others n'')
       (λ more now. Done (a ∷ more) now) (λ more now. Done (a ∷ more) now)
-      (all_same two.0 on known [] formals c.others (inr modes) kinds unseen stay opens_others copied two.2 compares.1
+      (all_same two.0 on known [] formals c.others (inr modes) kinds unseen stay opens_others copied fit.1 two.2 compares.1
       (subst (λ z. AllowsAll z (acts others)) still each.1) copies n''
       (subst (λ z. SameNow h.typing z n'') q.0 now))
       (λ more k k' last. (refl, last))))

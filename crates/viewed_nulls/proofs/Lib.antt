@@ -6,6 +6,7 @@ pub mod Sources
 pub mod Fed
 -- instructions, steps, and the law
 pub mod Spared
+pub mod Copied
 pub mod Actuals
 pub mod Passed
 pub mod Instructions

@@ -1,5 +1,5 @@
 -- Of what a call passes nothing is gone, nor of the formals that it copies back.
-use Rattle.viewed_soundness.specs.Holds.{is_view, sees_only}
+use Rattle.viewed_soundness.specs.Holds.{is_view}
 use Rattle.viewed_steps.proofs.Left.{cells_same}
 use Rattle.std.proofs.Common.{◌≡◌, refl, sym, ap, ◌∙◌, subst, ◌⊎◌, inl, inr, ℕ, suc, false, List, [], ◌∷◌, ◌++◌, length, Some, true}
 use Rattle.place_names.specs.declared.fact.Fact.{Fact}

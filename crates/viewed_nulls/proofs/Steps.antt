@@ -1,8 +1,10 @@
 -- Each step of a sound state is the same in memories that agree, in a program with borrowers and
 -- observers that is ready.
-use Rattle.std.proofs.Common.{◌≡◌, refl, sym, ap, ◌∙◌, subst, ◌⊎◌, inl, inr, ℕ, suc, Bool, true, false, not, List, [], ◌∷◌, length, is_some, Option, Some, None, if◌then◌else◌}
+use Rattle.viewed_soundness.specs.Taken.{types_taken, TakesFit}
+use Rattle.viewed_steps.proofs.Supplied.{Supplies}
+use Rattle.std.proofs.Common.{take, ◌≡◌, refl, sym, ap, ◌∙◌, subst, ◌⊎◌, inl, inr, ℕ, suc, Bool, true, false, not, List, [], ◌∷◌, length, is_some, Option, Some, None, if◌then◌else◌}
 use Rattle.viewed_soundness.proofs.Names.{plain_named}
-use Rattle.viewed_steps.specs.Awaited.{AreAwaited, awaited, lasting_of, TakesScalars, StoresNone}
+use Rattle.viewed_steps.specs.Awaited.{temporaries_of, TakesPassed, AreAwaited, awaited, lasting_of, TakesScalars}
 use Rattle.owned_ways.specs.Ways.{after}
 use Rattle.viewed_soundness.proofs.Evaluated.{gives_plainly}
 use Rattle.spark_base.specs.Lists.{Has}
@@ -343,18 +345,19 @@ module _ (table : Table) (typed : TypedProgram) (effects : Effects) (input : Lis
         abbrev easy : State
         easy = (eased main_turn).state
 
-        -- it takes values of scalar types
-        plain_call : Plain
-        plain_call =
-            (innermost.plain_here table typed effects input ready state top below more_frames rest named p frames deep stages running awaiting of_sub at_point path views viewed_before kept scope holds placed_before above
-            (subst StoresNone (sym e) tt)).0
+        -- what it takes owns nothing
+        plain_call : TakesPassed s actuals (temporaries_of s (take (taken p.instr) p.scope))
+        plain_call = innermost.taken_call table typed effects input ready state top below more_frames rest named p frames deep stages running awaiting of_sub at_point path views viewed_before kept scope holds placed_before above k actuals result e
 
-        -- with the values that wait under plain types
+        supplied_call : Supplies s state.memory (types_taken s actuals) (start main_turn).waits []
+        supplied_call = innermost.supplied_call table typed effects input ready state top below more_frames rest named p frames deep stages running awaiting of_sub at_point path views viewed_before kept scope holds placed_before above k actuals result e
+
+        -- without these
         so_easy : IsReadyIn (steps.here main_turn) ready.accepted.settled state.leaks other alone in_formals index_law ready.owns views ready.class.parts_named
             state.memory (waiting_in (eased main_turn).state) facts_now
         so_easy = record {
-          viewed = (innermost.viewed_easy table typed effects input ready state top below more_frames rest named p frames deep stages running awaiting of_sub at_point path views viewed_before kept scope holds placed_before above plain_call).0;
-          kept = (innermost.viewed_easy table typed effects input ready state top below more_frames rest named p frames deep stages running awaiting of_sub at_point path views viewed_before kept scope holds placed_before above plain_call).1;
+          viewed = (innermost.ownless_easy table typed effects input ready state top below more_frames rest named p frames deep stages running awaiting of_sub at_point path views viewed_before kept scope holds placed_before above plain_call.0).0;
+          kept = (innermost.ownless_easy table typed effects input ready state top below more_frames rest named p frames deep stages running awaiting of_sub at_point path views viewed_before kept scope holds placed_before above plain_call.0).1;
           holds = calling.holds_now table typed effects input ready state top below more_frames rest named p frames deep stages running awaiting of_sub at_point path views viewed_before kept scope holds placed_before above k actuals result e;
         }
 
@@ -386,7 +389,7 @@ module _ (table : Table) (typed : TypedProgram) (effects : Effects) (input : Lis
             (calling.called table typed effects input ready state top below more_frames rest named p frames deep stages running awaiting of_sub at_point path views viewed_before kept scope holds placed_before above k actuals result e).actuals_stay
             (calling.clear_there table typed effects input ready state top below more_frames rest named p frames deep stages running awaiting of_sub at_point path views viewed_before kept scope holds placed_before above k actuals result e)
             (calling.copied_there table typed effects input ready state top below more_frames rest named p frames deep stages running awaiting of_sub at_point path views viewed_before kept scope holds placed_before above k actuals result e)
-            (takes_of plain_call (Call k actuals result) e) (subst (ComparesIn s) e compares)
+            plain_call.1 supplied_call (subst (ComparesIn s) e compares)
             (subst (λ z. AllowsAll facts_now (acts (flow.actual_values s z actuals))) (passes_to program k none) (calling.values_allowed table typed effects input ready state top below more_frames rest named p frames deep stages running awaiting of_sub at_point path views viewed_before kept scope holds placed_before above k actuals result e))
             (calling.copies_allowed table typed effects input ready state top below more_frames rest named p frames deep stages running awaiting of_sub at_point path views viewed_before kept scope holds placed_before above k actuals result e)
             (start (twin main_turn n)) (agrees, refl, only))
@@ -423,7 +426,8 @@ module _ (table : Table) (typed : TypedProgram) (effects : Effects) (input : Lis
               (λ x has. calling.kinds table typed effects input ready state top below more_frames rest named p frames deep stages running awaiting of_sub at_point path views viewed_before kept scope holds placed_before above k actuals result e x (subst (λ z. Has z x) (sym traversing.formals) (inr has)))
               (acting.unseen_others table typed effects input ready state top below more_frames rest named p frames deep stages running awaiting of_sub at_point path views viewed_before kept scope holds placed_before above k actuals result e f traversed) (acting.others_stay table typed effects input ready state top below more_frames rest named p frames deep stages running awaiting of_sub at_point path views viewed_before kept scope holds placed_before above k actuals result e f traversed)
               (calling.opens_these table typed effects input ready state top below more_frames rest named p frames deep stages running awaiting of_sub at_point path views viewed_before kept scope holds placed_before above k actuals result e f traversed).1 (calling.back_these table typed effects input ready state top below more_frames rest named p frames deep stages running awaiting of_sub at_point path views viewed_before kept scope holds placed_before above k actuals result e f traversed).1
-              (subst (λ z. Takes (waits_in z) (start main_turn).waits []) made.actuals_are (takes_of plain_call (Call k actuals result) e))
+              (subst (TakesFit s) made.actuals_are plain_call.1)
+              (subst (λ z. Supplies s state.memory (types_taken s z) (start main_turn).waits []) made.actuals_are supplied_call)
               (subst (Compares s) made.actuals_are (subst (ComparesIn s) e compares))
               (subst (λ z. AllowsAll facts_now (acts z)) (λ j. flow.actual_values s (traversing.ways j) (made.actuals_are j)) (calling.values_allowed table typed effects input ready state top below more_frames rest named p frames deep stages running awaiting of_sub at_point path views viewed_before kept scope holds placed_before above k actuals result e))
               copies_these (start (twin main_turn n)) (agrees, refl, only))
@@ -502,7 +506,7 @@ module _ (table : Table) (typed : TypedProgram) (effects : Effects) (input : Lis
           | inr end ↦ elim (end_or p.instr) [
             | inl (y, is) ↦ subst Goal (sym is) (end_scope_same main_turn n agrees only y)
             | inr going ↦ elim (call_or p.instr) [
-              | inr no_call ↦ elim (innermost.taken_there table typed effects input ready state top below more_frames rest named p frames deep stages running awaiting of_sub at_point path views viewed_before kept scope holds placed_before above) [
+              | inr no_call ↦ elim (innermost.taken_there table typed effects input ready state top below more_frames rest named p frames deep stages running awaiting of_sub at_point path views viewed_before kept scope holds placed_before above no_call) [
                 | inl plain ↦ goes_plainly going plain no_call end
                 | inr (inl by_itself) ↦ taken_values.goes_alone table typed effects input ready compared state top below more_frames rest named p frames deep stages running awaiting of_sub at_point path views viewed_before kept scope holds placed_before above only n agrees going no_call end by_itself
                 | inr (inr together) ↦ taken_values.goes_together table typed effects input ready compared state top below more_frames rest named p frames deep stages running awaiting of_sub at_point path views viewed_before kept scope holds placed_before above only n agrees going no_call end together

@@ -520,6 +520,15 @@ module _ (table : Table) (typed : TypedProgram) (effects : Effects) (input : Lis
               (subst (λ z. Has z f) known_is has) borrowed (subst (λ z. Has z (Lent Observed k name)) known_is seen) over;
           unmoved = λ name has shared uses. kept_unused name has shared uses;
           written = root_written;
+          names = λ to has. (let by = all_passed_ways.2 to has in record {
+            name = by.name;
+            called = subst (λ d. ways.Named (home s d) by.name) (sym deep) by.named;
+            plain = by.plain;
+            leads = by.means;
+            unlent = λ l h m lent over. by.unlent l h m (all_called (Lent l h m) (subst (λ z. Has z (Lent l h m)) facts_there lent)) over;
+            cleared = λ m moved covered. by.cleared m (all_called (Moved m) (subst (λ z. Has z (Moved m)) facts_there moved)) covered;
+            written = calling.name_written table typed effects input ready state top below more_frames rest named p frames deep stages running awaiting of_sub at_point path views viewed_before kept scope holds placed_before above n actuals result e passed given to has;
+          });
           off = calling.off_taken table typed effects input ready state top below more_frames rest named p frames deep stages running awaiting of_sub at_point path views viewed_before kept scope holds placed_before above n actuals result e passed given;
           goes = λ to has y base shared.
               subst (λ d. Has (written_by effects top.frame.sub) y

@@ -62,7 +62,7 @@ use Rattle.owned_ways.proofs.Dropped.{named_base}
 use Rattle.viewed_soundness.specs.Holds.{sees_only, is_view}
 use Rattle.owned_ways.proofs.Unique.{one_way}
 use Rattle.viewed_steps.specs.Taken.{TakenBy, Lodge, IsTakenIn, AreCarried}
-use Rattle.viewed_steps.proofs.Between.{home_low, base_under, same_variable, taken_name}
+use Rattle.viewed_steps.proofs.Between.{home_low, base_under, same_variable}
 use Rattle.viewed_steps.proofs.Outside.{IsSpared, kept_clear, bare_clear, IsFree, free_name}
 use Rattle.viewed_steps.proofs.Apart.{kept_there, written_disturbs}
 use Rattle.flow_paths.specs.Effects.{written_by}
@@ -398,7 +398,7 @@ module _ (table : Table) (typed : TypedProgram) (effects : Effects) (input : Lis
       -- what was taken is what names of the frame stand for
       taken_named : (to : Way) → Has below.stage.returns to → (name : Way) × ways.Named (home s below.stage.depth) name × (sees_only s (number_of name) ≡ false)
           × (expand below.views name ≡ to) × Unlent their_facts name
-      taken_named to has = taken_name s below.cells state.memory below.stage.depth below.views their_facts (lasting_of s waits.point.scope) top.frame.returns below.stage.returns waits.taken to has
+      taken_named to has = (let by = waits.names to has in (by.name, by.called, by.plain, by.leads, by.unlent))
 
       -- the ways of its views begin in no frame above
       low_view : (x : ℕ) (w : Way) → below.views.way x ≡ Some w → (g : ℕ) × (y : ℕ) × (ways.base_of w ≡ OfRoot (OfVariable g y)) × (g ≡ suc below.stage.depth → ⊥)

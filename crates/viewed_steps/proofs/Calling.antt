@@ -766,6 +766,14 @@ module _ (table : Table) (typed : TypedProgram) (effects : Effects) (input : Lis
             subst (Has (written_by effects top.frame.sub)) (cell_named_root c has)
             (act_of_passed cell.by cell.among cell.back (ap (is_package_object s) (cell_named_root c has) ∙ shared))
 
+        -- a name of them that is rooted in a package object
+        pub name_written : (to : Way) (has : Has ways_taken to) → is_package_object s (ways.number_of (all_passed_ways.2 to has).name) ≡ true
+            → Has (written_by effects top.frame.sub) (ways.number_of (all_passed_ways.2 to has).name)
+        name_written to has shared =
+            let by = all_passed_ways.2 to has in
+            let root : by.by.actual.name.root ≡ ways.number_of by.name = ap (λ (z : PlaceName). z.root) by.called in
+            subst (Has (written_by effects top.frame.sub)) root (act_of_passed by.by by.among by.back (ap (is_package_object s) root ∙ shared))
+
         -- and the callee doesn't use it
         unused_passed : (b : alias.Passed) → Has (alias.passed formals actuals) b → IsCopiedBack s b.formal → is_package_object s b.actual.name.root ≡ true
             → Uses effects n b.actual.name.root → ⊥

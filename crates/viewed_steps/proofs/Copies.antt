@@ -63,7 +63,7 @@ none_owns owns (c ∷ cs) (suc i) other lt none = none_owns owns cs i other (ome
     later true b e = cc
     later false b e = e
 
-part_owns : (owns : ℕ → Bool) (sh : Shape) (i : ℕ) → i < field_count sh → is_record sh || is_array sh ≡ true → owns_of owns sh ≡ false → owns (part_type sh i) ≡ false
+pub part_owns : (owns : ℕ → Bool) (sh : Shape) (i : ℕ) → i < field_count sh → is_record sh || is_array sh ≡ true → owns_of owns sh ≡ false → owns (part_type sh i) ≡ false
 part_owns owns (shape.Fields cs) i lt made none = none_owns owns cs i no_component lt none
 part_owns owns (shape.Elements low high element) i lt made none = none
 part_owns owns (shape.Whole a b) i lt made none = cc
@@ -71,7 +71,7 @@ part_owns owns (shape.Listed l a b) i lt made none = cc
 part_owns owns (shape.Access d c n) i lt made none = cc
 part_owns owns (shape.Same of) i lt made none = cc
 
-element_owns : (owns : ℕ → Bool) (sh : Shape) → is_array sh ≡ true → owns_of owns sh ≡ false → owns (element_of sh) ≡ false
+pub element_owns : (owns : ℕ → Bool) (sh : Shape) → is_array sh ≡ true → owns_of owns sh ≡ false → owns (element_of sh) ≡ false
 element_owns owns (shape.Elements low high element) array none = none
 element_owns owns (shape.Fields cs) array none = cc
 element_owns owns (shape.Whole a b) array none = cc

@@ -57,6 +57,7 @@ module _ (table : Table) (typed : TypedProgram) (effects : Effects)
       apart = waits.apart;
       written = waits.written;
       goes = waits.goes;
+      names = waits.names;
       off = waits.off;
       uses = waits.uses;
       writes = waits.writes;

@@ -233,6 +233,7 @@ pub record IsNamedBy (s : Typing) (depth : ℕ) (v : Views) (facts : List Fact) 
   pub means : expand v name ≡ to
   pub called : by.actual.name ≡ ways.name_of name
   pub unlent : Unlent facts name
+  pub cleared : (n : PlaceName) → Has facts (Moved n) → covers (ways.name_of name) n ≡ true → ⊥
   pub many : is_scalar (full s.table (object_at s by.formal).of) ≡ false
 
 module _ (s : Typing) where
@@ -295,6 +296,7 @@ module _ (s : Typing) (own_law : OwnsByShape s.table) (settled : IsSettled s.tab
     means = one.means;
     called = one.called;
     unlent = one.unlent;
+    cleared = one.cleared;
     many = one.many;
   }
 
@@ -452,6 +454,7 @@ module _ (s : Typing) (own_law : OwnsByShape s.table) (settled : IsSettled s.tab
             means = own.means ∙ same;
             called = sym own.called;
             unlent = free;
+            cleared = (taken by_name free).1;
             many = many;
           }
         ],

@@ -13,7 +13,7 @@ use Rattle.place_names.specs.Facts.{place}
 use Rattle.place_names.specs.declared.fact.Fact.TheVariants.{Moved, Lent}
 use Rattle.place_names.specs.declared.rule.Loan.{Loan}
 use Rattle.place_names.specs.declared.rule.Loan.TheVariants.{Borrowed, Observed}
-use Rattle.place_names.specs.Names.{Name as PlaceName, overlaps, object}
+use Rattle.place_names.specs.Names.{Name as PlaceName, overlaps, object, covers}
 use Rattle.type_definitions.specs.Types.{Table, full, is_scalar, is_owning}
 use Rattle.typed_tree.specs.Trees.{TypedTree, Name, NoMore}
 use Rattle.typed_tree.specs.Programs.{TypedProgram}
@@ -230,6 +230,17 @@ abbrev pub IsGivenTo : Typing → ViewStage → Way → Type 0
 IsGivenTo s g to =
     (x : ℕ) × (w : Way) × (g.views.way x ≡ Some w) × (Named (home s g.stage.depth) (g.views.up x) → ⊥) × (sees_only s x ≡ false) × Under w to
 
+-- A name of the frame stands for such a place: it isn't lent, and no part of it is moved. If it is rooted in a package object,
+-- the frame writes that.
+pub record IsNameTaken (s : Typing) (effects : Effects) (facts : List Fact) (g : ViewStage) (to : Way) : Type 0 where
+  pub name : Way
+  pub called : Named (home s g.stage.depth) name
+  pub plain : sees_only s (number_of name) ≡ false
+  pub leads : expand g.views name ≡ to
+  pub unlent : (l : Loan) (h : ℕ) (n : PlaceName) → Has facts (Lent l h n) → overlaps n (name_of name) ≡ true → ⊥
+  pub cleared : (n : PlaceName) → Has facts (Moved n) → covers (name_of name) n ≡ true → ⊥
+  pub written : is_package_object s (number_of name) ≡ true → Has (written_by effects g.stage.frame.sub) (number_of name)
+
 -- A package object: its way and its location.
 abbrev pub IsPackageAt : Typing → Way → Loc → Type 0
 IsPackageAt s w l = (y : ℕ) × (is_package_object s y ≡ true) × (Object (OfVariable 0 y) ≡ w) × (OfRoot (OfVariable 0 y) ≡ l)
@@ -270,6 +281,8 @@ pub record IsWaiting (table : Table) (typed : TypedProgram) (effects : Effects) 
   -- a package object of which a part was taken is written, or was lent to the frame
   pub goes : (to : Way) → Has g.stage.returns to → (y : ℕ) → base_of to ≡ OfRoot (OfVariable 0 y) → is_package_object (flow_typing (flow_program table typed)) y ≡ true
       → Has (written_by effects g.stage.frame.sub) y ⊎ IsGivenTo (flow_typing (flow_program table typed)) g to
+  pub names : (to : Way) → Has g.stage.returns to
+      → IsNameTaken (flow_typing (flow_program table typed)) effects (facts_of (flow_program table typed) effects g.stage) g to
   -- none of the places goes before what a view sees
   pub off : (x : ℕ) (w : Way) → g.views.way x ≡ Some w → (to : Way) → Has g.stage.returns to → Past to w → ⊥
   pub uses : (x : ℕ) → Uses effects callee x → Uses effects g.stage.frame.sub x
