@@ -14,6 +14,7 @@ use Rattle.flow_paths.specs.Laid.{FlowProgram, flow_typing, flow_program}
 use Rattle.flow_paths.specs.Acts.{gives_variable}
 use Rattle.flow_paths.specs.Names.{has_call}
 use Rattle.viewed_soundness.specs.Holds.{is_given}
+use Rattle.viewed_soundness.specs.Taken.{GivesPlainly}
 use Rattle.type_definitions.specs.declared.judgement.View.{View}
 use Rattle.type_definitions.specs.declared.judgement.View.TheVariants as view
 use Rattle.machine.specs.Owners.{is_in, is_in_formal}
@@ -149,7 +150,7 @@ module _ (p : Program) where
   takes_none (inl calls) sub has q there = no_call sub.result q.instr (calls sub has q there)
   takes_none (inr scalar) sub has q there = scalar_takes scalar sub.result q.instr
 
-  spares_none : CallsProcedures flow ⊎ ResultsAreScalar p → SparePackages p
+  pub spares_none : CallsProcedures flow ⊎ ResultsAreScalar p → SparePackages p
   spares_none (inl calls) sub has q there n actuals result is = absurd (no_function (subst (λ i. calls_procedures i ≡ true) is (calls sub has q there)))
     where
       no_function : calls_procedures (Call n actuals (Some result)) ≡ true → ⊥

@@ -1,6 +1,6 @@
 -- Borrowers and observers of files that break no rule are in order, and the runs of their program are sound where
 -- nothing is reported, results are of scalar types or stand alone, and formals are of scalar types or of mode `in out`.
-use Rattle.std.proofs.Common.{◌≡◌, refl, sym, ap, ◌∙◌, subst, ◌⊎◌, inl, inr, ℕ, Bool, true, false, ◌&&◌, ◌||◌, List, [], ◌∷◌, Option, Some, None}
+use Rattle.std.proofs.Common.{◌≡◌, refl, sym, ap, ◌∙◌, subst, ◌⊎◌, inl, inr, ℕ, Bool, true, false, ◌&&◌, ◌||◌, List, [], ◌∷◌, Option, Some, None, is_some}
 use Rattle.spark_base.specs.declared.position.Pos.{Pos}
 use Rattle.spark_base.specs.Lists.{Has}
 use Rattle.place_names.specs.declared.act.Mode.{Mode}
@@ -34,6 +34,7 @@ use Rattle.flow_paths.specs.Effects.{AreEffects}
 use Rattle.flow_paths.specs.Instructions.{Instruction, Declare, Assign, Call, Hold}
 use Rattle.flow_paths.specs.Objects.{Typing}
 use Rattle.flow_paths.specs.Objects as flow
+use Rattle.flow_paths.specs.Acts.{gives_variable}
 use Rattle.flow_paths.specs.Points.{FlowPoint}
 use Rattle.flow_paths.specs.Laid.{FlowSub, FlowProgram, flow_typing, flow_program}
 use Rattle.flow_paths.specs.Reports.{AreReports}
@@ -77,7 +78,7 @@ use Rattle.meant_files.specs.Typed.{AreTyped}
 use Rattle.meant_files.proofs.Main.{files_denote}
 use Rattle.meant_files.proofs.Main as meant
 use Rattle.meant_files.proofs.Codes as codes
-use Rattle.scope_laws.proofs.Lists.{and_first, and_second}
+use Rattle.scope_laws.proofs.Lists.{and_second}
 use Rattle.sound_files.specs.Class.{TakesBorrower, CallsWithOwners}
 use Rattle.sound_files.proofs.Laws.{table_laws, files_declared, integers_scalar, truths_scalar}
 use Rattle.sound_files.proofs.Called.{files_bodies}
@@ -455,7 +456,7 @@ module _ (files : List (List SourceUnit)) where
           step : IsTypedStep wide sub.result (Call n actuals result)
           step = subst (λ i. IsTypedStep wide sub.result i) is (typed sub has q there)
 
-          given_some : (o : Option ℕ) → flow.gives_variable wide o ≡ true → is_some o ≡ true
+          given_some : (o : Option ℕ) → gives_variable wide o ≡ true → is_some o ≡ true
           given_some None e = cc
           given_some (Some t) e = refl
 

@@ -1,10 +1,8 @@
 -- The actuals of typed calls of the class with formals that own are as they are asked for.
-use Rattle.std.proofs.Common.{◌≡◌, ◌∙◌, refl, sym, ap, subst, ◌⊎◌, inl, inr, ℕ, Bool, true, false, ◌&&◌, List, [], ◌∷◌, Option, ◌||◌, Some, None}
+use Rattle.std.proofs.Common.{◌≡◌, refl, sym, ap, subst, ◌⊎◌, inl, inr, ℕ, Bool, true, false, List, [], ◌∷◌, Option, ◌||◌, Some, None}
 use Rattle.spark_base.specs.Lists.{Has as Holds}
 use Rattle.place_names.specs.declared.act.Mode.{Mode}
 use Rattle.place_names.specs.declared.act.Mode.TheVariants as mode
-use Rattle.type_definitions.specs.declared.judgement.View.{View}
-use Rattle.type_definitions.specs.declared.judgement.View.TheVariants as view
 use Rattle.type_definitions.specs.declared.table.Shape.{Shape}
 use Rattle.type_definitions.specs.declared.table.Shape.TheVariants as shape
 use Rattle.type_definitions.specs.Types.{shape_of, words, words_of, full, is_scalar, is_owning}
@@ -12,7 +10,7 @@ use Rattle.type_definitions.specs.Types as types
 use Rattle.type_definitions.specs.Entries.{integer, boolean}
 use Rattle.typed_tree.specs.Trees.{TypedTree, Name, More}
 use Rattle.typed_tree.specs.Trees as typed
-use Rattle.flow_paths.specs.Objects.{Typing, Signature, object_at, sub_at, is_formal, is_package_object, is_anonymous, view_of, traverses}
+use Rattle.flow_paths.specs.Objects.{Typing, Signature, object_at, sub_at, is_formal, is_anonymous, view_of, traverses}
 use Rattle.flow_paths.specs.Instructions.{Call}
 use Rattle.flow_paths.specs.Points.{FlowPoint}
 use Rattle.flow_paths.specs.Laid.{FlowSub, FlowProgram, flow_typing}
@@ -25,14 +23,12 @@ use Rattle.typed_laws.specs.Needed.{Matches, Gives, IsPlace}
 use Rattle.typed_laws.proofs.Sound.{matches, leads, gives}
 use Rattle.typed_steps.specs.Steps.{IsViewed, Taken, IsPlaceOf, IsActual, ActualsTaken}
 use Rattle.typed_runs.specs.Code.{IsNamedOwner, NamesOwner, NamesOwners, IsName, NamesFirst, IsTypedUse}
-use Rattle.soundness.specs.Ready.{root_of}
 use Rattle.soundness.proofs.Contents.{bool_cases}
-use Rattle.soundness.proofs.Passing.{plain_type, signature_there}
+use Rattle.soundness.proofs.Passing.{signature_there}
 use Rattle.viewed_soundness.specs.Holds.{IsNamed}
 use Rattle.ready_laws.proofs.Actuals.{taken_stays, scalar_back}
 use Rattle.scope_laws.specs.Code.{Once}
 use Rattle.flow_paths.specs.Views.{traversed_of}
-use Rattle.viewed_steps.specs.Sound.{IsScalarObject}
 use Rattle.viewed_steps.specs.Ready.{IsSeen, IsValueTo, is_shown_type}
 use Rattle.viewed_steps.proofs.Copies.{no_cell}
 use Rattle.view_laws.specs.Program.{IsPassedTo, ArePassedTo, PassActuals}
