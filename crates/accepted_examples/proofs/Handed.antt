@@ -124,7 +124,7 @@ passed =
     (tt, ((((λ is. inr (inl refl)), tt), (tt, tt)), tt))
 
 pub class : AreInSecondViewClass files
-class = record { main = 2; is_main = is_main; calls = record { formals = formals; passed = passed; lends = lends; borrowed = takes_none (program_of files) (inl calls); spared = spares_none (program_of files) (inl calls) } }
+class = record { main = 2; is_main = is_main; calls = record { formals = formals; passed = passed; lends = inl lends; borrowed = takes_none (program_of files) (inl calls); spared = spares_none (program_of files) (inl calls) } }
 
 -- ---- nothing is reported of it
 
