@@ -1,5 +1,5 @@
 -- The fronts of subprograms in the code of files are as the grammar has them: they stand in packages and units alone.
-use Rattle.std.proofs.Common.{◌≡◌, sym, subst, inl, inr, List, [], ◌∷◌, map, Option, None, Some}
+use Rattle.std.proofs.Common.{sym, subst, inl, inr, List, [], ◌∷◌, map, Option, None, Some}
 use Rattle.std.specs.Prelude.{flat_map}
 use Rattle.std.specs.List.{AllByRecursion}
 use Rattle.spark_base.specs.Lists.{Has}

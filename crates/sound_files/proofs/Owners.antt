@@ -10,7 +10,7 @@ use Rattle.typed_tree.specs.declared.object.Object.{Object}
 use Rattle.typed_tree.specs.Trees.{TypedTree, More, Name, Call as CallIn}
 use Rattle.typed_tree.specs.Programs.{TypedSub, typed_program}
 use Rattle.flow_paths.specs.Instructions.{Call, Instruction, Declare, Assign, Hold}
-use Rattle.flow_paths.specs.Objects.{Typing, Signature, object_at, sub_at, is_formal_kind, is_formal, is_state, is_anonymous, is_named_access, is_package_object, view_of, is_borrowing}
+use Rattle.flow_paths.specs.Objects.{Typing, Signature, object_at, sub_at, is_formal_kind, is_formal, is_state, is_anonymous, is_package_object, view_of, is_borrowing}
 use Rattle.flow_paths.specs.Points.{FlowPoint}
 use Rattle.flow_paths.specs.Laid.{FlowSub, FlowProgram, flow_typing, flow_program}
 use Rattle.flow_paths.specs.Acts.{gives_variable}
@@ -25,13 +25,12 @@ use Rattle.soundness.specs.Sound.{AreCopied, calls_procedures}
 use Rattle.machine.specs.Run.{no_point}
 use Rattle.soundness.proofs.Passing.{signature_is}
 use Rattle.soundness.proofs.Typings.{Agree, flow_agrees, formal_same}
-use Rattle.viewed_steps.specs.Sound.{LendsShared}
 use Rattle.called_subs.specs.Called.{PointCalls, CodeCalls}
 use Rattle.called_subs.proofs.Main.{points_asked_at}
 use Rattle.called_subs.proofs.Statements.{IsFineSub}
 use Rattle.ready_laws.specs.InOrder.{IsSub}
 use Rattle.order_laws.specs.Orderly.{typed_of, typing_in, bodies_of}
-use Rattle.sound_files.specs.Class.{IsScalarAt, IsFitActual, AreFitActuals, AreShownFit, AreOwnersShown, ShowOwners, FormalsAreScalar, CallsProcedures, ResultsAreScalar, TakesBorrower, TakeBorrowers, CopyToVariables, PassFitActuals, CallsFunctions, CallsWithOwners}
+use Rattle.sound_files.specs.Class.{IsScalarAt, IsFitActual, AreFitActuals, FormalsAreScalar, CallsProcedures, ResultsAreScalar, TakesBorrower, TakeBorrowers, SparePackages, CopyToVariables, PassFitActuals, CallsFunctions, CallsWithOwners}
 use Rattle.sound_files.proofs.Functions.{FunctionsTakeIn}
 use Rattle.sound_files.proofs.Weaker.{code_weaker}
 use Rattle.sound_files.proofs.Called.{at_number}
@@ -132,14 +131,10 @@ module _ (p : Program) where
       → q.instr ≡ Call n actuals result → AreFitActuals wide (sub_of flow n).formals actuals
   passed_there = called_there (AreFitActuals wide)
 
-  pub owners_shown : ShowOwners p → (sub : FlowSub) → Has flow.subs sub → (q : FlowPoint) → Has sub.points q → (n : ℕ) (actuals : TypedTree) (result : Option ℕ)
-      → q.instr ≡ Call n actuals result → AreOwnersShown wide (sub_of flow n).formals actuals
-  owners_shown = called_there (AreOwnersShown wide)
-
   -- ---- the third class
 
   scalar_fits : (m : Mode) (x : ℕ) (e : TypedTree) → IsScalarAt wide x → IsFitActual wide x m e
-  scalar_fits mode.In x e plain = inl plain
+  scalar_fits mode.In x e plain = tt
   scalar_fits mode.Out x e plain = inl plain
   scalar_fits mode.InOut x e plain = inl plain
 
@@ -201,18 +196,19 @@ module _ (p : Program) where
   takes_none (inl calls) sub has q there = no_call sub.result q.instr (calls sub has q there)
   takes_none (inr scalar) sub has q there = scalar_takes scalar sub.result q.instr
 
-  -- what scalar formals get is shown to none
-  scalar_shown : FormalsAreScalar p → (shared : Type 0) (formals : List ℕ) (actuals : TypedTree) → AreShownFit wide shared formals actuals
-  scalar_shown all shared (x ∷ formals) (More e rest) = ((λ is. inl (scalar_wide x is (all x (formal_own x is)))), scalar_shown all shared formals rest)
-  scalar_shown all shared [] actuals = tt
-  scalar_shown all shared (x ∷ formals) actuals = tt
+  spares_none : CallsProcedures flow ⊎ ResultsAreScalar p → SparePackages p
+  spares_none (inl calls) sub has q there n actuals result is = absurd (no_function (subst (λ i. calls_procedures i ≡ true) is (calls sub has q there)))
+    where
+      no_function : calls_procedures (Call n actuals (Some result)) ≡ true → ⊥
+      no_function e = cc
+  spares_none (inr scalar) sub has q there n actuals result is = λ borrows. absurd (no_borrower scalar n borrows)
 
   -- It is a part of this one.
   pub calls_functions : CallsFunctions p → CallsWithOwners p
   calls_functions calls = record {
     formals = λ x is. inl (view_scalar calls.formals x is);
     passed = code_passed calls.formals calls.copied;
-    shown = inr (λ sub has q there n actuals result is. scalar_shown calls.formals (LendsShared wide sub) (sub_of flow n).formals actuals);
     lends = λ n x y lends has given. inl (given_scalar calls.formals y given);
     borrowed = takes_none calls.results;
+    spared = spares_none calls.results;
   }

@@ -3,7 +3,7 @@ use Rattle.std.specs.List.{list_any}
 use Rattle.std.proofs.Common.{◌≡◌, refl, sym, ap, ◌∙◌, subst, ◌⊎◌, inl, inr, ℕ, zero, suc, ◌+◌, Bool, true, false, not, ◌&&◌, ◌||◌, ◌==◌, List, [], ◌∷◌, ◌++◌, map, flat_map, append_assoc, get_or, Option, Some, None, is_some}
 use Rattle.std.proofs.lemmas.Bool.{eqb-true}
 use Rattle.spark_base.specs.Lists.{Has}
-use Rattle.spark_base.proofs.Lists.{Has-append_cases, Has-append_left, Has-append_right, Has-map_from}
+use Rattle.spark_base.proofs.Lists.{Has-append_left, Has-append_right, Has-map_from}
 use Rattle.resolved_tree.specs.Trees.{Code, SubBody, PackageBody, More, Program}
 use Rattle.type_definitions.specs.Gathered.{declared_number, in_hidden}
 use Rattle.type_definitions.specs.Types.{Table}
@@ -19,7 +19,7 @@ use Rattle.viewed_soundness.specs.Holds.{is_of_procedure, is_first, lends_first,
 use Rattle.scope_laws.specs.Code.{Once}
 use Rattle.order_laws.specs.Orderly.{typed_of, typing_in, bodies_of}
 use Rattle.order_laws.proofs.Numbers.{numbers, formals_same}
-use Rattle.order_laws.proofs.Parts.{IsPart, part_whole, part_none, part_both, part_left, part_right, part_numbers_once}
+use Rattle.order_laws.proofs.Parts.{IsPart, part_whole, part_none, part_both, part_left, part_numbers_once}
 
 -- ---- lists
 

@@ -6,25 +6,23 @@ use Rattle.spark_base.specs.Lists.{Has}
 use Rattle.place_names.specs.declared.act.Mode.{Mode}
 use Rattle.place_names.specs.declared.act.Mode.TheVariants as mode
 use Rattle.resolved_tree.specs.Trees.{Code, Program}
-use Rattle.type_definitions.specs.Types.{full, is_scalar, is_owning, shape_of}
+use Rattle.type_definitions.specs.Types.{full, is_scalar}
 use Rattle.type_definitions.specs.Whole.{known_of}
 use Rattle.typed_tree.specs.Trees.{TypedTree, Name, Call as CallIn, More}
-use Rattle.typed_tree.specs.Trees as typed
 use Rattle.typed_tree.specs.Programs.{TypedSub}
+use Rattle.flow_paths.specs.declared.report.Effects.{Effects}
+use Rattle.flow_paths.specs.Effects.{AreEffects}
 use Rattle.flow_paths.specs.Instructions.{Call, Instruction, Declare, Assign, Hold}
 use Rattle.flow_paths.specs.Objects.{Typing, object_at, sub_at, is_formal, is_anonymous, is_named_access, is_package_object, view_of, is_borrowing}
 use Rattle.flow_paths.specs.Points.{FlowPoint}
 use Rattle.flow_paths.specs.Laid.{FlowSub, FlowProgram, flow_typing, flow_program}
 use Rattle.machine.specs.States.{sub_of}
 use Rattle.soundness.specs.Seen.{is_view_formal}
-use Rattle.soundness.specs.Sound.{calls_nothing, calls_procedures, goes_through_none, AreCopied}
+use Rattle.soundness.specs.Sound.{calls_nothing, calls_procedures, goes_through_none, AreCopied, Uses}
 use Rattle.soundness.specs.Ready.{root_of}
 use Rattle.gathered_laws.specs.Named.{IsNamed}
 use Rattle.flow_paths.specs.Acts.{gives_variable}
 use Rattle.viewed_soundness.specs.Holds.{is_given, lends_first}
-use Rattle.viewed_soundness.specs.Taken.{GivesPlainly}
-use Rattle.viewed_steps.specs.Ready.{is_shown_type}
-use Rattle.viewed_steps.specs.Sound.{LendsShared}
 use Rattle.called_subs.specs.Called.{CodeCalls}
 use Rattle.order_laws.specs.Orderly.{typed_of, typing_in, bodies_of}
 use Rattle.meant_files.specs.Formless.{IsFormless}
@@ -99,11 +97,6 @@ abbrev pub FormalsAreAccess : Program → Type 0
 FormalsAreAccess p =
     (x : ℕ) → is_view_formal (laid_in p) x ≡ true → IsScalarAt (laid_in p) x ⊎ (is_named_access (view_of (laid_in p) x) ≡ true)
 
--- An actual for a formal of mode `in` that owns, or is of an anonymous access type, is rooted in an object that belongs to no
--- package. (It is null, or a name.)
-abbrev pub IsShownActual : Typing → TypedTree → Type 0
-IsShownActual s e = (y : ℕ) → Has (root_of e) y → is_package_object s y ≡ false
-
 -- One that is copied back to goes through no access value; or the formal is of a scalar type, or the object that it is
 -- rooted in is no borrower or observer, and no formal of mode `in` that owns.
 abbrev pub IsOwnRoot : Typing → ℕ → Type 0
@@ -112,11 +105,9 @@ IsOwnRoot s y = (is_anonymous (view_of s y) ≡ false) × (is_view_formal s y �
 abbrev pub IsKeptActual : Typing → TypedTree → Type 0
 IsKeptActual s e = (goes_through_none e ≡ true) ⊎ ((y : ℕ) → Has (root_of e) y → IsOwnRoot s y)
 
--- In one for a formal of mode `in` whose type owns nothing and isn't scalar, as a name or an aggregate, functions give scalar
--- parts alone.
+-- Nothing is asked of one for a formal of mode `in`.
 abbrev pub IsFitActual : Typing → ℕ → Mode → TypedTree → Type 0
-IsFitActual s x mode.In e =
-    IsScalarAt s x ⊎ ((is_shown_type s x ≡ true → IsShownActual s e) × (is_shown_type s x ≡ false → GivesPlainly s e))
+IsFitActual s x mode.In e = Unit {0}
 IsFitActual s x m e = IsScalarAt s x ⊎ IsKeptActual s e
 
 abbrev pub AreFitActuals : Typing → List ℕ → TypedTree → Type 0
@@ -126,29 +117,6 @@ AreFitActuals s formals actuals = Unit {0}
 abbrev pub PassFitActuals : Program → Type 0
 PassFitActuals p =
     (sub : TypedSub) → Has (typed_of p).subs sub → CodeCalls (λ n actuals. AreFitActuals (laid_in p) (sub_at (laid_in p) n).formals actuals) sub.body
-
--- No actual that a formal sees is rooted in a borrower or observer.
-abbrev pub AreOwnersShown : Typing → List ℕ → TypedTree → Type 0
-AreOwnersShown s (x ∷ formals) (More e rest) =
-    (is_given s x ≡ true → (y : ℕ) → Has (root_of e) y → is_anonymous (view_of s y) ≡ false) × AreOwnersShown s formals rest
-AreOwnersShown s formals actuals = Unit {0}
-
-abbrev pub ShowOwners : Program → Type 0
-ShowOwners p =
-    (sub : TypedSub) → Has (typed_of p).subs sub → CodeCalls (λ n actuals. AreOwnersShown (laid_in p) (sub_at (laid_in p) n).formals actuals) sub.body
-
--- Or only where the subprogram that calls lends no part of a package object.
-abbrev pub AreShownFit : Typing → Type 0 → List ℕ → TypedTree → Type 0
-AreShownFit s shared (x ∷ formals) (More e rest) =
-    (is_formal s x ≡ true → IsScalarAt s x ⊎ ((y : ℕ) → Has (root_of e) y → is_anonymous (view_of s y) ≡ true → shared → ⊥))
-    × AreShownFit s shared formals rest
-AreShownFit s shared formals actuals = Unit {0}
-
-abbrev pub ShowsFit : Program → Type 0
-ShowsFit p =
-    (sub : FlowSub) → Has (flow_program (known_of p).table (typed_of p)).subs sub → (q : FlowPoint) → Has sub.points q → (n : ℕ) (actuals : TypedTree) (result : Option ℕ)
-    → q.instr ≡ Call n actuals result
-    → AreShownFit (laid_in p) (LendsShared (laid_in p) sub) (sub_of (flow_program (known_of p).table (typed_of p)) n).formals actuals
 
 -- A function that gives a borrower sees through its first formal alone.
 abbrev pub LendFirst : Program → Type 0
@@ -167,9 +135,17 @@ abbrev pub TakeBorrowers : Program → Type 0
 TakeBorrowers p =
     (sub : FlowSub) → Has (flow_program (known_of p).table (typed_of p)).subs sub → (q : FlowPoint) → Has sub.points q → TakesBorrower (laid_in p) sub.result q.instr
 
+-- A function that gives a borrower uses no package object that its first actual is rooted in.
+abbrev pub SparePackages : Program → Type 0
+SparePackages p =
+    (sub : FlowSub) → Has (flow_program (known_of p).table (typed_of p)).subs sub → (q : FlowPoint) → Has sub.points q → (n : ℕ) (actuals : TypedTree) (result : ℕ)
+    → q.instr ≡ Call n actuals (Some result) → gives_variable (laid_in p) (sub_at (laid_in p) n).result ≡ true
+    → (e rest : TypedTree) → actuals ≡ More e rest → (y : ℕ) → Has (root_of e) y → is_package_object (laid_in p) y ≡ true
+    → (effects : Effects) → AreEffects (flow_program (known_of p).table (typed_of p)) effects → Uses effects n y → ⊥
+
 pub record CallsWithOwners (p : Program) : Type 0 where
   pub formals : FormalsAreAccess p
   pub passed : PassFitActuals p
-  pub shown : ShowOwners p ⊎ ShowsFit p
   pub lends : LendFirst p
   pub borrowed : TakeBorrowers p
+  pub spared : SparePackages p

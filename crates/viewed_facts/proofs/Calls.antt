@@ -1,16 +1,15 @@
 -- What is called moved stays so in calls and their ends: it is in no place that a call takes.
-use Rattle.viewed_soundness.specs.Holds.{sees_only, is_view}
-use Rattle.std.proofs.Common.{◌≡◌, sym, ap, ◌∙◌, subst, ◌⊎◌, inl, inr, ℕ, suc, ◌<◌, Bool, true, false, List, [], ◌∷◌, length, append-nil, arith, if◌then◌else◌, Some}
+use Rattle.viewed_soundness.specs.Holds.{sees_only}
+use Rattle.std.proofs.Common.{◌≡◌, sym, ap, ◌∙◌, subst, ◌⊎◌, inl, inr, ℕ, suc, ◌<◌, Bool, true, false, List, [], ◌∷◌, length, append-nil, arith, if◌then◌else◌}
 use Rattle.spark_base.specs.Lists.{Has}
 use Rattle.place_names.specs.declared.fact.Fact.{Fact}
 use Rattle.place_names.specs.declared.rule.Loan.TheVariants.{Borrowed}
 use Rattle.flow_paths.specs.Objects.{Typing, is_package_object}
 use Rattle.machine.specs.Memory.{Memory}
-use Rattle.machine.specs.States.{Return, Frame}
+use Rattle.machine.specs.States.{Frame}
 use Rattle.owned_ways.specs.Ways.{Step, Root, OfVariable, Loc, OfRoot, OfCell, Inside, Way, Object, Lost, Into, All, Gone, Held, View, part, along, Reaches, Under, Told, base_of, number_of, name_of, Named}
 use Rattle.owned_ways.proofs.Locations.{under_along, under_itself}
 use Rattle.owned_ways.proofs.Dropped.{named_base}
-use Rattle.part_offsets.specs.Parts.{IsSettled}
 use Rattle.soundness.specs.Seen.{word_in, content, seen, home}
 use Rattle.soundness.proofs.Contents.{word_part, word_root}
 use Rattle.soundness.specs.Sound.{AreStages}
@@ -25,8 +24,7 @@ use Rattle.place_names.specs.Names.{Name as PlaceName, overlaps, covers}
 use Rattle.std.proofs.Common.{None}
 use Rattle.exact_facts.proofs.Steps.{under_covers}
 use Rattle.viewed_steps.specs.Sound.{ViewStage, stages_of, Lies}
-use Rattle.viewed_steps.specs.Taken.{TakenBy, AreCarried, IsPassedOn, AreTaken, Lodge, IsTakenIn}
-use Rattle.viewed_soundness.proofs.Names.{owner_sees}
+use Rattle.viewed_steps.specs.Taken.{TakenBy, AreCarried, Lodge, IsTakenIn}
 use Rattle.viewed_facts.specs.Exact.{IsDefiniteBy}
 
 -- ---- ways from variables, where words are carried
@@ -154,7 +152,7 @@ module _ (s : Typing) (depth : ℕ) (facts : List Fact) (name : Way) (named : Na
               (meet_overlaps m (v.loan a.object) (inr (under_on (v.loan a.object) a.name m a.loan a.begins)))
           | inr more ↦ elim more [
             | inl b ↦ unlent Borrowed b.object (name_of (v.loan b.object)) (loan_there b.object b.lends)
-                (meet_overlaps (v.loan b.object) to (flip to (v.loan b.object) b.meets))
+                (meet_overlaps (v.loan b.object) name (flip name (v.loan b.object) b.meets))
             | inr loans ↦ elim loans [
               | inl c ↦ clear.lent c.one c.two (name_of (v.loan c.one)) (name_of (v.loan c.two)) (loan_there c.one c.lends) (loan_there c.two c.lent)
                   c.differ (meet_overlaps (v.loan c.one) (v.loan c.two) c.meets)

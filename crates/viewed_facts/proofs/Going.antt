@@ -18,7 +18,7 @@ use Rattle.machine.specs.Memory.{Memory}
 use Rattle.machine.specs.States.{Waiting, Frame, State, Outcome, Goes, Ends, sub_of, Return}
 use Rattle.machine.specs.Owners.{waiting_in}
 use Rattle.machine.specs.Run.{step}
-use Rattle.owned_ways.specs.Ways.{OfVariable, OfRoot, Under, base_of, number_of, Way, Loc, Gone, Reaches, Told, name_of, OfCell, Step, along, part, Owned}
+use Rattle.owned_ways.specs.Ways.{OfVariable, OfRoot, Under, base_of, Way, Loc, Gone, Reaches, Told, name_of, OfCell, Step, along, part, Owned}
 use Rattle.soundness.specs.Seen.{home, seen}
 use Rattle.soundness.specs.Typed.{Kept}
 use Rattle.soundness.specs.Sound.{Stage, facts_of, AreStages, IsRunnable, InScope, IsNamedSub, IsAtPoint, IsNoCall, IsOnward, view_of as view_here}
@@ -34,7 +34,7 @@ use Rattle.viewed_steps.proofs.Stepping.{sound_along}
 use Rattle.viewed_facts.specs.Exact.{IsDefiniteBy, IsDefiniteOf, LeadsExactly, StepsLeadExactly}
 use Rattle.owned_ways.proofs.Named.{longer}
 use Rattle.owned_loans.proofs.Meeting.{stands}
-use Rattle.viewed_steps.proofs.Views.{same_lies, base_named}
+use Rattle.viewed_steps.proofs.Views.{same_lies}
 use Rattle.viewed_facts.proofs.Calls.{carried_told, lies_low, passed_clean}
 use Rattle.viewed_steps.proofs.Handed.{AreApart, apart_of}
 use Rattle.std.proofs.Common.{Option, None}
@@ -44,14 +44,12 @@ use Rattle.viewed_facts.proofs.Frames.{IsDefiniteHere}
 use Rattle.viewed_facts.proofs.Told.{told_next}
 use Rattle.viewed_facts.proofs.ScopeEnds.{told_left}
 use Rattle.place_names.specs.Facts.{place}
-use Rattle.viewed_steps.proofs.Between.{base_under}
 use Rattle.viewed_steps.proofs.Apart.{kept_there, written_disturbs}
 use Rattle.viewed_steps.proofs.Outside.{IsSpared, gone_clear, IsFree, free_name}
 use Rattle.owned_ways.proofs.Unique.{one_way}
 use Rattle.owned_ways.proofs.Locations.{reaches_along, under_along, under_itself}
 use Rattle.exact_facts.proofs.Memories.{same_reach}
 use Rattle.viewed_facts.proofs.Steps.{based_variable}
-use Rattle.viewed_steps.proofs.Withheld.{taken_passed}
 use Rattle.viewed_steps.proofs.Roots.{FromGiven}
 use Rattle.soundness.proofs.Contents.{bool_cases}
 use Rattle.viewed_soundness.proofs.Names.{true_false}

@@ -31,7 +31,7 @@ use Rattle.typed_tree.specs.Trees as typed_tree
 use Rattle.typed_tree.specs.Programs.{TypedSub, site_of, elaboration, typed_program}
 use Rattle.flow_paths.specs.declared.report.Effects.{Effects}
 use Rattle.flow_paths.specs.Effects.{AreEffects}
-use Rattle.flow_paths.specs.Instructions.{Instruction, Declare, Assign, Hold}
+use Rattle.flow_paths.specs.Instructions.{Instruction, Declare, Assign, Call, Hold}
 use Rattle.flow_paths.specs.Objects.{Typing}
 use Rattle.flow_paths.specs.Objects as flow
 use Rattle.flow_paths.specs.Points.{FlowPoint}
@@ -52,7 +52,7 @@ use Rattle.gathered_laws.specs.Views.{AreViews}
 use Rattle.gathered_laws.proofs.Parts as parts
 use Rattle.anonymous_types.proofs.Main as anonymous
 use Rattle.typed_laws.specs.Fine.{Laws, counts, lists}
-use Rattle.typed_steps.specs.Steps.{AreTyped as AreStepsTyped}
+use Rattle.typed_steps.specs.Steps.{IsTypedStep, AreTyped as AreStepsTyped}
 use Rattle.typed_points.specs.Meant.{AreMeantUnits, typing_meant}
 use Rattle.machine.specs.States.{sub_of}
 use Rattle.machine.specs.Owners.{is_in, is_in_formal}
@@ -78,14 +78,14 @@ use Rattle.meant_files.proofs.Main.{files_denote}
 use Rattle.meant_files.proofs.Main as meant
 use Rattle.meant_files.proofs.Codes as codes
 use Rattle.scope_laws.proofs.Lists.{and_first, and_second}
-use Rattle.sound_files.specs.Class.{IsFitActual, AreFitActuals, TakesBorrower, CallsWithOwners}
+use Rattle.sound_files.specs.Class.{TakesBorrower, CallsWithOwners}
 use Rattle.sound_files.proofs.Laws.{table_laws, files_declared, integers_scalar, truths_scalar}
 use Rattle.sound_files.proofs.Called.{files_bodies}
 use Rattle.sound_files.proofs.Mains.{main_formless}
 use Rattle.sound_files.proofs.Functions.{functions_in}
 use Rattle.sound_files.proofs.Shared.{functions_see, formals_differ}
 use Rattle.sound_files.proofs.Declared.{declared_known, formals_apart}
-use Rattle.sound_files.proofs.Owners.{modes_there, formals_wide, main_there, passed_there, owners_shown}
+use Rattle.sound_files.proofs.Owners.{modes_there, formals_wide, main_there, passed_there}
 use Rattle.sound_files.proofs.Classes.{are_answered}
 use Rattle.typed_runs.specs.Code.{IsTypedUse}
 use Rattle.typed_runs.proofs.Results.{results_there}
@@ -96,11 +96,11 @@ use Rattle.viewed_steps.specs.Ready.{IsReady}
 use Rattle.viewed_steps.proofs.Main.{ready_sound}
 use Rattle.view_laws.specs.InOrder.{AreViewsInOrder}
 use Rattle.viewed_steps.specs.Traversals.{IsSourceName}
-use Rattle.viewed_steps.specs.Sound.{IsScalarObject, IsKindOfFormal, LendsShared, IsStoredAt}
-use Rattle.view_laws.specs.Program.{PassActuals, TraversesNames, TakesView, IsViewProgram}
+use Rattle.viewed_steps.specs.Sound.{IsScalarObject, IsKindOfFormal, IsStoredAt}
+use Rattle.view_laws.specs.Program.{PassActuals, TraversesNames, SparesPackages, TakesView, IsViewProgram}
 use Rattle.view_laws.proofs.Ready.{views_ready}
 use Rattle.viewed_files.proofs.Sources.{scalar_plain}
-use Rattle.viewed_files.proofs.Passed.{PassFit, actuals_passed, kept_places, owners_own, shown_own}
+use Rattle.viewed_files.proofs.Passed.{PassFit, actuals_passed, kept_places}
 use Rattle.viewed_files.proofs.Stored.{are_stored}
 use Rattle.viewed_files.proofs.Traversals.{shape_there, declares_view, assigns_view, holds_view, called_name, returns_source}
 use Rattle.viewed_files.proofs.Main.{IsGiven, views_in_order}
@@ -449,27 +449,24 @@ module _ (files : List (List SourceUnit)) where
           let first = first_there n from in
           let taking = subst (λ i. IsTypedUse wide sub.result i) is (used sub has q there) in
           let name = called_name wide sub.result n actuals result taking from first.0 first.1 first.2 in
-          let formals : (sub_of flow_of_files n).formals ≡ first.0 ∷ first.1 = sym (ap (λ (z : flow.Signature). z.formals) (signature_is flow_of_files n)) ∙ first.2 in
-          (name.0, name.1, name.2, name.3, name.4, name.5, own_root first.0 first.1 first.3 name.0 name.1 name.2 name.3 name.4
-          (subst (λ fs. AreFitActuals wide fs (More (Name name.0 name.1 name.2 name.3) name.4)) formals (subst (AreFitActuals wide (sub_of flow_of_files n).formals) name.5 (fit sub has q there n actuals result is))))
-        where
-          shown_of : (f i o a : Bool) → ((f && i) && o) || ((f && i) && a) ≡ true → (f ≡ true) × (i ≡ true) × (o || a ≡ true)
-          shown_of true true true a e = (refl, refl, refl)
-          shown_of true true false a e = (refl, refl, e)
-          shown_of true false o a e = cc
-          shown_of false i o a e = cc
+          (name.0, name.1, name.2, name.3, name.4, name.5)
 
-          own_root : (f : ℕ) (rest : List ℕ) → is_given wide f ≡ true → (p : Pos) (y : ℕ) (path : TypedTree) (u : ℕ) (more : TypedTree)
-              → AreFitActuals wide (f ∷ rest) (More (Name p y path u) more) → flow.is_package_object wide y ≡ false
-          own_root f rest given p y path u more are =
-              let shown = shown_of (flow.is_formal wide f) (is_in (flow.object_at wide f).mode) (is_owning wide.table (flow.object_at wide f).of) (flow.is_anonymous (flow.view_of wide f)) given in
-              by (flow.object_at wide f).mode shown.1 (are.0 shown.0)
-            where
-              by : (m : Mode) → is_in m ≡ true → IsFitActual wide f m (Name p y path u) → flow.is_package_object wide y ≡ false
-              by mode.In e (inl plain) = absurd (scalar_ungiven f plain given)
-              by mode.In e (inr (roots, plainly)) = roots (shown_of (flow.is_formal wide f) (is_in (flow.object_at wide f).mode) (is_owning wide.table (flow.object_at wide f).of) (flow.is_anonymous (flow.view_of wide f)) given).2 y (inl refl)
-              by mode.Out e h = cc
-              by mode.InOut e h = cc
+      -- one that gives a borrower spares the package objects
+      spared : SparesPackages flow_of_files effects
+      spared sub has q there n actuals result is gives r y path u more at belongs used = by result refl
+        where
+          step : IsTypedStep wide sub.result (Call n actuals result)
+          step = subst (λ i. IsTypedStep wide sub.result i) is (typed sub has q there)
+
+          given_some : (o : Option ℕ) → flow.gives_variable wide o ≡ true → is_some o ≡ true
+          given_some None e = cc
+          given_some (Some t) e = refl
+
+          by : (r : Option ℕ) → result ≡ r → ⊥
+          by None none =
+              (let no : false ≡ true = ap is_some (sym none) ∙ sym step.2 ∙ given_some (flow.sub_at wide n).result gives in cc)
+          by (Some t) some =
+              calls.spared sub has q there n actuals t (is ∙ ap (Call n actuals) some) gives (Name r y path u) more at y (inl refl) belongs effects are used
 
       stored : (sub : FlowSub) → Has flow_of_files.subs sub → (q : FlowPoint) → Has sub.points q → (x : ℕ) → IsStoredAt q.instr x → flow.is_anonymous (flow.view_of wide x) ≡ true
           → flow.is_variable (flow.object_at wide x).kind ≡ true
@@ -518,13 +515,6 @@ module _ (files : List (List SourceUnit)) where
         modes = modes;
         procedures = procedures;
         copied = λ sub has q there n actuals result is known. kept_places (flow_typing flow_of_files) (sub_of flow_of_files n).formals actuals known (fit sub has q there n actuals result is);
-        shown = λ sub has q there n actuals result is.
-            elim calls.shown [
-              | inl owners ↦ owners_own (flow_typing flow_of_files) (LendsShared (flow_typing flow_of_files) sub) (sub_of flow_of_files n).formals actuals
-                  (owners_shown p owners sub has q there n actuals result is)
-              | inr fits ↦ shown_own (flow_typing flow_of_files) owns (LendsShared (flow_typing flow_of_files) sub) (sub_of flow_of_files n).formals actuals
-                  (fits sub has q there n actuals result is)
-            ];
         order = order;
         results = λ sub has.
             results_there p laws.owns integers truths (λ t i. named_plain table (component_type table t i) (component_named t i))
@@ -541,6 +531,7 @@ module _ (files : List (List SourceUnit)) where
         firsts = files_firsts files apart ended up named no_fault;
         first = first_there;
         traverse = traverse;
+        spared = spared;
         take = take;
         returned = returned;
         stored = stored;

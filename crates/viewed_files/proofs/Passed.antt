@@ -29,12 +29,11 @@ use Rattle.soundness.specs.Ready.{root_of}
 use Rattle.soundness.proofs.Contents.{bool_cases}
 use Rattle.soundness.proofs.Passing.{plain_type, signature_there}
 use Rattle.viewed_soundness.specs.Holds.{IsNamed}
-use Rattle.viewed_soundness.specs.Taken.{GivesPlainly}
 use Rattle.ready_laws.proofs.Actuals.{taken_stays, scalar_back}
 use Rattle.scope_laws.specs.Code.{Once}
 use Rattle.flow_paths.specs.Views.{traversed_of}
-use Rattle.sound_files.specs.Class.{IsScalarAt, IsShownActual, IsKeptActual, IsFitActual, AreFitActuals, AreOwnersShown, AreShownFit}
-use Rattle.viewed_steps.specs.Sound.{IsScalarObject, IsReachedBack, AreKeptPlaces, AreShownOwn}
+use Rattle.sound_files.specs.Class.{IsScalarAt, IsKeptActual, IsFitActual, AreFitActuals}
+use Rattle.viewed_steps.specs.Sound.{IsScalarObject, IsReachedBack, AreKeptPlaces}
 use Rattle.viewed_steps.specs.Ready.{IsSeen, IsValueTo, is_shown_type}
 use Rattle.viewed_steps.proofs.Copies.{no_cell}
 use Rattle.view_laws.specs.Program.{IsPassedTo, ArePassedTo, PassActuals}
@@ -50,16 +49,6 @@ either_first false b e = refl
 either_second : (a b : Bool) → a || b ≡ false → b ≡ false
 either_second true b e = cc
 either_second false b e = e
-
-both_none : (a b : Bool) → a ≡ false → b ≡ false → a || b ≡ true → ⊥
-both_none true b e f h = cc
-both_none false true e f h = cc
-both_none false false e f h = cc
-
-scalar_plain : (v : View) → is_scalar v ≡ true → is_anonymous v ≡ false
-scalar_plain (view.Whole low high) e = refl
-scalar_plain (view.Listed low high) e = refl
-scalar_plain v e = cc
 
 named_type : (z : Shape) → is_anonymous (types.view_of z) ≡ false → (d : ℕ) (c n : Bool) → z ≡ shape.Access d c n → n ≡ true
 named_type (shape.Access e k true) plain d c n is = cc
@@ -84,24 +73,21 @@ module _ (y : Typing) (whole : counts (shape_of y.table integer) ≡ true) (list
   named_place x t e place agree = absurd place
 
   -- what is shown is null, or a name of the formal's type
-  shown_seen : (x : ℕ) (e : TypedTree) → IsShownActual y e → IsNamedOwner e → Has y (object_at y x).of e → IsSeen y x e
+  shown_seen : (x : ℕ) (e : TypedTree) → IsNamedOwner e → Has y (object_at y x).of e → IsSeen y x e
   unfolding Has
-  shown_seen x typed.Null roots named has = tt
-  shown_seen x (Name p z path u) roots named has =
-      (leads y whole listed word_law path (object_at y z).of u has.0, inl (matches y.table u (object_at y x).of has.1), roots z (inl refl))
-  shown_seen x e roots named has = absurd named
+  shown_seen x typed.Null named has = tt
+  shown_seen x (Name p z path u) named has = (leads y whole listed word_law path (object_at y z).of u has.0, inl (matches y.table u (object_at y x).of has.1))
+  shown_seen x e named has = absurd named
 
   -- or a name of an access value that designates what the formal's type does
-  view_seen : (x : ℕ) (e : TypedTree) → IsShownActual y e → IsName e → Taken y (object_at y x).of e → IsSeen y x e
+  view_seen : (x : ℕ) (e : TypedTree) → IsName e → Taken y (object_at y x).of e → IsSeen y x e
   unfolding Has
-  view_seen x (Name p z path u) roots named (inl has) =
-      (leads y whole listed word_law path (object_at y z).of u has.0, inl (matches y.table u (object_at y x).of has.1), roots z (inl refl))
-  view_seen x (Name p z path u) roots named (inr (lead, view)) = (
+  view_seen x (Name p z path u) named (inl has) = (leads y whole listed word_law path (object_at y z).of u has.0, inl (matches y.table u (object_at y x).of has.1))
+  view_seen x (Name p z path u) named (inr (lead, view)) = (
     leads y whole listed word_law path (object_at y z).of u lead,
     inr (view.0, view.2, view.3, view.1, view.4, view.5, view.6, view.7, matches y.table view.0 view.1 view.8),
-    roots z (inl refl),
   )
-  view_seen x e roots named taken = absurd named
+  view_seen x e named taken = absurd named
 
   -- what is looked at is for an access type
   viewed_access : (want : ℕ) (e : TypedTree) → IsViewed y want e → (d : ℕ) × (c : Bool) × (n : Bool) × (shape_of y.table want ≡ shape.Access d c n)
@@ -118,11 +104,14 @@ module _ (y : Typing) (whole : counts (shape_of y.table integer) ≡ true) (list
         let access = viewed_access (object_at y x).of e view in
         absurd (no_cell y own_law (object_at y x).of access.0 access.1 access.2 access.3 named none)
 
-    copied_value : (x : ℕ) (e : TypedTree) → IsNamed y.table (object_at y x).of → is_owning y.table (object_at y x).of ≡ false → GivesPlainly y e → Taken y (object_at y x).of e → IsValueTo y x e
-    copied_value x e named none plainly taken = elim (bool_cases (is_scalar (full y.table (object_at y x).of))) [
-      | inl plain ↦ inl (plain, taken_stays y whole listed word_law (object_at y x).of e plain taken)
-      | inr many ↦ inr (many, named, (copied_gives x e named none taken, plainly))
-    ]
+    copied_value : (x : ℕ) (e : TypedTree) → IsNamed y.table (object_at y x).of → is_owning y.table (object_at y x).of ≡ false → Taken y (object_at y x).of e → IsValueTo y x e
+    copied_value x e named none taken = (
+      copied_gives x e named none taken,
+      elim (bool_cases (is_scalar (full y.table (object_at y x).of))) [
+        | inl plain ↦ inl (plain, taken_stays y whole listed word_law (object_at y x).of e plain taken)
+        | inr many ↦ inr (many, named)
+      ],
+    )
 
     actual_to : (x : ℕ) (e : TypedTree) → IsFitActual y x (object_at y x).mode e → NamesOwner y x e → NamesView y x e → IsActual y x e
         → IsPassedTo y x (object_at y x).mode e
@@ -131,20 +120,14 @@ module _ (y : Typing) (whole : counts (shape_of y.table integer) ≡ true) (list
         owning : Bool
         owning = is_owning y.table (object_at y x).of
 
-        unshown : IsScalarObject y x → is_shown_type y x ≡ true → ⊥
-        unshown plain shown = both_none owning (is_anonymous (view_of y x)) (plain_type y own_law (object_at y x).of plain) (scalar_plain (view_of y x) plain) shown
+        value : Taken y (object_at y x).of e → is_shown_type y x ≡ false → IsValueTo y x e
+        value taken none =
+            copied_value x e (named_type (shape_of y.table (object_at y x).of) (either_second owning (is_anonymous (view_of y x)) none)) (either_first owning (is_anonymous (view_of y x)) none) taken
 
-        value : Taken y (object_at y x).of e → IsFitActual y x mode.In e → is_shown_type y x ≡ false → IsValueTo y x e
-        value taken (inl plain) none = inl (plain, taken_stays y whole listed word_law (object_at y x).of e plain taken)
-        value taken (inr (shown, plainly)) none =
-            copied_value x e (named_type (shape_of y.table (object_at y x).of) (either_second owning (is_anonymous (view_of y x)) none)) (either_first owning (is_anonymous (view_of y x)) none)
-            (plainly none) taken
-
-        seen : Taken y (object_at y x).of e → IsFitActual y x mode.In e → (object_at y x).mode ≡ mode.In → is_shown_type y x ≡ true → IsSeen y x e
-        seen taken (inl plain) is shown = absurd (unshown plain shown)
-        seen taken (inr (roots, plainly)) is shown = elim (either_one owning (is_anonymous (view_of y x)) shown) [
-          | inl owns ↦ (let found = named is owns in shown_seen x e (roots shown) found.0 found.1)
-          | inr view ↦ view_seen x e (roots shown) (viewed view) taken
+        seen : Taken y (object_at y x).of e → (object_at y x).mode ≡ mode.In → is_shown_type y x ≡ true → IsSeen y x e
+        seen taken is shown = elim (either_one owning (is_anonymous (view_of y x)) shown) [
+          | inl owns ↦ (let found = named is owns in shown_seen x e found.0 found.1)
+          | inr view ↦ view_seen x e (viewed view) taken
         ]
 
         copied : IsScalarAt y x ⊎ IsKeptActual y e → (t : ℕ) → IsPlaceOf y t e → Agree y.table t (object_at y x).of → IsPassedTo y x mode.InOut e
@@ -161,7 +144,7 @@ module _ (y : Typing) (whole : counts (shape_of y.table integer) ≡ true) (list
             )
 
         by_mode : (m : Mode) → (object_at y x).mode ≡ m → IsFitActual y x m e → IsActual y x e → IsPassedTo y x m e
-        by_mode mode.In is fit g = (value (rw is at g) fit, seen (rw is at g) fit is)
+        by_mode mode.In is fit g = (value (rw is at g), seen (rw is at g) is)
         by_mode mode.Out is fit g = (let place = rw is at g in copied fit place.0 place.1 place.2)
         by_mode mode.InOut is fit g = (let place = rw is at g in copied fit place.0 place.1 place.2)
 
@@ -209,37 +192,6 @@ kept_places s (x ∷ formals) (More e rest) known fit =
     ((λ back. kept_one s x e (object_at s x).mode back (fit.0 (known x (inl refl)))), kept_places s formals rest (λ z has. known z (inr has)) fit.1)
 kept_places s [] actuals known fit = tt
 kept_places s (x ∷ formals) actuals known fit = tt
-
--- What is shown, and where it is rooted.
-pub shown_own : (s : Typing) → OwnsByShape s.table → (shared : Type 0) (formals : List ℕ) (actuals : TypedTree) → AreShownFit s shared formals actuals
-    → AreShownOwn s shared formals actuals
-shown_own s own_law shared (x ∷ formals) (More e rest) fit = (
-  λ given. elim (fit.0 (given_formal (is_formal s x) (is_in (object_at s x).mode) (is_owning s.table (object_at s x).of) (is_anonymous (view_of s x)) given)) [
-    | inl plain ↦ absurd (given_none (is_formal s x) (is_in (object_at s x).mode) (is_owning s.table (object_at s x).of) (is_anonymous (view_of s x)) given
-        (plain_type s own_law (object_at s x).of plain) (scalar_plain (view_of s x) plain))
-    | inr roots ↦ roots
-  ],
-  shown_own s own_law shared formals rest fit.1,
-)
-  where
-    given_formal : (f i o a : Bool) → ((f && i) && o) || ((f && i) && a) ≡ true → f ≡ true
-    given_formal true i o a e = refl
-    given_formal false i o a e = cc
-
-    given_none : (f i o a : Bool) → ((f && i) && o) || ((f && i) && a) ≡ true → o ≡ false → a ≡ false → ⊥
-    given_none true true false false e g h = cc
-    given_none true false false false e g h = cc
-    given_none false i o a e g h = cc
-    given_none true i true a e g h = cc
-    given_none true i false true e g h = cc
-shown_own s own_law shared [] actuals fit = tt
-shown_own s own_law shared (x ∷ formals) actuals fit = tt
-
-pub owners_own : (s : Typing) (shared : Type 0) (formals : List ℕ) (actuals : TypedTree) → AreOwnersShown s formals actuals → AreShownOwn s shared formals actuals
-owners_own s shared (x ∷ formals) (More e rest) fit =
-    ((λ view y has anonymous both. (let no : true ≡ false = sym anonymous ∙ fit.0 view y has in cc)), owners_own s shared formals rest fit.1)
-owners_own s shared [] actuals fit = tt
-owners_own s shared (x ∷ formals) actuals fit = tt
 
 module _ (program : FlowProgram) where
   abbrev s : Typing

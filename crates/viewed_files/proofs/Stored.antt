@@ -210,14 +210,14 @@ module _ (table : Table) (typed : TypedProgram) (effects : Effects) (accepted : 
       ] in
       elim here [
         | inl (none, text) ↦ elim (variable_or x text view) [
-            | inl variable ↦ variable
-            | inr formal ↦ true_is (sym (both_first (is_formal s x) (is_in (object_at s x).mode) formal) ∙ none)
-          ]
+          | inl variable ↦ variable
+          | inr formal ↦ true_is (sym (both_first (is_formal s x) (is_in (object_at s x).mode) formal) ∙ none)
+        ]
         | inr (at, u, e, is, text) ↦ elim (variable_or x text view) [
-            | inl variable ↦ variable
-            | inr formal ↦ absurd (unwritten named.0 named.1 q.0 q.1 (subst (Has program.subs) (sym named.2) has)
-                (subst (λ (z : FlowPoint). Has (flow_sub own named.0).points z) (sym q.2) (subst (λ (z : FlowSub). Has z.points p) (sym named.2) there)) at x u e (same ∙ is) formal view)
-          ]
+          | inl variable ↦ variable
+          | inr formal ↦ absurd (unwritten named.0 named.1 q.0 q.1 (subst (Has program.subs) (sym named.2) has)
+              (subst (λ (z : FlowPoint). Has (flow_sub own named.0).points z) (sym q.2) (subst (λ (z : FlowSub). Has z.points p) (sym named.2) there)) at x u e (same ∙ is) formal view)
+        ]
       ]
     where
       variable_or : (x : ℕ) → IsOfText x → is_anonymous (view_of s x) ≡ true → (is_variable (object_at s x).kind ≡ true) ⊎ (is_in_formal s x ≡ true)

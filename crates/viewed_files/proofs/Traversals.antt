@@ -43,12 +43,32 @@ module _ (s : Typing) where
       let view = traverses_type (sub_at s n).result t is gives in
       let here = shape_there (shape_of s.table t) view in
       record {
-        result = t; result_is = is; anonymous = view; d = here.0; c = here.1; m = here.2; gives = here.3;
-        k = here.0; e = here.1; o = here.2; want = agree_access s.table t want here.0 here.1 here.2 agree here.3; fits = inl refl;
+        result = t;
+        result_is = is;
+        anonymous = view;
+        d = here.0;
+        c = here.1;
+        m = here.2;
+        gives = here.3;
+        k = here.0;
+        e = here.1;
+        o = here.2;
+        want = agree_access s.table t want here.0 here.1 here.2 agree here.3;
+        fits = inl refl;
       }
   call_gives q n a want (inr (t, is, view)) gives = record {
-    result = t; result_is = is; anonymous = traverses_type (sub_at s n).result t is gives; d = view.0; c = view.2; m = view.3; gives = view.6;
-    k = view.1; e = view.4; o = view.5; want = view.7; fits = matches s.table view.0 view.1 view.8;
+    result = t;
+    result_is = is;
+    anonymous = traverses_type (sub_at s n).result t is gives;
+    d = view.0;
+    c = view.2;
+    m = view.3;
+    gives = view.6;
+    k = view.1;
+    e = view.4;
+    o = view.5;
+    want = view.7;
+    fits = matches s.table view.0 view.1 view.8;
   }
 
   -- Where it is the whole source, the place is of an anonymous access type.
