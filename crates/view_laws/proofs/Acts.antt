@@ -742,20 +742,20 @@ module _ (s : Typing) (own_law : OwnsByShape s.table) (parts_named : PartsAreNam
       → ((y : ℕ) → Has (roots e) y → Has xs y) → AreGood (actual_act (passing_by m owning access) e) xs
   unfolding roots
   copied_good x mode.In is owning access e xs kind actual named = shown_good owning access e xs named
-  copied_good x mode.Out is owning access (Name p y steps t) xs kind (u, there, matches, which) named =
+  copied_good x mode.Out is owning access (Name p y steps t) xs kind (u, there, matches) named =
       place_acted mode.Out owning access p y u t steps xs (λ k. refl) (λ k n e. (let same : k ≡ n = cc in same)) (λ k n e. cc) there
       (place_plain x u (λ back. out_in (sym is ∙ back)) matches kind) (named y (inl refl))
     where
       out_in : mode.Out ≡ mode.In → ⊥
       out_in e = cc
-  copied_good x mode.Out is owning access e xs kind (u, never, matches, which) named = absurd never
-  copied_good x mode.InOut is owning access (Name p y steps t) xs kind (u, there, matches, which) named =
+  copied_good x mode.Out is owning access e xs kind (u, never, matches) named = absurd never
+  copied_good x mode.InOut is owning access (Name p y steps t) xs kind (u, there, matches) named =
       place_acted mode.InOut owning access p y u t steps xs (λ k. refl) (λ k n e. (let same : k ≡ n = cc in same)) (λ k n e. cc) there
       (place_plain x u (λ back. both_in (sym is ∙ back)) matches kind) (named y (inl refl))
     where
       both_in : mode.InOut ≡ mode.In → ⊥
       both_in e = cc
-  copied_good x mode.InOut is owning access e xs kind (u, never, matches, which) named = absurd never
+  copied_good x mode.InOut is owning access e xs kind (u, never, matches) named = absurd never
 
   pub copies_good : (procedure : Bool) (formals : List ℕ) (actuals : TypedTree) (xs : List ℕ) → ((x : ℕ) → Has formals x → IsKindOfFormal s x) → ArePassedTo s formals actuals
       → ((y : ℕ) → Has (roots actuals) y → Has xs y) → AreGood (actual_acts (map (way_to s own_law procedure) formals) actuals) xs

@@ -474,18 +474,8 @@ module _ (table : Table) (typed : TypedProgram) (effects : Effects) (given : IsV
     one_owned : (x : ℕ) (m : Mode) (e : TypedTree) (owning access : Bool) → IsPassedTo s x m e → ((a : Placed) → Has (actual_act (passing_by m owning access) e) a → Has at.acts a)
         → IsActualTo s x m e
     one_owned x mode.In e owning access passed acts = passed
-    one_owned x mode.Out e owning access (t, place, fits, which) acts = (
-      t,
-      place,
-      fits,
-      elim which [ inl plain ↦ inl plain | inr (inl none) ↦ inr (own_root mode.Out owning access refl e t place none acts) | inr (inr roots) ↦ inr roots ],
-    )
-    one_owned x mode.InOut e owning access (t, place, fits, which) acts = (
-      t,
-      place,
-      fits,
-      elim which [ inl plain ↦ inl plain | inr (inl none) ↦ inr (own_root mode.InOut owning access refl e t place none acts) | inr (inr roots) ↦ inr roots ],
-    )
+    one_owned x mode.Out e owning access (t, place, fits) acts = (t, place, fits, inr (λ none. own_root mode.Out owning access refl e t place none acts))
+    one_owned x mode.InOut e owning access (t, place, fits) acts = (t, place, fits, inr (λ none. own_root mode.InOut owning access refl e t place none acts))
 
     each_owned : (procedure : Bool) (formals : List ℕ) (actuals : TypedTree) → ArePassedTo s formals actuals
         → ((a : Placed) → Has (actual_acts (map (way_to s given.owns procedure) formals) actuals) a → Has at.acts a) → AreActualsTo s formals actuals

@@ -48,7 +48,7 @@ module _ (s : Typing) where
   scalar_back t u (inr both) plain = both.0
 
   plain_place : (x : ℕ) (e : TypedTree) → IsScalarObject s x → IsPassedTo s x mode.InOut e → IsActualBy s mode.InOut e
-  plain_place x e plain (t, place, fits, which) = (t, place, scalar_back t (object_at s x).of fits plain)
+  plain_place x e plain (t, place, fits) = (t, place, scalar_back t (object_at s x).of fits plain)
 
   plain_actual : OwnsByShape s.table → (x : ℕ) (m : Mode) (e : TypedTree) → IsScalarObject s x → IsPassedTo s x m e → IsActualBy s m e
   plain_actual owns x mode.In e plain actual = elim (actual.0 (both_no (is_owning s.table (object_at s x).of) (is_anonymous (view_of s x)) (plain_type s owns (object_at s x).of plain) (scalar_unseen s x plain))).1 [ inl value ↦ value.1 | inr (many, named) ↦ absurd (let no : true ≡ false = sym plain ∙ many in cc) ]

@@ -121,7 +121,6 @@ module _ (table : Table) (typed : TypedProgram) (effects : Effects) (given : IsV
     lends = given.lends;
     modes = given.modes;
     procedures = given.procedures;
-    copied = given.copied;
   }
 
   pub views_ready : IsReady table typed effects

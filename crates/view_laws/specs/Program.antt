@@ -18,22 +18,21 @@ use Rattle.flow_paths.specs.Laid.{FlowSub, FlowProgram, typing_of, flow_typing, 
 use Rattle.machine.specs.States.{sub_of}
 use Rattle.soundness.specs.Typed.{OwnsByShape}
 use Rattle.typed_laws.specs.Needed.{Matches, IsPlace}
-use Rattle.soundness.specs.Sound.{Accepted, Uses, goes_through_none}
+use Rattle.soundness.specs.Sound.{Accepted, Uses}
 use Rattle.scope_laws.specs.Alone.{ResultsFit}
 use Rattle.ready_laws.specs.InOrder.{IsInOrder, AreAnswered, AreStill, ArePassed}
 use Rattle.soundness.specs.Seen.{is_view_formal}
 use Rattle.viewed_soundness.specs.Holds.{PartsAreNamed, is_given, is_exclusive, lends_first}
 use Rattle.viewed_steps.specs.Traversals.{GivesView, IsSourceName}
-use Rattle.viewed_steps.specs.Sound.{IsScalarObject, IsKindOfFormal, AreKeptPlaces, IsStoredAt}
-use Rattle.viewed_steps.specs.Ready.{IsOwnPlace, IsActualTo}
+use Rattle.viewed_steps.specs.Sound.{IsScalarObject, IsKindOfFormal, IsStoredAt}
+use Rattle.viewed_steps.specs.Ready.{IsActualTo}
 use Rattle.view_laws.specs.InOrder.{AreViewsInOrder}
 
--- What is passed is as it is asked for; but where it is copied back to and goes through no access value, nothing is asked of
--- the object that it is rooted in.
+-- What is passed is as it is asked for; but where it is copied back to, nothing is asked of the object that it is rooted in.
 abbrev pub IsPassedTo : Typing → ℕ → Mode → TypedTree → Type 0
 IsPassedTo s x mode.In e = IsActualTo s x mode.In e
 IsPassedTo s x m e =
-    (t : ℕ) × IsPlace s e t × Matches s.table t (object_at s x).of × ((is_scalar (full s.table t) ≡ true) ⊎ ((goes_through_none e ≡ true) ⊎ IsOwnPlace s e))
+    (t : ℕ) × IsPlace s e t × Matches s.table t (object_at s x).of
 
 abbrev pub ArePassedTo : Typing → List ℕ → TypedTree → Type 0
 ArePassedTo s (x ∷ formals) (More e rest) = IsPassedTo s x (object_at s x).mode e × ArePassedTo s formals rest
@@ -78,8 +77,8 @@ TakesView s result i = Unit {0}
 
 -- It is accepted and typed, and anonymous access types are those of objects and results alone. What functions give is of
 -- scalar types; or it stands alone. Formals are of the four kinds, those of functions of mode `in`, and nothing is changed
--- through these but through the first one of a function that gives a borrower, which is shown alone; actuals that are copied back to go through no access value, or are scalar and
--- belong to no package; and its subprograms and views are in order.
+-- through these but through the first one of a function that gives a borrower, which is shown alone; and its subprograms and
+-- views are in order.
 pub record IsViewProgram (table : Table) (typed : TypedProgram) (effects : Effects) : Type 0 where
   pub accepted : Accepted table typed effects
   pub owns : OwnsByShape (flow_program table typed).table
@@ -99,10 +98,6 @@ pub record IsViewProgram (table : Table) (typed : TypedProgram) (effects : Effec
   pub procedures : (n : ℕ) → (sub_at (flow_typing (flow_program table typed)) n).result ≡ None → (x : ℕ)
       → Has (sub_at (flow_typing (flow_program table typed)) n).formals x → is_formal (flow_typing (flow_program table typed)) x ≡ true
       → is_view_formal (flow_typing (flow_program table typed)) x ≡ true → is_named_access (view_of (flow_typing (flow_program table typed)) x) ≡ true
-  pub copied : (sub : FlowSub) → Has (flow_program table typed).subs sub → (p : FlowPoint) → Has sub.points p → (n : ℕ) (actuals : TypedTree)
-      (result : Option ℕ) → p.instr ≡ Call n actuals result
-      → ((x : ℕ) → Has (sub_of (flow_program table typed) n).formals x → is_formal (flow_typing (flow_program table typed)) x ≡ true)
-      → AreKeptPlaces (flow_typing (flow_program table typed)) (sub_of (flow_program table typed) n).formals actuals
   -- formals of anonymous access types are the first ones of traversal functions, whose first formals see
   pub firsts : (n x : ℕ) → Has (sub_at (flow_typing (flow_program table typed)) n).formals x → is_anonymous (view_of (flow_typing (flow_program table typed)) x) ≡ true
       → traversed_of (traverses (flow_program table typed).table (sub_at (flow_typing (flow_program table typed)) n).result)

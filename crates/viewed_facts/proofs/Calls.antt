@@ -1,16 +1,15 @@
 -- What is called moved stays so in calls and their ends: it is in no place that a call takes.
-use Rattle.viewed_soundness.specs.Holds.{sees_only, is_view}
-use Rattle.std.proofs.Common.{◌≡◌, sym, ap, ◌∙◌, subst, ◌⊎◌, inl, inr, ℕ, suc, ◌<◌, Bool, true, false, List, [], ◌∷◌, length, append-nil, arith, if◌then◌else◌, Some}
+use Rattle.viewed_soundness.specs.Holds.{sees_only}
+use Rattle.std.proofs.Common.{◌≡◌, sym, ap, ◌∙◌, subst, ◌⊎◌, inl, inr, ℕ, suc, ◌<◌, Bool, true, false, List, [], ◌∷◌, length, append-nil, arith, if◌then◌else◌}
 use Rattle.spark_base.specs.Lists.{Has}
 use Rattle.place_names.specs.declared.fact.Fact.{Fact}
 use Rattle.place_names.specs.declared.rule.Loan.TheVariants.{Borrowed}
 use Rattle.flow_paths.specs.Objects.{Typing, is_package_object}
 use Rattle.machine.specs.Memory.{Memory}
-use Rattle.machine.specs.States.{Return, Frame}
-use Rattle.owned_ways.specs.Ways.{Step, Root, OfVariable, Loc, OfRoot, OfCell, Inside, Way, Object, Lost, Into, All, Gone, Held, View, part, along, Reaches, Under, Told, base_of, number_of, name_of}
+use Rattle.machine.specs.States.{Frame}
+use Rattle.owned_ways.specs.Ways.{Step, Root, OfVariable, Loc, OfRoot, OfCell, Inside, Way, Object, Lost, Into, All, Gone, Held, View, part, along, Reaches, Under, Told, base_of, number_of, name_of, Named}
 use Rattle.owned_ways.proofs.Locations.{under_along, under_itself}
 use Rattle.owned_ways.proofs.Dropped.{named_base}
-use Rattle.part_offsets.specs.Parts.{IsSettled}
 use Rattle.soundness.specs.Seen.{word_in, content, seen, home}
 use Rattle.soundness.proofs.Contents.{word_part, word_root}
 use Rattle.soundness.specs.Sound.{AreStages}
@@ -21,13 +20,11 @@ use Rattle.owned_loans.specs.Views.{AreShared, HasLoan}
 use Rattle.owned_ways.proofs.Named.{longer}
 use Rattle.place_names.specs.declared.rule.Loan.{Loan}
 use Rattle.place_names.specs.declared.fact.Fact.TheVariants.{Moved, Lent}
-use Rattle.place_names.specs.Names.{Name as PlaceName}
+use Rattle.place_names.specs.Names.{Name as PlaceName, overlaps, covers}
 use Rattle.std.proofs.Common.{None}
 use Rattle.exact_facts.proofs.Steps.{under_covers}
 use Rattle.viewed_steps.specs.Sound.{ViewStage, stages_of, Lies}
-use Rattle.viewed_steps.specs.Taken.{TakenBy, AreCarried, IsPassedOn, AreTaken, Lodge, IsTakenIn}
-use Rattle.viewed_soundness.proofs.Names.{owner_sees}
-use Rattle.viewed_steps.proofs.Entered.{inside_plain, inside_named, inside_number, inside_itself}
+use Rattle.viewed_steps.specs.Taken.{TakenBy, AreCarried, Lodge, IsTakenIn}
 use Rattle.viewed_facts.specs.Exact.{IsDefiniteBy}
 
 -- ---- ways from variables, where words are carried
@@ -135,46 +132,33 @@ lower (h ∷ older) (f ∷ outer) (frame, deep, others) g (inr has) = (let less 
 
 -- ---- the places that a call took
 
-pub passed_of : (s : Typing) (cells : List Lodge) (m : Memory) (depth : ℕ) (facts : List Fact) (scope : List ℕ) (returns : List Return) (ways : List Way)
-    → AreTaken s cells m depth facts scope returns ways → (to : Way) → Has ways to → (r : Return) × IsPassedOn s cells depth facts scope r.formal r.to to
-passed_of s cells m depth facts scope [] ways none to has = absurd (subst (λ z. Has z to) none has)
-passed_of s cells m depth facts scope (r ∷ rest) [] taken to has = absurd has
-passed_of s cells m depth facts scope (r ∷ rest) (k ∷ ways) (inl copied) to has = passed_of s cells m depth facts scope rest (k ∷ ways) copied.1 to has
-passed_of s cells m depth facts scope (r ∷ rest) (k ∷ ways) (inr (one, apart, another, more)) to (inl same) =
-    (r, subst (IsPassedOn s cells depth facts scope r.formal r.to) same one.0)
-passed_of s cells m depth facts scope (r ∷ rest) (k ∷ ways) (inr (one, apart, another, more)) to (inr has) = passed_of s cells m depth facts scope rest ways more to has
-
-module _ (s : Typing) (settled : IsSettled s.table) (cells : List Lodge) (depth : ℕ) (facts : List Fact) (scope : List ℕ) (r : Return) (to : Way)
-    (passed : IsPassedOn s cells depth facts scope r.formal r.to to) where
-  -- Nothing is there that the frame moved, by a name without an element. What others have lent has other roots than the place,
+module _ (s : Typing) (depth : ℕ) (facts : List Fact) (name : Way) (named : Named (home s depth) name) (plain_name : sees_only s (number_of name) ≡ false)
+    (unlent : (l : Loan) (h : ℕ) (n : PlaceName) → Has facts (Lent l h n) → overlaps n (name_of name) ≡ true → ⊥)
+    (cleared : (n : PlaceName) → Has facts (Moved n) → covers (name_of name) n ≡ true → ⊥) where
+  -- Nothing is where the name leads that the frame moved, by a name without an element. What others have lent has other roots than it,
   -- and than what the frame moved or borrowed.
-  pub passed_clean : (v : Views) (view : View) → ((x : ℕ) (w : Way) → v.way x ≡ Some w → is_view s x ≡ true)
-      → (views : AreViews (home s depth) (sees_only s) v view facts) → AreClear (sees_only s) facts
+  pub passed_clean : (v : Views) (view : View) (views : AreViews (home s depth) (sees_only s) v view facts) → AreClear (sees_only s) facts
       → (lent : Loan → PlaceName → Type 0) → ((l : Loan) (n : PlaceName) → lent l n → v.way n.root ≡ None) → AreShared (home s depth) (sees_only s) lent v
-      → ((n : PlaceName) → lent Borrowed n → n.root ≡ number_of to → ⊥)
+      → ((n : PlaceName) → lent Borrowed n → n.root ≡ number_of name → ⊥)
       → ((m : PlaceName) → Has facts (Moved m) → (n : PlaceName) → lent Borrowed n → m.root ≡ n.root → ⊥)
       → ((b : ℕ) (m : PlaceName) → Has facts (Lent Borrowed b m) → (n : PlaceName) → lent Borrowed n → m.root ≡ n.root → ⊥)
-      → (w : Way) → IsDefiniteBy (home s depth) v facts w → Under to w → ⊥
-  passed_clean v view only views clear lent none shown spared own_moved own_borrowed w (m, moved, plain, same) under =
-      elim (meeting (home s depth) (sees_only s) v view facts views lent none shown to m (
-        inside_named s settled depth r.to to passed.inside,
-        ap (sees_only s) (inside_number s settled depth r.to to passed.inside)
-            ∙ owner_sees s (passed.inside).object (inside_plain s settled depth r.to to passed.inside) (passed.inside).owner,
-      ) (moved.0, clear.owned (name_of m) moved.1)
-      (subst (λ z. Under z (expand v m)) (sym (inside_itself s settled depth r.to to passed.inside v only)) (subst (Under to) (sym same) under))) [
-        | inl below ↦ passed.cleared (name_of m) moved.1 (under_covers to m below plain)
+      → (w : Way) → IsDefiniteBy (home s depth) v facts w → Under (expand v name) w → ⊥
+  passed_clean v view views clear lent none shown spared own_moved own_borrowed w (m, moved, plain, same) under =
+      elim (meeting (home s depth) (sees_only s) v view facts views lent none shown name m (named, plain_name) (moved.0, clear.owned (name_of m) moved.1)
+      (subst (Under (expand v name)) (sym same) under)) [
+        | inl below ↦ cleared (name_of m) moved.1 (under_covers name m below plain)
         | inr more ↦ elim more [
           | inl a ↦ clear.moved Borrowed a.object (name_of m) (name_of (v.loan a.object)) moved.1 (loan_there a.object a.lends)
               (meet_overlaps m (v.loan a.object) (inr (under_on (v.loan a.object) a.name m a.loan a.begins)))
           | inr more ↦ elim more [
-            | inl b ↦ passed.unlent Borrowed b.object (name_of (v.loan b.object)) (loan_there b.object b.lends)
-                (meet_overlaps (v.loan b.object) to (flip to (v.loan b.object) b.meets))
+            | inl b ↦ unlent Borrowed b.object (name_of (v.loan b.object)) (loan_there b.object b.lends)
+                (meet_overlaps (v.loan b.object) name (flip name (v.loan b.object) b.meets))
             | inr loans ↦ elim loans [
               | inl c ↦ clear.lent c.one c.two (name_of (v.loan c.one)) (name_of (v.loan c.two)) (loan_there c.one c.lends) (loan_there c.two c.lent)
                   c.differ (meet_overlaps (v.loan c.one) (v.loan c.two) c.meets)
               | inr lone ↦ elim lone [
                 | inl l ↦ elim l.meets [
-                  | inl meets ↦ spared (name_of l.place) l.lent_it (sym (met_root to l.place meets))
+                  | inl meets ↦ spared (name_of l.place) l.lent_it (sym (met_root name l.place meets))
                   | inr (b, lends, meets) ↦ own_borrowed b (name_of (v.loan b)) (loan_there b lends) (name_of l.place) l.lent_it (met_root (v.loan b) l.place meets)
                 ]
                 | inr l ↦ elim l.meets [

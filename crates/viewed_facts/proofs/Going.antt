@@ -1,6 +1,6 @@
 -- Each step of a sound state whose facts are exact leads to such a state, in a program that is ready.
 use Rattle.viewed_soundness.specs.Holds.{is_view, sees_only}
-use Rattle.std.proofs.Common.{◌<◌, ◌≡◌, refl, sym, ◌∙◌, subst, ◌⊎◌, inl, inr, ℕ, suc, true, false, List, [], ◌∷◌, length, arith, Some, None, ap}
+use Rattle.std.proofs.Common.{◌<◌, ◌≡◌, refl, sym, ◌∙◌, subst, ◌⊎◌, inl, inr, ℕ, suc, true, false, List, [], ◌∷◌, length, arith, Some, None, ap, if◌then◌else◌}
 use Rattle.spark_base.specs.Lists.{Has}
 use Rattle.place_names.specs.declared.fact.Fact.{Fact}
 use Rattle.place_names.specs.declared.fact.Fact.TheVariants.{Moved}
@@ -18,7 +18,7 @@ use Rattle.machine.specs.Memory.{Memory}
 use Rattle.machine.specs.States.{Waiting, Frame, State, Outcome, Goes, Ends, sub_of, Return}
 use Rattle.machine.specs.Owners.{waiting_in}
 use Rattle.machine.specs.Run.{step}
-use Rattle.owned_ways.specs.Ways.{OfVariable, OfRoot, Under, base_of, number_of, Way, Loc, Gone, Reaches, Told, name_of, OfCell, Step, along, part, Owned}
+use Rattle.owned_ways.specs.Ways.{OfVariable, OfRoot, Under, base_of, Way, Loc, Gone, Reaches, Told, name_of, OfCell, Step, along, part, Owned}
 use Rattle.soundness.specs.Seen.{home, seen}
 use Rattle.soundness.specs.Typed.{Kept}
 use Rattle.soundness.specs.Sound.{Stage, facts_of, AreStages, IsRunnable, InScope, IsNamedSub, IsAtPoint, IsNoCall, IsOnward, view_of as view_here}
@@ -34,8 +34,8 @@ use Rattle.viewed_steps.proofs.Stepping.{sound_along}
 use Rattle.viewed_facts.specs.Exact.{IsDefiniteBy, IsDefiniteOf, LeadsExactly, StepsLeadExactly}
 use Rattle.owned_ways.proofs.Named.{longer}
 use Rattle.owned_loans.proofs.Meeting.{stands}
-use Rattle.viewed_steps.proofs.Views.{same_lies, base_named}
-use Rattle.viewed_facts.proofs.Calls.{carried_told, lies_low, passed_of, passed_clean}
+use Rattle.viewed_steps.proofs.Views.{same_lies}
+use Rattle.viewed_facts.proofs.Calls.{carried_told, lies_low, passed_clean}
 use Rattle.viewed_steps.proofs.Handed.{AreApart, apart_of}
 use Rattle.std.proofs.Common.{Option, None}
 use Rattle.place_names.specs.declared.rule.Loan.TheVariants.{Borrowed}
@@ -44,14 +44,15 @@ use Rattle.viewed_facts.proofs.Frames.{IsDefiniteHere}
 use Rattle.viewed_facts.proofs.Told.{told_next}
 use Rattle.viewed_facts.proofs.ScopeEnds.{told_left}
 use Rattle.place_names.specs.Facts.{place}
-use Rattle.viewed_steps.proofs.Between.{base_under, taken_from, IsHomed, number_based}
 use Rattle.viewed_steps.proofs.Apart.{kept_there, written_disturbs}
-use Rattle.viewed_steps.proofs.Outside.{IsSpared, gone_clear}
+use Rattle.viewed_steps.proofs.Outside.{IsSpared, gone_clear, IsFree, free_name}
 use Rattle.owned_ways.proofs.Unique.{one_way}
 use Rattle.owned_ways.proofs.Locations.{reaches_along, under_along, under_itself}
 use Rattle.exact_facts.proofs.Memories.{same_reach}
 use Rattle.viewed_facts.proofs.Steps.{based_variable}
-use Rattle.viewed_steps.proofs.Withheld.{taken_passed}
+use Rattle.viewed_steps.proofs.Roots.{FromGiven}
+use Rattle.soundness.proofs.Contents.{bool_cases}
+use Rattle.viewed_soundness.proofs.Names.{true_false}
 
 module _ (table : Table) (typed : TypedProgram) (effects : Effects) (input : List ℕ) (ready : IsReady table typed effects) where
   abbrev program : FlowProgram
@@ -277,40 +278,52 @@ module _ (table : Table) (typed : TypedProgram) (effects : Effects) (input : Lis
         all_between table typed effects unmoved_stage local state next.stage.frame.sub low next.stage.frame.returns (h ∷ others) rest stages
         (let same = deep in omega (arith, same)) waiting.1 g has
 
-    homed : (to : Way) → Has next.stage.returns to → IsHomed s low to
-    homed to has = taken_from s next.cells state.memory low their_facts (lasting_of s waits.point.scope) backs next.stage.returns waits.taken to has
-
-    rooted_there : (to : Way) (has : Has next.stage.returns to) → number_of to ≡ (homed to has).1
-    rooted_there to has =
-        let at : base_of to ≡ OfRoot (OfVariable (home s low (homed to has).1) (homed to has).1) =
-        (homed to has).2 ∙ ap (λ f. OfRoot (OfVariable f (homed to has).1)) (homed to has).3 in
-        number_based (home s low) to (homed to has).1 (base_named (home s low) to (homed to has).1 at) at
-
-    -- the frame writes these objects, so the others keep nothing of them
-    spared_to : (to : Way) (has : Has next.stage.returns to) → IsSpared table typed effects unmoved_stage local state low (h ∷ others) between_low (homed to has).1
-    spared_to to has l name lent root =
-        let number = rooted_there to has in
+    -- the others keep nothing of what the frame writes
+    written_spared : (y : ℕ) → Has (written_by effects next.stage.frame.sub) y → IsSpared table typed effects unmoved_stage local state low (h ∷ others) between_low y
+    written_spared y written l name lent root =
         let (g, there, some_there, f, keeps, shared, kind, name_is) = lent in
-        let written = waits.written (number_of to) (taken_passed next to has) (ap (is_package_object s) (number ∙ sym root) ∙ shared) in
         kept_there table typed effects ready.accepted.effects_are (unused_there table typed effects unmoved_stage local) state next.stage.frame.sub next.stage.frame.returns
         (h ∷ others) waiting.1 g there some_there f keeps (ap (λ (z : PlaceName). is_package_object s z.root) name_is ∙ shared)
         (written_disturbs table typed effects ready.accepted.effects_are (loan_by f) next.stage.frame.sub (place f).root
-        (subst (Has (written_by effects next.stage.frame.sub)) (number ∙ sym root ∙ ap (λ (z : PlaceName). z.root) (sym name_is)) written))
+        (subst (Has (written_by effects next.stage.frame.sub)) (sym root ∙ ap (λ (z : PlaceName). z.root) (sym name_is)) written))
+
+    abbrev Given_to : Way → Type 0
+    Given_to to = FromGiven (home s low) (sees_only s) next.views (view_here s state) their_facts waits.views to
+
+    -- so it is where a place begins that was taken, or it was lent to the frame
+    spared_to : (to : Way) → Has next.stage.returns to → (y : ℕ) → base_of to ≡ OfRoot (OfVariable (home s low y) y)
+        → IsSpared table typed effects unmoved_stage local state low (h ∷ others) between_low y ⊎ Given_to to
+    spared_to to has y base = elim (bool_cases (is_package_object s y)) [
+      | inr mine ↦ inl (λ l name lent root. true_false (is_package_object s y) (ap (is_package_object s) (sym root) ∙ lent.5) mine)
+      | inl shared ↦ elim (waits.goes to has y (base ∙ ap (λ b. OfRoot (OfVariable (if b then 0 else low) y)) shared) shared) [
+        | inr given ↦ inr given
+        | inl written ↦ inl (written_spared y written)
+      ]
+    ]
+
+    free_to : (to : Way) → Has next.stage.returns to → IsFree table typed effects unmoved_stage local state low (h ∷ others) between_low to
+    free_to to has =
+        let by = waits.names to has in
+        subst (IsFree table typed effects unmoved_stage local state low (h ∷ others) between_low) by.leads
+        (free_name table typed effects unmoved_stage local state low (h ∷ others) between_low next.views (view_here s state) their_facts waits.views (waiting.3).0 waiting.2 by.name by.called by.plain
+        (λ y base. elim (spared_to to has y (ap base_of (sym by.leads) ∙ base)) [
+          | inl none ↦ inl none
+          | inr given ↦ inr (subst Given_to (sym by.leads) given)
+        ]))
 
     -- what is gone for the frames around it is in no such place
     others_clear : (to : Way) → Has next.stage.returns to → (w : Way) → GoneElsewhere program effects (h ∷ others) w → Under to w → ⊥
-    others_clear to has w gone under =
-        gone_clear table typed effects unmoved_stage local state low (h ∷ others) between_low to (homed to has) (spared_to to has) w gone (base_under to w under)
+    others_clear to has w gone under = gone_clear table typed effects unmoved_stage local state low (h ∷ others) between_low to (free_to to has) w gone (inl under)
 
     -- nor is what it moved itself
     mine_clear : (to : Way) → Has next.stage.returns to → (w : Way) → Definite next w → Under to w → ⊥
     mine_clear to has w definite under =
-        let passed = passed_of s next.cells state.memory low their_facts (lasting_of s waits.point.scope) backs next.stage.returns waits.taken to has in
-        passed_clean s ready.accepted.settled next.cells low their_facts (lasting_of s waits.point.scope) passed.0 to passed.1 next.views (view_here s state) waits.holds.only
+        let by = waits.names to has in
+        passed_clean s low their_facts by.name by.called by.plain by.unlent by.cleared next.views (view_here s state)
         waits.views waits.clear (LentBy program effects (h ∷ others)) (λ l n lent. no_way n.root lent.5 (next.views.way n.root) refl) (waiting.3).1
-        (λ n lent root. spared_to to has Borrowed n lent (root ∙ rooted_there to has))
+        (λ n lent root. written_spared n.root (subst (Has (written_by effects next.stage.frame.sub)) (sym root) (by.written (ap (is_package_object s) (sym root) ∙ lent.5))) Borrowed n lent refl)
         (λ m moved n lent root. apart.own_moved m moved Borrowed n lent root)
-        (λ b m lends n lent root. apart.own_borrowed b m lends Borrowed n lent root) w definite under
+        (λ b m lends n lent root. apart.own_borrowed b m lends Borrowed n lent root) w definite (subst (λ z. Under z w) (sym by.leads) under)
       where
         apart : AreApart table typed effects unmoved_stage local state low (h ∷ others) between_low their_facts
         apart = apart_of table typed effects unmoved_stage local state low (h ∷ others) between_low ready.accepted.effects_are next.stage waits.named waits.of_sub next.stage.frame.returns waiting.1

@@ -28,16 +28,16 @@ use Rattle.soundness.specs.Seen.{home, seen}
 use Rattle.soundness.specs.Typed.{Matches, Kept}
 use Rattle.soundness.proofs.Fixed.{matches_scalar}
 use Rattle.soundness.proofs.Freeing.{plain_parts}
-use Rattle.owned_loans.specs.Views.{Views}
+use Rattle.owned_loans.specs.Views.{Views, expand}
 use Rattle.viewed_steps.specs.Ready.{IsActualTo, AreActualsTo}
 use Rattle.viewed_steps.specs.Taken.{IsInside}
 use Rattle.viewed_steps.proofs.LaidOut.{IsPlainAt, IsBackLaid, IsLaidOne, AreLaidOut}
 use Rattle.viewed_steps.proofs.Carried.{inside_at, inside_spot, inside_reached}
-use Rattle.viewed_steps.proofs.Entered.{inside_named, inside_itself}
 use Rattle.exact_facts.specs.Exact.{IsOfVariable, NoneFails}
 use Rattle.viewed_facts.specs.Exact.{IsDefinite, IsExact}
 use Rattle.viewed_facts.proofs.Checks.{place_holds}
 use Rattle.viewed_soundness.specs.Holds.{is_view}
+use Rattle.viewed_steps.proofs.Entered.{own_named, own_itself}
 
 -- ---- lists of checks
 
@@ -107,17 +107,18 @@ module _ (s : Typing) (settled : IsSettled s.table) (depth : ℕ) (v : Views) (e
   parts_same t u e = settled.part_law t ∙ ap (parts_of (parts s.table)) e ∙ sym (settled.part_law u)
 
   -- the place is in a variable, or in a cell that a way leads to
-  own_holds : (y u before : ℕ) (p pos' : Pos) (path : TypedTree) (k : Place) (to : Way) (inside : IsInside s depth k to) → ways.name_of to ≡ name_of y path
+  own_holds : (y u before : ℕ) (p pos' : Pos) (path : TypedTree) (k : Place) (to : Way) (inside : IsInside s depth k to) (name : Way) → ways.Named (home s depth) name
+      → expand v name ≡ to → ways.name_of name ≡ name_of y path
       → ways.Reaches (seen s m hands leaks) inside.trunk inside.start → shape_of s.table k.of ≡ shape_of s.table u → KnowsAt before (name_of y path)
       → Holds (map (spot p (name_of y path) before) (parts s.table u)) (checks_at s pos' m k)
-  own_holds y u before p pos' path k to inside called begins same known =
+  own_holds y u before p pos' path k to inside name named means called begins same known =
       subst (λ z. Holds (map (spot p (name_of y path) before) z) (checks_at s pos' m k)) (parts_same k.of u same) (
         length-map (parts s.table k.of) (spot p (name_of y path) before)
             ∙ sym (length-map (parts s.table k.of) (λ part. checked_at pos' k.at (slots_at s m k.base) (offsets s.table k.of part))),
         subst (λ z. NoneFails Excused (map (spot p z before) (parts s.table k.of)) (checks_at s pos' m k)) called
-            (place_holds s settled (home s depth) v elsewhere m hands leaks facts variables exact k (inside_at s depth k to inside) to (inside_spot s depth k to inside settled m hands leaks typed begins)
-            (inside_named s settled depth k to inside)
-            (subst (λ w. ways.Reaches (seen s m hands leaks) w (inside_at s depth k to inside)) (sym (inside_itself s settled depth k to inside v only))
+            (place_holds s settled (home s depth) v elsewhere m hands leaks facts variables exact k (inside_at s depth k to inside) name (inside_spot s depth k to inside settled m hands leaks typed begins)
+            named
+            (subst (λ w. ways.Reaches (seen s m hands leaks) w (inside_at s depth k to inside)) (sym means)
             (inside_reached s depth k to inside (seen s m hands leaks) begins)) Excused pos' p before
             (λ q has. subst (KnowsAt before) (sym called) known p q)),
       )
@@ -149,10 +150,10 @@ module _ (s : Typing) (settled : IsSettled s.table) (depth : ℕ) (v : Views) (e
       scalar_holds (spot p (name_of y path) before) (λ part. checked_at p k.at (slots_at s m k.base) (offsets s.table k.of part)) u k.of
       (subst (λ z. is_scalar (full s.table z) ≡ true) (sym type) (scalar_type t (object_at s x).of match plain)) (plain_scalar p y u path k at)
   place_holds_at x before (Name p y path u) k owning access (inl (inr (many, own))) (t, (leads, type), match, which) known =
-      own_holds y u before p p path k own.0 own.1 own.2 (subst (λ z. ways.Reaches view z (own.1).start) (sym (own.5).0) (own.5).1)
+      own_holds y u before p p path k own.0 own.1 own.0 (own_named s settled depth k own.0 own.1 own.5) (own_itself s settled depth k own.0 own.1 own.5 v only) own.2 (subst (λ z. ways.Reaches view z (own.1).start) (sym (own.5).0) (own.5).1)
       (shape_named x y u t path k own.4 many type match) (known (name_of y path))
   place_holds_at x before (Name p y path u) k owning access (inr (many, housed)) (t, (leads, type), match, which) known =
-      own_holds y u before p p path k housed.to housed.inside housed.called (subst (ways.Reaches view (housed.inside).trunk) (sym housed.start) housed.reaches)
+      own_holds y u before p p path k housed.to housed.inside housed.name housed.named housed.means housed.called (subst (ways.Reaches view (housed.inside).trunk) (sym housed.start) housed.reaches)
       (shape_named x y u t path k housed.fits many type match) (known (name_of y path))
   place_holds_at x before e k owning access laid (t, never, match, which) known = absurd never
 

@@ -1,6 +1,6 @@
 -- Borrowers and observers of files that break no rule are in order, and the runs of their program are sound where
 -- nothing is reported, results are of scalar types or stand alone, and formals are of scalar types or of mode `in out`.
-use Rattle.std.proofs.Common.{◌≡◌, refl, sym, ap, ◌∙◌, subst, ◌⊎◌, inl, inr, ℕ, Bool, true, false, ◌&&◌, ◌||◌, List, [], ◌∷◌, Option, Some, None}
+use Rattle.std.proofs.Common.{◌≡◌, refl, sym, ap, ◌∙◌, subst, ◌⊎◌, inl, inr, ℕ, Bool, true, false, ◌&&◌, ◌||◌, List, [], ◌∷◌, Option, Some, None, is_some}
 use Rattle.spark_base.specs.declared.position.Pos.{Pos}
 use Rattle.spark_base.specs.Lists.{Has}
 use Rattle.place_names.specs.declared.act.Mode.{Mode}
@@ -78,7 +78,7 @@ use Rattle.meant_files.specs.Typed.{AreTyped}
 use Rattle.meant_files.proofs.Main.{files_denote}
 use Rattle.meant_files.proofs.Main as meant
 use Rattle.meant_files.proofs.Codes as codes
-use Rattle.scope_laws.proofs.Lists.{and_first, and_second}
+use Rattle.scope_laws.proofs.Lists.{and_second}
 use Rattle.sound_files.specs.Class.{TakesBorrower, CallsWithOwners}
 use Rattle.sound_files.proofs.Laws.{table_laws, files_declared, integers_scalar, truths_scalar}
 use Rattle.sound_files.proofs.Called.{files_bodies}
@@ -86,7 +86,7 @@ use Rattle.sound_files.proofs.Mains.{main_formless}
 use Rattle.sound_files.proofs.Functions.{functions_in}
 use Rattle.sound_files.proofs.Shared.{functions_see, formals_differ}
 use Rattle.sound_files.proofs.Declared.{declared_known, formals_apart}
-use Rattle.sound_files.proofs.Owners.{modes_there, formals_wide, main_there, passed_there}
+use Rattle.sound_files.proofs.Owners.{modes_there, formals_wide, main_there}
 use Rattle.sound_files.proofs.Classes.{are_answered}
 use Rattle.typed_runs.specs.Code.{IsTypedUse}
 use Rattle.typed_runs.proofs.Results.{results_there}
@@ -101,7 +101,7 @@ use Rattle.viewed_steps.specs.Sound.{IsScalarObject, IsKindOfFormal, IsStoredAt}
 use Rattle.view_laws.specs.Program.{PassActuals, TraversesNames, SparesPackages, TakesView, IsViewProgram}
 use Rattle.view_laws.proofs.Ready.{views_ready}
 use Rattle.viewed_files.proofs.Sources.{scalar_plain}
-use Rattle.viewed_files.proofs.Passed.{PassFit, actuals_passed, kept_places}
+use Rattle.viewed_files.proofs.Passed.{actuals_passed}
 use Rattle.viewed_files.proofs.Stored.{are_stored}
 use Rattle.viewed_files.proofs.Traversals.{shape_there, declares_view, assigns_view, holds_view, called_name, returns_source}
 use Rattle.viewed_files.proofs.Main.{IsGiven, views_in_order}
@@ -377,9 +377,6 @@ module _ (files : List (List SourceUnit)) where
           by mode.Out at = back mode.Out at (λ e. cc)
           by mode.InOut at = back mode.InOut at (λ e. cc)
 
-      fit : PassFit flow_of_files
-      fit = passed_there p calls.passed
-
       -- a formal of a scalar type owns nothing
       scalar_none : (x : ℕ) → IsScalarObject wide x → is_view_formal wide x ≡ false
       scalar_none x plain = ap (λ b. is_in_formal wide x && b) (plain_type wide owns (flow.object_at wide x).of plain) ∙ and_false (is_in_formal wide x)
@@ -413,7 +410,7 @@ module _ (files : List (List SourceUnit)) where
           actuals_passed flow_of_files (subst (λ (rows : Table). counts (shape_of rows integer) ≡ true) same_table laws.whole)
           (subst (λ (rows : Table). lists (shape_of rows boolean) ≡ true) same_table laws.listed)
           (subst (λ (rows : Table). (t : ℕ) → words rows t ≡ words_of (words rows) (shape_of rows t)) same_table laws.word_law) owns used
-          (formals_differ p text_orderly.once) (files_firsts files apart ended up named no_fault) fit
+          (formals_differ p text_orderly.once) (files_firsts files apart ended up named no_fault)
 
       -- ---- traversal functions
 
@@ -515,7 +512,6 @@ module _ (files : List (List SourceUnit)) where
         functions = λ n t result x has formal is lends. functions_see p text_orderly.once n t x result has lends;
         modes = modes;
         procedures = procedures;
-        copied = λ sub has q there n actuals result is known. kept_places (flow_typing flow_of_files) (sub_of flow_of_files n).formals actuals known (fit sub has q there n actuals result is);
         order = order;
         results = λ sub has.
             results_there p laws.owns integers truths (λ t i. named_plain table (component_type table t i) (component_named t i))

@@ -2,8 +2,6 @@
 -- other places in variables, of which nothing is moved.
 use Rattle.std.proofs.Common.{◌≡◌, refl, sym, ap, ◌∙◌, subst, ◌⊎◌, inl, inr, ℕ, Bool, true, false, ◌&&◌, List, [], ◌∷◌, map, arith, length, if◌then◌else◌, Some}
 use Rattle.spark_base.specs.Lists.{Has}
-use Rattle.place_names.specs.declared.act.Act.{Act}
-use Rattle.place_names.specs.declared.act.Act.TheVariants as act
 use Rattle.place_names.specs.declared.act.Mode.{Mode}
 use Rattle.place_names.specs.declared.act.Mode.TheVariants as mode
 use Rattle.place_names.specs.declared.act.Placed.{Placed}
@@ -12,25 +10,25 @@ use Rattle.place_names.specs.Names.{Name as PlaceName}
 use Rattle.place_names.specs.declared.rule.Loan.TheVariants.{Borrowed}
 use Rattle.type_definitions.specs.Types.{Table, shape_of, full, is_scalar, is_owning}
 use Rattle.typed_tree.specs.Trees.{TypedTree, Name, More}
-use Rattle.flow_paths.specs.Objects.{object_at, is_anonymous, is_observer, is_named_access, view_of, Passing, ByValue, passing_by}
+use Rattle.flow_paths.specs.Objects.{Typing, object_at, is_anonymous, is_named_access, view_of, Passing, ByValue, passing_by}
 use Rattle.flow_paths.specs.Objects as objects
-use Rattle.flow_paths.specs.Names.{has_call, waiting, written, name_of}
+use Rattle.flow_paths.specs.Names.{selectors, has_call, waiting, written, name_of}
 use Rattle.flow_paths.specs.Acts.{actual_act, actual_acts, actual_values, acts_in, index_acts}
 use Rattle.machine.specs.Words as machine
-use Rattle.machine.specs.Memory.{Memory, Place, slots_of}
-use Rattle.machine.specs.Evaluate.{Here, Now, Evaluated, Done, followed_by, variable_place, walked, evaluate, Raises, Traps, held_or_taken, AsView, AsValue, viewed, value, steps_of, checked}
+use Rattle.machine.specs.Memory.{Memory, Place}
+use Rattle.machine.specs.Evaluate.{Here, Now, Evaluated, Done, followed_by, variable_place, walked, evaluate, Raises, Traps, held_or_taken, AsView, AsValue, viewed, value, checked}
 use Rattle.machine.specs.Evaluate as run
 use Rattle.machine.specs.Calls.{type_of, Passed, passed, all_passed, value_passed}
 use Rattle.machine.specs.Owners.{is_in}
 use Rattle.machine.specs.States.{Waiting, Leak}
-use Rattle.owned_ways.specs.Ways.{OfVariable, Loc, Way, Object, All, Reaches, IsRooted, Past, Allows, AllowsAll, after}
+use Rattle.owned_ways.specs.Ways.{OfVariable, Loc, Way, Object, All, Reaches, Past, AllowsAll, after}
 use Rattle.owned_ways.specs.Ways as ways
 use Rattle.owned_ways.proofs.Locations.{under_itself}
 use Rattle.part_offsets.specs.Parts.{IsSettled}
 use Rattle.soundness.specs.Seen.{IsNear, content, trunk, seen, home, is_view_formal}
 use Rattle.soundness.specs.Typed.{OwnsByShape, Matches}
 use Rattle.soundness.specs.Sound.{goes_through_none}
-use Rattle.typed_laws.specs.Needed.{Gives, IndexLaw}
+use Rattle.typed_laws.specs.Needed.{Gives, IndexLaw, Leads}
 use Rattle.soundness.proofs.Contents.{bool_cases}
 use Rattle.soundness.proofs.Fixed.{matches_scalar}
 use Rattle.soundness.proofs.Walks.{way_along, past_along}
@@ -40,15 +38,15 @@ use Rattle.soundness.proofs.Taking.{Takes}
 use Rattle.viewed_soundness.specs.Taken.{types_taken, TakesFit}
 use Rattle.viewed_steps.proofs.Supplied.{Supplies, supplies_both, takes_supplied, scalar_types, place_types, seen_types}
 use Rattle.viewed_nulls.proofs.Copied.{copies_same}
-use Rattle.soundness.proofs.Passing.{AreReads, reads_keep, plain_type}
+use Rattle.soundness.proofs.Passing.{reads_keep, plain_type}
 use Rattle.soundness.proofs.Lasting.{keeps}
 use Rattle.owned_loans.specs.Views.{Around, Views}
 use Rattle.owned_loans.proofs.Allowed.{cleared_open, cleared_whole}
-use Rattle.viewed_soundness.specs.Holds.{IsNamed, PartsAreNamed, sees_only, is_fixed, IsOwners, IsAccess, KeepsObserved, AllKeep}
+use Rattle.viewed_soundness.specs.Holds.{IsNamed, PartsAreNamed, sees_only, IsOwners, IsAccess}
 use Rattle.viewed_soundness.proofs.Names.{Starts, true_false, view_access, not_view, plain_sees, both_no, plain_named}
-use Rattle.viewed_soundness.proofs.Stays.{Goes}
+use Rattle.viewed_soundness.proofs.Stays.{Goes, no_selectors}
 use Rattle.viewed_soundness.proofs.Evaluated.{matches_named, live_trunk}
-use Rattle.viewed_steps.specs.Sound.{IsKindOfFormal, IsReachedBack}
+use Rattle.viewed_steps.specs.Sound.{IsKindOfFormal}
 use Rattle.viewed_steps.specs.Ready.{IsOwnPlace, IsSeen, IsActualTo, AreActualsTo}
 use Rattle.viewed_steps.proofs.Seeing.{IsClear, AreClear}
 use Rattle.viewed_steps.proofs.LaidOut.{IsOpenActual, AreOpenActuals}
@@ -57,13 +55,12 @@ use Rattle.viewed_nulls.proofs.Spared.{Spares, done_on, spares_on, spared_whole}
 use Rattle.owned_loans.proofs.Safe.{Unlent, Unmoved}
 use Rattle.null_places.specs.Compares.{Compares}
 use Rattle.null_places.proofs.Only.{OnlyOwners}
-use Rattle.null_places.proofs.Evaluated.{value_on}
 use Rattle.null_places.proofs.Direct.{has_deref, past_deref, selectors_direct}
 use Rattle.null_places.proofs.Walks.{SameNow, SameTo, then_same, simply}
 use Rattle.null_places.proofs.Laws.{Premises, Behaves, Finds, IsAt, IsWholeAt}
 use Rattle.null_places.proofs.Scalars.{scalar_none, value_passed_same, to_passed_same, from_passed_same, place_then, steps_on, view_same, none_there}
 use Rattle.viewed_nulls.proofs.Names.{name_same, access_found, view_whole, owner_found}
-use Rattle.viewed_nulls.proofs.Viewed.{viewed_premises, anonymous_access, IsReadyIn, leads, viewed_behaves, viewed_values}
+use Rattle.viewed_nulls.proofs.Viewed.{viewed_premises, anonymous_access, IsReadyIn, leads, viewed_behaves}
 use Rattle.viewed_steps.proofs.Views.{AreAccess, AreUnseen}
 use Rattle.viewed_steps.specs.Ready.{is_shown_type}
 use Rattle.viewed_steps.specs.Traversals.{TraversalCall}
@@ -81,6 +78,15 @@ use Rattle.soundness.specs.Ready.{root_of}
 use Rattle.type_definitions.specs.Types as types
 use Rattle.type_definitions.specs.declared.table.Shape.TheVariants as shape
 use Rattle.typed_tree.specs.Trees as typed
+
+-- A name that goes through an access value has steps.
+some_selectors : (s : Typing) (t u : ℕ) (path : TypedTree) → Leads s t path u → goes_through_none path ≡ false → selectors path ≡ [] → ⊥
+unfolding goes_through_none selectors Leads
+some_selectors s t u typed.NoMore leads some none = cc
+some_selectors s t u (typed.Component i rest) leads some none = cc
+some_selectors s t u (typed.Element index low high rest) leads some none = cc
+some_selectors s t u (typed.Designated rest) leads some none = cc
+some_selectors s t u path never some none = absurd never
 
 -- A name that goes through no access value to a place of no anonymous type is that of no view.
 own_variable : (table : Table) (t u : ℕ) (way : List run.Step) (w : Way) → ((z : Way) → Past z (way_along way w) → ⊥) → Starts table t way u → IsNamed table u
@@ -162,9 +168,9 @@ module _ (h : Here) (settled : IsSettled h.typing.table) (leaks : List Leak) (ot
 
   -- and one that an owner leads to, through access values
   through_finds : (on : List (List machine.Word)) (y u : ℕ) (path : TypedTree) (way : List run.Step)
-      → Goes h.typing.table (object_at h.typing y).of u path way → sees_only h.typing y ≡ false → is_view_formal h.typing y ≡ false
+      → Goes h.typing.table (object_at h.typing y).of u path way → sees_only h.typing y ≡ false → (way ≡ [] → ⊥)
       → ((w : Way) → ways.name_of w ≡ name_of y path → Unlent facts w × Unmoved facts w) → Finds h asks m hands facts on y way (WholeAt u)
-  through_finds on y u path way goes plain owner spared =
+  through_finds on y u path way goes plain on_way spared =
       let w : Way = way_along way (Object (OfVariable (home h.typing h.frame y) y)) in
       let called : ways.name_of w ≡ name_of y path =
       (λ j. record { root = number_along way (Object (OfVariable (home h.typing h.frame y) y)) j; sels = goes.sels (Object (OfVariable (home h.typing h.frame y) y)) j }) in
@@ -172,7 +178,7 @@ module _ (h : Here) (settled : IsSettled h.typing.table) (leaks : List Leak) (ot
       let unmoved = (spared w called).1 in (
         whole_of on u (walked h.typing way (variable_place h y) (at on))
             (owner_found h settled hands leaks m on other facts v ready.kept ready.viewed ready.holds alone live only in_formals index_law own_law parts_named y u way goes.lead plain
-            (λ formal none. true_false (is_view_formal h.typing y) formal owner)
+            (λ formal none. on_way none)
             (λ e. cleared_open facts w ((λ b n has over. unlent Borrowed b n has over), unmoved)) (λ b n has over. unlent Borrowed b n has over) unmoved),
         name_same h settled hands leaks m on other facts v ready.kept ready.viewed ready.holds alone live only in_formals y u way goes.lead
             (λ e. cleared_open facts w ((λ b n has over. unlent Borrowed b n has over), unmoved)),
@@ -196,11 +202,10 @@ module _ (h : Here) (settled : IsSettled h.typing.table) (leaks : List Leak) (ot
 
   -- a place of a scalar type, that a name leads to
   place_finds : (on : List (List machine.Word)) (x : ℕ) (p : Pos) (y u : ℕ) (path : TypedTree)
-      → (goes_through_none path ≡ true) ⊎ (IsReachedBack h.typing x (Name p y path u) × IsOpenActual h.typing h.frame facts (Name p y path u)) → (way : List run.Step)
+      → IsOpenActual h.typing h.frame facts (Name p y path u) → (way : List run.Step)
       → Goes h.typing.table (object_at h.typing y).of u path way → Finds h asks m hands facts on y way (IsAt h asks m hands facts u)
   place_finds on x p y u path (inl direct) way goes = law.direct on y u path way goes direct
-  place_finds on x p y u path (inr (scalar, inl direct)) way goes = law.direct on y u path way goes direct
-  place_finds on x p y u path (inr (scalar, inr (sees, opens))) way goes =
+  place_finds on x p y u path (inr (sees, opens)) way goes =
       let w : Way = way_along way (Object (OfVariable (home h.typing h.frame y) y)) in
       leads h settled leaks other alone in_formals index_law own_law v parts_named m hands facts ready only on y u path way goes
       (opens w (named_along (home h.typing h.frame) way (Object (OfVariable (home h.typing h.frame y) y)) refl)
@@ -285,7 +290,7 @@ module _ (h : Here) (settled : IsSettled h.typing.table) (leaks : List Leak) (ot
 
   one_same : (mode_of : Mode) (owning access : Bool) (x : ℕ) (e : TypedTree) → (object_at h.typing x).mode ≡ mode_of → is_owning h.typing.table (object_at h.typing x).of ≡ owning → is_anonymous (view_of h.typing x) ≡ false → Kind x
       → IsActualTo h.typing x mode_of e → (is_given h.typing x ≡ true → IsClear h.typing facts e)
-      → (is_in mode_of ≡ false → (goes_through_none e ≡ true) ⊎ (IsReachedBack h.typing x e × IsOpenActual h.typing h.frame facts e))
+      → (is_in mode_of ≡ false → IsOpenActual h.typing h.frame facts e)
       → (before on : List (List machine.Word)) → TakesFit h.typing e → Supplies h.typing m (types_taken h.typing e) before on
       → Compares h.typing e → AllowsAll facts (acts (head_of h.typing own_law procedure mode_of owning e))
       → IsSpared x mode_of e → SameFor before on (passing_by mode_of owning access) x e
@@ -327,25 +332,26 @@ module _ (h : Here) (settled : IsSettled h.typing.table) (leaks : List Leak) (ot
       own_type (inr (inr (inr plain))) many = plain.2
       own_type (inr (inr (inl shown))) many = plain_named h.typing.table (object_at h.typing x).of unseen
 
-      own_root : (is_scalar (full h.typing.table t) ≡ true) ⊎ IsOwnPlace h.typing (Name p y path u) → is_scalar (full h.typing.table (object_at h.typing x).of) ≡ false
-          → (z : ℕ) → Has (root_of (Name p y path u)) z → is_view_formal h.typing z ≡ false
-      own_root (inl plain) many z has =
+      own_root : (is_scalar (full h.typing.table t) ≡ true) ⊎ (goes_through_none path ≡ true → IsOwnPlace h.typing (Name p y path u))
+          → is_scalar (full h.typing.table (object_at h.typing x).of) ≡ false → goes_through_none path ≡ true → (z : ℕ) → Has (root_of (Name p y path u)) z → is_view_formal h.typing z ≡ false
+      own_root (inl plain) many none z has =
           absurd (true_false (is_scalar (full h.typing.table (object_at h.typing x).of)) (matches_scalar h.typing t (object_at h.typing x).of match plain) many)
-      own_root (inr own) many z has = own z has
+      own_root (inr own) many none z has = own none z has
 
       direct_finds : is_scalar (full h.typing.table (object_at h.typing x).of) ≡ false → (way : List run.Step) → Goes h.typing.table (object_at h.typing y).of u path way
           → goes_through_none path ≡ true → Finds h asks m hands facts on y way (WholeAt u)
       direct_finds many way goes none =
           own_finds on y u path way goes none
           (subst (IsNamed h.typing.table) (sym type) (matches_named h.typing.table (object_at h.typing x).of t (matches_back t (object_at h.typing x).of match) (own_type kind many)))
-          (own_root which many y (inl refl)) (spared many)
+          (own_root which many none y (inl refl)) (spared many)
 
       kept_finds : is_scalar (full h.typing.table (object_at h.typing x).of) ≡ false → (way : List run.Step) → Goes h.typing.table (object_at h.typing y).of u path way
-          → (goes_through_none path ≡ true) ⊎ (IsReachedBack h.typing x (Name p y path u) × IsOpenActual h.typing h.frame facts (Name p y path u)) → Finds h asks m hands facts on y way (WholeAt u)
+          → IsOpenActual h.typing h.frame facts (Name p y path u) → Finds h asks m hands facts on y way (WholeAt u)
       kept_finds many way goes (inl none) = direct_finds many way goes none
-      kept_finds many way goes (inr (inl scalar, opens)) = absurd (true_false (is_scalar (full h.typing.table (object_at h.typing x).of)) scalar many)
-      kept_finds many way goes (inr (inr back, inl none)) = direct_finds many way goes none
-      kept_finds many way goes (inr (inr back, inr (sees, opens))) = through_finds on y u path way goes sees (own_root which many y (inl refl)) (spared many)
+      kept_finds many way goes (inr (sees, opens)) = elim (bool_cases (goes_through_none path)) [
+        | inl none ↦ direct_finds many way goes none
+        | inr some ↦ through_finds on y u path way goes sees (λ empty. some_selectors h.typing (object_at h.typing y).of u path lead some (no_selectors h.typing.table (object_at h.typing y).of u path way goes empty)) (spared many)
+      ]
   one_same mode.InOut owning access x e is fits unseen kind (t, never, match, which) clears direct before on fit takes compares allowed spared = absurd never
 
   -- ---- all of them

@@ -1,5 +1,5 @@
 -- Of what a call passes nothing is gone, nor of the formals that it copies back.
-use Rattle.viewed_soundness.specs.Holds.{is_view, sees_only}
+use Rattle.viewed_soundness.specs.Holds.{is_view}
 use Rattle.viewed_steps.proofs.Left.{cells_same}
 use Rattle.std.proofs.Common.{◌≡◌, refl, sym, ap, ◌∙◌, subst, ◌⊎◌, inl, inr, ℕ, suc, false, List, [], ◌∷◌, ◌++◌, length, Some, true}
 use Rattle.place_names.specs.declared.fact.Fact.{Fact}
@@ -19,11 +19,10 @@ use Rattle.soundness.specs.Seen.{seen, home, is_view_formal}
 use Rattle.soundness.specs.Changes.{leaks_at}
 use Rattle.soundness.specs.Typed.{OwnsByShape, Kept, Spot, IsFixed}
 use Rattle.soundness.proofs.Returning.{formal_fixed}
-use Rattle.owned_loans.specs.Views.{Around, Views, ExcusedBy, IsOuter, Viewed}
-use Rattle.owned_loans.proofs.Moves.{same_viewed}
+use Rattle.owned_loans.specs.Views.{Views, IsMovedBy}
 use Rattle.viewed_steps.specs.Taken.{IsInside, IsTaken, AreTaken, Lodge, IsPlainPlace, IsCopiedTo}
-use Rattle.viewed_steps.proofs.Between.{more_gone, same_reaches, IsHomed}
-use Rattle.viewed_steps.proofs.Carried.{inside_at, inside_spot, inside_reached, inside_rooted, inside_owns, inside_homed}
+use Rattle.viewed_steps.proofs.Between.{OwnersStand, more_gone, same_stand, same_reaches, Begins}
+use Rattle.viewed_steps.proofs.Carried.{inside_at, inside_spot, inside_reached, inside_rooted, inside_owns, inside_begins}
 use Rattle.viewed_steps.proofs.Alike.{IsPlainSpot, IsLaidIn, fixed_plain, plain_place, one_there, Enters, moved_there, stored_there, one_then}
 use Rattle.viewed_steps.proofs.Entered as entered
 use Rattle.viewed_steps.proofs.Entered.{ArePassedOn, IsOpen, AreBlank, passed_base, outs_taken, IsPlainPassed, IsPlainOne}
@@ -31,7 +30,7 @@ use Rattle.viewed_steps.proofs.Entering as entering
 use Rattle.viewed_steps.proofs.Emptying as emptying
 use Rattle.viewed_steps.proofs.Outs.{Out, HaveStill, still_then}
 use Rattle.viewed_steps.proofs.Backed as backed
-use Rattle.viewed_steps.proofs.Backed.{AwayBy, ViewedAway}
+use Rattle.viewed_steps.proofs.Backed.{AwayBy, StandsAway}
 use Rattle.null_places.proofs.Places.{spot_whole, unmoved_whole, moved_only, plain_whole}
 use Rattle.null_places.proofs.Calls.{IsWholly, IsWhollyPassed, AreWhollyPassed, fixed_wholly, AreWhollyBack, IsStanding}
 use Rattle.viewed_steps.proofs.Views.{AreAccess, AreFar}
@@ -43,8 +42,8 @@ use Rattle.soundness.proofs.Steps.{no_leaf}
 -- A place in a variable isn't in a formal that owns nothing.
 in_owner : (s : Typing) (f : ℕ) (k : Place) (to : Way) (inside : IsInside s f k to) → (g x : ℕ) → k.base ≡ memory.OfVariable g x → is_view_formal s x ≡ false
 in_owner s f k to inside g x at = elim inside.stands [
-  | inl variable ↦ subst (λ z. is_view_formal s z ≡ false) (same_object inside.frame inside.object g x (sym variable.2 ∙ at)) inside.owner
-  | inr cell ↦ absurd (no_object (cell.0).0 g x (sym (cell.0).2 ∙ at))
+  | inl variable ↦ subst (λ z. is_view_formal s z ≡ false) (same_object inside.frame inside.object g x (sym variable.2 ∙ at)) variable.4
+  | inr cell ↦ absurd (no_object cell.0 g x (sym cell.2 ∙ at))
 ]
   where
     same_object : (f y g x : ℕ) → memory.OfVariable f y ≡ memory.OfVariable g x → y ≡ x
@@ -55,15 +54,15 @@ in_owner s f k to inside g x at = elim inside.stands [
 
 -- Of a place nothing is gone, where nothing says so of its way and what goes on from it.
 pub inside_wholly : (s : Typing) (settled : IsSettled s.table) (hands : List Waiting) (leaks : List Leak) (f depth : ℕ) (v : Views)
-    (facts : List Fact) (other : Around (home s depth)) (k : Place) (to : Way) → (inside : IsInside s f k to) → (m : Memory) → Kept s m hands
-    → Viewed (home s depth) (sees_only s) other v (seen s m hands leaks) facts → Reaches (seen s m hands leaks) inside.trunk inside.start
-    → ((w : Way) → Under to w → ExcusedBy (home s depth) v other facts w → ⊥) → IsWholly s k m
-inside_wholly s settled hands leaks f depth v facts other k to inside m typed viewed there clean only =
+    (facts : List Fact) (other : Way → Type 0) (k : Place) (to : Way) → (inside : IsInside s f k to) → (m : Memory) → Kept s m hands
+    → OwnersStand (home s depth) v facts other (seen s m hands leaks) → Reaches (seen s m hands leaks) inside.trunk inside.start
+    → ((w : Way) → Under to w → IsMovedBy (home s depth) v facts w ⊎ other w → ⊥) → IsWholly s k m
+inside_wholly s settled hands leaks f depth v facts other k to inside m typed stand there clean only =
     let at : Loc = inside_at s f k to inside in
     let spot : Spot s m hands k at = inside_spot s f k to inside settled m hands leaks typed there in (
       spot_whole s settled m hands only typed k at spot
-          (unmoved_whole s settled m hands leaks (ExcusedBy (home s depth) v other facts) viewed.known to at (inside_rooted s f k to inside)
-          (inside_reached s f k to inside (seen s m hands leaks) there) (inside_owns s f k to inside settled m hands leaks typed viewed.owned there)
+          (unmoved_whole s settled m hands leaks (λ w. IsMovedBy (home s depth) v facts w ⊎ other w) stand.known to at (inside_rooted s f k to inside)
+          (inside_reached s f k to inside (seen s m hands leaks) there) (inside_owns s f k to inside settled m hands leaks typed stand.owned there)
           (λ p said. clean (along to p) (under_along to to p (under_itself to)) said)),
       moved_only s settled m hands only typed k at spot (λ p leaf. in_owner s f k to inside),
     )
@@ -98,53 +97,53 @@ module _ (s : Typing) (settled : IsSettled s.table) (own_law : OwnsByShape s.tab
   plain_wholly leaks x (From k) before m (inr (inr (plain, named, ws, is, fit))) typed there = (let never : From k ≡ Value ws = is in cc)
   plain_wholly leaks x (To k) before m (inr (inr (plain, named, ws, is, fit))) typed there = (let never : To k ≡ Value ws = is in cc)
 
-  abbrev ViewedIn : Around (home s depth) → List Leak → Memory → Type 0
-  ViewedIn other leaks m = Viewed (home s depth) (sees_only s) other v (seen s m hands leaks) facts
+  abbrev StandIn : (Way → Type 0) → List Leak → Memory → Type 0
+  StandIn other leaks m = OwnersStand (home s depth) v facts other (seen s m hands leaks)
 
-  abbrev outs_also : Around (home s depth) → List Out → Around (home s depth)
+  abbrev outs_also : (Way → Type 0) → List Out → Way → Type 0
   outs_also = entering.outs_also s settled own_law in_formals hands depth v far sees facts scope cells begins
 
-  abbrev away : Around (home s depth) → Way → Around (home s depth)
+  abbrev away : (Way → Type 0) → Way → Way → Type 0
   away = entering.away s settled own_law in_formals hands depth v far sees facts scope cells begins
 
   -- one after the other, with the places that are taken gone, and those that are to be emptied
-  pub passed_wholly : (other : Around (home s depth)) (leaks : List Leak) (formals : List ℕ) (passed : List Passed) (ways : List Way) (outs : List Out) (before m : Memory)
-      → ArePassedOn s before cells depth facts scope formals passed ways outs → IsOpen (home s depth) other ways → entering.AtFirst s settled own_law in_formals hands depth v far sees facts scope cells begins before → Kept s m hands
+  pub passed_wholly : (other : Way → Type 0) (leaks : List Leak) (formals : List ℕ) (passed : List Passed) (ways : List Way) (outs : List Out) (before m : Memory)
+      → ArePassedOn s before cells depth v facts scope formals passed ways outs → IsOpen (IsMovedBy (home s depth) v facts) other ways → entering.AtFirst s settled own_law in_formals hands depth v far sees facts scope cells begins before → Kept s m hands
       → entering.AreThere s settled own_law in_formals hands depth v far sees facts scope cells begins ways leaks m
-      → ViewedIn (outs_also other outs) leaks m → AreBlank s depth m formals → HaveStill s cells depth before m outs → HasCells before m → AreWhollyPassed s (suc depth) formals passed m
-  passed_wholly other leaks [] passed ways outs before m are open_there at_first typed cells_there viewed blank still had = tt
-  passed_wholly other leaks (x ∷ formals) [] ways outs before m are open_there at_first typed cells_there viewed blank still had = tt
-  passed_wholly other leaks (x ∷ formals) (a ∷ passed) [] outs before m are open_there at_first typed cells_there viewed blank still had =
+      → StandIn (outs_also other outs) leaks m → AreBlank s depth m formals → HaveStill s cells depth before m outs → HasCells before m → AreWhollyPassed s (suc depth) formals passed m
+  passed_wholly other leaks [] passed ways outs before m are open_there at_first typed cells_there stand blank still had = tt
+  passed_wholly other leaks (x ∷ formals) [] ways outs before m are open_there at_first typed cells_there stand blank still had = tt
+  passed_wholly other leaks (x ∷ formals) (a ∷ passed) [] outs before m are open_there at_first typed cells_there stand blank still had =
       let on = one_stands s settled own_law in_formals hands leaks (suc depth) x a before m cells are.0 (λ plain. laid_there leaks m a plain typed (λ c has. (cells_there c has).0)) had typed in
       let mid : Memory = with_formal s (suc depth) x a m in (
         plain_wholly leaks x a before m are.0 typed (λ c has. (cells_there c has).0),
         passed_wholly other leaks formals passed [] outs before mid are.1 open_there at_first on.typed
             (λ c has. (same_reaches (seen s m hands leaks) (seen s mid hands leaks) on.same c.way (OfCell c.cell) (cells_there c has).0, (cells_there c has).1))
-            (same_viewed (home s depth) (sees_only s) (outs_also other outs) v (seen s m hands leaks) (seen s mid hands leaks) facts on.same viewed)
+            (same_stand (home s depth) v facts (outs_also other outs) (seen s m hands leaks) (seen s mid hands leaks) on.same stand)
             (λ y has p. on.hold (suc depth) y p ∙ blank y (inr has) p)
             (λ o has. still_then s cells depth before m mid o.way (still o has) ((λ f y q p low is. on.hold f y (p ++ q)), (λ c q p has is. cells_same s m mid hands leaks on.same c.cell (p ++ q))))
             (then_cells before m mid had on.cells),
       )
-  passed_wholly other leaks (x ∷ formals) (a ∷ passed) (to ∷ ways) outs before m (inl are) open_there at_first typed cells_there viewed blank still had =
+  passed_wholly other leaks (x ∷ formals) (a ∷ passed) (to ∷ ways) outs before m (inl are) open_there at_first typed cells_there stand blank still had =
       let on = one_stands s settled own_law in_formals hands leaks (suc depth) x a before m cells are.0 (λ plain. laid_there leaks m a plain typed (λ c has. (cells_there c has).0)) had typed in
       let mid : Memory = with_formal s (suc depth) x a m in (
         plain_wholly leaks x a before m are.0 typed (λ c has. (cells_there c has).0),
         passed_wholly other leaks formals passed (to ∷ ways) outs before mid are.1 open_there at_first on.typed
             (λ c has. (same_reaches (seen s m hands leaks) (seen s mid hands leaks) on.same c.way (OfCell c.cell) (cells_there c has).0, (cells_there c has).1))
-            (same_viewed (home s depth) (sees_only s) (outs_also other outs) v (seen s m hands leaks) (seen s mid hands leaks) facts on.same viewed)
+            (same_stand (home s depth) v facts (outs_also other outs) (seen s m hands leaks) (seen s mid hands leaks) on.same stand)
             (λ y has p. on.hold (suc depth) y p ∙ blank y (inr has) p)
             (λ o has. still_then s cells depth before m mid o.way (still o has) ((λ f y q p low is. on.hold f y (p ++ q)), (λ c q p has is. cells_same s m mid hands leaks on.same c.cell (p ++ q))))
             (then_cells before m mid had on.cells),
       )
-  passed_wholly other leaks (x ∷ formals) (a ∷ passed) (to ∷ ways) outs before m (inr (k, later, inl (is, whole, same), one, apart, differ, more)) open_there at_first typed cells_there viewed blank still had =
+  passed_wholly other leaks (x ∷ formals) (a ∷ passed) (to ∷ ways) outs before m (inr (k, later, inl (is, whole, same), one, apart, differ, more)) open_there at_first typed cells_there stand blank still had =
       let new = blank x (inl refl) in
       let there_now = entering.one_reached s settled own_law in_formals hands depth v far sees facts scope cells begins x k to one leaks m (λ c has. (cells_there c has).0) in
       let next : Memory = declared (suc depth) x (words_of s m k) (moved_out s k m) in
-      let among = outs_taken s before cells depth facts scope formals passed ways later more in
-      let from = passed_base s before cells depth facts scope formals passed ways later more in
-      let root : IsHomed s depth to = inside_homed s depth k to one.inside in
+      let among = outs_taken s before cells depth v facts scope formals passed ways later more in
+      let from = passed_base s before cells depth v facts scope formals passed ways later more in
+      let root : Begins s depth to = inside_begins s depth k to one.inside in
       let mine = entering.taken_open s settled own_law in_formals hands depth v far sees facts scope cells begins other to ways later among from apart open_there in
-      let here : ViewedIn (outs_also other later) leaks m = subst (λ z. ViewedIn (outs_also other z) leaks m) same viewed in
+      let here : StandIn (outs_also other later) leaks m = subst (λ z. StandIn (outs_also other z) leaks m) same stand in
       subst (λ z. AreWhollyPassed s (suc depth) (x ∷ formals) (z ∷ passed) m) (sym is) (
         inside_wholly s settled hands leaks depth depth v facts (outs_also other later) k to one.inside m typed here there_now
             (entered.clean s settled own_law in_formals hands leaks depth v far sees facts scope cells (outs_also other later) x k to one whole mine m typed here new there_now),
@@ -158,46 +157,36 @@ module _ (s : Typing) (settled : IsSettled s.table) (own_law : OwnsByShape s.tab
               (λ z there. (cells_there c has).1 z (inr there)),
             ))
             (entering.beside_outs s settled own_law in_formals hands depth v far sees facts scope cells begins other to later leaks next
-            (entered.viewed_next s settled own_law in_formals hands leaks depth v far sees facts scope cells (outs_also other later) x k to one whole mine m typed here new there_now))
+            (entered.stand_next s settled own_law in_formals hands leaks depth v far sees facts scope cells (outs_also other later) x k to one whole mine m typed here new there_now))
             (λ y has p. entered.one_blank s settled own_law in_formals hands leaks depth v far sees facts scope cells (outs_also other later) x k to one whole mine m typed here new there_now y (differ y has) p
             (blank y (inr has) p))
             (λ o has. still_then s cells depth before m next o.way (still o (subst (λ z. Has z o) (sym same) has))
             (entered.one_still s settled own_law in_formals hands leaks depth v far sees facts scope cells (outs_also other later) x k to one whole mine m typed here new there_now (λ c has_c. (cells_there c has_c).0) o.way (apart o.way (among o has))))
             (then_cells before m next had (taken_cells s k (suc depth) x (words_of s m k) m)),
       )
-  passed_wholly other leaks (x ∷ formals) (a ∷ passed) (to ∷ ways) outs before m (inr (k, later, inr (pos, is, same), one, apart, differ, more)) open_there at_first typed cells_there viewed blank still had =
+  passed_wholly other leaks (x ∷ formals) (a ∷ passed) (to ∷ ways) outs before m (inr (k, later, inr (pos, is, same), one, apart, differ, more)) open_there at_first typed cells_there stand blank still had =
       let new = blank x (inl refl) in
       let there_now = entering.one_reached s settled own_law in_formals hands depth v far sees facts scope cells begins x k to one leaks m (λ c has. (cells_there c has).0) in
       let next : Memory = declared (suc depth) x (default s.table (object_at s x).of) (moved_out s k m) in
-      let among = outs_taken s before cells depth facts scope formals passed ways later more in
-      let root : IsHomed s depth to = inside_homed s depth k to one.inside in
+      let among = outs_taken s before cells depth v facts scope formals passed ways later more in
+      let root : Begins s depth to = inside_begins s depth k to one.inside in
       let out : Out = record { way = to; place = k; pos = pos } in
-      let here : ViewedIn (outs_also other (out ∷ later)) leaks m = subst (λ z. ViewedIn (outs_also other z) leaks m) same viewed in
+      let here : StandIn (outs_also other (out ∷ later)) leaks m = subst (λ z. StandIn (outs_also other z) leaks m) same stand in
       let found : List Leak = leaks ++ leaks_at s pos before k in
       let mine = entering.still_checks s settled own_law in_formals hands depth v far sees facts scope cells begins x k to one pos leaks before m at_first
       (still out (subst (λ z. Has z out) (sym same) (inl refl))) in
-      let gone_then : Way → Type 0 = (outs_also (away other to) later).gone in
-      let gone_apart : (y : ℕ) (w z : Way) → v.way y ≡ Some w → IsOuter (home s depth) v y w → (outs_also (away other to) later).gone z → Under z w ⊎ Under w z → ⊥ =
-      λ y w z has foreign o meets. elim o [
-        | inr (other_one, has_one, under) ↦ viewed.whole y w z has foreign (inr (other_one, subst (λ z. Has z other_one) (sym same) (inr has_one), under)) meets
-        | inl at_first ↦ elim at_first [
-          | inl gone ↦ viewed.whole y w z has foreign (inl gone) meets
-          | inr at ↦ viewed.whole y w z has foreign
-              (inr (out, subst (λ z. Has z out) (sym same) (inl refl), entering.along_under s settled own_law in_formals hands depth v far sees facts scope cells begins to z at)) meets
-        ]
-      ] in
       subst (λ z. AreWhollyPassed s (suc depth) (x ∷ formals) (z ∷ passed) m) (sym is) (
         (λ only. moved_only s settled m hands only typed k (inside_at s depth k to one.inside) (inside_spot s depth k to one.inside settled m hands leaks typed there_now)
             (λ p leaf. in_owner s depth k to one.inside)),
         passed_wholly (away other to) found formals passed ways later before next more
             (entering.others_open s settled own_law in_formals hands depth v far sees facts scope cells begins other to ways root apart open_there) at_first
-            (emptying.out_kept s settled own_law in_formals hands leaks depth v sees facts scope cells (outs_also other (out ∷ later)) gone_then gone_apart x k to one open_there.none m typed here new there_now found)
+            (emptying.out_kept s settled own_law in_formals hands leaks depth v sees facts scope cells (outs_also other (out ∷ later)) (outs_also (away other to) later) x k to one m typed here new there_now found)
             (λ c has. (
-              emptying.out_stays s settled own_law in_formals hands leaks depth v sees facts scope cells (outs_also other (out ∷ later)) gone_then gone_apart x k to one
-                  open_there.none m typed here new there_now found mine c.way ((cells_there c has).1 to (inl refl)) c.cell (cells_there c has).0,
+              emptying.out_stays s settled own_law in_formals hands leaks depth v sees facts scope cells (outs_also other (out ∷ later)) (outs_also (away other to) later) x k to one
+                  m typed here new there_now found mine c.way ((cells_there c has).1 to (inl refl)) c.cell (cells_there c has).0,
               (λ z there. (cells_there c has).1 z (inr there)),
             ))
-            (emptying.out_viewed s settled own_law in_formals hands leaks depth v sees facts scope cells (outs_also other (out ∷ later)) gone_then gone_apart x k to one open_there.none m typed here new there_now found mine
+            (emptying.out_stand s settled own_law in_formals hands leaks depth v sees facts scope cells (outs_also other (out ∷ later)) (outs_also (away other to) later) x k to one m typed here new there_now found mine
             (λ w o off. elim o [
               | inl gone ↦ inl (inl gone)
               | inr (other_one, has_one, under) ↦ elim has_one [
@@ -205,10 +194,10 @@ module _ (s : Typing) (settled : IsSettled s.table) (own_law : OwnsByShape s.tab
                 | inr rest ↦ inr (other_one, rest, under)
               ]
             ]) (λ p. inl (inr (p, refl))))
-            (λ y has p. emptying.out_blank s settled own_law in_formals hands leaks depth v sees facts scope cells (outs_also other (out ∷ later)) gone_then gone_apart x k to one open_there.none m typed here new there_now found
+            (λ y has p. emptying.out_blank s settled own_law in_formals hands leaks depth v sees facts scope cells (outs_also other (out ∷ later)) (outs_also (away other to) later) x k to one m typed here new there_now found
             y (differ y has) p (blank y (inr has) p))
             (λ o has. still_then s cells depth before m next o.way (still o (subst (λ z. Has z o) (sym same) (inr has)))
-            (emptying.out_still s settled own_law in_formals hands leaks depth v sees facts scope cells (outs_also other (out ∷ later)) gone_then gone_apart x k to one open_there.none m typed here new there_now found mine (λ c has_c. (cells_there c has_c).0)
+            (emptying.out_still s settled own_law in_formals hands leaks depth v sees facts scope cells (outs_also other (out ∷ later)) (outs_also (away other to) later) x k to one m typed here new there_now found mine (λ c has_c. (cells_there c has_c).0)
             o.way (apart o.way (among o has))))
             (then_cells before m next had (taken_cells s k (suc depth) x (default s.table (object_at s x).of) m)),
       )
@@ -218,19 +207,18 @@ module _ (s : Typing) (settled : IsSettled s.table) (own_law : OwnsByShape s.tab
 module _ (t : Turn) (settled : IsSettled (typing t).table) (own_law : OwnsByShape (typing t).table) (in_formals : AreAccess (typing t))
     (hands : List Waiting) (leaks : List Leak) (depth : ℕ) (deep : length t.outer ≡ suc depth) (v : Views)
     (far : AreFar (home (typing t) depth) v depth) (sees : (x : ℕ) (w : Way) → v.way x ≡ Some w → is_view (typing t) x ≡ true) (facts : List Fact) (scope : List ℕ)
-    (other : Around (home (typing t) depth))
-    (free : (h : ℕ) (w : Way) → Under (Object (OfHand h)) w → other.gone w → ⊥)
-    (whole : (x : ℕ) (w : Way) → base_of w ≡ OfRoot (OfVariable (suc depth) x) → other.gone w → ⊥)
-    (none : (w : Way) (n : ℕ) → other.kept w n → ⊥)
+    (other : Way → Type 0)
+    (free : (h : ℕ) (w : Way) → Under (Object (OfHand h)) w → IsMovedBy (home (typing t) depth) v facts w ⊎ other w → ⊥)
+    (whole : (x : ℕ) (w : Way) → base_of w ≡ OfRoot (OfVariable (suc depth) x) → IsMovedBy (home (typing t) depth) v facts w ⊎ other w → ⊥)
     (cells : List Lodge) (begins : (c : Lodge) → Has cells c → (g : ℕ) × (y : ℕ) × (base_of c.way ≡ OfRoot (OfVariable g y)) × (g ≡ suc depth → ⊥)) where
   abbrev s : Typing
   s = typing t
 
-  abbrev ViewedNow : List Return → List Way → Memory → Type 0
-  ViewedNow returns ways m = ViewedAway t settled own_law in_formals hands leaks depth deep v far sees facts scope other free whole none cells begins returns ways m
+  abbrev StandNow : List Return → List Way → Memory → Type 0
+  StandNow returns ways m = StandsAway t settled own_law in_formals hands leaks depth deep v far sees facts scope other free whole cells begins returns ways m
 
   abbrev There : List Way → Memory → Type 0
-  There ways m = backed.AreThere t settled own_law in_formals hands leaks depth deep v far sees facts scope other free whole none cells begins ways m
+  There ways m = backed.AreThere t settled own_law in_formals hands leaks depth deep v far sees facts scope other free whole cells begins ways m
 
   stands : (m : Memory) (k : Place) → IsPlainPlace s cells k → Kept s m hands → Owned (seen s m hands leaks)
       → ((c : Lodge) → Has cells c → Reaches (seen s m hands leaks) c.way (OfCell c.cell)) → IsStanding m k.base
@@ -238,23 +226,23 @@ module _ (t : Turn) (settled : IsSettled (typing t).table) (own_law : OwnsByShap
   stands m k (inr (c, has, lodged, plain)) typed owned there =
       let begin = begins c has in subst (IsStanding m) (sym lodged.base) (cell_live s settled m hands leaks typed c.way begin.0 begin.1 c.cell begin.2 owned (there c has))
 
-  taken_stands : (m : Memory) (r : Return) (to : Way) → IsTaken s cells m depth facts scope r to → Kept s m hands → Owned (seen s m hands leaks)
+  taken_stands : (m : Memory) (r : Return) (to : Way) → IsTaken s cells m depth v facts scope r to → Kept s m hands → Owned (seen s m hands leaks)
       → ((c : Lodge) → Has cells c → Reaches (seen s m hands leaks) c.way (OfCell c.cell)) → IsStanding m r.to.base
   taken_stands m r to taken typed owned there = elim (taken.0).inside.stands [
     | inl variable ↦ subst (IsStanding m) (sym variable.2) tt
     | inr cell ↦ (
-        let found = (taken.0).among (cell.0).0 (cell.0).1 in
+        let found = (taken.0).among cell.0 cell.1 in
         let begin = begins found.0 found.1 in
-        subst (IsStanding m) (ap memory.OfCell found.3 ∙ sym (cell.0).2)
+        subst (IsStanding m) (ap memory.OfCell found.3 ∙ sym cell.2)
         (cell_live s settled m hands leaks typed found.0.way begin.0 begin.1 found.0.cell begin.2 owned (there found.0 found.1)))
   ]
 
   -- a scalar one
-  copied_wholly : (r : Return) (rest : List Return) (ways : List Way) (m : Memory) → IsCopiedTo s cells r → There ways m → Kept s m hands → ViewedNow (r ∷ rest) ways m
-      → AreTaken s cells m depth facts scope rest ways
-      → ((next : Memory) → There ways next → Kept s next hands → ViewedNow rest ways next → AreTaken s cells next depth facts scope rest ways → AreWhollyBack t rest next)
+  copied_wholly : (r : Return) (rest : List Return) (ways : List Way) (m : Memory) → IsCopiedTo s cells r → There ways m → Kept s m hands → StandNow (r ∷ rest) ways m
+      → AreTaken s cells m depth v facts scope rest ways
+      → ((next : Memory) → There ways next → Kept s next hands → StandNow rest ways next → AreTaken s cells next depth v facts scope rest ways → AreWhollyBack t rest next)
       → AreWhollyBack t (r ∷ rest) m
-  copied_wholly r rest ways m copied cells_there typed viewed taken more =
+  copied_wholly r rest ways m copied cells_there typed stand taken more =
       let formal : Place = variable_place (here t) r.formal in
       let ws : List machine.Word = words_of s m formal in
       let fixed : IsFixed s formal = formal_fixed t r.formal copied.0 in
@@ -267,54 +255,53 @@ module _ (t : Turn) (settled : IsSettled (typing t).table) (own_law : OwnsByShap
       (λ c has. same_reaches (seen s m hands leaks) (seen s mid hands leaks) first.same c.way (OfCell c.cell) (cells_there c has).0))
       ws (one_there s settled own_law in_formals hands leaks m formal plain typed) first.typed in
       let on : Enters s settled own_law in_formals hands leaks m next = one_then s settled own_law in_formals hands leaks m mid next first second in (
-        stands m r.to copied.1 typed viewed.owned (λ c has. (cells_there c has).0),
+        stands m r.to copied.1 typed stand.owned (λ c has. (cells_there c has).0),
         fixed_wholly s settled own_law hands formal fixed m typed,
         more next (λ c has. (same_reaches (seen s m hands leaks) (seen s next hands leaks) on.same c.way (OfCell c.cell) (cells_there c has).0, (cells_there c has).1)) on.typed
-            (more_gone (home s depth) (sees_only s) v (backed.away t settled own_law in_formals hands leaks depth deep v far sees facts scope other free whole none cells begins (r ∷ rest) ways)
-            (AwayBy t settled own_law in_formals hands leaks depth deep v far sees facts scope other free whole none cells begins rest ways)
-            (backed.apart_by t settled own_law in_formals hands leaks depth deep v far sees facts scope other free whole none cells begins (r ∷ rest) rest ways m viewed) (seen s next hands leaks) facts
+            (more_gone (home s depth) v facts (AwayBy t settled own_law in_formals hands leaks depth deep v far sees facts scope other free whole cells begins (r ∷ rest) ways)
+            (AwayBy t settled own_law in_formals hands leaks depth deep v far sees facts scope other free whole cells begins rest ways) (seen s next hands leaks)
             (λ w o. elim o [
               | inl away_there ↦ inl away_there
               | inr later ↦ elim later [
                 | inl taken_there ↦ inr (inl taken_there)
-                | inr left ↦ inr (inr (backed.left_more t settled own_law in_formals hands leaks depth deep v far sees facts scope other free whole none cells begins r rest w left))
+                | inr left ↦ inr (inr (backed.left_more t settled own_law in_formals hands leaks depth deep v far sees facts scope other free whole cells begins r rest w left))
               ]
             ])
-            (same_viewed (home s depth) (sees_only s) (backed.away t settled own_law in_formals hands leaks depth deep v far sees facts scope other free whole none cells begins (r ∷ rest) ways) v
-            (seen s m hands leaks) (seen s next hands leaks) facts on.same viewed))
-            (backed.taken_on t settled own_law in_formals hands leaks depth deep v far sees facts scope other free whole none cells begins m next rest ways
+            (same_stand (home s depth) v facts (AwayBy t settled own_law in_formals hands leaks depth deep v far sees facts scope other free whole cells begins (r ∷ rest) ways)
+            (seen s m hands leaks) (seen s next hands leaks) on.same stand))
+            (backed.taken_on t settled own_law in_formals hands leaks depth deep v far sees facts scope other free whole cells begins m next rest ways
             (λ k w has there among bare p c held. bare p c
-            (sym (backed.start_same t settled own_law in_formals hands leaks depth deep v far sees facts scope other free whole none cells begins m next k w there on.hold
+            (sym (backed.start_same t settled own_law in_formals hands leaks depth deep v far sees facts scope other free whole cells begins m next k w there on.hold
             (λ n q. cells_same s m next hands leaks on.same n q) (p ++ there.steps)) ∙ held)) taken),
       )
 
-  pub back_wholly : (returns : List Return) (ways : List Way) (m : Memory) → AreTaken s cells m depth facts scope returns ways → There ways m → Kept s m hands → ViewedNow returns ways m
+  pub back_wholly : (returns : List Return) (ways : List Way) (m : Memory) → AreTaken s cells m depth v facts scope returns ways → There ways m → Kept s m hands → StandNow returns ways m
       → AreWhollyBack t returns m
-  back_wholly [] ways m taken there typed viewed = tt
-  back_wholly (r ∷ rest) [] m taken there typed viewed =
-      copied_wholly r rest [] m taken.0 there typed viewed taken.1 (λ next on kept seen_next later. back_wholly rest [] next later on kept seen_next)
-  back_wholly (r ∷ rest) (to ∷ ways) m (inl copied) there typed viewed =
-      copied_wholly r rest (to ∷ ways) m copied.0 there typed viewed copied.1 (λ next on kept seen_next later. back_wholly rest (to ∷ ways) next later on kept seen_next)
-  back_wholly (r ∷ rest) (to ∷ ways) m (inr (taken, apart, another, more)) there typed viewed =
+  back_wholly [] ways m taken there typed stand = tt
+  back_wholly (r ∷ rest) [] m taken there typed stand =
+      copied_wholly r rest [] m taken.0 there typed stand taken.1 (λ next on kept seen_next later. back_wholly rest [] next later on kept seen_next)
+  back_wholly (r ∷ rest) (to ∷ ways) m (inl copied) there typed stand =
+      copied_wholly r rest (to ∷ ways) m copied.0 there typed stand copied.1 (λ next on kept seen_next later. back_wholly rest (to ∷ ways) next later on kept seen_next)
+  back_wholly (r ∷ rest) (to ∷ ways) m (inr (taken, apart, another, more)) there typed stand =
       let reach_cells : (c : Lodge) → Has cells c → Reaches (seen s m hands leaks) c.way (OfCell c.cell) = λ c has. (there c has).0 in
-      let begin = backed.taken_base t settled own_law in_formals hands leaks depth deep v far sees facts scope other free whole none cells begins m rest ways more in
+      let begin = backed.taken_base t settled own_law in_formals hands leaks depth deep v far sees facts scope other free whole cells begins m rest ways more in
       let next : Memory = stored s r.to (words_of s m (variable_place (here t) r.formal)) (moved_out s (variable_place (here t) r.formal) m) in (
-        taken_stands m r to taken typed viewed.owned reach_cells,
+        taken_stands m r to taken typed stand.owned reach_cells,
         inside_wholly s settled hands leaks (suc depth) depth v facts
-            (backed.away t settled own_law in_formals hands leaks depth deep v far sees facts scope other free whole none cells begins (r ∷ rest) (to ∷ ways))
+            (AwayBy t settled own_law in_formals hands leaks depth deep v far sees facts scope other free whole cells begins (r ∷ rest) (to ∷ ways))
             (variable_place (here t) r.formal) (Object (OfVariable (suc depth) r.formal))
-            (backed.formal_inside t settled own_law in_formals hands leaks depth deep v far sees facts scope other free whole none cells begins r rest to ways m taken apart another begin typed viewed reach_cells) m typed viewed
-            (backed.formal_there t settled own_law in_formals hands leaks depth deep v far sees facts scope other free whole none cells begins r rest to ways m taken apart another begin typed viewed reach_cells (seen s m hands leaks))
-            (backed.clean t settled own_law in_formals hands leaks depth deep v far sees facts scope other free whole none cells begins r rest to ways m taken apart another begin typed viewed reach_cells),
+            (backed.formal_inside t settled own_law in_formals hands leaks depth deep v far sees facts scope other free whole cells begins r rest to ways m taken apart another begin typed stand reach_cells) m typed stand
+            (backed.formal_there t settled own_law in_formals hands leaks depth deep v far sees facts scope other free whole cells begins r rest to ways m taken apart another begin typed stand reach_cells (seen s m hands leaks))
+            (backed.clean t settled own_law in_formals hands leaks depth deep v far sees facts scope other free whole cells begins r rest to ways m taken apart another begin typed stand reach_cells),
         back_wholly rest ways next
-            (backed.taken_on t settled own_law in_formals hands leaks depth deep v far sees facts scope other free whole none cells begins m next rest ways
-            (λ k w has inside_it among bare. backed.one_bare t settled own_law in_formals hands leaks depth deep v far sees facts scope other free whole none cells begins r rest to ways m taken apart another begin typed viewed reach_cells k w has inside_it among bare) more)
+            (backed.taken_on t settled own_law in_formals hands leaks depth deep v far sees facts scope other free whole cells begins m next rest ways
+            (λ k w has inside_it among bare. backed.one_bare t settled own_law in_formals hands leaks depth deep v far sees facts scope other free whole cells begins r rest to ways m taken apart another begin typed stand reach_cells k w has inside_it among bare) more)
             (λ c has. (
               (let from = begins c has in
-                  backed.one_stays t settled own_law in_formals hands leaks depth deep v far sees facts scope other free whole none cells begins r rest to ways m taken apart another begin typed viewed reach_cells
+                  backed.one_stays t settled own_law in_formals hands leaks depth deep v far sees facts scope other free whole cells begins r rest to ways m taken apart another begin typed stand reach_cells
                   c.way from.0 from.1 from.2 from.3 ((there c has).1 to (inl refl)) c.cell (there c has).0),
               (λ k later. (there c has).1 k (inr later)),
             ))
-            (backed.one_kept t settled own_law in_formals hands leaks depth deep v far sees facts scope other free whole none cells begins r rest to ways m taken apart another begin typed viewed reach_cells)
-            (backed.one_viewed t settled own_law in_formals hands leaks depth deep v far sees facts scope other free whole none cells begins r rest to ways m taken apart another begin typed viewed reach_cells),
+            (backed.one_kept t settled own_law in_formals hands leaks depth deep v far sees facts scope other free whole cells begins r rest to ways m taken apart another begin typed stand reach_cells)
+            (backed.one_stand t settled own_law in_formals hands leaks depth deep v far sees facts scope other free whole cells begins r rest to ways m taken apart another begin typed stand reach_cells),
       )

@@ -4,7 +4,7 @@ use Rattle.viewed_soundness.specs.Taken.{types_taken, TakesFit}
 use Rattle.viewed_steps.proofs.Supplied.{Supplies}
 use Rattle.std.proofs.Common.{take, ◌≡◌, refl, sym, ap, ◌∙◌, subst, ◌⊎◌, inl, inr, ℕ, suc, Bool, true, false, not, List, [], ◌∷◌, length, is_some, Option, Some, None, if◌then◌else◌}
 use Rattle.viewed_soundness.proofs.Names.{plain_named}
-use Rattle.viewed_steps.specs.Awaited.{temporaries_of, TakesPassed, AreAwaited, awaited, lasting_of, TakesScalars, StoresNone}
+use Rattle.viewed_steps.specs.Awaited.{temporaries_of, TakesPassed, AreAwaited, awaited, lasting_of, TakesScalars}
 use Rattle.owned_ways.specs.Ways.{after}
 use Rattle.viewed_soundness.proofs.Evaluated.{gives_plainly}
 use Rattle.spark_base.specs.Lists.{Has}
@@ -446,7 +446,7 @@ module _ (table : Table) (typed : TypedProgram) (effects : Effects) (input : Lis
             (calling.next_there table typed effects input ready state top below more_frames rest named p frames deep stages running awaiting of_sub at_point path views viewed_before kept scope holds placed_before above k actuals result e)
             (calling.cells table typed effects input ready state top below more_frames rest named p frames deep stages running awaiting of_sub at_point path views viewed_before kept scope holds placed_before above k actuals result e passed given)
             (calling.cell_begins table typed effects input ready state top below more_frames rest named p frames deep stages running awaiting of_sub at_point path views viewed_before kept scope holds placed_before above k actuals result e passed given)
-            (calling.other_all table typed effects input ready state top below more_frames rest named p frames deep stages running awaiting of_sub at_point path views viewed_before kept scope holds placed_before above k actuals result e passed given) state.leaks
+            (GoneElsewhere program effects (below ∷ more_frames)) state.leaks
             formals passed
             (calling.ways_taken table typed effects input ready state top below more_frames rest named p frames deep stages running awaiting of_sub at_point path views viewed_before kept scope holds placed_before above k actuals result e passed given)
             (calling.outs table typed effects input ready state top below more_frames rest named p frames deep stages running awaiting of_sub at_point path views viewed_before kept scope holds placed_before above k actuals result e passed given)
@@ -458,7 +458,7 @@ module _ (table : Table) (typed : TypedProgram) (effects : Effects) (input : Lis
               (calling.named_cell table typed effects input ready state top below more_frames rest named p frames deep stages running awaiting of_sub at_point path views viewed_before kept scope holds placed_before above k actuals result e passed given c has).reaches,
               calling.cell_aside table typed effects input ready state top below more_frames rest named p frames deep stages running awaiting of_sub at_point path views viewed_before kept scope holds placed_before above k actuals result e passed given c has,
             ))
-            (calling.well_all table typed effects input ready state top below more_frames rest named p frames deep stages running awaiting of_sub at_point path views viewed_before kept scope holds placed_before above k actuals result e passed given)
+            (calling.stands_all table typed effects input ready state top below more_frames rest named p frames deep stages running awaiting of_sub at_point path views viewed_before kept scope holds placed_before above k actuals result e passed given)
             (calling.blank_formals table typed effects input ready state top below more_frames rest named p frames deep stages running awaiting of_sub at_point path views viewed_before kept scope holds placed_before above k actuals result e passed given) (λ o has. ((λ g y q p' low is. refl), (λ c q p' there is. refl)))
             (same_cells state.memory state.memory refl)
 
@@ -489,14 +489,13 @@ module _ (table : Table) (typed : TypedProgram) (effects : Effects) (input : Lis
             subst (λ z. AreStages (stages_of (below ∷ (h ∷ m))) (below.stage.frame ∷ z)) (sym same) there in
             back_wholly main_turn ready.accepted.settled ready.owns in_formals (waiting_in state) state.leaks below.stage.depth
             (ends.deep_low table typed effects input ready state top below more_frames rest named p frames deep stages running awaiting of_sub at_point path views viewed_before kept scope holds placed_before above h m stages_there waiting well still is)
-            below.views (ends.far_low table typed effects input ready state top below more_frames rest named p frames deep stages running awaiting of_sub at_point path views viewed_before kept scope holds placed_before above h m stages_there waiting well still is) waiting.0.holds.only (ends.their_all table typed effects input ready state top below more_frames rest named p frames deep stages running awaiting of_sub at_point path views viewed_before kept scope holds placed_before above h m stages_there waiting well still is) (lasting_of s waiting.0.point.scope)
-            (ends.around_low table typed effects input ready state top below more_frames rest named p frames deep stages running awaiting of_sub at_point path views viewed_before kept scope holds placed_before above h m stages_there waiting well still is)
+            below.views (ends.far_low table typed effects input ready state top below more_frames rest named p frames deep stages running awaiting of_sub at_point path views viewed_before kept scope holds placed_before above h m stages_there waiting well still is) waiting.0.holds.only (facts_of program effects below.stage) (lasting_of s waiting.0.point.scope)
+            (ends.gone_around table typed effects input ready state top below more_frames rest named p frames deep stages running awaiting of_sub at_point path views viewed_before kept scope holds placed_before above h m stages_there waiting well still is)
             (ends.free_low table typed effects input ready state top below more_frames rest named p frames deep stages running awaiting of_sub at_point path views viewed_before kept scope holds placed_before above h m stages_there waiting well still is)
             (ends.whole_low table typed effects input ready state top below more_frames rest named p frames deep stages running awaiting of_sub at_point path views viewed_before kept scope holds placed_before above h m stages_there waiting well still is)
-            (ends.none_kept table typed effects input ready state top below more_frames rest named p frames deep stages running awaiting of_sub at_point path views viewed_before kept scope holds placed_before above h m stages_there waiting well still is)
             below.cells (ends.begins_low table typed effects input ready state top below more_frames rest named p frames deep stages running awaiting of_sub at_point path views viewed_before kept scope holds placed_before above h m stages_there waiting well still is)
-            top.frame.returns below.stage.returns state.memory (ends.taken_low table typed effects input ready state top below more_frames rest named p frames deep stages running awaiting of_sub at_point path views viewed_before kept scope holds placed_before above h m stages_there waiting well still is) (λ c has. ((waiting.0.kept c has).reaches, (waiting.0.kept c has).aside)) kept
-            (ends.viewed_low table typed effects input ready state top below more_frames rest named p frames deep stages running awaiting of_sub at_point path views viewed_before kept scope holds placed_before above h m stages_there waiting well still is)
+            top.frame.returns below.stage.returns state.memory waiting.0.taken (λ c has. ((waiting.0.kept c has).reaches, (waiting.0.kept c has).aside)) kept
+            (ends.stands_low table typed effects input ready state top below more_frames rest named p frames deep stages running awaiting of_sub at_point path views viewed_before kept scope holds placed_before above h m stages_there waiting well still is)
 
     pub main_same : SameAt state n
     main_same =

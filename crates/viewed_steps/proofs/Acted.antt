@@ -1,5 +1,5 @@
 -- Where what is passed for actuals is laid out, and what the acts of the call do there.
-use Rattle.std.proofs.Common.{◌≡◌, refl, ◌&&◌, sym, ap, ◌∙◌, subst, ◌⊎◌, inl, inr, ℕ, Bool, true, false, List, [], ◌∷◌, ◌++◌, Option, Some, None}
+use Rattle.std.proofs.Common.{◌≡◌, refl, ◌&&◌, sym, ap, ◌∙◌, subst, inl, inr, ℕ, Bool, true, false, List, [], ◌∷◌, ◌++◌, Option, Some, None}
 use Rattle.spark_base.proofs.Lists.{Has-append_left, Has-append_right}
 use Rattle.spark_base.specs.declared.position.Pos.{Pos}
 use Rattle.place_names.specs.declared.act.Act.TheVariants as act
@@ -10,7 +10,7 @@ use Rattle.place_names.specs.declared.fact.Fact.{Fact}
 use Rattle.place_names.specs.Facts.{adds, effect}
 use Rattle.type_definitions.specs.Types.{full, is_scalar, is_owning}
 use Rattle.typed_tree.specs.Trees.{TypedTree, Name, More}
-use Rattle.flow_paths.specs.Objects.{object_at, is_anonymous, is_named_access, view_of, Passing, passing_by}
+use Rattle.flow_paths.specs.Objects.{object_at, is_named_access, view_of, Passing, passing_by}
 use Rattle.flow_paths.specs.Names.{Written, written, name_of}
 use Rattle.flow_paths.specs.Acts.{naming, actual_act, actual_acts}
 use Rattle.machine.specs.Words.{access_offsets, fits_type}
@@ -19,10 +19,10 @@ use Rattle.machine.specs.Memory.{Memory, Place}
 use Rattle.machine.specs.Evaluate.{Here}
 use Rattle.machine.specs.Calls.{Passed, Value, From, To, passed}
 use Rattle.machine.specs.States.{Waiting, Leak}
-use Rattle.owned_ways.specs.Ways.{Step, Root, Component, OfVariable, Loc, OfRoot, Way, Object, Into, Empty, Named, Past, Under, IsRooted, Reaches, IsSame, AllowsAll, after, part, along, Allows}
+use Rattle.owned_ways.specs.Ways.{Step, Component, OfVariable, Loc, OfRoot, Way, Object, Into, Empty, Named, Past, Under, IsRooted, Reaches, IsSame, AllowsAll, after, part, along, Allows, Gone}
 use Rattle.owned_ways.specs.Ways as ways
 use Rattle.part_offsets.specs.Parts.{type_in, IsSettled}
-use Rattle.soundness.specs.Seen.{IsNear, Content, content, trunk, steps_in, seen, home, is_view_formal}
+use Rattle.soundness.specs.Seen.{IsNear, Content, content, trunk, steps_in, seen, home}
 use Rattle.soundness.specs.Typed.{OwnsByShape, Kept, Spot}
 use Rattle.typed_laws.specs.Needed.{IndexLaw}
 use Rattle.soundness.proofs.Contents.{word_no, word_part}
@@ -30,21 +30,24 @@ use Rattle.soundness.proofs.Joined.{leaf_join}
 use Rattle.soundness.proofs.Steps.{no_leaf}
 use Rattle.soundness.proofs.Fixed.{matches_scalar}
 use Rattle.soundness.proofs.Scalars.{acts, acts_append, after_append, read_effect}
-use Rattle.owned_loans.specs.Views.{Around, Views, Viewed, IsOuter}
-use Rattle.owned_loans.proofs.Ended.{stands_itself}
+use Rattle.owned_loans.specs.Views.{Around, Views, Viewed, expand, way_at}
 use Rattle.viewed_soundness.specs.Holds.{PartsAreNamed, Holds, sees_only, is_view, IsOwners}
 use Rattle.viewed_soundness.proofs.Names.{true_false}
 use Rattle.viewed_steps.proofs.Views.{AreAccess}
-use Rattle.viewed_steps.proofs.Between.{gone_also, number_under}
 use Rattle.viewed_steps.proofs.Emptied.{out_left, taken_back}
 use Rattle.viewed_steps.proofs.Outs.{Out, IsUnderOne}
-use Rattle.viewed_steps.specs.Taken.{IsInside}
-use Rattle.viewed_steps.proofs.LaidOut.{IsValueLaid, IsPlainAt, IsPlaceLaid, IsBackLaid, IsLaidOne, AreLaidOut, place_out, back_out, out_of, outs_of}
-use Rattle.viewed_steps.proofs.Entered.{inside_plain, inside_named, inside_number}
-use Rattle.viewed_steps.proofs.Released.{nothing_written}
+use Rattle.viewed_steps.proofs.LaidOut.{IsValueLaid, IsPlainAt, IsPlaceLaid, IsBackLaid, IsLaidOne, AreLaidOut, place_out, back_out, out_of, outs_of, IsOwnPut, IsHoused, own_out}
 use Rattle.viewed_steps.proofs.Called as called
 use Rattle.viewed_steps.proofs.Puts as puts
 use Rattle.viewed_steps.proofs.Called.{way_to, neither}
+use Rattle.viewed_steps.proofs.Between.{OwnersStand}
+use Rattle.viewed_steps.proofs.Entered.{own_named, own_number, own_itself, own_plain}
+use Rattle.owned_loans.proofs.Moves.{IsPlace, expand_under}
+use Rattle.owned_ways.proofs.Assigned.{is_false, kept_fact}
+use Rattle.owned_ways.proofs.Named.{covered_under}
+use Rattle.place_names.specs.Names.{covers}
+use Rattle.place_names.specs.declared.fact.Fact.TheVariants.{Moved}
+use Rattle.viewed_steps.proofs.Released.{ends_there}
 use Rattle.viewed_soundness.proofs.Given.{IsLow}
 
 module _ (h : Here) (settled : IsSettled h.typing.table) (hands : List Waiting) (leaks : List Leak) (m : Memory) (waits : List (List machine.Word))
@@ -130,77 +133,114 @@ module _ (h : Here) (settled : IsSettled h.typing.table) (hands : List Waiting) 
 
   -- Of a place that is emptied, what is under it is gone elsewhere, since the facts say no more that it was moved.
 
-  module _ (around : Around (home h.typing h.frame)) (gone : Way → Type 0)
-      (apart : (y : ℕ) (w z : Way) → v.way y ≡ Some w → IsOuter (home h.typing h.frame) v y w → gone z → Under z w ⊎ Under w z → ⊥) where
-    abbrev ViewedWith : List Fact → Type 0
-    ViewedWith known =
-        Viewed (home h.typing h.frame) (sees_only h.typing) (gone_also (home h.typing h.frame) around gone) v (seen h.typing m hands leaks) known
+  module _ (gone : Way → Type 0) where
+    abbrev StandsWith : List Fact → Type 0
+    StandsWith known = OwnersStand (home h.typing h.frame) v known gone (seen h.typing m hands leaks)
 
     -- what is under them is gone
     abbrev pub AreGone : List Out → Type 0
     AreGone outs = (w : Way) → IsUnderOne outs w → gone w
 
-    own_acted : (owning access : Bool) (p : Pos) (y : ℕ) (path : TypedTree) (k : Place) (known : List Fact) (to : Way) (inside : IsInside h.typing h.frame k to)
-        → ways.name_of to ≡ name_of y path → AreGone (record { way = to; place = k; pos = p } ∷ []) → ViewedWith known
-        → ViewedWith (effect (act.Actual (name_of y path) mode.Out owning access) known)
-    own_acted owning access p y path k known to inside called adds there =
-        subst (λ z. ViewedWith (effect (act.Actual z mode.Out owning access) known)) called
-        (taken_back (home h.typing h.frame) (sees_only h.typing) v (gone_also (home h.typing h.frame) around gone) gone apart (seen h.typing m hands leaks) to known
-        (effect (act.Actual (ways.name_of to) mode.Out owning access) known) there
-        (out_left (home h.typing h.frame) v known to owning access (inside_named h.typing settled h.frame k to inside)
-        (λ w named under. stands_itself (home h.typing h.frame) (sees_only h.typing) around v w named
-        (ap v.way (sym (number_under (home h.typing h.frame) to w (inside_named h.typing settled h.frame k to inside) named under) ∙ inside_number h.typing settled h.frame k to inside)
-        ∙ no_view)))
-        (λ w o. o) (λ w under. adds w (record { way = to; place = k; pos = p }, inl refl, under)))
+    own_acted : (owning access : Bool) (p : Pos) (y : ℕ) (path : TypedTree) (k : Place) (known : List Fact) (to name : Way) → Named (home h.typing h.frame) name
+        → IsPlace v name → expand v name ≡ to → ways.name_of name ≡ name_of y path → AreGone (record { way = to; place = k; pos = p } ∷ []) → StandsWith known
+        → StandsWith (effect (act.Actual (name_of y path) mode.Out owning access) known)
+    own_acted owning access p y path k known to name named place means called adds there =
+        subst (λ z. StandsWith (effect (act.Actual z mode.Out owning access) known)) called
+        (taken_back (home h.typing h.frame) v gone gone (seen h.typing m hands leaks) (expand v name) known
+        (effect (act.Actual (ways.name_of name) mode.Out owning access) known) there
+        (out_left (home h.typing h.frame) v known name owning access named place)
+        (λ w o. o) (λ w under. adds w (record { way = to; place = k; pos = p }, inl refl, subst (λ z. Under z w) means under)))
+
+    -- the way of a place in a variable is its name
+    variable_acted : (owning access : Bool) (x : ℕ) (p : Pos) (y u : ℕ) (path : TypedTree) (k : Place) (known : List Fact) → (own : IsOwnPut h.typing h.frame x (Name p y path u) k)
+        → AreGone (own_out h.typing h.frame x (Name p y path u) k own) → StandsWith known
+        → StandsWith (effect (act.Actual (name_of y path) mode.Out owning access) known)
+    variable_acted owning access x p y u path k known (to, inside, called, is, fits, own) adds there =
+        own_acted owning access p y path k known to to (own_named h.typing settled h.frame k to inside own)
+        (λ r is_root. no_way r (own_number h.typing settled h.frame k to inside own) is_root) (own_itself h.typing settled h.frame k to inside own v holds.only) called adds there
       where
-        no_view : v.way inside.object ≡ None
-        no_view = by_way (v.way inside.object) refl
+        none_here : is_view h.typing inside.object ≡ false
+        none_here = own_plain h.typing settled h.frame k to inside own
+
+        no_way : (r : ways.Root) → ways.number_of to ≡ inside.object → to ≡ ways.Object r → way_at v r ≡ None
+        no_way (ways.OfHand h') number root = refl
+        no_way (ways.OfVariable f z) number root = by_way (v.way z) refl
           where
-            by_way : (o : Option Way) → v.way inside.object ≡ o → o ≡ None
-            by_way None e = refl
-            by_way (Some w) e =
-                absurd (true_false (is_view h.typing inside.object) (holds.only inside.object w e)
-                (neither (is_anonymous (view_of h.typing inside.object)) (is_view_formal h.typing inside.object) (inside_plain h.typing settled h.frame k to inside)
-                inside.owner))
+            same : inside.object ≡ z
+            same = sym number ∙ ap ways.number_of root
+
+            by_way : (o : Option Way) → v.way z ≡ o → v.way z ≡ None
+            by_way None e = e
+            by_way (Some w) e = absurd (true_false (is_view h.typing z) (holds.only z w e) (ap (is_view h.typing) (sym same) ∙ none_here))
+
+    -- a name of a place in a cell is no view by itself
+    housed_place : (x y : ℕ) (path : TypedTree) (k : Place) → (h' : IsHoused h.typing h.frame v (seen h.typing m hands leaks) x y path k) → IsPlace v h'.name
+    housed_place x y path k h' r is = absurd (h'.deep r (subst (λ z. h'.front ≡ z) is (only_front h'.front h'.name r is h'.begins)))
+      where
+        only_front : (a b : Way) (r : ways.Root) → b ≡ ways.Object r → Under a b → a ≡ b
+        only_front a b r is under = subst (λ z. Under a z → a ≡ z) (sym is) (λ e. e) under
+
+    -- an act that writes a place without access parts
+    nothing_stands : (w : Way) (l : Loc) (known : List Fact) → Named (home h.typing h.frame) w → IsPlace v w → Reaches (seen h.typing m hands leaks) (expand v w) l
+        → ((p : List Step) → (seen h.typing m hands leaks).word (part l p) ≡ Empty) → StandsWith known → StandsWith (effect (act.Write (ways.name_of w)) known)
+    nothing_stands w l known named place reaches empty there = record {
+      owned = there.owned;
+      covered = there.covered;
+      known = λ z at rooted r is. elim (there.known z at rooted r is) [
+        | inr o ↦ inr o
+        | inl (u, moved, leads) ↦ inl (
+          u,
+          (
+            moved.0,
+            kept_fact (act.Write (ways.name_of w)) known (Moved (ways.name_of u)) moved.1
+                (is_false (covers (ways.name_of w) (ways.name_of u)) (λ e. (
+                let under = subst (Under (expand v w)) leads (expand_under v w u place (covered_under (home h.typing h.frame) w u named moved.0 e)) in
+                let b = ends_there (seen h.typing m hands leaks) (expand v w) l reaches empty z at r under in
+                let no : Gone ≡ Empty = sym is ∙ ap (seen h.typing m hands leaks).word b.1 ∙ empty b.0 in cc))),
+          ),
+          leads,
+        )
+      ];
+    }
 
     place_acted : (owning access : Bool) (x : ℕ) (e : TypedTree) (k : Place) (known : List Fact) → (given : IsPlaceGiven x e k)
-        → AreGone (place_out h.typing h.frame v (seen h.typing m hands leaks) x e k (place_laid x e k given)) → ViewedWith known
-        → ViewedWith (after (acts (actual_act (passing_by mode.Out owning access) e)) known)
+        → AreGone (place_out h.typing h.frame v (seen h.typing m hands leaks) x e k (place_laid x e k given)) → StandsWith known
+        → StandsWith (after (acts (actual_act (passing_by mode.Out owning access) e)) known)
     place_acted owning access x (Name p y path u) k known (inl (plain, (at_place, (w, l, named, called, place, reaches, spot)))) adds there =
-        subst (λ z. ViewedWith (effect (act.Write z) known)) called
-        (nothing_written (home h.typing h.frame) (sees_only h.typing) (gone_also (home h.typing h.frame) around gone) v (seen h.typing m hands leaks) known there w l named place reaches
-        (plain_there k l spot (plain_type_at (Name p y path u) k at_place)))
-    place_acted owning access x (Name p y path u) k known (inr (many, own)) adds there = own_acted owning access p y path k known own.0 own.1 own.2 adds there
+        subst (λ z. StandsWith (effect (act.Write z) known)) called
+        (nothing_stands w l known named place reaches
+        (plain_there k l spot (plain_type_at (Name p y path u) k at_place)) there)
+    place_acted owning access x (Name p y path u) k known (inr (many, own)) adds there = variable_acted owning access x p y u path k known own adds there
     place_acted owning access x e k known (inl (plain, (fixed, never))) adds there = absurd never
     place_acted owning access x e k known (inr (many, never)) adds there = absurd never
 
     back_acted : (owning access : Bool) (x : ℕ) (e : TypedTree) (k : Place) (known : List Fact) → (given : IsBackGiven x e k)
-        → AreGone (back_out h.typing h.frame v (seen h.typing m hands leaks) x e k (back_laid x e k given)) → ViewedWith known
-        → ViewedWith (after (acts (actual_act (passing_by mode.Out owning access) e)) known)
+        → AreGone (back_out h.typing h.frame v (seen h.typing m hands leaks) x e k (back_laid x e k given)) → StandsWith known
+        → StandsWith (after (acts (actual_act (passing_by mode.Out owning access) e)) known)
     back_acted owning access x e k known (inl given) adds there = place_acted owning access x e k known given adds there
     back_acted owning access x (Name p y path u) k known (inr (many, housed)) adds there =
-        own_acted owning access p y path k known housed.to housed.inside housed.called adds there
+        own_acted owning access p y path k known housed.to housed.name housed.named (housed_place x y path k housed) housed.means housed.called adds there
     back_acted owning access x e k known (inr (many, never)) adds there = absurd never
 
     pub head_acted : (mode_of : Mode) (owning access : Bool) (x : ℕ) (e : TypedTree) (a : Passed) (known : List Fact)
-        → (given : IsGiven x mode_of e a) → AreGone (out_of h.typing m h.frame v (seen h.typing m hands leaks) x mode_of e a (laid_one x mode_of e a given)) → ViewedWith known
-        → ViewedWith (after (acts (actual_act (passing_by mode_of owning access) e)) known)
+        → (given : IsGiven x mode_of e a) → AreGone (out_of h.typing m h.frame v (seen h.typing m hands leaks) x mode_of e a (laid_one x mode_of e a given)) → StandsWith known
+        → StandsWith (after (acts (actual_act (passing_by mode_of owning access) e)) known)
     head_acted mode.In false access x e a known is adds there = there
-    head_acted mode.In true access x e a known is adds there = subst ViewedWith (sym (naming_sees (written e) true access known)) there
-    head_acted mode.InOut owning access x e a known is adds there = subst ViewedWith (sym (naming_keeps (written e) owning access known)) there
+    head_acted mode.In true access x e a known is adds there = subst StandsWith (sym (naming_sees (written e) true access known)) there
+    head_acted mode.InOut owning access x e a known is adds there = subst StandsWith (sym (naming_keeps (written e) owning access known)) there
     head_acted mode.Out owning access x e (To k) known is adds there = back_acted owning access x e k known is adds there
     head_acted mode.Out owning access x e (Value ws) known is adds there = absurd is
     head_acted mode.Out owning access x e (From k) known is adds there = absurd is
 
     pub all_acted : (formals : List ℕ) (actuals : TypedTree) (passed : List Passed) (known : List Fact)
-        → (given : AreGiven formals actuals passed) → AreGone (outs_of h.typing m h.frame v (seen h.typing m hands leaks) formals actuals passed (all_laid_out formals actuals passed given)) → ViewedWith known
-        → ViewedWith (after (acts (actual_acts (ways_of formals) actuals)) known)
+        → (given : AreGiven formals actuals passed) → AreGone (outs_of h.typing m h.frame v (seen h.typing m hands leaks) formals actuals passed (all_laid_out formals actuals passed given)) → StandsWith known
+        → StandsWith (after (acts (actual_acts (ways_of formals) actuals)) known)
     all_acted (x ∷ formals) (More e rest) (a ∷ passed) known are adds there =
         let first : List Placed = actual_act (way_to h.typing own_law procedure x) e in
         let others : List Placed = actual_acts (ways_of formals) rest in
         let out : List Out = out_of h.typing m h.frame v (seen h.typing m hands leaks) x (object_at h.typing x).mode e a (laid_one x (object_at h.typing x).mode e a are.0) in
         let outs : List Out = outs_of h.typing m h.frame v (seen h.typing m hands leaks) formals rest passed (all_laid_out formals rest passed are.1) in
-        subst ViewedWith (sym (ap (λ z. after z known) (acts_append first others) ∙ after_append (acts first) (acts others) known))
+        subst StandsWith (sym (ap (λ z. after z known) (acts_append first others) ∙ after_append (acts first) (acts others) known))
         (all_acted formals rest passed (after (acts first) known) are.1
         (λ w under. adds w (under.0, Has-append_right out outs under.0 under.1, under.2))
         (head_acted (object_at h.typing x).mode (is_owning h.typing.table (object_at h.typing x).of) (procedure && is_named_access (view_of h.typing x)) x e a known

@@ -113,7 +113,7 @@ module _ (table : Table) (typed : TypedProgram) (effects : Effects) (are : AreEf
 
   module _ (state : State) (callee : ℕ) (backs : List Return) (g : ViewStage) (waits : IsWaiting table typed effects state callee backs g) where
     -- what is passed is written
-    root_written : (f : Fact) (y : ℕ) → Has (passed_roots g) y → f ≡ Moved (object y) → is_package_object s (place f).root ≡ true
+    root_written : (f : Fact) (y : ℕ) → Has (passed_roots effects g) y → f ≡ Moved (object y) → is_package_object s (place f).root ≡ true
         → Has (written_by effects g.stage.frame.sub) (place f).root
     root_written f y passed is shared =
         let root : (place f).root ≡ y = ap (λ z. (place z).root) is in
@@ -153,7 +153,7 @@ module _ (table : Table) (typed : TypedProgram) (effects : Effects) (are : AreEf
         let own = kept_loan program effects g Observed h m seen in
         elim (kept_cases program effects g f has) [
           | inl known ↦ waits.apart f h m known.0 borrowed own.0 over
-          | inr (y, passed, is) ↦ own.1 (subst (Has (passed_roots g)) (sym (ap (λ z. (place z).root) is) ∙ same_root (place f) m over) passed)
+          | inr (y, passed, is) ↦ own.1 (subst (Has (passed_roots effects g)) (sym (ap (λ z. (place z).root) is) ∙ same_root (place f) m over) passed)
         ]
 
   module _ (unused : (state : State) (callee : ℕ) (backs : List Return) (older : List ViewStage) → AreWaiting table typed effects state callee backs older → (g : ViewStage) → Has older g

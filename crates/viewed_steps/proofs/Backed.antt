@@ -2,13 +2,13 @@
 --
 -- All of it is seen from the frame of the caller: what is gone in the variables of the frame that ends is
 -- known as such.
-use Rattle.viewed_soundness.specs.Holds.{is_view, sees_only}
+use Rattle.viewed_soundness.specs.Holds.{is_view}
 use Rattle.std.proofs.Common.{◌≡◌, refl, sym, ap, ◌∙◌, subst, ◌⊎◌, inl, inr, ℕ, suc, ◌+◌, Bool, true, false, not, List, [], ◌∷◌, ◌++◌, take, drop, length, get_or, arith, append-nil, if◌then◌else◌, Some}
 use Rattle.std.proofs.lemmas.List.{length-map}
 use Rattle.spark_base.specs.Lists.{Has}
 use Rattle.place_names.specs.declared.fact.Fact.{Fact}
 use Rattle.type_definitions.specs.Types.{words, full, is_scalar, is_owning}
-use Rattle.flow_paths.specs.Objects.{Typing, object_at, is_anonymous, is_package_object, view_of}
+use Rattle.flow_paths.specs.Objects.{Typing, object_at, is_package_object}
 use Rattle.flow_paths.specs.Scopes.{is_within}
 use Rattle.machine.specs.Words.{access_offsets, fits_type}
 use Rattle.machine.specs.Words as machine
@@ -17,31 +17,27 @@ use Rattle.machine.specs.Memory as memory
 use Rattle.machine.specs.Evaluate.{Now, Evaluated, followed_by, variable_place, checked}
 use Rattle.machine.specs.States.{Waiting, Leak, Return}
 use Rattle.machine.specs.Step.{Turn, typing, here, copied_back}
-use Rattle.owned_ways.specs.Ways.{Step, OfVariable, OfHand, Loc, OfRoot, OfCell, Inside, Way, Object, Empty, Held, Under, Past, Named, Owned, Reaches, part, along, base_of, number_of, name_of, View}
+use Rattle.owned_ways.specs.Ways.{Step, OfVariable, OfHand, Loc, OfRoot, OfCell, Inside, Way, Object, Empty, Held, Under, Past, Owned, Reaches, part, along, base_of, View}
 use Rattle.owned_ways.proofs.Moving.{parts_apart}
 use Rattle.owned_ways.proofs.Unique.{one_way}
 use Rattle.owned_ways.proofs.Locations.{reaches_along}
 use Rattle.part_offsets.specs.Parts.{IsSettled}
-use Rattle.soundness.specs.Seen.{content, trunk, steps_in, word_in, seen, home, is_view_formal}
+use Rattle.soundness.specs.Seen.{content, trunk, steps_in, word_in, seen, home}
 use Rattle.soundness.specs.Typed.{Matches, OwnsByShape, Kept, Spot}
 use Rattle.soundness.proofs.Joined.{trunk_part}
 use Rattle.soundness.proofs.Contents.{word_no}
 use Rattle.soundness.proofs.Steps.{matches_words, no_leaf, taken_slots, room}
 use Rattle.soundness.proofs.Lasting.{keeps, put_away}
 use Rattle.soundness.proofs.Returning.{Backs, formal_fixed}
-use Rattle.owned_loans.specs.Views.{Around, Views, ExcusedBy, Viewed, expand, IsOuter}
-use Rattle.owned_loans.proofs.Safe.{off_view}
-use Rattle.owned_loans.proofs.Moves.{same_viewed}
-use Rattle.owned_loans.proofs.Meeting.{stands}
-use Rattle.viewed_soundness.proofs.Names.{both_no, true_false, owner_sees}
+use Rattle.owned_loans.specs.Views.{Views, IsMovedBy}
 use Rattle.viewed_soundness.proofs.Evaluated.{matches_named}
 use Rattle.viewed_steps.proofs.Left.{cells_same}
-use Rattle.viewed_steps.specs.Taken.{Lodge, IsPlainPlace, IsCopiedTo, AreCarried, TakenBy, IsInside, IsAmong, IsTakenIn, IsPassedOn, IsBare, IsTaken, IsApartFrom, IsAnother, AreTaken}
-use Rattle.viewed_steps.proofs.Between.{IsHomed, home_low, carried_same, carried_then, taken_more, same_reaches, gone_also, more_gone, IsClearOf, base_along, base_under, same_variable, not_named, taken_less}
-use Rattle.viewed_steps.proofs.Carried.{inside_homed, inside_low, trunk_is, start_reached, inside_other, carried_gone, carried_gone_cell, carried_held_cell, carried_gone_to, carried_gone_cell_to, carried_holds_cell, inside_at, inside_spot, inside_reached, inside_base, inside_owns, inside_word, variable_clear, carried_bare, carried_held, carried_off, carried_off_stays, carried_holds, carried_to, carried_to_stays, past_other}
+use Rattle.viewed_steps.specs.Taken.{Lodge, IsPlainPlace, IsCopiedTo, AreCarried, TakenBy, IsInside, IsAmong, IsTakenIn, IsPassedOn, IsBare, IsTaken, IsApartFrom, IsAnother, AreTaken, IsOwnAt}
+use Rattle.viewed_steps.proofs.Between.{carried_same, carried_then, taken_more, same_reaches, more_gone, base_along, base_under, same_variable, taken_less, OwnersStand, same_stand, Begins, begun_low, home_low}
+use Rattle.viewed_steps.proofs.Carried.{inside_begins, inside_low, trunk_is, start_reached, carried_gone, carried_gone_cell, carried_held_cell, carried_gone_to, carried_gone_cell_to, carried_holds_cell, inside_at, inside_spot, inside_reached, inside_base, inside_owns, inside_word, carried_bare, carried_held, carried_off, carried_off_stays, carried_holds, carried_to, carried_to_stays, past_other}
 use Rattle.viewed_steps.proofs.Beside.{put_beside}
 use Rattle.viewed_steps.proofs.Alike.{Enters, moved_there, stored_there, one_then, if_back, backs_on, IsPlainSpot, fixed_plain, plain_place, one_there}
-use Rattle.viewed_steps.proofs.Entered.{matches_back, inside_plain, inside_named, inside_number, inside_itself}
+use Rattle.viewed_steps.proofs.Entered.{matches_back, inside_no_view}
 use Rattle.viewed_steps.proofs.Lodged.{cell_live}
 use Rattle.viewed_steps.proofs.Views.{AreAccess, AreFar}
 
@@ -62,10 +58,9 @@ place_is t r rest begun (memory.OfCell n) base there = rw (base, there) refl
 module _ (t : Turn) (settled : IsSettled (typing t).table) (own_law : OwnsByShape (typing t).table) (in_formals : AreAccess (typing t))
     (hands : List Waiting) (leaks : List Leak) (depth : ℕ) (deep : length t.outer ≡ suc depth) (v : Views)
     (far : AreFar (home (typing t) depth) v depth) (only : (x : ℕ) (w : Way) → v.way x ≡ Some w → is_view (typing t) x ≡ true) (facts : List Fact) (scope : List ℕ)
-    (other : Around (home (typing t) depth))
-    (free : (h : ℕ) (w : Way) → Under (Object (OfHand h)) w → other.gone w → ⊥)
-    (whole : (x : ℕ) (w : Way) → base_of w ≡ OfRoot (OfVariable (suc depth) x) → other.gone w → ⊥)
-    (none : (w : Way) (n : ℕ) → other.kept w n → ⊥)
+    (other : Way → Type 0)
+    (free : (h : ℕ) (w : Way) → Under (Object (OfHand h)) w → IsMovedBy (home (typing t) depth) v facts w ⊎ other w → ⊥)
+    (whole : (x : ℕ) (w : Way) → base_of w ≡ OfRoot (OfVariable (suc depth) x) → IsMovedBy (home (typing t) depth) v facts w ⊎ other w → ⊥)
     (cells : List Lodge) (begins : (c : Lodge) → Has cells c → (g : ℕ) × (y : ℕ) × (base_of c.way ≡ OfRoot (OfVariable g y)) × (g ≡ suc depth → ⊥)) where
   abbrev s : Typing
   s = typing t
@@ -80,19 +75,16 @@ module _ (t : Turn) (settled : IsSettled (typing t).table) (own_law : OwnsByShap
 
   -- What is gone for the caller, while these are still to be given back.
   abbrev pub AwayBy : List Return → List Way → Way → Type 0
-  AwayBy returns ways w = other.gone w ⊎ (TakenBy ways w ⊎ IsLeft returns w)
+  AwayBy returns ways w = other w ⊎ (TakenBy ways w ⊎ IsLeft returns w)
 
-  abbrev pub away : List Return → List Way → Around (home (typing t) depth)
-  away returns ways = gone_also (home (typing t) depth) other (AwayBy returns ways)
-
-  abbrev pub ViewedAway : List Return → List Way → Memory → Type 0
-  ViewedAway returns ways m = Viewed (home (typing t) depth) (sees_only (typing t)) (away returns ways) v (seen (typing t) m hands leaks) facts
+  abbrev pub StandsAway : List Return → List Way → Memory → Type 0
+  StandsAway returns ways m = OwnersStand (home (typing t) depth) v facts (AwayBy returns ways) (seen (typing t) m hands leaks)
 
   -- All is given back: words are typed; a variable that has a number had it before, or is one of the caller in
   -- scope; the formals have none; views keep their words; and what was gone stays so, but in the places.
   pub record IsBack (returns : List Return) (ways : List Way) (m n : Memory) : Type 0 where
     pub typed : Kept (typing t) n hands
-    pub viewed : ViewedAway [] [] n
+    pub stand : StandsAway [] [] n
     pub held : (g y : ℕ) (p : List Step) (c : ℕ) → word_in (typing t).table (content (typing t) n [] (OfRoot (OfVariable g y))) p ≡ Held c
         → (word_in (typing t).table (content (typing t) m [] (OfRoot (OfVariable g y))) p ≡ Held c) ⊎ ((g ≡ home (typing t) depth y) × (is_package_object (typing t) y ≡ false → is_within y scope ≡ true))
     pub empty : (r : Return) → Has returns r → (p : List Step) (c : ℕ)
@@ -114,25 +106,13 @@ module _ (t : Turn) (settled : IsSettled (typing t).table) (own_law : OwnsByShap
       by_package true e = omega (arith, e)
       by_package false e = omega (arith, e)
 
-  -- nothing of that meets what views see that belongs to other frames
-  left_apart : (returns : List Return) (y : ℕ) (w z : Way) → v.way y ≡ Some w → IsOuter (home s depth) v y w → IsLeft returns z → Under z w ⊎ Under w z → ⊥
-  left_apart returns y w z has outer (x, base, none) meets =
-      let there : base_of w ≡ OfRoot (OfVariable (suc depth) x) = elim meets [ inl above ↦ base_under z w above ∙ base | inr below ↦ sym (base_under w z below) ∙ base ] in
-      let low = far y w has (suc depth, x, there, λ same. not_above x (sym same)) in omega (arith, low)
-
-  pub apart_by : (returns more : List Return) (ways : List Way) (m : Memory) → ViewedAway returns ways m
-      → (y : ℕ) (w z : Way) → v.way y ≡ Some w → IsOuter (home s depth) v y w → AwayBy more ways z → Under z w ⊎ Under w z → ⊥
-  apart_by returns more ways m viewed y w z has foreign (inl gone) meets = viewed.whole y w z has foreign (inl gone) meets
-  apart_by returns more ways m viewed y w z has foreign (inr (inl taken)) meets = viewed.whole y w z has foreign (inr (inl taken)) meets
-  apart_by returns more ways m viewed y w z has foreign (inr (inr left)) meets = left_apart more y w z has foreign left meets
-
   -- ---- one that is given back
 
-  module _ (r : Return) (rest : List Return) (to : Way) (ways : List Way) (m : Memory) (taken : IsTaken (typing t) cells m depth facts scope r to)
-      (apart : IsApartFrom to ways) (another : IsAnother r.formal rest) (begin : (k : Way) → Has ways k → IsHomed s depth k)
-      (typed : Kept (typing t) m hands) (viewed : ViewedAway (r ∷ rest) (to ∷ ways) m)
+  module _ (r : Return) (rest : List Return) (to : Way) (ways : List Way) (m : Memory) (taken : IsTaken (typing t) cells m depth v facts scope r to)
+      (apart : IsApartFrom to ways) (another : IsAnother r.formal rest) (begin : (k : Way) → Has ways k → Begins s depth k)
+      (typed : Kept (typing t) m hands) (stand : StandsAway (r ∷ rest) (to ∷ ways) m)
       (cells_at : (c : Lodge) → Has cells c → Reaches (seen (typing t) m hands leaks) c.way (OfCell c.cell)) where
-    abbrev passed : IsPassedOn (typing t) cells depth facts scope r.formal r.to to
+    abbrev passed : IsPassedOn (typing t) cells depth v facts scope r.formal r.to to
     passed = taken.0
 
     abbrev inside : IsInside (typing t) depth r.to to
@@ -153,24 +133,23 @@ module _ (t : Turn) (settled : IsSettled (typing t).table) (own_law : OwnsByShap
     abbrev next : Memory
     next = stored s r.to (words_of s m formal) (moved_out s formal m)
 
-    abbrev observer : ℕ → Bool
-    observer = sees_only s
-
     formal_base : (variable_place (here t) r.formal).base ≡ memory.OfVariable (suc depth) r.formal
     formal_base = ap (λ z. memory.OfVariable z r.formal) (ap (λ b. if b then 0 else length t.outer) passed.formal ∙ deep)
+
+    formal_home : suc depth ≡ home s (suc depth) r.formal
+    formal_home = sym (ap (λ b. if b then 0 else suc depth) passed.formal)
 
     pub formal_inside : IsInside s (suc depth) formal root
     formal_inside = record {
       object = r.formal;
       steps = [];
       frame = suc depth;
-      at_home = sym (ap (λ b. if b then 0 else suc depth) passed.formal);
+      begins = inl formal_home;
       trunk = root;
       start = OfRoot (OfVariable (suc depth) r.formal);
-      stands = inl (refl, refl, formal_base);
+      stands = inl (refl, refl, formal_base, formal_home, passed.owner);
       root = refl;
       way = refl;
-      owner = passed.owner;
       there = refl;
       at = refl;
       of = inl refl;
@@ -188,51 +167,31 @@ module _ (t : Turn) (settled : IsSettled (typing t).table) (own_law : OwnsByShap
     owns : (content s m hands (OfRoot (OfVariable (suc depth) r.formal))).owns ≡ true
     owns = ap not passed.owner
 
-    first_apart : (y : ℕ) (w z : Way) → v.way y ≡ Some w → IsOuter (home s depth) v y w → AwayBy rest (to ∷ ways) z → Under z w ⊎ Under w z → ⊥
-    first_apart = apart_by (r ∷ rest) rest (to ∷ ways) m viewed
+    abbrev first : Way → Type 0
+    first = AwayBy (r ∷ rest) (to ∷ ways)
 
-    second_apart : (y : ℕ) (w z : Way) → v.way y ≡ Some w → IsOuter (home s depth) v y w → AwayBy rest ways z → Under z w ⊎ Under w z → ⊥
-    second_apart y w z has foreign (inl gone) meets = first_apart y w z has foreign (inl gone) meets
-    second_apart y w z has foreign (inr (inl taken_there)) meets = first_apart y w z has foreign (inr (inl (taken_more to ways z taken_there))) meets
-    second_apart y w z has foreign (inr (inr left)) meets = first_apart y w z has foreign (inr (inr left)) meets
+    abbrev second : Way → Type 0
+    second = AwayBy rest (to ∷ ways)
 
-    abbrev first : Around (home s depth)
-    first = away (r ∷ rest) (to ∷ ways)
-
-    abbrev second : Around (home s depth)
-    second = away rest (to ∷ ways)
-
-    pub clean : (w : Way) → Under root w → ExcusedBy (home s depth) v first facts w → ⊥
-    clean w under (inl (inr gone_there)) =
-        let t = first.through w gone_there in
-        not_named (home s depth) (suc depth) r.formal not_above t.0 t.1 (sym (base_under t.0 w t.2) ∙ base_under root w under)
-    clean w under (inl (inl (u, moved, same))) =
-        elim (stands (home s depth) observer v (seen s m hands leaks) facts viewed.views u (moved.0, viewed.clear.owned (name_of u) moved.1)) [
-          | inl own ↦ not_named (home s depth) (suc depth) r.formal not_above w (subst (Named (home s depth)) same own.named) (base_under root w under)
-          | inr held ↦ (
-              let at : base_of held.way ≡ OfRoot (OfVariable (suc depth) r.formal) = sym (base_under held.way (expand v u) held.under) ∙ ap base_of same ∙ base_under root w under in
-              let low = far held.object held.way held.has (suc depth, r.formal, at, λ is. not_above r.formal (sym is)) in omega (arith, low))
-        ]
-    clean w under (inr (inl o)) = whole r.formal w (base_under root w under) o
+    pub clean : (w : Way) → Under root w → IsMovedBy (home s depth) v facts w ⊎ first w → ⊥
+    clean w under (inl moved) = whole r.formal w (base_under root w under) (inl moved)
+    clean w under (inr (inl o)) = whole r.formal w (base_under root w under) (inr o)
     clean w under (inr (inr (inl (k, has, p, is)))) =
         let base = from_depth k has in
         let frames = (same_variable (suc depth) r.formal base.0 base.1
         (sym (base_under root w under) ∙ ap base_of is ∙ base_along k p ∙ base.2)).0 in
-        let at_home = base.3 in let low = home_low s depth base.1 in omega (arith, frames, at_home, low)
+        let low = begun_low s depth base.0 base.1 base.3 in omega (arith, frames, low)
       where
-        from_depth : (k : Way) → Has (to ∷ ways) k → IsHomed s depth k
-        from_depth k (inl same) = subst (IsHomed s depth) same (inside_homed s depth r.to to inside)
+        from_depth : (k : Way) → Has (to ∷ ways) k → Begins s depth k
+        from_depth k (inl same) = subst (Begins s depth) same (inside_begins s depth r.to to inside)
         from_depth k (inr has) = begin k has
     clean w under (inr (inr (inr (x, base, none)))) =
         none r (inl refl) (same_variable (suc depth) r.formal (suc depth) x (sym (base_under root w under) ∙ base)).1
 
-    viewed_mid : Viewed (home s depth) observer second v (seen s mid (got ∷ hands) leaks) facts
-    viewed_mid =
-        carried_off s settled (home s depth) observer v first (AwayBy rest (to ∷ ways)) first_apart m hands leaks facts formal
-        (OfRoot (OfVariable (suc depth) r.formal)) root viewed typed spot tt refl owns clean (suc depth) r.formal refl
-        (variable_clear (home s depth) observer v first (AwayBy rest (to ∷ ways)) first_apart (seen s m hands leaks) facts viewed (suc depth) r.formal not_above
-        (λ y w has foreign. (let low = far y w has foreign in omega (arith, low)))
-        (λ w n keeps_it base. none w n keeps_it))
+    stand_mid : OwnersStand (home s depth) v facts second (seen s mid (got ∷ hands) leaks)
+    stand_mid =
+        carried_off s settled (home s depth) v first second m hands leaks facts formal
+        (OfRoot (OfVariable (suc depth) r.formal)) root stand typed spot tt refl owns clean (suc depth) r.formal refl
         (λ w o. elim o [
           | inl away_there ↦ inl away_there
           | inr more ↦ elim more [ inl taken_there ↦ inr (inl taken_there) | inr left ↦ inr (inr (left_more r rest w left)) ]
@@ -245,19 +204,19 @@ module _ (t : Turn) (settled : IsSettled (typing t).table) (own_law : OwnsByShap
     held_mid : (g y : ℕ) (p : List Step) (c : ℕ) → word_in s.table (content s mid [] (OfRoot (OfVariable g y))) p ≡ Held c
         → word_in s.table (content s m [] (OfRoot (OfVariable g y))) p ≡ Held c
     held_mid g y p c held =
-        carried_held s settled (home s depth) observer v first (AwayBy rest (to ∷ ways)) first_apart m hands leaks facts formal
-        (OfRoot (OfVariable (suc depth) r.formal)) root viewed typed spot tt refl owns clean g y p c held
+        carried_held s settled (home s depth) v first second m hands leaks facts formal
+        (OfRoot (OfVariable (suc depth) r.formal)) root stand typed spot tt refl owns clean g y p c held
 
     empty_mid : (p : List Step) (c : ℕ) → word_in s.table (content s mid [] (OfRoot (OfVariable (suc depth) r.formal))) p ≡ Held c → ⊥
     empty_mid p c held =
-        carried_bare s settled (home s depth) observer v first (AwayBy rest (to ∷ ways)) first_apart m hands leaks facts formal
-        (OfRoot (OfVariable (suc depth) r.formal)) root viewed typed spot tt refl owns clean p c
+        carried_bare s settled (home s depth) v first second m hands leaks facts formal
+        (OfRoot (OfVariable (suc depth) r.formal)) root stand typed spot tt refl owns clean p c
         (ap (λ z. word_in s.table (content s mid (got ∷ hands) (OfRoot (OfVariable (suc depth) r.formal))) z) (append-nil p) ∙ held)
 
     held_mid_cell : (n : ℕ) (p : List Step) (c : ℕ) → word_in s.table (content s mid [] (OfCell n)) p ≡ Held c → word_in s.table (content s m [] (OfCell n)) p ≡ Held c
     held_mid_cell n p c held =
-        carried_held_cell s settled (home s depth) observer v first (AwayBy rest (to ∷ ways)) first_apart m hands leaks facts formal
-        (OfRoot (OfVariable (suc depth) r.formal)) root viewed typed spot tt refl owns clean n p c held
+        carried_held_cell s settled (home s depth) v first second m hands leaks facts formal
+        (OfRoot (OfVariable (suc depth) r.formal)) root stand typed spot tt refl owns clean n p c held
 
     -- where a place stands
     held_mid_start : (k : Place) (w : Way) (there : IsInside s depth k w) (p : List Step) (c : ℕ) → word_in s.table (content s mid [] there.start) p ≡ Held c
@@ -267,16 +226,16 @@ module _ (t : Turn) (settled : IsSettled (typing t).table) (own_law : OwnsByShap
           subst (λ z. word_in s.table (content s m [] z) p ≡ Held c) (sym variable.1)
           (held_mid there.frame there.object p c (subst (λ z. word_in s.table (content s mid [] z) p ≡ Held c) variable.1 held))
       | inr cell ↦
-          subst (λ z. word_in s.table (content s m [] z) p ≡ Held c) (sym (cell.0).1)
-          (held_mid_cell (cell.0).0 p c (subst (λ z. word_in s.table (content s mid [] z) p ≡ Held c) (cell.0).1 held))
+          subst (λ z. word_in s.table (content s m [] z) p ≡ Held c) (sym cell.1)
+          (held_mid_cell cell.0 p c (subst (λ z. word_in s.table (content s mid [] z) p ≡ Held c) cell.1 held))
     ]
 
     -- a way from another frame reaches what it reached
     mid_stays : (w : Way) (g y : ℕ) → base_of w ≡ OfRoot (OfVariable g y) → (g ≡ suc depth → ⊥) → (c : ℕ)
         → Reaches (seen s m hands leaks) w (OfCell c) → Reaches (seen s mid (got ∷ hands) leaks) w (OfCell c)
     mid_stays w g y base off c reach =
-        carried_off_stays s settled (home s depth) observer v first (AwayBy rest (to ∷ ways)) first_apart m hands leaks facts formal
-        (OfRoot (OfVariable (suc depth) r.formal)) root viewed typed spot tt refl owns clean (suc depth) r.formal refl w g y base
+        carried_off_stays s settled (home s depth) v first second m hands leaks facts formal
+        (OfRoot (OfVariable (suc depth) r.formal)) root stand typed spot tt refl owns clean (suc depth) r.formal refl w g y base
         (past_other root w (suc depth) r.formal g y refl base off) c reach
 
     start_mid : (k : Place) (w : Way) (there : IsInside s depth k w) → IsAmong cells there.start there.trunk → Reaches (seen s mid (got ∷ hands) leaks) there.trunk there.start
@@ -301,7 +260,7 @@ module _ (t : Turn) (settled : IsSettled (typing t).table) (own_law : OwnsByShap
     reached = inside_reached s depth r.to to inside (seen s mid (got ∷ hands) leaks) there_mid
 
     owns_to : (content s mid (got ∷ hands) (trunk at)).owns ≡ true
-    owns_to = inside_owns s depth r.to to inside settled mid (got ∷ hands) leaks kept_mid viewed_mid.owned there_mid
+    owns_to = inside_owns s depth r.to to inside settled mid (got ∷ hands) leaks kept_mid stand_mid.owned there_mid
 
     long : length got.words ≡ words s.table r.to.of
     long =
@@ -315,39 +274,28 @@ module _ (t : Turn) (settled : IsSettled (typing t).table) (own_law : OwnsByShap
     bare : (p : List Step) (c : ℕ) → word_in s.table (content s mid (got ∷ hands) (trunk at)) (p ++ steps_in at) ≡ Held c → ⊥
     bare p c held = taken.1 p c (held_mid_start r.to to inside (p ++ inside.steps) c (sym (inside_word s depth r.to to inside mid (got ∷ hands) p) ∙ held))
 
-    plain_name : observer (number_of to) ≡ false
-    plain_name = ap observer (inside_number s settled depth r.to to inside) ∙ owner_sees s inside.object (inside_plain s settled depth r.to to inside) inside.owner
-
-    clear_to : IsClearOf (home s depth) observer v second (AwayBy rest ways) second_apart to
-    clear_to = record {
-      own = λ y w has past.
-          off_view (home s depth) observer second v (seen s mid (got ∷ hands) leaks) facts viewed_mid to y w
-          (inside_named s settled depth r.to to inside, plain_name) passed.unlent has
-          (subst (λ z. Past z w) (sym (inside_itself s settled depth r.to to inside v only)) past);
-      far = λ w n keeps_it past. none w n keeps_it;
-    }
-
-    free_hands : (w : Way) → Under (Object (OfHand (length hands))) w → second.gone w → ⊥
-    free_hands w under (inl o) = free (length hands) w under o
-    free_hands w under (inr (inl (k, has, p, is))) =
+    free_hands : (w : Way) → Under (Object (OfHand (length hands))) w → IsMovedBy (home s depth) v facts w ⊎ second w → ⊥
+    free_hands w under (inl moved) = free (length hands) w under (inl moved)
+    free_hands w under (inr (inl o)) = free (length hands) w under (inr o)
+    free_hands w under (inr (inr (inl (k, has, p, is)))) =
         let base = from_depth k has in
         hand_base (sym (base_under (Object (OfHand (length hands))) w under) ∙ ap base_of is ∙ base_along k p ∙ base.2)
       where
-        from_depth : (k : Way) → Has (to ∷ ways) k → IsHomed s depth k
-        from_depth k (inl same) = subst (IsHomed s depth) same (inside_homed s depth r.to to inside)
+        from_depth : (k : Way) → Has (to ∷ ways) k → Begins s depth k
+        from_depth k (inl same) = subst (Begins s depth) same (inside_begins s depth r.to to inside)
         from_depth k (inr has) = begin k has
 
         hand_base : {h f x : ℕ} → OfRoot (OfHand h) ≡ OfRoot (OfVariable f x) → ⊥
         hand_base e = cc
-    free_hands w under (inr (inr (x, base, none))) = hand_base (sym (base_under (Object (OfHand (length hands))) w under) ∙ base)
+    free_hands w under (inr (inr (inr (x, base, none)))) = hand_base (sym (base_under (Object (OfHand (length hands))) w under) ∙ base)
       where
         hand_base : {h f x : ℕ} → OfRoot (OfHand h) ≡ OfRoot (OfVariable f x) → ⊥
         hand_base e = cc
 
-    pub one_viewed : ViewedAway rest ways next
-    one_viewed =
-        carried_to s settled (home s depth) observer v second (AwayBy rest ways) second_apart mid got hands leaks facts r.to at to viewed_mid kept_mid spot_to reached owns_to
-        long fits bare inside.frame inside.object (inside_base s depth r.to to inside) free_hands clear_to
+    pub one_stand : StandsAway rest ways next
+    one_stand =
+        carried_to s settled (home s depth) v second (AwayBy rest ways) mid got hands leaks facts r.to at to stand_mid kept_mid spot_to reached owns_to
+        long fits bare inside.frame inside.object (inside_base s depth r.to to inside) free_hands
         (λ w o off. elim o [
           | inl away_there ↦ inl away_there
           | inr more ↦ elim more [ inl taken_there ↦ inr (inl (taken_less to ways w taken_there off)) | inr left ↦ inr (inr left) ]
@@ -359,30 +307,31 @@ module _ (t : Turn) (settled : IsSettled (typing t).table) (own_law : OwnsByShap
     holds_next : (g y : ℕ) (p : List Step) (c : ℕ) → word_in s.table (content s next [] (OfRoot (OfVariable g y))) p ≡ Held c
         → (word_in s.table (content s mid [] (OfRoot (OfVariable g y))) p ≡ Held c) ⊎ ((q : List Step) × (part (OfRoot (OfVariable g y)) p ≡ part at q))
     holds_next g y p c held =
-        carried_holds s settled (home s depth) observer v second (AwayBy rest ways) second_apart mid got hands leaks facts r.to at to viewed_mid kept_mid spot_to reached owns_to
+        carried_holds s settled (home s depth) v second (AwayBy rest ways) mid got hands leaks facts r.to at to stand_mid kept_mid spot_to reached owns_to
         long fits bare g y p c held
 
-    in_place : (g y : ℕ) (p q : List Step) → part (OfRoot (OfVariable g y)) p ≡ part at q → (g ≡ inside.frame) × (y ≡ inside.object)
+    in_place : (g y : ℕ) (p q : List Step) → part (OfRoot (OfVariable g y)) p ≡ part at q
+        → IsOwnAt s depth inside.frame inside.object r.to inside.trunk inside.start × (g ≡ inside.frame) × (y ≡ inside.object)
     in_place g y p q is =
         let start_is : OfRoot (OfVariable g y) ≡ inside.start =
         sym (trunk_part (OfRoot (OfVariable g y)) p) ∙ ap trunk is ∙ trunk_part at q ∙ trunk_is s depth r.to to inside in
         elim inside.stands [
-          | inl variable ↦ same_variable g y inside.frame inside.object (start_is ∙ variable.1)
-          | inr cell ↦ (let never : OfRoot (OfVariable g y) ≡ OfCell (cell.0).0 = start_is ∙ (cell.0).1 in cc)
+          | inl variable ↦ (let same = same_variable g y inside.frame inside.object (start_is ∙ variable.1) in (variable, same.0, same.1))
+          | inr cell ↦ (let never : OfRoot (OfVariable g y) ≡ OfCell cell.0 = start_is ∙ cell.1 in cc)
         ]
 
     -- the way of what is in the place
     in_place_way : (g y : ℕ) (p q : List Step) → part (OfRoot (OfVariable g y)) p ≡ part at q → along (Object (OfVariable g y)) p ≡ along to q
     in_place_way g y p q is =
         let now = seen s mid (got ∷ hands) leaks in
-        one_way now viewed_mid.owned (along (Object (OfVariable g y)) p) (along to q) (part at q)
+        one_way now stand_mid.owned (along (Object (OfVariable g y)) p) (along to q) (part at q)
         (subst (Reaches now (along (Object (OfVariable g y)) p)) is (reaches_along now (Object (OfVariable g y)) (OfRoot (OfVariable g y)) p refl))
         (reaches_along now to at q reached)
 
     holds_cell : (n : ℕ) (p : List Step) (c : ℕ) → word_in s.table (content s next [] (OfCell n)) p ≡ Held c
         → (word_in s.table (content s mid [] (OfCell n)) p ≡ Held c) ⊎ ((q : List Step) × (part (OfCell n) p ≡ part at q))
     holds_cell n p c held =
-        carried_holds_cell s settled (home s depth) observer v second (AwayBy rest ways) second_apart mid got hands leaks facts r.to at to viewed_mid kept_mid spot_to reached owns_to
+        carried_holds_cell s settled (home s depth) v second (AwayBy rest ways) mid got hands leaks facts r.to at to stand_mid kept_mid spot_to reached owns_to
         long fits bare n p c held
 
     -- the cell that it is in
@@ -400,7 +349,7 @@ module _ (t : Turn) (settled : IsSettled (typing t).table) (own_law : OwnsByShap
             inl refl,
             q,
             ap (λ z. along z p) found.2
-                ∙ one_way now viewed_mid.owned (along inside.trunk p) (along to q) (part at q)
+                ∙ one_way now stand_mid.owned (along inside.trunk p) (along to q) (part at q)
                 (subst (Reaches now (along inside.trunk p)) is (reaches_along now inside.trunk (OfCell n) p there)) (reaches_along now to at q reached),
           ),
         )
@@ -413,19 +362,19 @@ module _ (t : Turn) (settled : IsSettled (typing t).table) (own_law : OwnsByShap
         | inr (q, is) ↦ absurd (off (to, inl refl, q, in_place_way g y p q is))
       ];
       gone = λ g y p other_frame off gone.
-          carried_gone_to s settled (home s depth) observer v second (AwayBy rest ways) second_apart mid got hands leaks facts r.to at to viewed_mid kept_mid spot_to reached owns_to
+          carried_gone_to s settled (home s depth) v second (AwayBy rest ways) mid got hands leaks facts r.to at to stand_mid kept_mid spot_to reached owns_to
           long fits bare g y p (λ there. off (to, inl refl, there.0, in_place_way g y p there.0 there.1))
-          (carried_gone s settled (home s depth) observer v first (AwayBy rest (to ∷ ways)) first_apart m hands leaks facts formal
-          (OfRoot (OfVariable (suc depth) r.formal)) root viewed typed spot tt refl owns clean g y p gone);
+          (carried_gone s settled (home s depth) v first second m hands leaks facts formal
+          (OfRoot (OfVariable (suc depth) r.formal)) root stand typed spot tt refl owns clean g y p gone);
       in_cells = λ n p c off held. elim (holds_cell n p c held) [
         | inl before ↦ held_mid_cell n p c before
         | inr (q, is) ↦ absurd (off (in_place_cell n p q is))
       ];
       gone_cells = λ n p off gone.
-          carried_gone_cell_to s settled (home s depth) observer v second (AwayBy rest ways) second_apart mid got hands leaks facts r.to at to viewed_mid kept_mid spot_to reached owns_to
+          carried_gone_cell_to s settled (home s depth) v second (AwayBy rest ways) mid got hands leaks facts r.to at to stand_mid kept_mid spot_to reached owns_to
           long fits bare n p (λ there. off (in_place_cell n p there.0 there.1))
-          (carried_gone_cell s settled (home s depth) observer v first (AwayBy rest (to ∷ ways)) first_apart m hands leaks facts formal
-          (OfRoot (OfVariable (suc depth) r.formal)) root viewed typed spot tt refl owns clean n p gone);
+          (carried_gone_cell s settled (home s depth) v first second m hands leaks facts formal
+          (OfRoot (OfVariable (suc depth) r.formal)) root stand typed spot tt refl owns clean n p gone);
     }
 
     -- an object with a number owns
@@ -447,16 +396,16 @@ module _ (t : Turn) (settled : IsSettled (typing t).table) (own_law : OwnsByShap
       | inl before ↦ inl (held_mid g y p c before)
       | inr (q, is) ↦ (let there = in_place g y p q is in
           inr (
-            there.0 ∙ inside.at_home ∙ ap (home s depth) (sym there.1),
-            (λ local. ap (λ z. is_within z scope) there.1
-                ∙ passed.within (ap (is_package_object s) (sym there.1) ∙ local) (ap (λ z. is_owning s.table (object_at s z).of) (sym there.1) ∙ owning_there y g p c held)),
+            there.1 ∙ (there.0).3 ∙ ap (home s depth) (sym there.2),
+            (λ local. ap (λ z. is_within z scope) there.2
+                ∙ passed.within there.0 (ap (is_package_object s) (sym there.2) ∙ local) (ap (λ z. is_owning s.table (object_at s z).of) (sym there.2) ∙ owning_there y g p c held)),
           ))
     ]
 
     pub one_empty : (p : List Step) (c : ℕ) → word_in s.table (content s next [] (OfRoot (OfVariable (suc depth) r.formal))) p ≡ Held c → ⊥
     one_empty p c held = elim (holds_next (suc depth) r.formal p c held) [
       | inl before ↦ empty_mid p c before
-      | inr (q, is) ↦ (let frames = (in_place (suc depth) r.formal p q is).0 in let low = inside_low s depth r.to to inside in omega (arith, frames, low))
+      | inr (q, is) ↦ (let frames = (in_place (suc depth) r.formal p q is).1 in let low = inside_low s depth r.to to inside in omega (arith, frames, low))
     ]
 
     -- the other places have none still
@@ -464,7 +413,7 @@ module _ (t : Turn) (settled : IsSettled (typing t).table) (own_law : OwnsByShap
     one_bare k w has there among none p c held = elim (holds_start (p ++ there.steps) c held) [
       | inl before ↦ none p c (held_mid_start k w there (p ++ there.steps) c before)
       | inr (q, is) ↦
-          parts_apart (seen s mid (got ∷ hands) leaks) to w at (inside_at s depth k w there) viewed_mid.owned reached
+          parts_apart (seen s mid (got ∷ hands) leaks) to w at (inside_at s depth k w there) stand_mid.owned reached
           (inside_reached s depth k w there (seen s mid (got ∷ hands) leaks) (start_mid k w there among)) (apart w has).0 (apart w has).1 q p
           (sym is ∙ part_append there.start p there.steps)
     ]
@@ -480,14 +429,14 @@ module _ (t : Turn) (settled : IsSettled (typing t).table) (own_law : OwnsByShap
               subst (λ z. (word_in s.table (content s mid [] z) q ≡ Held c) ⊎ ((p : List Step) × (part z q ≡ part at p))) (sym variable.1)
               (holds_next there.frame there.object q c (subst (λ z. word_in s.table (content s next [] z) q ≡ Held c) variable.1 held))
           | inr cell ↦
-              subst (λ z. (word_in s.table (content s mid [] z) q ≡ Held c) ⊎ ((p : List Step) × (part z q ≡ part at p))) (sym (cell.0).1)
-              (holds_cell (cell.0).0 q c (subst (λ z. word_in s.table (content s next [] z) q ≡ Held c) (cell.0).1 held))
+              subst (λ z. (word_in s.table (content s mid [] z) q ≡ Held c) ⊎ ((p : List Step) × (part z q ≡ part at p))) (sym cell.1)
+              (holds_cell cell.0 q c (subst (λ z. word_in s.table (content s next [] z) q ≡ Held c) cell.1 held))
         ]
 
     pub one_stays : (w : Way) (g y : ℕ) → base_of w ≡ OfRoot (OfVariable g y) → (g ≡ suc depth → ⊥) → (Past to w → ⊥) → (c : ℕ)
         → Reaches (seen s m hands leaks) w (OfCell c) → Reaches (seen s next hands leaks) w (OfCell c)
     one_stays w g y base off aside c reach =
-        carried_to_stays s settled (home s depth) observer v second (AwayBy rest ways) second_apart mid got hands leaks facts r.to at to viewed_mid kept_mid spot_to reached owns_to
+        carried_to_stays s settled (home s depth) v second (AwayBy rest ways) mid got hands leaks facts r.to at to stand_mid kept_mid spot_to reached owns_to
         long fits bare inside.frame inside.object (inside_base s depth r.to to inside) w g y base aside c
         (mid_stays w g y base off c reach)
 
@@ -497,30 +446,27 @@ module _ (t : Turn) (settled : IsSettled (typing t).table) (own_law : OwnsByShap
     one_views g y view =
         ap (λ z. (get_or z 0 no_slot).word)
         (put_beside s 0 r.to.base (take r.to.at (slots_at s mid r.to.base) ++ fresh (words_of s m formal) ++ drop (r.to.at + length (fresh (words_of s m formal))) (slots_at s mid r.to.base)) mid g y
-        (λ e. inside_other s depth r.to to inside g y (λ same. no_view inside.object (inside_plain s settled depth r.to to inside) inside.owner (same_variable inside.frame inside.object g y (ap OfRoot same)).1) e)
+        (inside_no_view s settled depth r.to to inside g y view)
         ∙ put_beside s 0 formal.base (take 0 (slots_at s m formal.base) ++ marks ++ drop (0 + length marks) (slots_at s m formal.base)) m g y
-        (λ e. no_view r.formal (inside_plain s settled (suc depth) formal root formal_inside) passed.owner (same_names (sym formal_base ∙ e)).1))
+        (inside_no_view s settled (suc depth) formal root formal_inside g y view))
       where
-        no_view : (x : ℕ) → is_anonymous (view_of s x) ≡ false → is_view_formal s x ≡ false → x ≡ y → ⊥
-        no_view x plain owner same = true_false (is_view s y) view (ap (is_view s) (sym same) ∙ both_no (is_anonymous (view_of s x)) (is_view_formal s x) plain owner)
-
         marks : List Slot
         marks = gone_at (access_offsets s.table (object_at s r.formal).of) (slots_of s m formal)
 
   -- ---- all of them
 
-  pub taken_base : (m : Memory) (returns : List Return) (ways : List Way) → AreTaken s cells m depth facts scope returns ways → (k : Way) → Has ways k
-      → IsHomed s depth k
+  pub taken_base : (m : Memory) (returns : List Return) (ways : List Way) → AreTaken s cells m depth v facts scope returns ways → (k : Way) → Has ways k
+      → Begins s depth k
   taken_base m [] ways none k has = absurd (subst (λ z. Has z k) none has)
   taken_base m (r ∷ rest) [] taken k has = absurd has
   taken_base m (r ∷ rest) (to ∷ ways) (inl copied) k has = taken_base m rest (to ∷ ways) copied.1 k has
   taken_base m (r ∷ rest) (to ∷ ways) (inr (one, apart, another, more)) k (inl same) =
-      subst (IsHomed s depth) same (inside_homed s depth r.to to (one.0).inside)
+      subst (Begins s depth) same (inside_begins s depth r.to to (one.0).inside)
   taken_base m (r ∷ rest) (to ∷ ways) (inr (one, apart, another, more)) k (inr has) = taken_base m rest ways more k has
 
   pub taken_on : (m n : Memory) (returns : List Return) (ways : List Way)
       → ((k : Place) (w : Way) → Has ways w → (there : IsInside s depth k w) → IsAmong cells there.start there.trunk → IsBare s depth k w m there → IsBare s depth k w n there)
-      → AreTaken s cells m depth facts scope returns ways → AreTaken s cells n depth facts scope returns ways
+      → AreTaken s cells m depth v facts scope returns ways → AreTaken s cells n depth v facts scope returns ways
   taken_on m n [] ways bare none = none
   taken_on m n (r ∷ rest) [] bare taken = (taken.0, taken_on m n rest [] bare taken.1)
   taken_on m n (r ∷ rest) (to ∷ ways) bare (inl copied) = inl (copied.0, taken_on m n rest (to ∷ ways) bare copied.1)
@@ -543,7 +489,7 @@ module _ (t : Turn) (settled : IsSettled (typing t).table) (own_law : OwnsByShap
       → IsBack rest ways later n → IsBack (r ∷ rest) ways m n
   copied_then r rest ways m later copied on n back = record {
     typed = back.typed;
-    viewed = back.viewed;
+    stand = back.stand;
     held = λ g y p c held. elim (back.held g y p c held) [ inl h ↦ inl (sym (on.hold g y p) ∙ h) | inr h ↦ inr h ];
     empty = λ q has. elim has [
       | inl same ↦ (λ p c held. scalar_empty n r.formal copied.0 p c (subst (λ (z : Return). word_in s.table (content s n [] (OfRoot (OfVariable (suc depth) z.formal))) p ≡ Held c) (sym same) held))
@@ -563,14 +509,14 @@ module _ (t : Turn) (settled : IsSettled (typing t).table) (own_law : OwnsByShap
       let begin = begins c has in subst (IsThere m) (sym lodged.base) (cell_live s settled m hands leaks typed c.way begin.0 begin.1 c.cell begin.2 owned (there c has))
 
   -- another place that is given back to
-  taken_there : (m : Memory) (r : Return) (to : Way) → IsTaken s cells m depth facts scope r to → Kept s m hands → Owned (seen s m hands leaks)
+  taken_there : (m : Memory) (r : Return) (to : Way) → IsTaken s cells m depth v facts scope r to → Kept s m hands → Owned (seen s m hands leaks)
       → ((c : Lodge) → Has cells c → Reaches (seen s m hands leaks) c.way (OfCell c.cell)) → IsThere m r.to.base
   taken_there m r to taken typed owned there = elim (taken.0).inside.stands [
     | inl variable ↦ subst (IsThere m) (sym variable.2) tt
     | inr cell ↦ (
-        let found = (taken.0).among (cell.0).0 (cell.0).1 in
+        let found = (taken.0).among cell.0 cell.1 in
         let begin = begins found.0 found.1 in
-        subst (IsThere m) (ap memory.OfCell found.3 ∙ sym (cell.0).2)
+        subst (IsThere m) (ap memory.OfCell found.3 ∙ sym cell.2)
         (cell_live s settled m hands leaks typed found.0.way begin.0 begin.1 found.0.cell begin.2 owned (there found.0 found.1)))
   ]
 
@@ -581,15 +527,15 @@ module _ (t : Turn) (settled : IsSettled (typing t).table) (own_law : OwnsByShap
       → (q : List Step) → word_in s.table (content s n [] there.start) q ≡ word_in s.table (content s m [] there.start) q
   start_same m n k w there same same_cells q = elim there.stands [
     | inl variable ↦ subst (λ z. word_in s.table (content s n [] z) q ≡ word_in s.table (content s m [] z) q) (sym variable.1) (same there.frame there.object q)
-    | inr cell ↦ subst (λ z. word_in s.table (content s n [] z) q ≡ word_in s.table (content s m [] z) q) (sym (cell.0).1) (same_cells (cell.0).0 q)
+    | inr cell ↦ subst (λ z. word_in s.table (content s n [] z) q ≡ word_in s.table (content s m [] z) q) (sym cell.1) (same_cells cell.0 q)
   ]
 
   copied_first : (r : Return) (rest : List Return) (ways : List Way) (begun : Now) → IsCopiedTo s cells r → AreThere ways begun.memory → Kept s begun.memory hands
-      → ViewedAway (r ∷ rest) ways begun.memory → AreTaken s cells begun.memory depth facts scope rest ways
-      → ((next : Memory) → AreThere ways next → Kept s next hands → ViewedAway rest ways next → AreTaken s cells next depth facts scope rest ways
+      → StandsAway (r ∷ rest) ways begun.memory → AreTaken s cells begun.memory depth v facts scope rest ways
+      → ((next : Memory) → AreThere ways next → Kept s next hands → StandsAway rest ways next → AreTaken s cells next depth v facts scope rest ways
       → GivenBack rest ways next (copied_back t rest (record begun { memory = next })))
       → GivenBack (r ∷ rest) ways begun.memory (copied_back t (r ∷ rest) begun)
-  copied_first r rest ways begun copied cells_there typed viewed taken more =
+  copied_first r rest ways begun copied cells_there typed stand taken more =
       let formal : Place = variable_place (here t) r.formal in
       let ws : List machine.Word = words_of s begun.memory formal in
       let fixed : IsPlainSpot s settled own_law in_formals hands leaks begun.memory formal = fixed_plain s settled own_law in_formals hands leaks formal (formal_fixed t r.formal copied.0) begun.memory in
@@ -600,83 +546,83 @@ module _ (t : Turn) (settled : IsSettled (typing t).table) (own_law : OwnsByShap
       (plain_place s settled own_law in_formals hands leaks (suc depth) cells begins mid r.to copied.1 first.typed (λ c has. same_reaches (seen s begun.memory hands leaks) (seen s mid hands leaks) first.same c.way (OfCell c.cell) (cells_there c has).0))
       ws (one_there s settled own_law in_formals hands leaks begun.memory formal fixed typed) first.typed in
       let on : Enters s settled own_law in_formals hands leaks begun.memory next = one_then s settled own_law in_formals hands leaks begun.memory mid next first second in
-      subst (GivenBack (r ∷ rest) ways begun.memory) (sym (place_is t r rest begun r.to.base refl (place_there begun.memory r.to copied.1 typed viewed.owned (λ c has. (cells_there c has).0))))
+      subst (GivenBack (r ∷ rest) ways begun.memory) (sym (place_is t r rest begun r.to.base refl (place_there begun.memory r.to copied.1 typed stand.owned (λ c has. (cells_there c has).0))))
       (if_back (λ n. IsBack (r ∷ rest) ways begun.memory n) (fits_type s.table r.to.of ws) ws begun
       (λ us n. copied_back t rest (record n { memory = stored s r.to us (moved_out s formal n.memory) }))
       (backs_on (λ n. IsBack rest ways next n) (λ n. IsBack (r ∷ rest) ways begun.memory n) (λ n back. copied_then r rest ways begun.memory next copied on n back)
       (copied_back t rest (record begun { memory = next }))
       (more next (λ c has. (same_reaches (seen s begun.memory hands leaks) (seen s next hands leaks) on.same c.way (OfCell c.cell) (cells_there c has).0, (cells_there c has).1)) on.typed
-      (more_gone (home s depth) (sees_only s) v (away (r ∷ rest) ways) (AwayBy rest ways) (apart_by (r ∷ rest) rest ways begun.memory viewed) (seen s next hands leaks) facts
+      (more_gone (home s depth) v facts (AwayBy (r ∷ rest) ways) (AwayBy rest ways) (seen s next hands leaks)
       (λ w o. elim o [
         | inl away_there ↦ inl away_there
         | inr later ↦ elim later [ inl taken_there ↦ inr (inl taken_there) | inr left ↦ inr (inr (left_more r rest w left)) ]
       ])
-      (same_viewed (home s depth) (sees_only s) (away (r ∷ rest) ways) v (seen s begun.memory hands leaks) (seen s next hands leaks) facts on.same viewed))
+      (same_stand (home s depth) v facts (AwayBy (r ∷ rest) ways) (seen s begun.memory hands leaks) (seen s next hands leaks) on.same stand))
       (taken_on begun.memory next rest ways (λ k w has there among none p c held. none p c (sym (start_same begun.memory next k w there on.hold (λ n q. cells_same s begun.memory next hands leaks on.same n q) (p ++ there.steps)) ∙ held)) taken))))
 
-  taken_first : (r : Return) (rest : List Return) (to : Way) (ways : List Way) (begun : Now) → (taken : IsTaken s cells begun.memory depth facts scope r to)
-      → IsApartFrom to ways → IsAnother r.formal rest → AreTaken s cells begun.memory depth facts scope rest ways → AreThere (to ∷ ways) begun.memory → Kept s begun.memory hands
-      → ViewedAway (r ∷ rest) (to ∷ ways) begun.memory
-      → ((next : Memory) → AreThere ways next → Kept s next hands → ViewedAway rest ways next → AreTaken s cells next depth facts scope rest ways
+  taken_first : (r : Return) (rest : List Return) (to : Way) (ways : List Way) (begun : Now) → (taken : IsTaken s cells begun.memory depth v facts scope r to)
+      → IsApartFrom to ways → IsAnother r.formal rest → AreTaken s cells begun.memory depth v facts scope rest ways → AreThere (to ∷ ways) begun.memory → Kept s begun.memory hands
+      → StandsAway (r ∷ rest) (to ∷ ways) begun.memory
+      → ((next : Memory) → AreThere ways next → Kept s next hands → StandsAway rest ways next → AreTaken s cells next depth v facts scope rest ways
       → GivenBack rest ways next (copied_back t rest (record begun { memory = next })))
       → GivenBack (r ∷ rest) (to ∷ ways) begun.memory (copied_back t (r ∷ rest) begun)
-  taken_first r rest to ways begun taken apart another later cells_there typed viewed more =
+  taken_first r rest to ways begun taken apart another later cells_there typed stand more =
       let m : Memory = begun.memory in
       let formal : Place = variable_place (here t) r.formal in
       let ws : List machine.Word = words_of s begun.memory formal in
       let begin_ways = taken_base m rest ways later in
       let cells_now : (c : Lodge) → Has cells c → Reaches (seen s m hands leaks) c.way (OfCell c.cell) = λ c has. (cells_there c has).0 in
       let next : Memory = stored s r.to ws (moved_out s formal begun.memory) in
-      subst (GivenBack (r ∷ rest) (to ∷ ways) begun.memory) (sym (place_is t r rest begun r.to.base refl (taken_there begun.memory r to taken typed viewed.owned (λ c has. (cells_there c has).0))))
+      subst (GivenBack (r ∷ rest) (to ∷ ways) begun.memory) (sym (place_is t r rest begun r.to.base refl (taken_there begun.memory r to taken typed stand.owned (λ c has. (cells_there c has).0))))
       (if_back (λ n. IsBack (r ∷ rest) (to ∷ ways) begun.memory n) (fits_type s.table r.to.of ws) ws begun
       (λ us n. copied_back t rest (record n { memory = stored s r.to us (moved_out s formal n.memory) }))
       (backs_on (λ n. IsBack rest ways next n) (λ n. IsBack (r ∷ rest) (to ∷ ways) begun.memory n)
       (λ n back. record {
         typed = back.typed;
-        viewed = back.viewed;
+        stand = back.stand;
         held = λ g y p c held. elim (back.held g y p c held) [
-          | inl h ↦ one_held r rest to ways m taken apart another begin_ways typed viewed cells_now g y p c h
+          | inl h ↦ one_held r rest to ways m taken apart another begin_ways typed stand cells_now g y p c h
           | inr h ↦ inr h
         ];
         empty = λ q has. elim has [
           | inr there ↦ back.empty q there
           | inl same ↦ (λ p c held. elim (back.held (suc depth) r.formal p c (subst (λ (z : Return). word_in s.table (content s n [] (OfRoot (OfVariable (suc depth) z.formal))) p ≡ Held c) (sym same) held)) [
-            | inl h ↦ one_empty r rest to ways m taken apart another begin_ways typed viewed cells_now p c h
+            | inl h ↦ one_empty r rest to ways m taken apart another begin_ways typed stand cells_now p c h
             | inr h ↦ (let frames = h.0 in let low = home_low s depth r.formal in omega (arith, frames, low))
           ])
         ];
-        views = λ g y view. back.views g y view ∙ one_views r rest to ways m taken apart another begin_ways typed viewed cells_now g y view;
+        views = λ g y view. back.views g y view ∙ one_views r rest to ways m taken apart another begin_ways typed stand cells_now g y view;
         carried = carried_then s (λ g. g ≡ suc depth → ⊥) cells (to ∷ []) ways (to ∷ ways) m next n
             (λ w there. elim there.1 [ inl same ↦ (there.0, inl same, there.2, there.3) | inr never ↦ absurd never ]) (λ w there. taken_more to ways w there)
-            (one_carried r rest to ways m taken apart another begin_ways typed viewed cells_now) back.carried;
+            (one_carried r rest to ways m taken apart another begin_ways typed stand cells_now) back.carried;
         stays = λ w g y base off aside c reach. back.stays w g y base off (λ k has. aside k (inr has)) c
-            (one_stays r rest to ways m taken apart another begin_ways typed viewed cells_now w g y base off (aside to (inl refl)) c reach);
+            (one_stays r rest to ways m taken apart another begin_ways typed stand cells_now w g y base off (aside to (inl refl)) c reach);
       })
       (copied_back t rest (record begun { memory = next }))
       (more next (λ c has. (
-        (let begin = begins c has in one_stays r rest to ways m taken apart another begin_ways typed viewed cells_now c.way begin.0 begin.1 begin.2 begin.3
+        (let begin = begins c has in one_stays r rest to ways m taken apart another begin_ways typed stand cells_now c.way begin.0 begin.1 begin.2 begin.3
             ((cells_there c has).1 to (inl refl)) c.cell (cells_there c has).0),
         (λ k there. (cells_there c has).1 k (inr there)),
-      )) (one_kept r rest to ways m taken apart another begin_ways typed viewed cells_now) (one_viewed r rest to ways m taken apart another begin_ways typed viewed cells_now)
-      (taken_on m next rest ways (λ k w has there among none. one_bare r rest to ways m taken apart another begin_ways typed viewed cells_now k w has there among none) later))))
+      )) (one_kept r rest to ways m taken apart another begin_ways typed stand cells_now) (one_stand r rest to ways m taken apart another begin_ways typed stand cells_now)
+      (taken_on m next rest ways (λ k w has there among none. one_bare r rest to ways m taken apart another begin_ways typed stand cells_now k w has there among none) later))))
 
-  pub all_given_back : (returns : List Return) (ways : List Way) (begun : Now) → AreTaken s cells begun.memory depth facts scope returns ways
-      → AreThere ways begun.memory → Kept s begun.memory hands → ViewedAway returns ways begun.memory → GivenBack returns ways begun.memory (copied_back t returns begun)
-  all_given_back [] ways begun taken there typed viewed = record {
+  pub all_given_back : (returns : List Return) (ways : List Way) (begun : Now) → AreTaken s cells begun.memory depth v facts scope returns ways
+      → AreThere ways begun.memory → Kept s begun.memory hands → StandsAway returns ways begun.memory → GivenBack returns ways begun.memory (copied_back t returns begun)
+  all_given_back [] ways begun taken there typed stand = record {
     typed = typed;
-    viewed = subst (λ z. ViewedAway [] z begun.memory) taken viewed;
+    stand = subst (λ z. StandsAway [] z begun.memory) taken stand;
     held = λ g y p c held. inl held;
     empty = λ r has. absurd has;
     views = λ g y view. refl;
     carried = carried_same s (λ g. g ≡ suc depth → ⊥) cells ways begun.memory begun.memory (λ g y p. refl) (λ c p. refl);
     stays = λ w g y base off aside c reach. reach;
   }
-  all_given_back (r ∷ rest) [] begun taken there typed viewed =
-      copied_first r rest [] begun taken.0 there typed viewed taken.1
+  all_given_back (r ∷ rest) [] begun taken there typed stand =
+      copied_first r rest [] begun taken.0 there typed stand taken.1
       (λ next there kept seen_next later. all_given_back rest [] (record begun { memory = next }) later there kept seen_next)
-  all_given_back (r ∷ rest) (to ∷ ways) begun (inl copied) there typed viewed =
-      copied_first r rest (to ∷ ways) begun copied.0 there typed viewed copied.1
+  all_given_back (r ∷ rest) (to ∷ ways) begun (inl copied) there typed stand =
+      copied_first r rest (to ∷ ways) begun copied.0 there typed stand copied.1
       (λ next there kept seen_next later. all_given_back rest (to ∷ ways) (record begun { memory = next }) later there kept seen_next)
-  all_given_back (r ∷ rest) (to ∷ ways) begun (inr (taken, apart, another, more)) there typed viewed =
-      taken_first r rest to ways begun taken apart another more there typed viewed
+  all_given_back (r ∷ rest) (to ∷ ways) begun (inr (taken, apart, another, more)) there typed stand =
+      taken_first r rest to ways begun taken apart another more there typed stand
       (λ next there kept seen_next later. all_given_back rest ways (record begun { memory = next }) later there kept seen_next)

@@ -11,6 +11,7 @@ use Rattle.owned_ways.proofs.Locations.{depth, past_depth}
 use Rattle.soundness.specs.Seen.{content, steps_in, word_in}
 use Rattle.viewed_steps.specs.Taken.{Lodge, IsInside, IsAmong, AreTaken}
 use Rattle.viewed_steps.proofs.Carried.{start_reached, start_steps}
+use Rattle.owned_loans.specs.Views.{Views}
 
 -- A way to a variable or a cell as a whole.
 abbrev pub IsTop : View → Way → Loc → Type 0
@@ -44,20 +45,20 @@ inside_top s cells depth view at k to inside among = (
   start_steps s depth k to inside,
 )
 
-pub taken_bare : (s : Typing) (cells : List Lodge) (m : Memory) (depth : ℕ) (facts : List Fact) (scope : List ℕ) (view : View)
+pub taken_bare : (s : Typing) (cells : List Lodge) (m : Memory) (depth : ℕ) (v : Views) (facts : List Fact) (scope : List ℕ) (view : View)
     → ((c : Lodge) → Has cells c → Reaches view c.way (OfCell c.cell)) → (returns : List Return) (ways : List Way)
-    → AreTaken s cells m depth facts scope returns ways → (w : Way) (l : Loc) → IsTop view w l → (p : List Step) → Has ways (along w p) → (q : List Step) (c : ℕ)
+    → AreTaken s cells m depth v facts scope returns ways → (w : Way) (l : Loc) → IsTop view w l → (p : List Step) → Has ways (along w p) → (q : List Step) (c : ℕ)
     → word_in s.table (content s m [] l) (q ++ p) ≡ Held c → ⊥
-taken_bare s cells m depth facts scope view at [] ways none w l top p has q c held = absurd (subst (λ z. Has z (along w p)) none has)
-taken_bare s cells m depth facts scope view at (r ∷ rest) [] taken w l top p has q c held = absurd has
-taken_bare s cells m depth facts scope view at (r ∷ rest) (to ∷ ways) (inl copied) w l top p has q c held =
-    taken_bare s cells m depth facts scope view at rest (to ∷ ways) copied.1 w l top p has q c held
-taken_bare s cells m depth facts scope view at (r ∷ rest) (to ∷ ways) (inr (one, apart, another, more)) w l top p (inl same) q c held =
+taken_bare s cells m depth v facts scope view at [] ways none w l top p has q c held = absurd (subst (λ z. Has z (along w p)) none has)
+taken_bare s cells m depth v facts scope view at (r ∷ rest) [] taken w l top p has q c held = absurd has
+taken_bare s cells m depth v facts scope view at (r ∷ rest) (to ∷ ways) (inl copied) w l top p has q c held =
+    taken_bare s cells m depth v facts scope view at rest (to ∷ ways) copied.1 w l top p has q c held
+taken_bare s cells m depth v facts scope view at (r ∷ rest) (to ∷ ways) (inr (one, apart, another, more)) w l top p (inl same) q c held =
     let inside = (one.0).inside in
     let both = same_part view inside.trunk w inside.start l (inside_top s cells depth view at r.to to inside (one.0).among) top inside.steps p (sym inside.way ∙ same) in
     one.1 q c ((λ j. word_in s.table (content s m [] (both.0 j)) (q ++ both.1 j)) ∙ held)
-taken_bare s cells m depth facts scope view at (r ∷ rest) (to ∷ ways) (inr (one, apart, another, more)) w l top p (inr has) q c held =
-    taken_bare s cells m depth facts scope view at rest ways more w l top p has q c held
+taken_bare s cells m depth v facts scope view at (r ∷ rest) (to ∷ ways) (inr (one, apart, another, more)) w l top p (inr has) q c held =
+    taken_bare s cells m depth v facts scope view at rest ways more w l top p has q c held
 
 -- What goes on from a way isn't before it.
 pub not_before : (w : Way) (p : List Step) → Past (along w p) w → ⊥

@@ -1,24 +1,24 @@
 -- A move that a call makes, or its end: no fact changes, and what is gone after it is known otherwise.
-use Rattle.std.proofs.Common.{◌≡◌, refl, sym, ap, ◌∙◌, subst, ◌⊎◌, inl, inr, ℕ, suc, ◌<◌, Bool, true, false, List, [], ◌∷◌, ◌++◌, Some, arith, if◌then◌else◌}
+use Rattle.std.proofs.Common.{◌≡◌, refl, sym, ap, ◌∙◌, subst, ◌⊎◌, inl, inr, ℕ, suc, ◌<◌, Bool, true, false, List, [], ◌∷◌, arith, if◌then◌else◌}
 use Rattle.spark_base.specs.Lists.{Has}
 use Rattle.place_names.specs.declared.fact.Fact.{Fact}
-use Rattle.place_names.specs.declared.fact.Fact.TheVariants.{Moved, Lent}
+use Rattle.place_names.specs.declared.fact.Fact.TheVariants.{Lent, Moved}
 use Rattle.place_names.specs.declared.rule.Loan.{Loan}
 use Rattle.place_names.specs.Names.{Name as PlaceName, overlaps}
-use Rattle.owned_ways.specs.Ways.{Step, OfVariable, OfHand, Loc, OfRoot, OfCell, Way, Object, Lost, Into, All, Gone, View, Reaches, IsSame, part, along, IsRooted, Under, Past, Named, base_of, number_of, name_of}
+use Rattle.owned_ways.specs.Ways.{Step, OfVariable, OfHand, Loc, OfRoot, OfCell, Way, Object, Lost, Into, All, Gone, View, Reaches, IsSame, part, along, IsRooted, Under, Named, base_of, number_of, name_of, Owned, Covered, Known, Sound}
 use Rattle.owned_ways.proofs.Locations.{under_along, under_itself}
 use Rattle.owned_ways.proofs.Named.{longer}
-use Rattle.owned_ways.proofs.Moving.{Given, keeps, owned_after, covered_after, known_after}
+use Rattle.owned_ways.proofs.Moving.{Given, owned_after, covered_after, known_after}
 use Rattle.owned_ways.proofs.Dropped.{named_base}
-use Rattle.owned_loans.specs.Views.{Around, Views, ExcusedBy, Viewed, AreShared, IsForeign, IsOuter}
-use Rattle.owned_loans.proofs.Ways.{Meet, beginnings, flip, meets_front, named_base_of}
-use Rattle.owned_loans.proofs.Moves.{view_on, reached}
+use Rattle.owned_loans.specs.Views.{Views, Viewed, IsMovedBy, known_gone, expand}
+use Rattle.owned_loans.proofs.Ways.{beginnings}
 use Rattle.flow_paths.specs.Objects.{Typing, is_package_object}
 use Rattle.machine.specs.Memory.{Memory, Place}
 use Rattle.machine.specs.States.{Return}
 use Rattle.soundness.specs.Seen.{IsNear, content, word_in, home}
 use Rattle.viewed_steps.specs.Taken.{Lodge, IsInside, IsAmong, IsBare, TakenBy, AreTaken, AreCarried}
-use Rattle.spark_base.proofs.Lists.{Has-append_cases}
+use Rattle.owned_ways.proofs.Assigned.{same_sound}
+use Rattle.viewed_soundness.specs.Holds.{sees_only}
 
 -- where owners see the same, ways reach the same
 pub same_reaches : (s t : View) → IsSame s t → (w : Way) (l : Loc) → Reaches s w l → Reaches t w l
@@ -27,71 +27,62 @@ same_reaches s t e (Lost n) l h = (e.leaked n ∙ h.0, h.1)
 same_reaches s t e (Into w i) l (m, h, is) = (m, same_reaches s t e w m h, is)
 same_reaches s t e (All w) l (m, n, h, held, is) = (m, n, same_reaches s t e w m h, e.word m ∙ held, is)
 
--- ---- what is known elsewhere
+-- ---- what is gone meanwhile
 
--- The same ways are kept, and these are gone.
-abbrev pub gone_also : (home : ℕ → ℕ) → Around home → (Way → Type 0) → Around home
-gone_also home other gone = record {
-  lent = other.lent;
-  gone = gone;
-  away = other.away;
-  through = other.through;
-  kept = other.kept;
-  begins = other.begins;
-  bare = λ w l p. ⊥;
-  rests = λ w l p none. absurd none;
-  bares = λ w l p none. absurd none;
-  emptied = λ w l p none q. absurd none;
+-- While a call begins or ends: the state is well owned, and what ways find gone is moved by facts, or among these ways.
+pub record OwnersStand (home : ℕ → ℕ) (v : Views) (facts : List Fact) (gone : Way → Type 0) (s : View) : Type 0 where
+  pub owned : Owned s
+  pub covered : Covered s
+  pub known : Known s (λ w. IsMovedBy home v facts w ⊎ gone w)
+
+-- so it is for a frame with its views
+pub owners_stand : (home : ℕ → ℕ) (observer : ℕ → Bool) (v : Views) (gone : Way → Type 0) (s : View) (facts : List Fact)
+    → Viewed home observer (known_gone home gone) v s facts → OwnersStand home v facts gone s
+owners_stand home observer v gone s facts viewed = record {
+  owned = viewed.owned;
+  covered = viewed.covered;
+  known = λ w l rooted r is. elim (viewed.known w l rooted r is) [
+    | inl (inl moved) ↦ inl moved
+    | inl (inr none) ↦ absurd none
+    | inr there ↦ inr there
+  ];
 }
 
-module _ (home : ℕ → ℕ) (observer : ℕ → Bool) (v : Views) (other : Around home) (gone : Way → Type 0)
-    (apart : (x : ℕ) (w z : Way) → v.way x ≡ Some w → IsOuter home v x w → gone z → Under z w ⊎ Under w z → ⊥) where
+module _ (home : ℕ → ℕ) (v : Views) (facts : List Fact) where
   -- more may be gone
-  pub more_gone : (s : View) (facts : List Fact) → ((w : Way) → other.gone w → gone w) → Viewed home observer other v s facts
-      → Viewed home observer (gone_also home other gone) v s facts
-  more_gone s facts more viewed = record {
-    owned = viewed.owned;
-    covered = viewed.covered;
-    known = λ w l rooted r is. elim (viewed.known w l rooted r is) [ inl m ↦ inl m | inr o ↦ inr (more w o) ];
-    clear = viewed.clear;
-    views = λ x w has. view_on home observer other v s s facts facts x w (viewed.views x w has) (λ seen n loan. loan)
-        (reached home observer other v s facts x w (viewed.views x w has));
-    whole = apart;
-    whole_away = viewed.whole_away;
-    shown = viewed.shown;
-    past = viewed.past;
-    lends = viewed.lends;
-    far = viewed.far;
-    bare = λ w n p none. absurd none;
+  pub more_gone : (before gone : Way → Type 0) (s : View) → ((w : Way) → before w → gone w) → OwnersStand home v facts before s → OwnersStand home v facts gone s
+  more_gone before gone s more stand = record {
+    owned = stand.owned;
+    covered = stand.covered;
+    known = λ w l rooted r is. elim (stand.known w l rooted r is) [ inl m ↦ inl m | inr o ↦ inr (more w o) ];
   }
 
-  -- No way of a view of the frame goes past one, and none of others.
-  pub record IsClearOf (f : Way) : Type 0 where
-    pub own : (x : ℕ) (w : Way) → v.way x ≡ Some w → Past f w → ⊥
-    pub far : (w : Way) (n : ℕ) → other.kept w n → Past f w → ⊥
+  -- with all facts among what is gone
+  pub as_sound : (gone : Way → Type 0) (s : View) → OwnersStand home v facts gone s → Sound home (λ w. IsMovedBy home v facts w ⊎ gone w) s []
+  as_sound gone s stand = record { owned = stand.owned; covered = stand.covered; known = λ w l rooted r is. inr (stand.known w l rooted r is) }
 
-  pub moved_between : (s t : View) (f k : Way) (from to : Loc) (facts : List Fact) → Given s t f k from to
-      → Viewed home observer other v s facts → IsRooted f
-      → ((w : Way) → Under f w → ExcusedBy home v other facts w → ⊥)
-      → ((w : Way) → other.gone w → (Under k w → ⊥) → gone w)
+  pub from_sound : (gone : Way → Type 0) (s : View) → Sound home (λ w. IsMovedBy home v facts w ⊎ gone w) s [] → OwnersStand home v facts gone s
+  from_sound gone s sound = record {
+    owned = sound.owned;
+    covered = sound.covered;
+    known = λ w l rooted r is. elim (sound.known w l rooted r is) [ inl moved ↦ absurd moved.1 | inr there ↦ there ];
+  }
+
+  -- where owners see the same
+  pub same_stand : (gone : Way → Type 0) (s t : View) → IsSame s t → OwnersStand home v facts gone s → OwnersStand home v facts gone t
+  same_stand gone s t same stand = from_sound gone t (same_sound home (λ w. IsMovedBy home v facts w ⊎ gone w) s t [] same (as_sound gone s stand))
+
+  pub moved_between : (before gone : Way → Type 0) (s t : View) (f k : Way) (from to : Loc) → Given s t f k from to
+      → OwnersStand home v facts before s → IsRooted f
+      → ((w : Way) → Under f w → IsMovedBy home v facts w ⊎ before w → ⊥)
+      → ((w : Way) → before w → (Under k w → ⊥) → gone w)
       → ((p : List Step) → t.word (part from p) ≡ Gone → gone (along f p))
-      → IsClearOf f → IsClearOf k → Viewed home observer (gone_also home other gone) v t facts
-  moved_between s t f k from to facts given viewed rooted clean stays adds off away = record {
+      → OwnersStand home v facts gone t
+  moved_between before gone s t f k from to given stand rooted clean stays adds = record {
     owned = owned_after s t f k from to given;
-    covered = covered_after s t f k from to given viewed.covered;
-    known = known_after s t f k from to (ExcusedBy home v other facts) (ExcusedBy home v (gone_also home other gone) facts) given viewed.known rooted clean
+    covered = covered_after s t f k from to given stand.covered;
+    known = known_after s t f k from to (λ w. IsMovedBy home v facts w ⊎ before w) (λ w. IsMovedBy home v facts w ⊎ gone w) given stand.known rooted clean
         (λ w moved apart. elim moved [ inl m ↦ inl m | inr o ↦ inr (stays w o apart) ]) (λ p is. inr (adds p is));
-    clear = viewed.clear;
-    views = λ x w has. (let view = viewed.views x w has in
-        view_on home observer other v s t facts facts x w view (λ seen n loan. loan)
-        (keeps s t f k from to given w (OfCell (v.cell x)) (reached home observer other v s facts x w view) (λ p. off.own x w has p) (λ p. away.own x w has p)));
-    whole = apart;
-    whole_away = viewed.whole_away;
-    shown = viewed.shown;
-    past = viewed.past;
-    lends = viewed.lends;
-    far = λ w n held. keeps s t f k from to given w (OfCell n) (viewed.far w n held) (λ p. off.far w n held p) (λ p. away.far w n held p);
-    bare = λ w n p none. absurd none;
   }
 
 -- ---- ways that were taken
@@ -159,67 +150,13 @@ number_under home t w named_t named_w under =
     (same_variable (home (number_of t)) (number_of t) (home (number_of w)) (number_of w)
     (sym (named_base home t named_t) ∙ sym (base_under t w under) ∙ named_base home w named_w)).1
 
--- A way begins at a variable of a frame, or at a package object.
-abbrev pub IsHomed : Typing → ℕ → Way → Type 0
-IsHomed s depth to = (f : ℕ) × (y : ℕ) × (base_of to ≡ OfRoot (OfVariable f y)) × (f ≡ home s depth y)
+-- A way begins at a variable of a frame, or at a package object; or at a variable of a frame below that isn't that of
+-- the package objects.
+abbrev pub IsBegun : Typing → ℕ → ℕ → ℕ → Type 0
+IsBegun s depth f y = (f ≡ home s depth y) ⊎ ((0 < f) × (f < suc depth))
 
--- it meets none that begins elsewhere
-pub homed_apart : (s : Typing) (depth : ℕ) (to : Way) → IsHomed s depth to → (w z : Way) → IsForeign (home s depth) w → Under to z → Under z w ⊎ Under w z → ⊥
-homed_apart s depth to (f, y, base, at_home) w z foreign under meets =
-    let there : base_of w ≡ OfRoot (OfVariable f y) = elim meets [
-      | inl above ↦ base_under z w above ∙ base_under to z under ∙ base
-      | inr below ↦ sym (base_under w z below) ∙ base_under to z under ∙ base
-    ] in
-    let same = same_variable foreign.0 foreign.1 f y (sym foreign.2 ∙ there) in
-    foreign.3 (same.0 ∙ at_home ∙ ap (home s depth) (sym same.1))
-
--- nor does it meet what a view was given, where what others have lent doesn't
-pub homed_outer : (s : Typing) (depth : ℕ) (observer : ℕ → Bool) (lent : Loan → PlaceName → Type 0) (v : Views) (to : Way) → IsHomed s depth to
-    → AreShared (home s depth) observer lent v → ((l : Loan) (k : Way) → Named (home s depth) k → lent l (name_of k) → Meet to k → ⊥)
-    → (y : ℕ) (w z : Way) → v.way y ≡ Some w → IsOuter (home s depth) v y w → Under to z → Under z w ⊎ Under w z → ⊥
-homed_outer s depth observer lent v to homed shown unlent y w z has (inl foreign) under meets = homed_apart s depth to homed w z foreign under meets
-homed_outer s depth observer lent v to homed shown unlent y w z has (inr given) under meets =
-    let base : base_of w ≡ base_of to = elim meets [ inl above ↦ base_under z w above ∙ base_under to z under | inr below ↦ sym (base_under w z below) ∙ base_under to z under ] in
-    let named : Named (home s depth) w = named_base_of (home s depth) w homed.1 (base ∙ homed.2 ∙ ap (λ f. OfRoot (OfVariable f homed.1)) homed.3) in
-    let (l, (k, at_home, above, lent_it), changed) = shown y w has given named in
-    unlent l k at_home lent_it (meets_front k w to above (flip w to (meets_front to z w under (flip z w meets))))
-
-pub number_based : (home : ℕ → ℕ) (w : Way) (y : ℕ) → Named home w → base_of w ≡ OfRoot (OfVariable (home y) y) → number_of w ≡ y
-number_based home w y named base = (same_variable (home (number_of w)) (number_of w) (home y) y (sym (named_base home w named) ∙ base)).1
-
--- a name of a frame isn't rooted in another one
-pub not_named : (home : ℕ → ℕ) (e x : ℕ) → ((y : ℕ) → home y ≡ e → ⊥) → (w : Way) → Named home w → base_of w ≡ OfRoot (OfVariable e x) → ⊥
-not_named home e x other w named base =
-    other (number_of w) (same_variable (home (number_of w)) (number_of w) e x (sym (named_base home w named) ∙ base)).0
-
--- what was taken is in variables of the frame, or in package objects
-pub taken_from : (s : Typing) (cells : List Lodge) (m : Memory) (depth : ℕ) (facts : List Fact) (scope : List ℕ) (returns : List Return) (ways : List Way)
-    → AreTaken s cells m depth facts scope returns ways → (k : Way) → Has ways k → IsHomed s depth k
-taken_from s cells m depth facts scope [] ways none k has = absurd (subst (λ z. Has z k) none has)
-taken_from s cells m depth facts scope (r ∷ rest) [] taken k has = absurd has
-taken_from s cells m depth facts scope (r ∷ rest) (to ∷ ways) (inl copied) k has = taken_from s cells m depth facts scope rest (to ∷ ways) copied.1 k has
-taken_from s cells m depth facts scope (r ∷ rest) (to ∷ ways) (inr (one, apart, another, more)) k (inl same) = (
-  (one.0).inside.frame,
-  (one.0).inside.object,
-  ap base_of (sym same ∙ (one.0).inside.way) ∙ base_along (one.0).inside.trunk (one.0).inside.steps ∙ (one.0).inside.root,
-  (one.0).inside.at_home,
-)
-taken_from s cells m depth facts scope (r ∷ rest) (to ∷ ways) (inr (one, apart, another, more)) k (inr has) = taken_from s cells m depth facts scope rest ways more k has
-
--- nor is it lent
-pub taken_unlent : (s : Typing) (cells : List Lodge) (m : Memory) (depth : ℕ) (facts : List Fact) (scope : List ℕ) (returns : List Return) (ways : List Way)
-    → AreTaken s cells m depth facts scope returns ways → (k : Way) → Has ways k → (l : Loan) (h : ℕ) (n : PlaceName) → Has facts (Lent l h n) → overlaps n (name_of k) ≡ true → ⊥
-taken_unlent s cells m depth facts scope [] ways none k has l h n lent over = absurd (subst (λ z. Has z k) none has)
-taken_unlent s cells m depth facts scope (r ∷ rest) [] taken k has l h n lent over = absurd has
-taken_unlent s cells m depth facts scope (r ∷ rest) (to ∷ ways) (inl copied) k has l h n lent over = taken_unlent s cells m depth facts scope rest (to ∷ ways) copied.1 k has l h n lent over
-taken_unlent s cells m depth facts scope (r ∷ rest) (to ∷ ways) (inr (one, apart, another, more)) k (inl same) l h n lent over =
-    (one.0).unlent l h n lent (subst (λ z. overlaps n (name_of z) ≡ true) (sym same) over)
-taken_unlent s cells m depth facts scope (r ∷ rest) (to ∷ ways) (inr (one, apart, another, more)) k (inr has) l h n lent over =
-    taken_unlent s cells m depth facts scope rest ways more k has l h n lent over
-
-pub taken_base : (s : Typing) (ways : List Way) (depth : ℕ) → ((k : Way) → Has ways k → IsHomed s depth k)
-    → (w : Way) → TakenBy ways w → IsHomed s depth w
-taken_base s ways depth begin w (k, has, p, is) = (let base = begin k has in (base.0, base.1, ap base_of is ∙ base_along k p ∙ base.2, base.3))
+abbrev pub Begins : Typing → ℕ → Way → Type 0
+Begins s depth to = (f : ℕ) × (y : ℕ) × (base_of to ≡ OfRoot (OfVariable f y)) × IsBegun s depth f y
 
 -- a frame of its own, or that of the package objects
 pub home_low : (s : Typing) (d y : ℕ) → home s d y < suc d
@@ -229,18 +166,61 @@ home_low s d y = by_package (is_package_object s y)
     by_package true = omega arith
     by_package false = omega arith
 
+-- not above that frame
+pub begun_low : (s : Typing) (depth f y : ℕ) → IsBegun s depth f y → f < suc depth
+begun_low s depth f y (inl at_home) = (let low = home_low s depth y in omega (arith, at_home, low))
+begun_low s depth f y (inr (some, less)) = omega (arith, less)
+
+pub number_based : (home : ℕ → ℕ) (w : Way) (y : ℕ) → Named home w → base_of w ≡ OfRoot (OfVariable (home y) y) → number_of w ≡ y
+number_based home w y named base = (same_variable (home (number_of w)) (number_of w) (home y) y (sym (named_base home w named) ∙ base)).1
+
+-- a name of a frame isn't rooted in another one
+pub not_named : (home : ℕ → ℕ) (e x : ℕ) → ((y : ℕ) → home y ≡ e → ⊥) → (w : Way) → Named home w → base_of w ≡ OfRoot (OfVariable e x) → ⊥
+not_named home e x other w named base =
+    other (number_of w) (same_variable (home (number_of w)) (number_of w) e x (sym (named_base home w named) ∙ base)).0
+
+-- so it is with what was taken
+pub taken_from : (s : Typing) (cells : List Lodge) (m : Memory) (depth : ℕ) (v : Views) (facts : List Fact) (scope : List ℕ) (returns : List Return) (ways : List Way)
+    → AreTaken s cells m depth v facts scope returns ways → (k : Way) → Has ways k → Begins s depth k
+taken_from s cells m depth v facts scope [] ways none k has = absurd (subst (λ z. Has z k) none has)
+taken_from s cells m depth v facts scope (r ∷ rest) [] taken k has = absurd has
+taken_from s cells m depth v facts scope (r ∷ rest) (to ∷ ways) (inl copied) k has = taken_from s cells m depth v facts scope rest (to ∷ ways) copied.1 k has
+taken_from s cells m depth v facts scope (r ∷ rest) (to ∷ ways) (inr (one, apart, another, more)) k (inl same) = (
+  (one.0).inside.frame,
+  (one.0).inside.object,
+  ap base_of (sym same ∙ (one.0).inside.way) ∙ base_along (one.0).inside.trunk (one.0).inside.steps ∙ (one.0).inside.root,
+  (one.0).inside.begins,
+)
+taken_from s cells m depth v facts scope (r ∷ rest) (to ∷ ways) (inr (one, apart, another, more)) k (inr has) = taken_from s cells m depth v facts scope rest ways more k has
+
+-- each is what a name of the frame stands for, which isn't lent
+pub taken_name : (s : Typing) (cells : List Lodge) (m : Memory) (depth : ℕ) (v : Views) (facts : List Fact) (scope : List ℕ) (returns : List Return) (ways : List Way)
+    → AreTaken s cells m depth v facts scope returns ways → (k : Way) → Has ways k
+    → (name : Way) × Named (home s depth) name × (sees_only s (number_of name) ≡ false) × (expand v name ≡ k)
+    × ((l : Loan) (h : ℕ) (n : PlaceName) → Has facts (Lent l h n) → overlaps n (name_of name) ≡ true → ⊥)
+taken_name s cells m depth v facts scope [] ways none k has = absurd (subst (λ z. Has z k) none has)
+taken_name s cells m depth v facts scope (r ∷ rest) [] taken k has = absurd has
+taken_name s cells m depth v facts scope (r ∷ rest) (to ∷ ways) (inl copied) k has = taken_name s cells m depth v facts scope rest (to ∷ ways) copied.1 k has
+taken_name s cells m depth v facts scope (r ∷ rest) (to ∷ ways) (inr (one, apart, another, more)) k (inl same) =
+    ((one.0).name, (one.0).called, (one.0).plain, (one.0).leads ∙ same, (one.0).unlent)
+taken_name s cells m depth v facts scope (r ∷ rest) (to ∷ ways) (inr (one, apart, another, more)) k (inr has) = taken_name s cells m depth v facts scope rest ways more k has
+
+pub taken_base : (s : Typing) (ways : List Way) (depth : ℕ) → ((k : Way) → Has ways k → Begins s depth k)
+    → (w : Way) → TakenBy ways w → Begins s depth w
+taken_base s ways depth begin w (k, has, p, is) = (let base = begin k has in (base.0, base.1, ap base_of is ∙ base_along k p ∙ base.2, base.3))
+
 -- it stays so where no number comes to them
-pub still_taken : (s : Typing) (cells : List Lodge) (m n : Memory) (depth : ℕ) (facts : List Fact) (scope : List ℕ) (returns : List Return) (ways : List Way)
+pub still_taken : (s : Typing) (cells : List Lodge) (m n : Memory) (depth : ℕ) (v : Views) (facts : List Fact) (scope : List ℕ) (returns : List Return) (ways : List Way)
     → ((k : Place) (to : Way) → Has ways to → (inside : IsInside s depth k to) → IsAmong cells inside.start inside.trunk → IsBare s depth k to m inside → IsBare s depth k to n inside)
-    → AreTaken s cells m depth facts scope returns ways → AreTaken s cells n depth facts scope returns ways
-still_taken s cells m n depth facts scope [] ways still none = none
-still_taken s cells m n depth facts scope (r ∷ rest) [] still taken = (taken.0, still_taken s cells m n depth facts scope rest [] still taken.1)
-still_taken s cells m n depth facts scope (r ∷ rest) (to ∷ ways) still (inl copied) = inl (copied.0, still_taken s cells m n depth facts scope rest (to ∷ ways) still copied.1)
-still_taken s cells m n depth facts scope (r ∷ rest) (to ∷ ways) still (inr (one, apart, another, more)) = inr (
+    → AreTaken s cells m depth v facts scope returns ways → AreTaken s cells n depth v facts scope returns ways
+still_taken s cells m n depth v facts scope [] ways still none = none
+still_taken s cells m n depth v facts scope (r ∷ rest) [] still taken = (taken.0, still_taken s cells m n depth v facts scope rest [] still taken.1)
+still_taken s cells m n depth v facts scope (r ∷ rest) (to ∷ ways) still (inl copied) = inl (copied.0, still_taken s cells m n depth v facts scope rest (to ∷ ways) still copied.1)
+still_taken s cells m n depth v facts scope (r ∷ rest) (to ∷ ways) still (inr (one, apart, another, more)) = inr (
   (one.0, still r.to to (inl refl) (one.0).inside (one.0).among one.1),
   apart,
   another,
-  still_taken s cells m n depth facts scope rest ways (λ k w has. still k w (inr has)) more,
+  still_taken s cells m n depth v facts scope rest ways (λ k w has. still k w (inr has)) more,
 )
 
 -- what begins at a variable of a frame between isn't near
@@ -252,17 +232,21 @@ near_base b (Into w i) f x near base = near_base b w f x near base
 near_base b (All w) f x near base = near_base b w f x near base
 
 -- what is known of places that were taken holds of fewer facts
-pub fewer_taken : (s : Typing) (cells : List Lodge) (m : Memory) (depth : ℕ) (all facts : List Fact) (scope : List ℕ) → ((f : Fact) → Has facts f → Has all f)
-    → (returns : List Return) (ways : List Way) → AreTaken s cells m depth all scope returns ways → AreTaken s cells m depth facts scope returns ways
-fewer_taken s cells m depth all facts scope part [] ways taken = taken
-fewer_taken s cells m depth all facts scope part (r ∷ rest) [] (copied, more) = (copied, fewer_taken s cells m depth all facts scope part rest [] more)
-fewer_taken s cells m depth all facts scope part (r ∷ rest) (to ∷ ways) (inl (copied, more)) =
-    inl (copied, fewer_taken s cells m depth all facts scope part rest (to ∷ ways) more)
-fewer_taken s cells m depth all facts scope part (r ∷ rest) (to ∷ ways) (inr ((passed, bare), apart, another, more)) =
+pub fewer_taken : (s : Typing) (cells : List Lodge) (m : Memory) (depth : ℕ) (v : Views) (all facts : List Fact) (scope : List ℕ) → ((f : Fact) → Has facts f → Has all f)
+    → (returns : List Return) (ways : List Way) → AreTaken s cells m depth v all scope returns ways → AreTaken s cells m depth v facts scope returns ways
+fewer_taken s cells m depth v all facts scope part [] ways taken = taken
+fewer_taken s cells m depth v all facts scope part (r ∷ rest) [] (copied, more) = (copied, fewer_taken s cells m depth v all facts scope part rest [] more)
+fewer_taken s cells m depth v all facts scope part (r ∷ rest) (to ∷ ways) (inl (copied, more)) =
+    inl (copied, fewer_taken s cells m depth v all facts scope part rest (to ∷ ways) more)
+fewer_taken s cells m depth v all facts scope part (r ∷ rest) (to ∷ ways) (inr ((passed, bare), apart, another, more)) =
     inr (
       (
         record {
           inside = passed.inside;
+          name = passed.name;
+          called = passed.called;
+          leads = passed.leads;
+          plain = passed.plain;
           among = passed.among;
           fits = passed.fits;
           formal = passed.formal;
@@ -276,41 +260,5 @@ fewer_taken s cells m depth all facts scope part (r ∷ rest) (to ∷ ways) (inr
       ),
       apart,
       another,
-      fewer_taken s cells m depth all facts scope part rest ways more,
-    )
-
--- and of more, of which none is of such a place
-pub more_taken : (s : Typing) (cells : List Lodge) (m : Memory) (depth : ℕ) (facts beside : List Fact) (scope : List ℕ)
-    → ((n : PlaceName) → Has beside (Moved n) → ⊥) → (returns : List Return) (ways : List Way)
-    → ((to : Way) → Has ways to → (l : Loan) (h : ℕ) (n : PlaceName) → Has beside (Lent l h n) → overlaps n (name_of to) ≡ true → ⊥)
-    → AreTaken s cells m depth facts scope returns ways → AreTaken s cells m depth (facts ++ beside) scope returns ways
-more_taken s cells m depth facts beside scope none [] ways off taken = taken
-more_taken s cells m depth facts beside scope none (r ∷ rest) [] off (copied, more) = (copied, more_taken s cells m depth facts beside scope none rest [] off more)
-more_taken s cells m depth facts beside scope none (r ∷ rest) (to ∷ ways) off (inl (copied, more)) =
-    inl (copied, more_taken s cells m depth facts beside scope none rest (to ∷ ways) off more)
-more_taken s cells m depth facts beside scope none (r ∷ rest) (to ∷ ways) off (inr ((passed, bare), apart, another, more)) =
-    inr (
-      (
-        record {
-          inside = passed.inside;
-          among = passed.among;
-          fits = passed.fits;
-          formal = passed.formal;
-          owner = passed.owner;
-          many = passed.many;
-          within = passed.within;
-          unlent = λ l h n has over. elim (Has-append_cases facts beside (Lent l h n) has) [
-            | inl own ↦ passed.unlent l h n own over
-            | inr there ↦ off to (inl refl) l h n there over
-          ];
-          cleared = λ n has covered. elim (Has-append_cases facts beside (Moved n) has) [
-            | inl own ↦ passed.cleared n own covered
-            | inr there ↦ none n there
-          ];
-        },
-        bare,
-      ),
-      apart,
-      another,
-      more_taken s cells m depth facts beside scope none rest ways (λ way has. off way (inr has)) more,
+      fewer_taken s cells m depth v all facts scope part rest ways more,
     )

@@ -70,7 +70,7 @@ use Rattle.viewed_steps.proofs.Waiting.{StandsBetween, beside_them, handed, lent
 use Rattle.viewed_steps.proofs.Called.{values_are_read, call_adds_none, passes_to, spare_reads, spare_copies}
 use Rattle.viewed_steps.proofs.LaidOut.{AreOpenActuals}
 use Rattle.viewed_steps.proofs.Passed.{apart_or, apart_there}
-use Rattle.viewed_steps.proofs.Cells.{are_kept, all_in, all_open}
+use Rattle.viewed_steps.proofs.Cells.{all_in, all_open}
 use Rattle.viewed_steps.proofs.Standing.{or_right}
 use Rattle.viewed_steps.proofs.Standing as standing
 use Rattle.viewed_steps.proofs.Packages as packages
@@ -561,10 +561,7 @@ module _ (table : Table) (typed : TypedProgram) (effects : Effects) (input : Lis
       copied_there = elim modes_there [
         | inr modes ↦ all_in s ready.owns depth facts_now procedure formals actuals modes
         | inl none ↦ all_open s ready.owns depth facts_now procedure formals actuals facts_now []
-            (are_kept s formals actuals
-            (ready.class.copied (flow_sub own named) (standing.in_program table typed effects input ready state top older outer named p frames of_sub at_point) main_turn.point
-            (standing.in_sub table typed effects input ready state top older outer named p frames of_sub at_point) n actuals result e called.formals)
-            ((ready.orderly.points named named_there p point_there_now).copied n actuals result e))
+            ((ready.orderly.points named named_there p point_there_now).copied n actuals result e)
             none copies_allowed (λ f has. inl has) (λ k never. absurd never)
       ]
         where

@@ -8,7 +8,7 @@ use Rattle.viewed_steps.proofs.Followed as followed
 use Rattle.viewed_steps.proofs.Traversed.{none_given, empty_given, named_given}
 use Rattle.typed_tree.specs.declared.object.ObjectKind.{ObjectKind}
 use Rattle.typed_tree.specs.declared.object.ObjectKind.TheVariants as object_kind
-use Rattle.spark_base.proofs.Lists.{Has-append_left, Has-append_cases, Has-append_right}
+use Rattle.spark_base.proofs.Lists.{Has-append_left, Has-append_cases}
 use Rattle.std.proofs.Common.{◌≡◌, refl, sym, ap, ◌∙◌, subst, ◌⊎◌, inl, inr, ℕ, suc, ◌<◌, true, false, List, [], ◌∷◌, ◌++◌, take, drop, length, get_or, arith, Option, Some, None, Bool, ◌||◌, flat_map}
 use Rattle.spark_base.specs.Lists.{Has}
 use Rattle.place_names.specs.declared.fact.Fact.{Fact}
@@ -55,8 +55,8 @@ use Rattle.soundness.proofs.Waits.{led_waits}
 use Rattle.soundness.proofs.Eased.{eased}
 use Rattle.owned_loans.specs.Views.{expand, Around, known_gone, Views, IsMovedBy, ExcusedBy, AreClear as FactsAreClear, AreViews, Viewed, ViewedAlone, IsOuter, AreShared}
 use Rattle.owned_loans.proofs.Ways.{under_on, Meet, meets_front, flip}
-use Rattle.owned_loans.proofs.Moves.{expand_under}
-use Rattle.viewed_soundness.proofs.Names.{true_false, owner_sees, given_view}
+use Rattle.owned_loans.proofs.Moves.{expand_under, view_on, reached}
+use Rattle.viewed_soundness.proofs.Names.{true_false, given_view}
 use Rattle.viewed_soundness.specs.Holds.{Holds, is_view, sees_only, IsOwners, is_given}
 use Rattle.viewed_soundness.proofs.Given.{IsLow, low_there, low_begins}
 use Rattle.viewed_steps.specs.Awaited.{temporaries_of, lasting_of, awaited, WaitsAt, AreAwaited, AreOwnless, TakesPassed}
@@ -65,14 +65,14 @@ use Rattle.viewed_steps.specs.Sound.{IsCopiedBack, IsBeyond, AreUnmet, HoldsAt, 
 use Rattle.viewed_steps.specs.Ready.{IsReady, IsCalled}
 use Rattle.viewed_steps.specs.Taken.{TakenBy, AreTaken, AreCarried, Lodge}
 use Rattle.viewed_steps.proofs.Apart.{moved_same}
-use Rattle.viewed_steps.proofs.Waiting.{StandsBetween, kept_low, beside_them, handed, bare_still}
+use Rattle.viewed_steps.proofs.Waiting.{StandsBetween, kept_low, beside_them, handed, bare_still, none_moved}
 use Rattle.viewed_steps.proofs.Onward.{all_on}
-use Rattle.viewed_steps.proofs.Between.{gone_also, base_under, IsHomed, fewer_taken, same_variable}
-use Rattle.viewed_steps.proofs.Outside.{IsSpared, kept_clear}
+use Rattle.viewed_steps.proofs.Between.{OwnersStand, fewer_taken, same_variable}
+use Rattle.viewed_steps.proofs.Outside.{kept_clear, IsFree}
 use Rattle.flow_paths.specs.Effects.{written_by}
 use Rattle.viewed_steps.proofs.LaidOut.{AreLaidOut}
 use Rattle.viewed_steps.proofs.Outs.{Out, found_in}
-use Rattle.viewed_steps.proofs.Entered.{ArePassedOn, IsOpen, AreBlank, not_above, inside_plain, inside_named, inside_number, inside_itself, passed_one}
+use Rattle.viewed_steps.proofs.Entered.{ArePassedOn, IsOpen, AreBlank, not_above}
 use Rattle.viewed_steps.proofs.Entering.{owns_there, AreDeclared, Enter, formals_of_returns, all_declared, AtFirst}
 use Rattle.viewed_steps.proofs.Passed.{IsNamedBy, found_there, all_returned, call_goes}
 use Rattle.viewed_steps.proofs.Cells.{passed_formal, IsCellNamed}
@@ -95,6 +95,7 @@ use Rattle.place_names.specs.declared.rule.Loan.TheVariants.{Observed}
 use Rattle.viewed_steps.proofs.CallShows as shows
 use Rattle.viewed_steps.proofs.Seeing.{named_written}
 use Rattle.viewed_steps.proofs.Lending.{actual_named}
+use Rattle.viewed_steps.proofs.Stilled.{still}
 use Rattle.viewed_steps.proofs.Supplied.{SuppliesAll}
 
 module _ (table : Table) (typed : TypedProgram) (effects : Effects) (input : List ℕ) (ready : IsReady table typed effects) where
@@ -310,21 +311,24 @@ module _ (table : Table) (typed : TypedProgram) (effects : Effects) (input : Lis
         abbrev cells : List Lodge
         cells = calling.cells table typed effects input ready state top below more_frames rest named p frames deep stages running awaiting of_sub at_point path views viewed_before kept scope holds placed_before above n actuals result e passed given
 
-        abbrev all_passed_ways : (ways_taken : List Way) × ArePassedOn s state.memory cells depth facts_all next_there formals passed ways_taken outs
-            × ((k : Way) → Has ways_taken k → IsNamedBy s formals actuals k)
+        abbrev all_passed_ways : (ways_taken : List Way) × ArePassedOn s state.memory cells depth views facts_all next_there formals passed ways_taken outs
+            × ((k : Way) → Has ways_taken k → IsNamedBy s depth views facts_all formals actuals k)
         all_passed_ways = calling.all_passed_ways table typed effects input ready state top below more_frames rest named p frames deep stages running awaiting of_sub at_point path views viewed_before kept scope holds placed_before above n actuals result e passed given
 
         abbrev ways_taken : List Way
         ways_taken = calling.ways_taken table typed effects input ready state top below more_frames rest named p frames deep stages running awaiting of_sub at_point path views viewed_before kept scope holds placed_before above n actuals result e passed given
 
-        abbrev homed : (to : Way) → Has ways_taken to → IsHomed s depth to
-        homed = calling.homed table typed effects input ready state top below more_frames rest named p frames deep stages running awaiting of_sub at_point path views viewed_before kept scope holds placed_before above n actuals result e passed given
+        abbrev well_before : Viewed (home s depth) (sees_only s) other_all views (view_here s easy.state) facts_now
+        well_before = calling.well_before table typed effects input ready state top below more_frames rest named p frames deep stages running awaiting of_sub at_point path views viewed_before kept scope holds placed_before above n actuals result e passed given
 
-        abbrev around_outs : Around (home s depth)
-        around_outs = calling.around_outs table typed effects input ready state top below more_frames rest named p frames deep stages running awaiting of_sub at_point path views viewed_before kept scope holds placed_before above n actuals result e passed given
+        abbrev around_names : Around (home s depth)
+        around_names = calling.around_names table typed effects input ready state top below more_frames rest named p frames deep stages running awaiting of_sub at_point path views viewed_before kept scope holds placed_before above n actuals result e passed given
 
-        abbrev well_all : Viewed (home s depth) (sees_only s) around_outs views (view_here s easy.state) facts_all
-        well_all = calling.well_all table typed effects input ready state top below more_frames rest named p frames deep stages running awaiting of_sub at_point path views viewed_before kept scope holds placed_before above n actuals result e passed given
+        abbrev names_all : Viewed (home s depth) (sees_only s) around_names views (still (view_here s easy.state)) facts_all
+        names_all = calling.names_all table typed effects input ready state top below more_frames rest named p frames deep stages running awaiting of_sub at_point path views viewed_before kept scope holds placed_before above n actuals result e passed given
+
+        abbrev views_called : AreViews (home s depth) (sees_only s) views (view_here s easy.state) facts_called
+        views_called = calling.views_called table typed effects input ready state top below more_frames rest named p frames deep stages running awaiting of_sub at_point path views viewed_before kept scope holds placed_before above n actuals result e passed given
 
         abbrev named_cell : (c : Lodge) → Has cells c → IsCellNamed s depth facts_all views view_now formals actuals passed c
         named_cell = calling.named_cell table typed effects input ready state top below more_frames rest named p frames deep stages running awaiting of_sub at_point path views viewed_before kept scope holds placed_before above n actuals result e passed given
@@ -341,10 +345,10 @@ module _ (table : Table) (typed : TypedProgram) (effects : Effects) (input : Lis
         abbrev cell_aside : (c : Lodge) → Has cells c → (to : Way) → Has ways_taken to → ways.Past to c.way → ⊥
         cell_aside = calling.cell_aside table typed effects input ready state top below more_frames rest named p frames deep stages running awaiting of_sub at_point path views viewed_before kept scope holds placed_before above n actuals result e passed given
 
-        abbrev spared_to : (to : Way) (has : Has ways_taken to) → IsSpared table typed effects unmoved_stage local state depth older between (homed to has).1
-        spared_to = calling.spared_to table typed effects input ready state top below more_frames rest named p frames deep stages running awaiting of_sub at_point path views viewed_before kept scope holds placed_before above n actuals result e passed given
+        abbrev free_to : (to : Way) → Has ways_taken to → IsFree table typed effects unmoved_stage local state depth older between to
+        free_to = calling.free_to table typed effects input ready state top below more_frames rest named p frames deep stages running awaiting of_sub at_point path views viewed_before kept scope holds placed_before above n actuals result e passed given
 
-        abbrev open_there : IsOpen (home s depth) other_all ways_taken
+        abbrev open_there : IsOpen (IsMovedBy (home s depth) views facts_all) (GoneElsewhere program effects older) ways_taken
         open_there = calling.open_there table typed effects input ready state top below more_frames rest named p frames deep stages running awaiting of_sub at_point path views viewed_before kept scope holds placed_before above n actuals result e passed given
 
         abbrev blank_formals : AreBlank s depth state.memory formals
@@ -363,14 +367,14 @@ module _ (table : Table) (typed : TypedProgram) (effects : Effects) (input : Lis
         leaks_same = ap (λ z. state.leaks ++ z) (sym (found_there s ready.accepted.settled depth views view_now main_turn.point.pos state.memory formals actuals passed laid))
 
         pub at_first : AtFirst s ready.accepted.settled ready.owns in_formals (waiting_in easy.state) depth views far_views holds.only facts_all next_there cells cell_begins state.memory
-        at_first = record { typed = (viewed_easy plain_there.0).1; leaks = state.leaks; owned = well_all.owned; there = λ c has. (named_cell c has).reaches }
+        at_first = record { typed = (viewed_easy plain_there.0).1; leaks = state.leaks; owned = well_before.owned; there = λ c has. (named_cell c has).reaches }
 
-        enters : Enter s ready.accepted.settled ready.owns in_formals (waiting_in easy.state) depth views far_views holds.only facts_all next_there cells cell_begins other_all state.leaks leaks_then formals passed ways_taken
+        enters : Enter s ready.accepted.settled ready.owns in_formals (waiting_in easy.state) depth views far_views holds.only facts_all next_there cells cell_begins (GoneElsewhere program effects older) state.leaks leaks_then formals passed ways_taken
             state.memory with_all
         enters =
-            all_declared s ready.accepted.settled ready.owns in_formals (waiting_in easy.state) depth views far_views holds.only facts_all next_there cells cell_begins other_all state.leaks formals passed ways_taken outs
+            all_declared s ready.accepted.settled ready.owns in_formals (waiting_in easy.state) depth views far_views holds.only facts_all next_there cells cell_begins (GoneElsewhere program effects older) state.leaks formals passed ways_taken outs
             state.memory state.memory all_passed_ways.1 open_there at_first (viewed_easy plain_there.0).1
-            (λ c has. ((named_cell c has).reaches, cell_aside c has)) well_all blank_formals (λ o has. ((λ f y q some is k. refl), (λ c q k there is. refl))) (same_cells state.memory state.memory refl)
+            (λ c has. ((named_cell c has).reaches, cell_aside c has)) (calling.stands_all table typed effects input ready state top below more_frames rest named p frames deep stages running awaiting of_sub at_point path views viewed_before kept scope holds placed_before above n actuals result e passed given) blank_formals (λ o has. ((λ f y q some is k. refl), (λ c q k there is. refl))) (same_cells state.memory state.memory refl)
 
         abbrev declared_there : AreDeclared s ready.accepted.settled ready.owns in_formals (waiting_in easy.state) depth views far_views holds.only facts_all next_there cells cell_begins formals passed ways_taken state.leaks leaks_then
             state.memory with_all
@@ -388,10 +392,10 @@ module _ (table : Table) (typed : TypedProgram) (effects : Effects) (input : Lis
         abbrev waits_there : ViewStage
         waits_there = calling.waits_there table typed effects input ready state top below more_frames rest named p frames deep stages running awaiting of_sub at_point path views viewed_before kept scope holds placed_before above n actuals result e passed given
 
-        abbrev root_written : (y : ℕ) → Has (passed_roots waits_there) y → is_package_object s y ≡ true → Has (written_by effects top.frame.sub) y
+        abbrev root_written : (y : ℕ) → Has (passed_roots effects waits_there) y → is_package_object s y ≡ true → Has (written_by effects top.frame.sub) y
         root_written = calling.root_written table typed effects input ready state top below more_frames rest named p frames deep stages running awaiting of_sub at_point path views viewed_before kept scope holds placed_before above n actuals result e passed given
 
-        abbrev root_unused : (y : ℕ) → Has (passed_roots waits_there) y → is_package_object s y ≡ true → Uses effects n y → ⊥
+        abbrev root_unused : (y : ℕ) → Has (passed_roots effects waits_there) y → is_package_object s y ≡ true → Uses effects n y → ⊥
         root_unused = calling.root_unused table typed effects input ready state top below more_frames rest named p frames deep stages running awaiting of_sub at_point path views viewed_before kept scope holds placed_before above n actuals result e passed given
 
         frames_there : after_call.frames ≡ frame_at_start n (returns_of formals passed) ∷ (waits_stage.frame ∷ outer)
@@ -407,18 +411,27 @@ module _ (table : Table) (typed : TypedProgram) (effects : Effects) (input : Lis
         view_called : called_view ≡ view_here s after_call
         view_called = (λ j. seen s with_all (sym hands_there j) (leaks_same j))
 
-        abbrev around_taken : Around (home s depth)
-        around_taken = gone_also (home s depth) other_all (λ w. GoneElsewhere program effects older w ⊎ TakenBy all_passed_ways.0 w)
+        stands_then : OwnersStand (home s depth) views facts_all (λ w. GoneElsewhere program effects older w ⊎ TakenBy all_passed_ways.0 w) (view_here s after_call)
+        stands_then = subst (OwnersStand (home s depth) views facts_all (λ w. GoneElsewhere program effects older w ⊎ TakenBy all_passed_ways.0 w)) view_called enters.1
 
-        well_called : Viewed (home s depth) (sees_only s) around_taken views (view_here s after_call) facts_all
-        well_called = subst (λ z. Viewed (home s depth) (sees_only s) around_taken views z facts_all) view_called enters.1
-
-        -- what frames around hand on left out
-        well_waits : ViewedAlone (home s depth) (sees_only s) around_taken views (view_here s after_call) facts_called
-        well_waits = calling.without_called table typed effects input ready state top below more_frames rest named p frames deep stages running awaiting of_sub at_point path views viewed_before kept scope holds placed_before above n actuals result e around_taken (view_here s after_call) well_called
+        -- its views see what they saw
+        views_then : AreViews (home s depth) (sees_only s) views (view_here s after_call) facts_called
+        views_then x w has =
+            let base = calling.view_base table typed effects input ready state top below more_frames rest named p frames deep stages running awaiting of_sub at_point path views viewed_before kept scope holds placed_before above n actuals result e passed given x w has in
+            view_on (home s depth) (sees_only s) other_all views (view_here s easy.state) (view_here s after_call) facts_called facts_called x w (views_called x w has) (λ b m loan. loan)
+            (subst (λ z. ways.Reaches z w (ways.OfCell (views.cell x))) view_called
+            (declared_there.stays w base.0 base.1 base.2 base.3 (calling.off_taken table typed effects input ready state top below more_frames rest named p frames deep stages running awaiting of_sub at_point path views viewed_before kept scope holds placed_before above n actuals result e passed given x w has)
+            (views.cell x) (reached (home s depth) (sees_only s) other_all views (view_here s easy.state) facts_called x w (views_called x w has))))
 
         abbrev all_called : (f : Fact) → Has facts_called f → Has facts_all f
         all_called = calling.all_called table typed effects input ready state top below more_frames rest named p frames deep stages running awaiting of_sub at_point path views viewed_before kept scope holds placed_before above n actuals result e
+
+        -- what is moved there is moved by the frame
+        moved_called : (w : Way) → IsMovedBy (home s depth) views facts_all w → IsMovedBy (home s depth) views facts_called w
+        moved_called w (u, moved, leads) = elim (calling.splits_all table typed effects input ready state top below more_frames rest named p frames deep stages running awaiting of_sub at_point path views viewed_before kept scope holds placed_before above n actuals result e (Moved (ways.name_of u)) moved.1) [
+          | inl mine ↦ (u, (moved.0, mine), leads)
+          | inr there ↦ absurd (none_moved table typed effects unmoved_stage local state depth older between (ways.name_of u) there)
+        ]
 
         held_called : (f x : ℕ) (q : List Step) (k : ℕ) → (f ≡ suc depth → ⊥) → word_in s.table (content s with_all [] (ways.OfRoot (ways.OfVariable f x))) q ≡ ways.Held k
             → word_in s.table (content s state.memory [] (ways.OfRoot (ways.OfVariable f x))) q ≡ ways.Held k
@@ -447,14 +460,14 @@ module _ (table : Table) (typed : TypedProgram) (effects : Effects) (input : Lis
               root_unused y passed (ap (is_package_object s) (sym root) ∙ shared) (subst (Uses effects n) root uses))
         ]
 
-        taken_then : AreTaken s cells with_all depth facts_all next_there (returns_of formals passed) ways_taken
+        taken_then : AreTaken s cells with_all depth views facts_all next_there (returns_of formals passed) ways_taken
         taken_then = enters.2
 
         -- no number stands in what is taken
         bare_there : (w : Way) (l : ways.Loc) (q : List Step) → IsBareOf s waits_there w l q → (r : List Step) (k : ℕ)
             → word_in s.table (content s with_all [] l) (r ++ q) ≡ ways.Held k → ⊥
         bare_there w l q (taken, top) r k held =
-            taken_bare s cells with_all depth facts_all next_there (view_here s easy.state) (λ c has. (named_cell c has).reaches) (returns_of formals passed) ways_taken taken_then w l
+            taken_bare s cells with_all depth views facts_all next_there (view_here s easy.state) (λ c has. (named_cell c has).reaches) (returns_of formals passed) ways_taken taken_then w l
             (elim top [
               | inl (c, has, way, is) ↦ (
                 subst (λ z. ways.Reaches (view_here s easy.state) w z) is (subst (λ z. ways.Reaches (view_here s easy.state) z (ways.OfCell c.cell)) way (named_cell c has).reaches),
@@ -503,17 +516,31 @@ module _ (table : Table) (typed : TypedProgram) (effects : Effects) (input : Lis
                 subst (λ (z : PlaceName). Uses effects top.frame.sub z.root) (sym is.1) used.0,
                 λ borrowed. subst (λ (z : PlaceName). Has (written_by effects top.frame.sub) z.root) (sym is.1) (used.1 (sym is.0 ∙ borrowed)),
               ));
-          apart = λ f k name has borrowed seen over. shows.shown_apart table typed effects input ready state top below more_frames rest named p frames deep stages running awaiting of_sub at_point path views viewed_before kept scope holds placed_before above n actuals result e (calling.clear_there table typed effects input ready state top below more_frames rest named p frames deep stages running awaiting of_sub at_point path views viewed_before kept scope holds placed_before above n actuals result e) well_waits.clear f k name
+          apart = λ f k name has borrowed seen over. shows.shown_apart table typed effects input ready state top below more_frames rest named p frames deep stages running awaiting of_sub at_point path views viewed_before kept scope holds placed_before above n actuals result e (calling.clear_there table typed effects input ready state top below more_frames rest named p frames deep stages running awaiting of_sub at_point path views viewed_before kept scope holds placed_before above n actuals result e) (calling.clear_called table typed effects input ready state top below more_frames rest named p frames deep stages running awaiting of_sub at_point path views viewed_before kept scope holds placed_before above n actuals result e passed given) f k name
               (subst (λ z. Has z f) known_is has) borrowed (subst (λ z. Has z (Lent Observed k name)) known_is seen) over;
           unmoved = λ name has shared uses. kept_unused name has shared uses;
           written = root_written;
+          names = λ to has. (let by = all_passed_ways.2 to has in record {
+            name = by.name;
+            called = subst (λ d. ways.Named (home s d) by.name) (sym deep) by.named;
+            plain = by.plain;
+            leads = by.means;
+            unlent = λ l h m lent over. by.unlent l h m (all_called (Lent l h m) (subst (λ z. Has z (Lent l h m)) facts_there lent)) over;
+            cleared = λ m moved covered. by.cleared m (all_called (Moved m) (subst (λ z. Has z (Moved m)) facts_there moved)) covered;
+            written = calling.name_written table typed effects input ready state top below more_frames rest named p frames deep stages running awaiting of_sub at_point path views viewed_before kept scope holds placed_before above n actuals result e passed given to has;
+          });
+          off = calling.off_taken table typed effects input ready state top below more_frames rest named p frames deep stages running awaiting of_sub at_point path views viewed_before kept scope holds placed_before above n actuals result e passed given;
+          goes = λ to has y base shared.
+              subst (λ d. Has (written_by effects top.frame.sub) y
+              ⊎ ((x : ℕ) × (w : Way) × (views.way x ≡ Some w) × (ways.Named (home s d) (views.up x) → ⊥) × (sees_only s x ≡ false) × ways.Under w to)) (sym deep)
+              (calling.goes_to table typed effects input ready state top below more_frames rest named p frames deep stages running awaiting of_sub at_point path views viewed_before kept scope holds placed_before above n actuals result e passed given to has y base shared);
           uses = λ x uses. called_used program effects ready.accepted.effects_are top.frame.sub (flow_sub own named) sub_at_all sub_less n callee_less
               main_turn.point (standing.in_sub table typed effects input ready state top older outer named p frames of_sub at_point) actuals result e x uses;
           writes = λ x written. called_writes program effects ready.accepted.effects_are top.frame.sub (flow_sub own named) sub_at_all sub_less n callee_less
               main_turn.point (standing.in_sub table typed effects input ready state top older outer named p frames of_sub at_point) actuals result e x written;
-          clear = subst (FactsAreClear (sees_only s)) (sym facts_there) well_waits.clear;
+          clear = subst (FactsAreClear (sees_only s)) (sym facts_there) (calling.clear_called table typed effects input ready state top below more_frames rest named p frames deep stages running awaiting of_sub at_point path views viewed_before kept scope holds placed_before above n actuals result e passed given);
           views = subst (λ z. AreViews (home s top.depth) (sees_only s) views (view_here s after_call) z) (sym facts_there)
-              (subst (λ d. AreViews (home s d) (sees_only s) views (view_here s after_call) facts_called) (sym deep) well_waits.views);
+              (subst (λ d. AreViews (home s d) (sees_only s) views (view_here s after_call) facts_called) (sym deep) views_then);
           holds = subst (λ d. HoldsAt s d views with_all at_successor.0) (sym deep) (record {
             held = λ x k lasts view at. holds_now.held x k view (sym (word_still x view) ∙ at);
             within = λ x k view at. (let own_way = holds_now.held x k view (sym (word_still x view) ∙ at) in (next_placed x own_way.0 own_way.1).within);
@@ -534,9 +561,9 @@ module _ (table : Table) (typed : TypedProgram) (effects : Effects) (input : Lis
             aside = cell_aside c has;
           };
           bare = bare_there;
-          taken = subst (λ z. AreTaken s cells with_all top.depth z next_there (returns_of formals passed) all_passed_ways.0) (sym facts_there)
-              (subst (λ d. AreTaken s cells with_all d facts_called next_there (returns_of formals passed) all_passed_ways.0) (sym deep)
-              (fewer_taken s cells with_all depth facts_all facts_called next_there all_called (returns_of formals passed) all_passed_ways.0 enters.2));
+          taken = subst (λ z. AreTaken s cells with_all top.depth views z next_there (returns_of formals passed) all_passed_ways.0) (sym facts_there)
+              (subst (λ d. AreTaken s cells with_all d views facts_called next_there (returns_of formals passed) all_passed_ways.0) (sym deep)
+              (fewer_taken s cells with_all depth views facts_all facts_called next_there all_called (returns_of formals passed) all_passed_ways.0 enters.2));
         }
 
         others_wait : AreWaiting table typed effects after_call top.frame.sub top.frame.returns older
@@ -552,8 +579,7 @@ module _ (table : Table) (typed : TypedProgram) (effects : Effects) (input : Lis
               far = λ w k keeps_it. (let root = kept_low table typed effects unmoved_stage local state depth older between w k keeps_it in
                   subst (λ z. ways.Reaches z w (ways.OfCell k)) view_called
                   (declared_there.stays w root.0 root.1 root.2 (λ same. (let less = root.3 in omega (arith, less, same)))
-                  (λ to taken past. kept_clear table typed effects unmoved_stage local state depth older between to (homed to taken) (spared_to to taken) w k keeps_it
-                  (base_under to w (past_under to w past))) k
+                  (λ to taken past. kept_clear table typed effects unmoved_stage local state depth older between to (free_to to taken) w k keeps_it past) k
                   (((viewed_easy plain_there.0).0).far w k keeps_it)));
               bare = bare_still table typed effects unmoved_stage local older easy.state after_call
                   (λ w c q r k there held. declared_there.carried.in_cells c (r ++ q) k (λ taken. (taken.3).1) held)
@@ -563,15 +589,14 @@ module _ (table : Table) (typed : TypedProgram) (effects : Effects) (input : Lis
         -- what is gone then is known to those that wait
         known_called : (w : Way) (l : ways.Loc) → ways.IsRooted w → ways.Reaches (view_here s after_call) w l → (view_here s after_call).word l ≡ ways.Gone
             → GoneElsewhere program effects (waits_there ∷ older) w
-        known_called w l rooted r gone = elim (well_waits.known w l rooted r gone) [
+        known_called w l rooted r gone = elim (stands_then.known w l rooted r gone) [
           | inr (inl (g, has, what)) ↦ (g, inr has, what)
           | inr (inr taken_there) ↦ (waits_there, inl refl, inr taken_there)
-          | inl (inr none) ↦ absurd none
-          | inl (inl moved) ↦ (
+          | inl moved_all ↦ (
             waits_there,
             inl refl,
             inl (subst (λ d. IsMovedBy (home s d) views (facts_of program effects waits_stage) w) (sym deep)
-                (subst (λ z. IsMovedBy (home s depth) views z w) (sym facts_there) moved)),
+                (subst (λ z. IsMovedBy (home s depth) views z w) (sym facts_there) (moved_called w moved_all))),
           )
         ]
 
@@ -611,26 +636,17 @@ module _ (table : Table) (typed : TypedProgram) (effects : Effects) (input : Lis
             low_of (steps.here main_turn) ready.accepted.settled (waiting_in easy.state) state.leaks state.memory [] other facts_now views (viewed_easy plain_there.0).1
             (viewed_easy plain_there.0).0 holds_now alone live_now in_formals index_law ready.owns ready.class.parts_named formals_low procedure formals actuals passed callee_views opened.1
 
-        less_now : (f : Fact) → Has facts_all f → Has facts_now f
-        less_now f has = elim (calling.splits_all table typed effects input ready state top below more_frames rest named p frames deep stages running awaiting of_sub at_point path views viewed_before kept scope holds placed_before above n actuals result e f has) [
-          | inl mine ↦ Has-append_left own_facts handed_on f (acting.adds_none table typed effects input ready state top below more_frames rest named p frames deep stages running awaiting of_sub at_point path views viewed_before kept scope holds placed_before above n actuals result e f mine)
-          | inr there ↦ Has-append_right own_facts handed_on f there
-        ]
+        abbrev less_now : (f : Fact) → Has facts_all f → Has facts_now f
+        less_now = calling.less_now table typed effects input ready state top below more_frames rest named p frames deep stages running awaiting of_sub at_point path views viewed_before kept scope holds placed_before above n actuals result e passed given
 
         -- no place that is taken meets what they see
         meets_taken : (y : ℕ) (w : Way) → callee_views.way y ≡ Some w → (to : Way) → Has ways_taken to → Meet w to → ⊥
         meets_taken y w has to taken meets =
             let by = all_passed_ways.2 to taken in
             elim by_callee [
-              | inl modes ↦ modes.1 (by.0).formal (passed_formal formals actuals by.0 by.1) by.2
-              | inr lent ↦ (
-                  let one = passed_one s state.memory cells depth facts_all next_there formals passed ways_taken outs all_passed_ways.1 to taken in
-                  let inside = (one.2).inside in
-                  from_place s depth views facts_now (alias.passed formals actuals) y w (from_there lent y w has) around_outs (view_here s easy.state) facts_all well_all less_now
-                  by.0 by.1 by.2 to by.3 (inside_named s ready.accepted.settled depth one.1 to inside)
-                  (ap (sees_only s) (inside_number s ready.accepted.settled depth one.1 to inside)
-                  ∙ owner_sees s inside.object (inside_plain s ready.accepted.settled depth one.1 to inside) inside.owner)
-                  (one.2).unlent (subst (Meet w) (sym (inside_itself s ready.accepted.settled depth one.1 to inside views holds.only)) meets))
+              | inl modes ↦ modes.1 by.by.formal (passed_formal formals actuals by.by by.among) by.back
+              | inr lent ↦ from_place s depth views facts_now (alias.passed formals actuals) y w (from_there lent y w has) around_names (still (view_here s easy.state)) facts_all names_all less_now
+                  by.by by.among by.back by.name by.called by.named by.plain by.unlent (subst (Meet w) (sym by.means) meets)
             ]
 
         -- nor one that another one of them sees, if it changes that
@@ -663,7 +679,7 @@ module _ (table : Table) (typed : TypedProgram) (effects : Effects) (input : Lis
                   let cell = named_cell c there in
                   let below : ways.Under c.way (expand views cell.whole) =
                   subst (λ z. ways.Under z (expand views cell.whole)) cell.leads (expand_under views c.name cell.whole (λ r is. absurd (cell.deep r is)) cell.begins) in
-                  from_place s depth views facts_now (alias.passed formals actuals) x w from around_outs (view_here s easy.state) facts_all well_all less_now
+                  from_place s depth views facts_now (alias.passed formals actuals) x w from around_names (still (view_here s easy.state)) facts_all names_all less_now
                   cell.by cell.among cell.back cell.whole cell.called cell.named cell.plain cell.unlent
                   (inl (under_on w c.way (expand views cell.whole) (past_under w c.way (subst (Past w) (sym is) past)) below)))
             ]
@@ -760,8 +776,8 @@ module _ (table : Table) (typed : TypedProgram) (effects : Effects) (input : Lis
             );
             path = begins (first_point n called.runs.named called.runs.stands called.runs.point called.runs.points called.runs.begins);
             viewed = record {
-              owned = well_called.owned;
-              covered = well_called.covered;
+              owned = stands_then.owned;
+              covered = stands_then.covered;
               known = λ w l rooted r gone. inr (known_called w l rooted r gone);
               clear = record {
                 moved = λ l h k m has there over. has;

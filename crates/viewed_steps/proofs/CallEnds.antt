@@ -8,8 +8,8 @@ use Rattle.std.specs.Prelude.{is_some}
 use Rattle.spark_base.specs.Lists.{Has}
 use Rattle.place_names.specs.declared.act.Act.{Act}
 use Rattle.place_names.specs.declared.fact.Fact.{Fact}
-use Rattle.place_names.specs.declared.fact.Fact.TheVariants.{Moved, Lent}
-use Rattle.place_names.specs.Names.{Name as PlaceName, overlaps}
+use Rattle.place_names.specs.declared.fact.Fact.TheVariants.{Moved}
+use Rattle.place_names.specs.Names.{Name as PlaceName}
 use Rattle.place_names.specs.Facts.{place}
 use Rattle.type_definitions.specs.Types.{Table}
 use Rattle.typed_tree.specs.declared.object.ObjectKind.{ObjectKind}
@@ -40,17 +40,17 @@ use Rattle.soundness.proofs.Contents.{bool_cases, word_no, word_dead}
 use Rattle.soundness.proofs.Steps.{no_leaf}
 use Rattle.soundness.proofs.Typings.{package_same, formal_same}
 use Rattle.soundness.proofs.Around.{same_or_not}
-use Rattle.owned_ways.proofs.Locations.{under_itself, past_under, under_along}
+use Rattle.owned_ways.proofs.Locations.{under_itself, under_along}
 use Rattle.soundness.proofs.Returning.{returned_kept, left_same, left_held, returns_lead, ends_lead, left_waits, ended_owned, Backs}
-use Rattle.owned_loans.specs.Views.{known_gone, Views, IsMovedBy, ExcusedBy, Around, IsAway, ViewedAlone, IsOuter, AreClear as FactsAreClear, AreViews}
-use Rattle.owned_loans.proofs.Moves.{view_on, reached, own_loan}
+use Rattle.owned_loans.specs.Views.{known_gone, Views, IsMovedBy, ExcusedBy, AreViews, expand, ViewedAlone}
+use Rattle.owned_loans.proofs.Moves.{view_on, reached}
 use Rattle.owned_loans.proofs.Ended.{stands_itself}
 use Rattle.viewed_soundness.proofs.Names.{neither, true_false}
 use Rattle.viewed_steps.specs.Awaited.{AreFor, AreValues, temporaries_of, lasting_of, awaited, AreAwaited}
 use Rattle.viewed_steps.proofs.Waited.{others_only, lasting_within}
 use Rattle.viewed_steps.specs.Sound.{loan_by, IsBeyond, HoldsAt, ArePlaced, NoneAbove, ViewStage, stages_of, GoneElsewhere, IsWaiting, AreWaiting, ends_one, LeadsAlong, IsResting, HasTraversals, NoneGiven, AreTraversals}
 use Rattle.viewed_steps.specs.Ready.{IsReady}
-use Rattle.viewed_steps.proofs.Waiting.{StandsBetween, all_between, handed, gone_low, kept_low, far, theirs, bare_still, some_frames, unused_there, BareElsewhere, bare_reached, lent_handed, none_moved}
+use Rattle.viewed_steps.proofs.Waiting.{StandsBetween, all_between, handed, gone_low, kept_low, far, theirs, bare_still, some_frames, unused_there, BareElsewhere, bare_reached}
 use Rattle.viewed_steps.proofs.Onward.{all_on}
 use Rattle.viewed_steps.proofs.Left.{owned_left, covered_left, reach_left, reach_before, gone_before, other_word, no_word, whole_there}
 use Rattle.viewed_steps.proofs.Standing.{or_right}
@@ -61,21 +61,18 @@ use Rattle.soundness.proofs.Passing.{signature_is}
 use Rattle.owned_ways.proofs.Dropped.{named_base}
 use Rattle.viewed_soundness.specs.Holds.{sees_only, is_view}
 use Rattle.owned_ways.proofs.Unique.{one_way}
-use Rattle.viewed_steps.specs.Taken.{AreTaken, TakenBy, Lodge, IsTakenIn, AreCarried}
-use Rattle.viewed_steps.proofs.Between.{home_low, base_under, same_variable, taken_from as words_taken, IsHomed, number_based, base_along, homed_outer, more_taken}
-use Rattle.viewed_steps.proofs.Outside.{IsSpared, kept_clear, bare_clear, lent_clear}
-use Rattle.viewed_steps.proofs.Apart.{kept_there, written_disturbs, same_root}
-use Rattle.viewed_steps.proofs.Views.{base_named}
+use Rattle.viewed_steps.specs.Taken.{TakenBy, Lodge, IsTakenIn, AreCarried}
+use Rattle.viewed_steps.proofs.Between.{home_low, base_under, same_variable}
+use Rattle.viewed_steps.proofs.Outside.{IsSpared, kept_clear, bare_clear, IsFree, free_name}
+use Rattle.viewed_steps.proofs.Apart.{kept_there, written_disturbs}
 use Rattle.flow_paths.specs.Effects.{written_by}
-use Rattle.viewed_steps.proofs.Backed.{away as away_back, AwayBy, ViewedAway, IsBack, all_given_back}
+use Rattle.viewed_steps.proofs.Backed.{AwayBy, IsBack, all_given_back, StandsAway}
 use Rattle.viewed_steps.proofs.Whole.{leaves_whole}
 use Rattle.viewed_steps.proofs.Views.{AreAccess, AreFar, lies_far}
 use Rattle.soundness.proofs.Lasting.{keeps}
-use Rattle.viewed_steps.proofs.Withheld.{taken_passed}
-use Rattle.viewed_steps.proofs.Handed.{gone_lent, clear_with, apart_of, without_loans, lends_handed}
-use Rattle.owned_loans.proofs.Ways.{meet_base}
-use Rattle.spark_base.proofs.Lists.{Has-append_left, Has-append_cases}
-use Rattle.place_names.specs.declared.rule.Loan.{Loan}
+use Rattle.owned_loans.proofs.Meeting.{stands}
+use Rattle.viewed_steps.proofs.Roots.{FromGiven}
+use Rattle.owned_loans.proofs.Safe.{Unlent}
 
 smaller : (f b low : ℕ) → f < suc b → (f ≡ low → ⊥) → low ≡ b → f < low
 smaller f b low less ne is =
@@ -281,45 +278,57 @@ module _ (table : Table) (typed : TypedProgram) (effects : Effects) (input : Lis
           all_between table typed effects unmoved_stage local state below.stage.frame.sub below.stage.depth below.stage.frame.returns (h ∷ others) rest stages_there.2
           (let same_depth = low_is in omega (arith, same_depth)) waiting.1 g has
 
+      -- what its facts say is moved begins in no frame above
+      moved_low : (w : Way) → IsMovedBy (home s below.stage.depth) below.views their_facts w
+          → (f : ℕ) × (y : ℕ) × (ways.base_of w ≡ OfRoot (OfVariable f y)) × (f < suc below.stage.depth)
+      moved_low w (u, moved, leads) =
+          elim (stands (home s below.stage.depth) (sees_only s) below.views (view_here s state) their_facts waits.views u (moved.0, waits.clear.owned (ways.name_of u) moved.1)) [
+            | inl own ↦ (
+                let named_there : ways.Named (home s below.stage.depth) w = subst (ways.Named (home s below.stage.depth)) leads own.named in (
+                  home s below.stage.depth (number_of w),
+                  number_of w,
+                  named_base (home s below.stage.depth) w named_there,
+                  home_low s below.stage.depth (number_of w),
+                ))
+            | inr held ↦ (
+                let front = ap ways.base_of (sym leads) ∙ base_under held.way (expand below.views u) held.under in
+                elim (waits.holds.lies held.object held.way held.has) [
+                  | inl named ↦ (
+                    home s below.stage.depth (number_of held.way),
+                    number_of held.way,
+                    front ∙ named_base (home s below.stage.depth) held.way named,
+                    home_low s below.stage.depth (number_of held.way),
+                  )
+                  | inr (foreign, low, some) ↦ (foreign.0, foreign.1, front ∙ foreign.2, omega (arith, low))
+                ])
+          ]
+
       -- what concerns the frame below
-      abbrev pub around_low : Around (home s below.stage.depth)
-      around_low = gone_lent table typed effects unmoved_stage local state below.stage.depth (h ∷ others) between_low
+      abbrev pub gone_around : Way → Type 0
+      gone_around = GoneElsewhere program effects (h ∷ others)
 
-      -- what they hand on, beside its facts
-      abbrev handed_low : List Fact
-      handed_low = handed table typed effects unmoved_stage local state below.stage.depth (h ∷ others) between_low
-
-      abbrev pub their_all : List Fact
-      their_all = their_facts ++ handed_low
-
-      clear_low : FactsAreClear (sees_only s) their_all
-      clear_low =
-          clear_with table typed effects unmoved_stage local state below.stage.depth (h ∷ others) between_low their_facts
-          (apart_of table typed effects unmoved_stage local state below.stage.depth (h ∷ others) between_low ready.accepted.effects_are below.stage waits.named waits.of_sub below.stage.frame.returns waiting.1) waits.clear
-
-      views_low : AreViews (home s below.stage.depth) (sees_only s) below.views (view_here s state) their_all
-      views_low x w has =
-          view_on (home s below.stage.depth) (sees_only s) (known_gone (home s below.stage.depth) (λ z. ⊥)) below.views (view_here s state) (view_here s state) their_facts their_all x w
-          (waits.views x w has)
-          (λ b n loan. own_loan (sees_only s) their_facts their_all (λ l k m own. Has-append_left their_facts handed_low (Lent l k m) own) b x n loan)
-          (reached (home s below.stage.depth) (sees_only s) (known_gone (home s below.stage.depth) (λ z. ⊥)) below.views (view_here s state) their_facts x w (waits.views x w has))
-
-      pub free_low : (k : ℕ) (w : Way) → ways.Under (ways.Object (ways.OfHand k)) w → GoneElsewhere program effects (h ∷ others) w → ⊥
-      free_low k w under away_there =
-          let root = gone_low table typed effects unmoved_stage local state below.stage.depth (h ∷ others) between_low w away_there in
-          hand_base (sym (base_under (ways.Object (ways.OfHand k)) w under) ∙ root.2)
+      pub free_low : (k : ℕ) (w : Way) → ways.Under (ways.Object (ways.OfHand k)) w → IsMovedBy (home s below.stage.depth) below.views their_facts w ⊎ gone_around w → ⊥
+      free_low k w under known = elim known [
+        | inl moved ↦ hand_base (sym (base_under (ways.Object (ways.OfHand k)) w under) ∙ (moved_low w moved).2)
+        | inr away_there ↦ hand_base (sym (base_under (ways.Object (ways.OfHand k)) w under)
+            ∙ (gone_low table typed effects unmoved_stage local state below.stage.depth (h ∷ others) between_low w away_there).2)
+      ]
         where
           hand_base : {k f x : ℕ} → OfRoot (ways.OfHand k) ≡ OfRoot (OfVariable f x) → ⊥
           hand_base e = cc
 
-      pub whole_low : (x : ℕ) (w : Way) → ways.base_of w ≡ OfRoot (OfVariable (suc below.stage.depth) x) → GoneElsewhere program effects (h ∷ others) w → ⊥
-      whole_low x w base away_there =
-          let root = gone_low table typed effects unmoved_stage local state below.stage.depth (h ∷ others) between_low w away_there in
-          let frames_same = (same_variable root.0 root.1 (suc below.stage.depth) x (sym root.2 ∙ base)).0 in
-          let less = root.3 in omega (arith, frames_same, less)
-
-      pub none_kept : (w : Way) (n : ℕ) → around_low.kept w n → ⊥
-      none_kept w n keeps_it = keeps_it
+      pub whole_low : (x : ℕ) (w : Way) → ways.base_of w ≡ OfRoot (OfVariable (suc below.stage.depth) x)
+          → IsMovedBy (home s below.stage.depth) below.views their_facts w ⊎ gone_around w → ⊥
+      whole_low x w base known = elim known [
+        | inl moved ↦ (
+            let root = moved_low w moved in
+            let frames_same = (same_variable root.0 root.1 (suc below.stage.depth) x (sym root.2 ∙ base)).0 in
+            let less = root.3 in omega (arith, frames_same, less))
+        | inr away_there ↦ (
+            let root = gone_low table typed effects unmoved_stage local state below.stage.depth (h ∷ others) between_low w away_there in
+            let frames_same = (same_variable root.0 root.1 (suc below.stage.depth) x (sym root.2 ∙ base)).0 in
+            let less = root.3 in omega (arith, frames_same, less))
+      ]
 
       pub deep_low : length (below.stage.frame ∷ rest) ≡ suc below.stage.depth
       deep_low = ap suc (sym low_is)
@@ -336,29 +345,21 @@ module _ (table : Table) (typed : TypedProgram) (effects : Effects) (input : Lis
           (root.0, root.1, root.2, λ same. (let less = root.3 in let same_depth = low_is in omega (arith, less, same, same_depth)))
 
       -- the state as the frame below sees it
-      abbrev ViewedLow : List Return → List Way → Memory → Type 0
-      ViewedLow returns ways_left m =
-          ViewedAway main_turn ready.accepted.settled ready.owns in_formals (waiting_in state) state.leaks below.stage.depth deep_low below.views far_low waits.holds.only their_all
-          (lasting_of s waits.point.scope) around_low free_low whole_low none_kept below.cells begins_low returns ways_left m
-
-      abbrev pub away_none : Around (home s below.stage.depth)
-      away_none =
-          away_back main_turn ready.accepted.settled ready.owns in_formals (waiting_in state) state.leaks below.stage.depth deep_low below.views far_low waits.holds.only their_all
-          (lasting_of s waits.point.scope) around_low free_low whole_low none_kept below.cells begins_low [] []
+      abbrev StandsLow : List Return → List Way → Memory → Type 0
+      StandsLow returns ways_left m =
+          StandsAway main_turn ready.accepted.settled ready.owns in_formals (waiting_in state) state.leaks below.stage.depth deep_low below.views far_low waits.holds.only their_facts
+          (lasting_of s waits.point.scope) gone_around free_low whole_low below.cells begins_low returns ways_left m
 
       abbrev Away : Way → Type 0
       Away w =
-          AwayBy main_turn ready.accepted.settled ready.owns in_formals (waiting_in state) state.leaks below.stage.depth deep_low below.views far_low waits.holds.only their_all
-          (lasting_of s waits.point.scope) around_low free_low whole_low none_kept below.cells begins_low top.frame.returns below.stage.returns w
-
-      moved_more : (w : Way) → IsMovedBy (home s below.stage.depth) below.views their_facts w → IsMovedBy (home s below.stage.depth) below.views their_all w
-      moved_more w (u, (at_home, has), leads) = (u, (at_home, Has-append_left their_facts handed_low (Moved (ways.name_of u)) has), leads)
+          AwayBy main_turn ready.accepted.settled ready.owns in_formals (waiting_in state) state.leaks below.stage.depth deep_low below.views far_low waits.holds.only their_facts
+          (lasting_of s waits.point.scope) gone_around free_low whole_low below.cells begins_low top.frame.returns below.stage.returns w
 
       known_low : (w : Way) (l : ways.Loc) → ways.IsRooted w → ways.Reaches (view_here s state) w l → (view_here s state).word l ≡ ways.Gone
-          → IsAway (home s below.stage.depth) below.views around_low their_all w ⊎ Away w
+          → IsMovedBy (home s below.stage.depth) below.views their_facts w ⊎ Away w
       known_low w l rooted r gone = elim (well.known w l rooted r gone) [
         | inl (inr none) ↦ absurd none
-        | inr (g, inl same_stage, inl moved) ↦ inl (inl (moved_more w (subst (λ (z : ViewStage). IsMovedBy (home s z.stage.depth) z.views (facts_of program effects z.stage) w) (sym same_stage) moved)))
+        | inr (g, inl same_stage, inl moved) ↦ inl (subst (λ (z : ViewStage). IsMovedBy (home s z.stage.depth) z.views (facts_of program effects z.stage) w) (sym same_stage) moved)
         | inr (g, inl same_stage, inr taken) ↦ inr (inr (inl (subst (λ (z : ViewStage). TakenBy z.stage.returns w) (sym same_stage) taken)))
         | inr (g, inr has, what) ↦ inr (inl (g, has, what))
         | inl (inl (u, moved, leads)) ↦ elim (bool_cases (is_formal s (number_of u) || is_package_object s (number_of u))) [
@@ -391,81 +392,32 @@ module _ (table : Table) (typed : TypedProgram) (effects : Effects) (input : Lis
               named_base (home s depth) w at_home
               ∙ ap (λ f. OfRoot (OfVariable f (number_of w))) (ap (λ z. if z then 0 else depth) own_object ∙ deep_low)
 
-      -- what was taken begins at variables of the frame, or at package objects of which the others keep nothing
-      homed : (to : Way) → Has below.stage.returns to → IsHomed s below.stage.depth to
-      homed to has = words_taken s below.cells state.memory below.stage.depth their_facts (lasting_of s waits.point.scope) top.frame.returns below.stage.returns waits.taken to has
+      pub stands_low : StandsLow top.frame.returns below.stage.returns state.memory
+      stands_low = record { owned = well.owned; covered = well.covered; known = known_low }
 
-      spared_to : (to : Way) (has : Has below.stage.returns to)
-          → IsSpared table typed effects unmoved_stage local state below.stage.depth (h ∷ others) between_low (homed to has).1
-      spared_to to has l name lent root =
-          let begin = homed to has in
-          let at : ways.base_of to ≡ OfRoot (OfVariable (home s below.stage.depth begin.1) begin.1) =
-          begin.2 ∙ ap (λ f. OfRoot (OfVariable f begin.1)) begin.3 in
-          let number : number_of to ≡ begin.1 = number_based (home s below.stage.depth) to begin.1 (base_named (home s below.stage.depth) to begin.1 at) at in
-          let (g, there, some, f, keeps, shared, kind, name_is) = lent in
-          let written = waits.written (number_of to) (taken_passed below to has) (ap (is_package_object s) (number ∙ sym root) ∙ shared) in
-          kept_there table typed effects ready.accepted.effects_are (unused_there table typed effects unmoved_stage local) state below.stage.frame.sub below.stage.frame.returns
-          (h ∷ others) waiting.1 g there some f keeps (ap (λ (z : PlaceName). is_package_object s z.root) name_is ∙ shared)
-          (written_disturbs table typed effects ready.accepted.effects_are (loan_by f) below.stage.frame.sub (place f).root
-          (subst (Has (written_by effects below.stage.frame.sub)) (number ∙ sym root ∙ ap (λ (z : PlaceName). z.root) (sym name_is)) written))
+      -- what was taken is what names of the frame stand for
+      taken_named : (to : Way) → Has below.stage.returns to → (name : Way) × ways.Named (home s below.stage.depth) name × (sees_only s (number_of name) ≡ false)
+          × (expand below.views name ≡ to) × Unlent their_facts name
+      taken_named to has = (let by = waits.names to has in (by.name, by.called, by.plain, by.leads, by.unlent))
 
-      -- nothing of that meets what views of the frame see that belongs to others
-      whole_away : (x : ℕ) (w z : Way) → below.views.way x ≡ Some w → IsOuter (home s below.stage.depth) below.views x w → GoneElsewhere program effects (h ∷ others) z ⊎ (TakenBy below.stage.returns z
-          ⊎ ((y : ℕ) × (ways.base_of z ≡ OfRoot (OfVariable (suc below.stage.depth) y)) × ((r : Return) → Has top.frame.returns r → r.formal ≡ y → ⊥)))
-          → ways.Under z w ⊎ ways.Under w z → ⊥
-      whole_away x w z has outer (inl gone) meets = waiting.2 x w z has outer gone meets
-      whole_away x w z has outer (inr (inl (to, taken, steps_on, is))) meets =
-          homed_outer s below.stage.depth (sees_only s) around_low.lent below.views to (homed to taken) waiting.3.1
-          (λ l k at_home lent met. lent_clear table typed effects unmoved_stage local state below.stage.depth (h ∷ others) between_low to (homed to taken) (spared_to to taken) k (sym (meet_base to k met)) l
-          (k, at_home, under_itself k, lent))
-          x w z has outer (subst (ways.Under to) (sym is) (under_along to to steps_on (under_itself to))) meets
-      whole_away x w z has outer (inr (inr (y, base, none))) meets =
-          let there : ways.base_of w ≡ OfRoot (OfVariable (suc below.stage.depth) y) =
-          elim meets [ inl over ↦ base_under z w over ∙ base | inr under ↦ sym (base_under w z under) ∙ base ] in
-          let at_low = home_low s below.stage.depth y in
-          let less = far_low x w has (suc below.stage.depth, y, there, λ same. omega (arith, same, at_low)) in omega (arith, less)
-
-      pub viewed_low : ViewedLow top.frame.returns below.stage.returns state.memory
-      viewed_low = record {
-        owned = well.owned;
-        covered = well.covered;
-        known = known_low;
-        clear = clear_low;
-        views = views_low;
-        whole = whole_away;
-        whole_away = λ x w z has given none. absurd none;
-        shown = waiting.3.1;
-        past = λ x w has given plain k n none. absurd none;
-        lends = lends_handed table typed effects unmoved_stage local state below.stage.depth (h ∷ others) between_low below.views their_facts (λ x w has. local x (waits.holds.only x w has)) package_owns;
-        far = λ w n none. absurd none;
-        bare = λ w n p none. absurd none;
-      }
-
-      -- what is handed on is no part of what was taken
-      spared_handed : (to : Way) → Has below.stage.returns to → (l : Loan) (k : ℕ) (m : PlaceName) → Has handed_low (Lent l k m) → overlaps m (ways.name_of to) ≡ true → ⊥
-      spared_handed to has l k m there over =
-          let begin = homed to has in
-          let at : ways.base_of to ≡ OfRoot (OfVariable (home s below.stage.depth begin.1) begin.1) =
-          begin.2 ∙ ap (λ f. OfRoot (OfVariable f begin.1)) begin.3 in
-          let number : number_of to ≡ begin.1 = number_based (home s below.stage.depth) to begin.1 (base_named (home s below.stage.depth) to begin.1 at) at in
-          spared_to to has l m (lent_handed table typed effects unmoved_stage local state below.stage.depth (h ∷ others) between_low l k m there).1 (same_root m (ways.name_of to) over ∙ number)
-
-      pub taken_low : AreTaken s below.cells state.memory below.stage.depth their_all (lasting_of s waits.point.scope) top.frame.returns below.stage.returns
-      taken_low =
-          more_taken s below.cells state.memory below.stage.depth their_facts handed_low (lasting_of s waits.point.scope) (none_moved table typed effects unmoved_stage local state below.stage.depth (h ∷ others) between_low) top.frame.returns below.stage.returns
-          (λ to has l k m there over. spared_handed to has l k m there over) waits.taken
+      -- the ways of its views begin in no frame above
+      low_view : (x : ℕ) (w : Way) → below.views.way x ≡ Some w → (g : ℕ) × (y : ℕ) × (ways.base_of w ≡ OfRoot (OfVariable g y)) × (g ≡ suc below.stage.depth → ⊥)
+      low_view x w has =
+          let root = kept_low table typed effects unmoved_stage local state depth (below ∷ (h ∷ others))
+          (all_between table typed effects unmoved_stage local state top.frame.sub depth top.frame.returns (below ∷ (h ∷ others)) (below.stage.frame ∷ rest) stages_there (omega arith) waiting)
+          w (below.views.cell x) (below, inl refl, inl (x, has, refl)) in
+          (root.0, root.1, root.2, λ same. (let less = root.3 in let same_depth = low_is in omega (arith, less, same, same_depth)))
 
       abbrev Backed : Memory → Type 0
       Backed m =
-          IsBack main_turn ready.accepted.settled ready.owns in_formals (waiting_in state) state.leaks below.stage.depth deep_low below.views far_low waits.holds.only their_all
-          (lasting_of s waits.point.scope) around_low free_low whole_low none_kept below.cells begins_low top.frame.returns below.stage.returns state.memory m
+          IsBack main_turn ready.accepted.settled ready.owns in_formals (waiting_in state) state.leaks below.stage.depth deep_low below.views far_low waits.holds.only their_facts
+          (lasting_of s waits.point.scope) gone_around free_low whole_low below.cells begins_low top.frame.returns below.stage.returns state.memory m
 
       given_back : Backs Backed (steps.copied_back main_turn top.frame.returns (steps.start main_turn))
       given_back =
-          all_given_back main_turn ready.accepted.settled ready.owns in_formals (waiting_in state) state.leaks below.stage.depth deep_low below.views far_low waits.holds.only their_all
-          (lasting_of s waits.point.scope) around_low free_low whole_low none_kept below.cells begins_low top.frame.returns below.stage.returns (steps.start main_turn)
-          taken_low
-          (λ c has. ((waits.kept c has).reaches, (waits.kept c has).aside)) kept viewed_low
+          all_given_back main_turn ready.accepted.settled ready.owns in_formals (waiting_in state) state.leaks below.stage.depth deep_low below.views far_low waits.holds.only their_facts
+          (lasting_of s waits.point.scope) gone_around free_low whole_low below.cells begins_low top.frame.returns below.stage.returns (steps.start main_turn) waits.taken
+          (λ c has. ((waits.kept c has).reaches, (waits.kept c has).aside)) kept stands_low
 
       module _ (mid : Memory) (on : Backed mid) (same_mid : top.frame.returns ≡ [] → mid ≡ state.memory) where
         abbrev left_state : State
@@ -539,39 +491,41 @@ module _ (table : Table) (typed : TypedProgram) (effects : Effects) (input : Lis
               ]
             ]
 
-        -- without what is handed on
-        alone_mid : ViewedAlone (home s low) (sees_only s) away_none below.views mid_view their_facts
-        alone_mid =
-            without_loans table typed effects unmoved_stage local state below.stage.depth (h ∷ others) between_low away_none below.views mid_view their_all their_facts
-            (λ x w has. local x (waits.holds.only x w has)) package_owns (λ f has. Has-append_left their_facts handed_low f has)
-            (λ f has. Has-append_cases their_facts handed_low f has) on.viewed
-
         -- what is gone is known to those that are left
         known_left : (w : Way) (l : ways.Loc) → ways.IsRooted w → ways.Reaches left_view w l → left_view.word l ≡ ways.Gone
             → ExcusedBy (home s low) below.views (known_gone (home s low) (GoneElsewhere program effects (h ∷ others))) (facts_of program effects below.stage) w
         known_left w l rooted r gone =
-            elim (alone_mid.known w l rooted (reach_before s mid depth (waiting_in state) state.leaks nothing_mid w l r)
+            elim (on.stand.known w l rooted (reach_before s mid depth (waiting_in state) state.leaks nothing_mid w l r)
             (gone_before s mid depth (waiting_in state) state.leaks nothing_mid l gone)) [
-              | inl moved ↦ inl moved
+              | inl moved ↦ inl (inl moved)
               | inr (inl away_there) ↦ inr away_there
               | inr (inr (inl taken)) ↦ absurd taken.1
               | inr (inr (inr (x, base, none))) ↦ absurd (
                   whole_there s mid depth (waiting_in state) state.leaks nothing_mid w l x (base ∙ ap (λ f. OfRoot (OfVariable f x)) depths) r gone)
             ]
 
+        -- its views see what they saw
+        views_mid : AreViews (home s low) (sees_only s) below.views mid_view (facts_of program effects below.stage)
+        views_mid x w has =
+            let base = low_view x w has in
+            view_on (home s low) (sees_only s) (known_gone (home s low) (λ z. ⊥)) below.views (view_here s state) mid_view
+            (facts_of program effects below.stage) (facts_of program effects below.stage) x w (waits.views x w has) (λ b n loan. loan)
+            (on.stays w base.0 base.1 base.2 base.3 (waits.off x w has) (below.views.cell x)
+            (reached (home s low) (sees_only s) (known_gone (home s low) (λ z. ⊥)) below.views (view_here s state) (facts_of program effects below.stage) x w (waits.views x w has)))
+
         viewed_left : ViewedAlone (home s low) (sees_only s) (known_gone (home s low) (GoneElsewhere program effects (h ∷ others))) below.views left_view
             (facts_of program effects below.stage)
         viewed_left = record {
-          owned = owned_left s mid depth (waiting_in state) state.leaks nothing_mid on.viewed.owned;
-          covered = covered_left s mid depth (waiting_in state) state.leaks nothing_mid on.viewed.covered;
+          owned = owned_left s mid depth (waiting_in state) state.leaks nothing_mid on.stand.owned;
+          covered = covered_left s mid depth (waiting_in state) state.leaks nothing_mid on.stand.covered;
           known = known_left;
           clear = waits.clear;
           views = λ x w has.
               view_on (home s low) (sees_only s) (known_gone (home s low) (λ z. ⊥)) below.views mid_view left_view
-              (facts_of program effects below.stage) (facts_of program effects below.stage) x w (alone_mid.views x w has) (λ b n loan. loan)
+              (facts_of program effects below.stage) (facts_of program effects below.stage) x w (views_mid x w has) (λ b n loan. loan)
               (reach_left s mid depth (waiting_in state) state.leaks nothing_mid w (ways.OfCell (below.views.cell x))
-              (reached (home s low) (sees_only s) (known_gone (home s low) (λ z. ⊥)) below.views mid_view (facts_of program effects below.stage) x w (alone_mid.views x w has)));
-          whole = λ x w z has outer gone meets. waiting.2 x w z has outer gone meets;
+              (reached (home s low) (sees_only s) (known_gone (home s low) (λ z. ⊥)) below.views mid_view (facts_of program effects below.stage) x w (views_mid x w has)));
+          whole = λ x w z has foreign gone meets. waiting.2 x w z has foreign gone meets;
         }
 
         holds_there : HoldsAt s low below.views left_memory waits.point
@@ -613,6 +567,35 @@ module _ (table : Table) (typed : TypedProgram) (effects : Effects) (input : Lis
               gone_cells = λ n q out gone. left_there.1 n q ∙ on.carried.gone_cells n q out gone;
             }
 
+        abbrev Given_to : Way → Type 0
+        Given_to to = FromGiven (home s below.stage.depth) (sees_only s) below.views (view_here s state) their_facts waits.views to
+
+        -- the others keep nothing of a package object where what was taken begins, or it was lent to the frame
+        spared_to : (to : Way) → Has below.stage.returns to → (y : ℕ) → ways.base_of to ≡ OfRoot (OfVariable (home s below.stage.depth y) y)
+            → IsSpared table typed effects unmoved_stage local state below.stage.depth (h ∷ others) between_low y ⊎ Given_to to
+        spared_to to has y base = elim (bool_cases (is_package_object s y)) [
+          | inr mine ↦ inl (λ l name lent root. true_false (is_package_object s y) (ap (is_package_object s) (sym root) ∙ lent.5) mine)
+          | inl shared ↦ elim (waits.goes to has y (base ∙ ap (λ b. OfRoot (OfVariable (if b then 0 else below.stage.depth) y)) shared) shared) [
+            | inr given ↦ inr given
+            | inl written ↦ inl (λ l name lent root. (
+                let (g, there, some, f, keeps, shared_root, kind, name_is) = lent in
+                kept_there table typed effects ready.accepted.effects_are (unused_there table typed effects unmoved_stage local) state below.stage.frame.sub below.stage.frame.returns
+                (h ∷ others) waiting.1 g there some f keeps (ap (λ (z : PlaceName). is_package_object s z.root) name_is ∙ shared_root)
+                (written_disturbs table typed effects ready.accepted.effects_are (loan_by f) below.stage.frame.sub (place f).root
+                (subst (Has (written_by effects below.stage.frame.sub)) (sym root ∙ ap (λ (z : PlaceName). z.root) (sym name_is)) written))))
+          ]
+        ]
+
+        free_to : (to : Way) → Has below.stage.returns to → IsFree table typed effects unmoved_stage local state below.stage.depth (h ∷ others) between_low to
+        free_to to has =
+            let by = taken_named to has in
+            subst (IsFree table typed effects unmoved_stage local state below.stage.depth (h ∷ others) between_low) by.3
+            (free_name table typed effects unmoved_stage local state below.stage.depth (h ∷ others) between_low below.views (view_here s state) their_facts waits.views (waiting.3).0 waiting.2 by.0 by.1 by.2
+            (λ y base. elim (spared_to to has y (ap ways.base_of (sym by.3) ∙ base)) [
+              | inl none ↦ inl none
+              | inr given ↦ inr (subst Given_to (sym by.3) given)
+            ]))
+
         -- what is bare elsewhere in a cell isn't given back to
         bare_aside : (w : ways.Way) (n : ℕ) (q r : List Step) → BareElsewhere table typed effects unmoved_stage local (h ∷ others) w (ways.OfCell n) q
             → IsTakenIn below.cells below.stage.returns n (r ++ q) → ⊥
@@ -620,8 +603,8 @@ module _ (table : Table) (typed : TypedProgram) (effects : Effects) (input : Lis
             let view = view_here s state in
             let reach : ways.Reaches view w (ways.OfCell n) = bare_reached table typed effects unmoved_stage local state below.stage.depth (h ∷ others) between_low w n q there in
             let same : c.way ≡ w = one_way view well.owned c.way w (ways.OfCell n) (subst (λ z. ways.Reaches view c.way (ways.OfCell z)) is (waits.kept c has).reaches) reach in
-            bare_clear table typed effects unmoved_stage local state below.stage.depth (h ∷ others) between_low to (homed to has_to) (spared_to to has_to) w (ways.OfCell n) q there
-            (sym (base_along w (r ++ q)) ∙ ap (λ z. ways.base_of (ways.along z (r ++ q))) (sym same) ∙ ap ways.base_of goes ∙ base_along to steps_on)
+            bare_clear table typed effects unmoved_stage local state below.stage.depth (h ∷ others) between_low to (free_to to has_to) w (ways.OfCell n) q r there
+            (subst (ways.Under to) (sym goes ∙ ap (λ z. ways.along z (r ++ q)) same) (under_along to to steps_on (under_itself to)))
 
         -- nothing given waits in others
         none_in : more_frames ≡ h ∷ others → NoneGiven s h × AllByRecursion (NoneGiven s) others
@@ -642,15 +625,14 @@ module _ (table : Table) (typed : TypedProgram) (effects : Effects) (input : Lis
             (record {
               far = λ w n keeps. (let root = kept_low table typed effects unmoved_stage local state below.stage.depth (h ∷ others) between_low w n keeps in
                   reach_on w n (on.stays w root.0 root.1 root.2 (λ same_depth. (let less = root.3 in omega (arith, less, same_depth)))
-                  (λ to has past. kept_clear table typed effects unmoved_stage local state below.stage.depth (h ∷ others) between_low to (homed to has) (spared_to to has) w n keeps
-                  (base_under to w (past_under to w past))) n
+                  (λ to has past. kept_clear table typed effects unmoved_stage local state below.stage.depth (h ∷ others) between_low to (free_to to has) w n keeps past) n
                   (far table typed effects unmoved_stage local state below.stage.depth (h ∷ others) between_low w n keeps)));
               bare = bare_still table typed effects unmoved_stage local (h ∷ others) state left_state
                   (λ w n q r k there held. left_carried.in_cells n (r ++ q) k (bare_aside w n q r there) held)
                   (λ y q r k there shared held. left_carried.held 0 y (r ++ q) k (λ same_depth. (let at = deep in omega (arith, same_depth, at)))
-                  (λ (to, has, steps_on, goes). bare_clear table typed effects unmoved_stage local state below.stage.depth (h ∷ others) between_low to (homed to has) (spared_to to has)
-                  (ways.Object (OfVariable 0 y)) (OfRoot (OfVariable 0 y)) q there
-                  (sym (base_along (ways.Object (OfVariable 0 y)) (r ++ q)) ∙ ap ways.base_of goes ∙ base_along to steps_on)) held)
+                  (λ (to, has, steps_on, goes). bare_clear table typed effects unmoved_stage local state below.stage.depth (h ∷ others) between_low to (free_to to has)
+                  (ways.Object (OfVariable 0 y)) (OfRoot (OfVariable 0 y)) q r there
+                  (subst (ways.Under to) (sym goes) (under_along to to steps_on (under_itself to)))) held)
                   (theirs table typed effects unmoved_stage local state below.stage.depth (h ∷ others) between_low).bare;
             }) waiting.1
 

@@ -458,7 +458,7 @@ module _ (table : Table) (typed : TypedProgram) (effects : Effects) (input : Lis
                       inl refl,
                       some_depth,
                       Moved (object r),
-                      kept_root program effects waits_there r (subst (λ (z : PlaceName). Has (passed_roots waits_there) z.root) is passed_root),
+                      kept_root program effects waits_there r (subst (λ (z : PlaceName). Has (passed_roots effects waits_there) z.root) is passed_root),
                       root,
                       refl,
                       refl,

@@ -38,14 +38,13 @@ use Rattle.owned_loans.specs.Views.{Around, Views, Viewed}
 use Rattle.viewed_soundness.specs.Holds.{IsNamed, IsAccess, PartsAreNamed, Holds, sees_only, IsOwners, is_given}
 use Rattle.viewed_soundness.proofs.Names.{true_false, both_no, plain_named}
 use Rattle.viewed_soundness.proofs.Evaluated.{matches_named}
-use Rattle.viewed_steps.specs.Sound.{IsScalarObject, AreOwners, IsReachedBack}
-use Rattle.viewed_steps.specs.Ready.{IsOwnPlace, IsSeen, IsActualTo, AreActualsTo, is_shown_type}
+use Rattle.viewed_steps.specs.Sound.{IsScalarObject}
+use Rattle.viewed_steps.specs.Ready.{is_shown_type, IsOwnPlace, IsSeen, IsActualTo, AreActualsTo}
 use Rattle.viewed_steps.proofs.Views.{AreAccess, AreUnseen}
 use Rattle.viewed_steps.proofs.Seeing.{IsSeenAs, IsClear, AreClear, seen_given}
 use Rattle.viewed_steps.proofs.LaidOut.{IsOwnPut, IsOpenActual, AreOpenActuals, IsHousedPut}
 use Rattle.viewed_steps.proofs.Entered.{IsFit}
 use Rattle.viewed_steps.proofs.Lent.{ends, Spare, spare_both, spare_naming}
-use Rattle.soundness.proofs.Keeping.{scalar}
 use Rattle.viewed_steps.proofs.Copies.{copies_read}
 use Rattle.viewed_steps.proofs.Reading.{no_reads, both_reads, naming_adds, index_reads}
 use Rattle.viewed_steps.proofs.Puts as puts
@@ -210,18 +209,9 @@ module _ (h : Here) (settled : IsSettled h.typing.table) (hands : List Waiting) 
   abbrev IsPut : TypedTree → Place → Type 0
   IsPut = puts.IsPut h settled hands leaks m waits other facts v kept well holds alone live in_formals index_law own_law parts_named formals_low procedure
 
-  abbrev place_given : (before on : List (List machine.Word)) (e : TypedTree) (t : ℕ) → IsPlaceOf h.typing e t → is_scalar (full h.typing.table t) ≡ true → Takes (waits_in e) before on → goes_through_none e ≡ true
-      → AllowsAll facts (acts (index_acts h.typing e)) → Quiet (at on) (λ k. IsPut e k) (place_of h e (at before))
-  place_given = puts.place_given h settled hands leaks m waits other facts v kept well holds alone live in_formals index_law own_law parts_named formals_low procedure
-
   abbrev through_given : (before on : List (List machine.Word)) (e : TypedTree) (t : ℕ) → IsPlaceOf h.typing e t → is_scalar (full h.typing.table t) ≡ true → Takes (waits_in e) before on
       → IsOpenActual h.typing h.frame facts e → AllowsAll facts (acts (index_acts h.typing e)) → Quiet (at on) (λ k. IsPut e k) (place_of h e (at before))
   through_given = puts.through_given h settled hands leaks m waits other facts v kept well holds alone live in_formals index_law own_law parts_named formals_low procedure
-
-  abbrev own_place_given : (before on : List (List machine.Word)) (x : ℕ) (e : TypedTree) (t : ℕ) → IsPlaceOf h.typing e t → IsNamed h.typing.table t → Matches h.typing.table t (object_at h.typing x).of
-      → IsOwnPlace h.typing e → Takes (waits_in e) before on → goes_through_none e ≡ true
-      → AllowsAll facts (acts (index_acts h.typing e)) → Quiet (at on) (λ k. IsOwnPut h.typing h.frame x e k) (place_of h e (at before))
-  own_place_given = puts.own_place_given h settled hands leaks m waits other facts v kept well holds alone live in_formals index_law own_law parts_named formals_low procedure
 
   abbrev quiet_on : (on : List (List machine.Word)) (P Q : Place → Type 0) → ((k : Place) → P k → Q k) → (y : Evaluated Place) → Quiet (at on) P y → Quiet (at on) Q y
   quiet_on = puts.quiet_on h settled hands leaks m waits other facts v kept well holds alone live in_formals index_law own_law parts_named formals_low procedure
@@ -230,7 +220,7 @@ module _ (h : Here) (settled : IsSettled h.typing.table) (hands : List Waiting) 
   IsKeptPut = puts.IsKeptPut h settled hands leaks m waits other facts v kept well holds alone live in_formals index_law own_law parts_named formals_low procedure
 
   abbrev housed_given : (before on : List (List machine.Word)) (x : ℕ) (e : TypedTree) (t : ℕ) → IsPlaceOf h.typing e t → IsNamed h.typing.table t → Matches h.typing.table t (object_at h.typing x).of
-      → AreOwners h.typing e → Takes (waits_in e) before on → IsOpenActual h.typing h.frame facts e
+      → (goes_through_none e ≡ true → IsOwnPlace h.typing e) → Takes (waits_in e) before on → IsOpenActual h.typing h.frame facts e
       → AllowsAll facts (acts (index_acts h.typing e)) → Quiet (at on) (λ k. IsKeptPut x e k) (place_of h e (at before))
   housed_given = puts.housed_given h settled hands leaks m waits other facts v kept well holds alone live in_formals index_law own_law parts_named formals_low procedure
 
@@ -293,7 +283,7 @@ module _ (h : Here) (settled : IsSettled h.typing.table) (hands : List Waiting) 
       (λ ws is. (refl, ((λ plain. absurd (true_false (is_shown_type h.typing x) shown plain)), λ own. is)))
 
   abbrev IsCopiedName : ℕ → Mode → TypedTree → Type 0
-  IsCopiedName x m' e = is_in m' ≡ false → (goes_through_none e ≡ true) ⊎ (IsReachedBack h.typing x e × IsOpenActual h.typing h.frame facts e)
+  IsCopiedName x m' e = is_in m' ≡ false → IsOpenActual h.typing h.frame facts e
 
   abbrev from_place : ℕ → Place → Now → Evaluated Passed
   from_place x k now = followed_by (checked h (type_of h x) (words_of h.typing now.memory k) now) (λ ws now. Done (From k) now)
@@ -309,17 +299,6 @@ module _ (h : Here) (settled : IsSettled h.typing.table) (hands : List Waiting) 
   scalar_type t u (inl e) plain = matches_scalar h.typing u t (inl (sym e)) plain
   scalar_type t u (inr both) plain = both.0
 
-  abbrev AreDirect : ℕ → TypedTree → Type 0
-  AreDirect x e = (goes_through_none e ≡ true) ⊎ (IsScalarObject h.typing x × IsOpenActual h.typing h.frame facts e)
-
-  placed_back : (before on : List (List machine.Word)) (x : ℕ) (e : TypedTree) → Quiet (at on) (λ k. IsPlaceGiven x e k) (place_of h e (at before)) → Quiet (at on) (λ k. IsBackGiven x e k) (place_of h e (at before))
-  placed_back before on x e there = quiet_on on (λ k. IsPlaceGiven x e k) (λ k. IsBackGiven x e k) (λ k put. inl put) (place_of h e (at before)) there
-
-  scalar_given : (before on : List (List machine.Word)) (x : ℕ) (e : TypedTree) (t : ℕ) → IsPlaceOf h.typing e t → is_scalar (full h.typing.table t) ≡ true → Takes (waits_in e) before on
-      → AreDirect x e → AllowsAll facts (acts (index_acts h.typing e)) → Quiet (at on) (λ k. IsPut e k) (place_of h e (at before))
-  scalar_given before on x e t place plain takes (inl direct) allowed = place_given before on e t place plain takes direct allowed
-  scalar_given before on x e t place plain takes (inr (scalar, opens)) allowed = through_given before on e t place plain takes opens allowed
-
   flipped : (t u : ℕ) → Matches h.typing.table t u → Matches h.typing.table u t
   flipped t u (inl e) = inl (sym e)
   flipped t u (inr (a, b)) = inr (b, a)
@@ -327,37 +306,23 @@ module _ (h : Here) (settled : IsSettled h.typing.table) (hands : List Waiting) 
   named_there : (x : ℕ) → is_anonymous (view_of h.typing x) ≡ false → IsNamed h.typing.table (object_at h.typing x).of
   named_there x unseen = plain_named h.typing.table (object_at h.typing x).of unseen
 
-  copied_given : (before on : List (List machine.Word)) (x : ℕ) (e : TypedTree) → is_anonymous (view_of h.typing x) ≡ false → IsActualTo h.typing x mode.InOut e → AreDirect x e → Takes (waits_in e) before on
-      → AllowsAll facts (acts (index_acts h.typing e)) → Quiet (at on) (λ k. IsPlaceGiven x e k) (place_of h e (at before))
-  copied_given before on x e unseen (t, place, fits, which) direct takes allowed = elim (bool_cases (is_scalar (full h.typing.table (object_at h.typing x).of))) [
-    | inl plain ↦ quiet_on on (λ k. IsPut e k) (λ k. IsPlaceGiven x e k) (λ k put. inl (plain, put)) (place_of h e (at before))
-        (scalar_given before on x e t place (scalar_type t (object_at h.typing x).of fits plain) takes direct allowed)
-    | inr other_type ↦ quiet_on on (λ k. IsOwnPut h.typing h.frame x e k) (λ k. IsPlaceGiven x e k) (λ k put. inr (other_type, put)) (place_of h e (at before))
-        (own_place_given before on x e t place
-        (matches_named h.typing.table (object_at h.typing x).of t (flipped t (object_at h.typing x).of fits) (named_there x unseen)) fits (own_there which other_type) takes (direct_there direct other_type) allowed)
-  ]
-    where
-      direct_there : AreDirect x e → is_scalar (full h.typing.table (object_at h.typing x).of) ≡ false → goes_through_none e ≡ true
-      direct_there (inl none) other_type = none
-      direct_there (inr (scalar, opens)) other_type = absurd (true_false (is_scalar (full h.typing.table (object_at h.typing x).of)) scalar other_type)
-
-      own_there : (is_scalar (full h.typing.table t) ≡ true) ⊎ IsOwnPlace h.typing e → is_scalar (full h.typing.table (object_at h.typing x).of) ≡ false → IsOwnPlace h.typing e
-      own_there (inl plain) other_type = absurd (true_false (is_scalar (full h.typing.table (object_at h.typing x).of))
-          (matches_scalar h.typing t (object_at h.typing x).of fits plain) other_type)
-      own_there (inr own) other_type = own
-
   back_given : (before on : List (List machine.Word)) (x : ℕ) (e : TypedTree) → is_anonymous (view_of h.typing x) ≡ false → IsActualTo h.typing x mode.InOut e
-      → (goes_through_none e ≡ true) ⊎ (IsReachedBack h.typing x e × IsOpenActual h.typing h.frame facts e) → Takes (waits_in e) before on
+      → IsOpenActual h.typing h.frame facts e → Takes (waits_in e) before on
       → AllowsAll facts (acts (index_acts h.typing e)) → Quiet (at on) (λ k. IsBackGiven x e k) (place_of h e (at before))
-  back_given before on x e unseen actual (inl none) takes allowed = placed_back before on x e (copied_given before on x e unseen actual (inl none) takes allowed)
-  back_given before on x e unseen actual (inr (inl scalar, opens)) takes allowed = placed_back before on x e (copied_given before on x e unseen actual (inr (scalar, opens)) takes allowed)
-  back_given before on x e unseen (t, place, fits, which) (inr (inr owners, opens)) takes allowed = elim (bool_cases (is_scalar (full h.typing.table (object_at h.typing x).of))) [
-    | inl plain ↦ placed_back before on x e (copied_given before on x e unseen (t, place, fits, which) (inr (plain, opens)) takes allowed)
+  back_given before on x e unseen (t, place, fits, which) opens takes allowed = elim (bool_cases (is_scalar (full h.typing.table (object_at h.typing x).of))) [
+    | inl plain ↦ quiet_on on (λ k. IsPut e k) (λ k. IsBackGiven x e k) (λ k put. inl (inl (plain, put))) (place_of h e (at before))
+        (through_given before on e t place (scalar_type t (object_at h.typing x).of fits plain) takes opens allowed)
     | inr other_type ↦ quiet_on on (λ k. IsKeptPut x e k) (λ k. IsBackGiven x e k)
         (λ k put. elim put [ inl own ↦ inl (inr (other_type, own)) | inr housed ↦ inr (other_type, housed) ]) (place_of h e (at before))
         (housed_given before on x e t place
-        (matches_named h.typing.table (object_at h.typing x).of t (flipped t (object_at h.typing x).of fits) (named_there x unseen)) fits owners takes opens allowed)
+        (matches_named h.typing.table (object_at h.typing x).of t (flipped t (object_at h.typing x).of fits) (named_there x unseen)) fits (own_there which other_type) takes opens allowed)
   ]
+    where
+      own_there : (is_scalar (full h.typing.table t) ≡ true) ⊎ (goes_through_none e ≡ true → IsOwnPlace h.typing e) → is_scalar (full h.typing.table (object_at h.typing x).of) ≡ false
+          → goes_through_none e ≡ true → IsOwnPlace h.typing e
+      own_there (inl plain) other_type = absurd (true_false (is_scalar (full h.typing.table (object_at h.typing x).of))
+          (matches_scalar h.typing t (object_at h.typing x).of fits plain) other_type)
+      own_there (inr own) other_type = own
 
   pub one_given : (before on : List (List machine.Word)) (mode_of : Mode) (owning access : Bool) (x : ℕ) (e : TypedTree) → (object_at h.typing x).mode ≡ mode_of
       → is_owning h.typing.table (object_at h.typing x).of ≡ owning → is_anonymous (view_of h.typing x) ≡ false → IsKind x → IsActualTo h.typing x mode_of e

@@ -1,5 +1,5 @@
 -- A call leads on, in the frame of what is called.
-use Rattle.std.proofs.Common.{◌≡◌, refl, sym, ap, ◌∙◌, subst, ◌⊎◌, inl, inr, ℕ, suc, ◌<◌, true, false, ◌==◌, List, [], ◌∷◌, ◌++◌, take, drop, length, arith, Option, Some, None, Bool, ◌||◌}
+use Rattle.std.proofs.Common.{◌≡◌, refl, sym, ap, ◌∙◌, subst, ◌⊎◌, inl, inr, ℕ, suc, ◌<◌, true, false, ◌==◌, List, [], ◌∷◌, ◌++◌, take, drop, length, arith, Option, Some, None, Bool, ◌||◌, if◌then◌else◌}
 use Rattle.spark_base.specs.Lists.{Has}
 use Rattle.place_names.specs.declared.act.Act.{Act}
 use Rattle.place_names.specs.declared.act.Act.TheVariants as act
@@ -7,7 +7,7 @@ use Rattle.place_names.specs.declared.act.Placed.{Placed}
 use Rattle.place_names.specs.declared.fact.Fact.{Fact}
 use Rattle.place_names.specs.declared.fact.Fact.TheVariants.{Moved, Lent}
 use Rattle.place_names.specs.declared.rule.Loan.{Loan}
-use Rattle.place_names.specs.declared.rule.Loan.TheVariants.{Observed}
+use Rattle.place_names.specs.declared.rule.Loan.TheVariants.{Observed, Borrowed}
 use Rattle.place_names.specs.Names.{Name as PlaceName, overlaps}
 use Rattle.place_names.specs.declared.act.Mode.TheVariants as mode
 use Rattle.type_definitions.specs.Types.{Table, full, is_scalar, is_owning}
@@ -43,7 +43,7 @@ use Rattle.owned_ways.proofs.Locations.{reaches_along, named_along as rooted_alo
 use Rattle.soundness.specs.Seen.{IsNear, content, seen, home, trunk, word_in}
 use Rattle.owned_ways.proofs.Named.{longer}
 use Rattle.owned_ways.proofs.Dropped.{named_base}
-use Rattle.soundness.proofs.Contents.{word_root}
+use Rattle.soundness.proofs.Contents.{word_root, bool_cases}
 use Rattle.soundness.specs.Typed.{Kept}
 use Rattle.soundness.specs.Sound.{Stage, facts_of, AreStages, Uses, IsRunnable, InScope, IsNamedSub, IsAtPoint, view_of as view_here}
 use Rattle.soundness.proofs.Stays.{Quiet}
@@ -55,12 +55,12 @@ use Rattle.soundness.proofs.Used.{used_global, globals_are}
 use Rattle.soundness.proofs.Around.{IsFar}
 use Rattle.soundness.proofs.Eased.{eased}
 use Rattle.soundness.proofs.Scoped.{Inside}
-use Rattle.owned_loans.specs.Views.{expand, Around, known_gone, Views, Viewed, ViewedAlone, IsOuter}
-use Rattle.owned_loans.proofs.Ways.{under_on, flip, meet_overlaps}
+use Rattle.owned_loans.specs.Views.{expand, Around, known_gone, Views, Viewed, AreViews, AreClear as FactsAreClear, IsMovedBy, on, ViewedAlone}
+use Rattle.owned_loans.proofs.Ways.{under_on, lifts, lifted_root, lifted_way, on_named, base_on, on_under}
+use Rattle.owned_loans.proofs.Meeting.{stands, stands_base}
+use Rattle.owned_loans.proofs.Moves.{expand_under, view_on, own_loan, reached, view_rooted, lends_on}
 use Rattle.owned_loans.proofs.Meeting.{stands}
-use Rattle.owned_loans.proofs.Moves.{expand_under}
-use Rattle.owned_loans.proofs.Meeting.{stands}
-use Rattle.viewed_soundness.proofs.Names.{true_false, owner_sees}
+use Rattle.viewed_soundness.proofs.Names.{true_false}
 use Rattle.viewed_soundness.specs.Holds.{Holds, is_view, sees_only, is_given, IsOwners}
 use Rattle.soundness.specs.Ready.{IsSupplied, Fills}
 use Rattle.viewed_steps.specs.Awaited.{AreValuesBut, temporaries_of, lasting_of, awaited, WaitsAt, AreAwaited, AreOwnless, TakesPassed, FillsTyped}
@@ -72,17 +72,17 @@ use Rattle.viewed_steps.specs.Taken.{Lodge, IsPassedOn}
 use Rattle.viewed_steps.proofs.Lent.{Spare, loans_stay}
 use Rattle.viewed_steps.proofs.Placed.{within_on, lasts_more, scope_on, placed_on}
 use Rattle.viewed_steps.proofs.Waiting.{StandsBetween, gone_low, beside_them, handed}
-use Rattle.viewed_steps.proofs.Between.{gone_also, more_gone, base_along, base_under, same_variable, not_named, IsHomed, homed_outer, number_based}
+use Rattle.viewed_steps.proofs.Between.{base_along, base_under, same_variable, not_named, number_based, Begins, OwnersStand}
 use Rattle.viewed_steps.proofs.Called.{AreGiven, all_given, passes_to, spare_copies}
 use Rattle.viewed_steps.proofs.Acted.{all_laid_out, all_acted}
-use Rattle.viewed_steps.proofs.Outside.{IsSpared, gone_clear}
+use Rattle.viewed_steps.proofs.Outside.{IsSpared, gone_clear, IsFree, free_name}
 use Rattle.viewed_steps.proofs.Globals.{copied_act, passed_unused}
 use Rattle.viewed_steps.proofs.Apart.{written_disturbs}
 use Rattle.flow_paths.specs.Effects.{written_by}
 use Rattle.viewed_steps.proofs.Aside.{names_off}
 use Rattle.viewed_steps.proofs.LaidOut.{AreLaidOut, outs_of, cells_of, AreOpenActuals}
 use Rattle.viewed_steps.proofs.Outs.{Out, IsUnderOne}
-use Rattle.viewed_steps.proofs.Entered.{ArePassedOn, IsOpen, AreBlank, not_above, passed_base, outs_taken, inside_plain, inside_named, inside_number, inside_itself, passed_one, from_taken, passed_pair}
+use Rattle.viewed_steps.proofs.Entered.{ArePassedOn, IsOpen, AreBlank, not_above, passed_base, from_taken, passed_pair}
 use Rattle.viewed_steps.proofs.Passed.{IsNamedBy, all_passed_on, apart_or}
 use Rattle.viewed_steps.proofs.Cells.{passed_apart, passed_formal, IsCellNamed, named_before, cells_named}
 use Rattle.viewed_steps.proofs.Standing.{or_right}
@@ -101,9 +101,13 @@ use Rattle.viewed_steps.proofs.Bared.{not_before}
 use Rattle.viewed_steps.proofs.CallActs as acting
 use Rattle.viewed_soundness.proofs.Given.{IsLow}
 use Rattle.viewed_steps.proofs.Withheld.{passed_from}
+use Rattle.viewed_steps.proofs.Emptied.{fewer_clear}
+use Rattle.viewed_steps.proofs.Roots.{borrower_from, FromGiven}
+use Rattle.owned_loans.proofs.Safe.{off_view}
 use Rattle.viewed_steps.proofs.Handed.{gone_lent, with_gone, without_loans}
 use Rattle.viewed_steps.proofs.Inherited.{after_more}
-use Rattle.spark_base.proofs.Lists.{Has-append_left}
+use Rattle.spark_base.proofs.Lists.{Has-append_left, Has-append_right}
+use Rattle.viewed_steps.proofs.Stilled.{still, lent_only, still_viewed}
 use Rattle.viewed_steps.proofs.Supplied.{SuppliesAll, supplies_each}
 
 module _ (table : Table) (typed : TypedProgram) (effects : Effects) (input : List ℕ) (ready : IsReady table typed effects) where
@@ -488,7 +492,7 @@ module _ (table : Table) (typed : TypedProgram) (effects : Effects) (input : Lis
         abbrev pub cells : List Lodge
         cells = cells_of s state.memory depth views view_now formals actuals passed (given_laid passed given)
 
-        well_before : Viewed (home s depth) (sees_only s) other_all views (view_here s easy.state) facts_now
+        pub well_before : Viewed (home s depth) (sees_only s) other_all views (view_here s easy.state) facts_now
         well_before = with_gone table typed effects unmoved_stage local state depth older between views (view_here s easy.state) facts_now (viewed_easy plain_there.0).0
 
         -- no view begins at a variable of what is called
@@ -497,6 +501,13 @@ module _ (table : Table) (typed : TypedProgram) (effects : Effects) (input : Lis
           | inl at_home ↦ (let same = (same_variable (home s depth (ways.number_of w)) (ways.number_of w) f y (sym (named_base (home s depth) w at_home) ∙ begins)).0 in
               not_above s ready.accepted.settled ready.owns in_formals (waiting_in easy.state) state.leaks depth views far_views holds.only facts_all next_there cells (ways.number_of w) (same ∙ above_it))
           | inr (foreign, low, some) ↦ (let same = (same_variable foreign.0 foreign.1 f y (sym foreign.2 ∙ begins)).0 in omega (arith, low, same, above_it))
+        ]
+
+        -- the acts add none
+        pub less_now : (f : Fact) → Has facts_all f → Has facts_now f
+        less_now f has = elim (splits_all f has) [
+          | inl mine ↦ Has-append_left own_facts handed_on f (acting.adds_none table typed effects input ready state top below more_frames rest named p frames deep stages running awaiting of_sub at_point path views viewed_before kept scope holds placed_before above n actuals result e f mine)
+          | inr there ↦ Has-append_right own_facts handed_on f there
         ]
 
         -- loans stay through the acts
@@ -523,47 +534,76 @@ module _ (table : Table) (typed : TypedProgram) (effects : Effects) (input : Lis
             (ready.valued.passed named (standing.named_in table typed effects input ready state top older outer named p frames of_sub at_point) p
             (standing.point_in_named table typed effects input ready state top older outer named p frames of_sub at_point) n actuals result e y has)
 
-        pub all_passed_ways : (ways_taken : List Way) × ArePassedOn s state.memory cells depth facts_all next_there formals passed ways_taken outs
-            × ((k : Way) → Has ways_taken k → IsNamedBy s formals actuals k)
+        -- what the frame knows after the acts, with its views
+        alone_before : ViewedAlone (home s depth) (sees_only s) (known_gone (home s depth) (GoneElsewhere program effects older)) views (view_here s easy.state) own_facts
+        alone_before = apart_from_them [] views (view_here s easy.state) holds.only (viewed_easy plain_there.0).0
+
+        called_less : (f : Fact) → Has facts_called f → Has own_facts f
+        called_less f has = acting.adds_none table typed effects input ready state top below more_frames rest named p frames deep stages running awaiting of_sub at_point path views viewed_before kept scope holds placed_before above n actuals result e f has
+
+        pub clear_called : FactsAreClear (sees_only s) facts_called
+        clear_called = fewer_clear (sees_only s) own_facts facts_called called_less alone_before.clear
+
+        loans_more : (l : Loan) (h : ℕ) (m : PlaceName) → Has own_facts (Lent l h m) → Has facts_called (Lent l h m)
+        loans_more l h m has = loans_stay s (values ++ copies) spare_call own_facts l h m has
+
+        pub views_called : AreViews (home s depth) (sees_only s) views (view_here s easy.state) facts_called
+        views_called x w has =
+            view_on (home s depth) (sees_only s) other_all views (view_here s easy.state) (view_here s easy.state) own_facts facts_called x w (alone_before.views x w has)
+            (λ b m loan. own_loan (sees_only s) own_facts facts_called loans_more b x m loan)
+            (reached (home s depth) (sees_only s) other_all views (view_here s easy.state) own_facts x w (alone_before.views x w has))
+
+        -- so it is with what frames around hand on
+        pub clear_all : FactsAreClear (sees_only s) facts_all
+        clear_all = fewer_clear (sees_only s) facts_now facts_all less_now well_before.clear
+
+        pub views_all : AreViews (home s depth) (sees_only s) views (view_here s easy.state) facts_all
+        views_all x w has =
+            view_on (home s depth) (sees_only s) other_all views (view_here s easy.state) (view_here s easy.state) facts_now facts_all x w (well_before.views x w has)
+            (λ b m loan. own_loan (sees_only s) facts_now facts_all loan_all b x m loan)
+            (reached (home s depth) (sees_only s) other_all views (view_here s easy.state) facts_now x w (well_before.views x w has))
+
+        -- names are compared where nothing is gone
+        abbrev pub around_names : Around (home s depth)
+        around_names = lent_only (home s depth) other_all.lent
+
+        pub names_all : Viewed (home s depth) (sees_only s) around_names views (still (view_here s easy.state)) facts_all
+        names_all =
+            still_viewed (home s depth) (sees_only s) other_all.lent views (view_here s easy.state) facts_all well_before.owned well_before.covered clear_all views_all well_before.shown
+            (λ l m lent. lends_on (sees_only s) views facts_now facts_all loan_all l m (well_before.lends l m lent))
+
+        pub all_passed_ways : (ways_taken : List Way) × ArePassedOn s state.memory cells depth views facts_all next_there formals passed ways_taken outs
+            × ((k : Way) → Has ways_taken k → IsNamedBy s depth views facts_all formals actuals k)
         all_passed_ways =
-            all_passed_on s ready.owns ready.accepted.settled state.memory cells depth views view_now facts_all next_there procedure formals actuals passed facts_now laid kinds
+            all_passed_on s ready.owns ready.accepted.settled state.memory cells depth views holds.only view_now facts_all around_names (still (view_here s easy.state)) names_all next_there procedure formals actuals passed
+            facts_now laid kinds
             called.local called.differ
             within_next no_overlap refl copies_allowed (λ c has. has)
 
         abbrev pub ways_taken : List Way
         ways_taken = all_passed_ways.0
 
-        -- they begin at variables of the frame, or of package objects
-        pub homed : (to : Way) → Has ways_taken to → IsHomed s depth to
-        homed to has = passed_base s state.memory cells depth facts_all next_there formals passed ways_taken outs all_passed_ways.1 to has
-
-        out_base : (o : Out) → Has outs o → IsHomed s depth o.way
-        out_base o has =
-            passed_base s state.memory cells depth facts_all next_there formals passed ways_taken outs all_passed_ways.1 o.way
-            (outs_taken s state.memory cells depth facts_all next_there formals passed ways_taken outs all_passed_ways.1 o has)
+        -- they begin at variables of the frame, or of package objects, or of frames below
+        pub begun : (to : Way) → Has ways_taken to → Begins s depth to
+        begun to has = passed_base s state.memory cells depth views facts_all next_there formals passed ways_taken outs all_passed_ways.1 to has
 
         abbrev outs_gone : Way → Type 0
         outs_gone w = GoneElsewhere program effects older w ⊎ IsUnderOne outs w
 
-        outs_apart : (y : ℕ) (w z : Way) → views.way y ≡ Some w → IsOuter (home s depth) views y w → outs_gone z → ways.Under z w ⊎ ways.Under w z → ⊥
-        outs_apart y w z has foreign (inl gone) meets = well_before.whole y w z has foreign gone meets
-        outs_apart y w z has outer (inr (o, has_o, under)) meets =
-            let taken = outs_taken s state.memory cells depth facts_all next_there formals passed ways_taken outs all_passed_ways.1 o has_o in
-            let one = passed_one s state.memory cells depth facts_all next_there formals passed ways_taken outs all_passed_ways.1 o.way taken in
-            homed_outer s depth (sees_only s) other_all.lent views o.way (out_base o has_o) well_before.shown
-            (λ l at at_home lent over. (one.2).unlent l (ways.number_of at) (ways.name_of at)
-            (loan_all l (ways.number_of at) (ways.name_of at) (well_before.lends l (ways.name_of at) lent).has) (meet_overlaps at o.way (flip o.way at over)))
-            y w z has outer under meets
-
-        -- the state is sound with views under the facts after the acts, where what is to be emptied may be gone
-        abbrev pub around_outs : Around (home s depth)
-        around_outs = gone_also (home s depth) other_all outs_gone
-
-        pub well_all : Viewed (home s depth) (sees_only s) around_outs views (view_here s easy.state) facts_all
-        well_all =
+        -- under the facts after the acts, what is to be emptied may be gone
+        pub stands_all : OwnersStand (home s depth) views facts_all outs_gone (view_here s easy.state)
+        stands_all =
             all_acted (steps.here main_turn) ready.accepted.settled (waiting_in easy.state) state.leaks state.memory [] other facts_now views (viewed_easy plain_there.0).1 (viewed_easy plain_there.0).0 holds_now alone live_now in_formals
-            index_law ready.owns ready.class.parts_named formals_low procedure other_all outs_gone outs_apart formals actuals passed facts_now given (λ w under. inr under)
-            (more_gone (home s depth) (sees_only s) views other_all outs_gone outs_apart (view_here s easy.state) facts_now (λ w gone. inl gone) well_before)
+            index_law ready.owns ready.class.parts_named formals_low procedure outs_gone formals actuals passed facts_now given (λ w under. inr under)
+            (record {
+              owned = well_before.owned;
+              covered = well_before.covered;
+              known = λ w l rooted r gone. elim (well_before.known w l rooted r gone) [
+                | inl (inl moved) ↦ inl moved
+                | inl (inr none) ↦ absurd none
+                | inr there ↦ inr (inl there)
+              ];
+            })
 
         -- the names of those cells
         pub named_cell : (c : Lodge) → Has cells c → IsCellNamed s depth facts_all views view_now formals actuals passed c
@@ -581,7 +621,7 @@ module _ (table : Table) (typed : TypedProgram) (effects : Effects) (input : Lis
         -- their ways begin at variables of the frame, or of package objects
         pub cell_begins : (c : Lodge) → Has cells c → (g : ℕ) × (y : ℕ) × (ways.base_of c.way ≡ ways.OfRoot (ways.OfVariable g y)) × (g ≡ suc depth → ⊥)
         cell_begins c has =
-            elim (stands (home s depth) (sees_only s) views (view_here s easy.state) facts_all well_all.views c.name (cell_plain c has)) [
+            elim (stands (home s depth) (sees_only s) views (view_here s easy.state) facts_all views_all c.name (cell_plain c has)) [
               | inl own ↦ (
                   let named_there : ways.Named (home s depth) c.way = subst (ways.Named (home s depth)) (named_cell c has).leads own.named in (
                     home s depth (ways.number_of c.way),
@@ -600,19 +640,19 @@ module _ (table : Table) (typed : TypedProgram) (effects : Effects) (input : Lis
 
         -- one of another place
         housed_aside : (c : Lodge) (has : Has cells c) (k : Place) → k.base ≡ memory.OfCell c.cell
-            → (u : Way) × Has ways_taken u × IsPassedOn s cells depth facts_all next_there (named_cell c has).by.formal k u → (to : Way) → Has ways_taken to → ways.Past to c.way → ⊥
+            → (u : Way) × Has ways_taken u × IsPassedOn s cells depth views facts_all next_there (named_cell c has).by.formal k u → (to : Way) → Has ways_taken to → ways.Past to c.way → ⊥
         housed_aside c has k base (u, has_u, one) to taken past = elim (one.inside).stands [
           | inl variable ↦ (let never : memory.OfVariable (one.inside).frame (one.inside).object ≡ memory.OfCell c.cell = sym variable.2 ∙ base in cc)
           | inr cell ↦ (
               let view = view_here s easy.state in
-              let number : (cell.0).0 ≡ c.cell = same_cell (sym (cell.0).2 ∙ base) in
-              let found = one.among (cell.0).0 (cell.0).1 in
+              let number : cell.0 ≡ c.cell = same_cell (sym cell.2 ∙ base) in
+              let found = one.among cell.0 cell.1 in
               let reach : ways.Reaches view (one.inside).trunk (ways.OfCell c.cell) =
               subst (λ z. ways.Reaches view z (ways.OfCell c.cell)) found.2 (subst (λ z. ways.Reaches view found.0.way (ways.OfCell z)) (found.3 ∙ number) (named_cell found.0 found.1).reaches) in
-              let trunk_is : c.way ≡ (one.inside).trunk = one_way view well_all.owned c.way (one.inside).trunk (ways.OfCell c.cell) (named_cell c has).reaches reach in
+              let trunk_is : c.way ≡ (one.inside).trunk = one_way view well_before.owned c.way (one.inside).trunk (ways.OfCell c.cell) (named_cell c has).reaches reach in
               let goes_on : u ≡ ways.along c.way (one.inside).steps = (one.inside).way ∙ ap (λ z. ways.along z (one.inside).steps) (sym trunk_is) in
               let below : ways.Under c.way u = subst (ways.Under c.way) (sym goes_on) (under_along c.way c.way (one.inside).steps (under_itself c.way)) in
-              elim (passed_pair s state.memory cells depth facts_all next_there formals passed ways_taken outs all_passed_ways.1 to u taken has_u) [
+              elim (passed_pair s state.memory cells depth views facts_all next_there formals passed ways_taken outs all_passed_ways.1 to u taken has_u) [
                 | inl same ↦ not_before c.way (one.inside).steps (subst (λ z. ways.Past z c.way) (same ∙ goes_on) past)
                 | inr apart ↦ apart.0 (under_on to c.way u (past_under to c.way past) below)
               ])
@@ -624,36 +664,32 @@ module _ (table : Table) (typed : TypedProgram) (effects : Effects) (input : Lis
         -- one of a scalar place
         scalar_aside : (c : Lodge) (has : Has cells c) → IsScalarObject s (named_cell c has).by.formal → (to : Way) → Has ways_taken to → ways.Past to c.way → ⊥
         scalar_aside c has scalar to taken past =
-            let one = passed_one s state.memory cells depth facts_all next_there formals passed ways_taken outs all_passed_ways.1 to taken in
-            let inside = (one.2).inside in
-            let itself : expand views to ≡ to = inside_itself s ready.accepted.settled depth one.1 to inside views holds.only in
-            let plain_to : sees_only s (ways.number_of to) ≡ false =
-            ap (sees_only s) (inside_number s ready.accepted.settled depth one.1 to inside)
-            ∙ owner_sees s inside.object (inside_plain s ready.accepted.settled depth one.1 to inside) inside.owner in
+            let by = all_passed_ways.2 to taken in
             let cell = named_cell c has in
             let below : ways.Under c.way (expand views cell.whole) =
             subst (λ z. ways.Under z (expand views cell.whole)) cell.leads (expand_under views c.name cell.whole (λ r is. absurd (cell.deep r is)) cell.begins) in
-            names_off (home s depth) (sees_only s) around_outs views (view_here s easy.state) facts_all well_all to cell.whole
-            (inside_named s ready.accepted.settled depth one.1 to inside, plain_to) (cell.named, cell.plain) (one.2).unlent cell.unlent
+            names_off (home s depth) (sees_only s) around_names views (still (view_here s easy.state)) facts_all names_all by.name cell.whole
+            (by.named, by.plain) (cell.named, cell.plain) by.unlent cell.unlent
             (λ over. taken_apart to taken c has scalar over)
-            (under_on (expand views to) c.way (expand views cell.whole) (subst (λ z. ways.Under z c.way) (sym itself) (past_under to c.way past)) below)
+            (under_on (expand views by.name) c.way (expand views cell.whole) (subst (λ z. ways.Under z c.way) (sym by.means) (past_under to c.way past)) below)
           where
-            taken_apart : (to : Way) → Has ways_taken to → (c : Lodge) (has : Has cells c) → IsScalarObject s (named_cell c has).by.formal → overlaps (ways.name_of to) (ways.name_of (named_cell c has).whole) ≡ true → ⊥
+            taken_apart : (to : Way) (taken : Has ways_taken to) → (c : Lodge) (has : Has cells c) → IsScalarObject s (named_cell c has).by.formal
+                → overlaps (ways.name_of (all_passed_ways.2 to taken).name) (ways.name_of (named_cell c has).whole) ≡ true → ⊥
             taken_apart to taken c has scalar over =
                 let by = all_passed_ways.2 to taken in
                 let cell = named_cell c has in
                 elim no_overlap [
-                  | inr plain ↦ true_false (is_scalar (full s.table (object_at s (by.0).formal).of)) (plain (by.0).formal (passed_formal formals actuals by.0 by.1) by.2) by.4
-                  | inl none ↦ passed_apart s formals actuals none by.0 cell.by by.1 cell.among by.2 cell.back
-                      (λ same. true_false (is_scalar (full s.table (object_at s (by.0).formal).of)) (subst (IsScalarObject s) (sym same) scalar) by.4)
-                      (subst (λ z. overlaps z cell.by.actual.name ≡ true) (sym by.3) (subst (λ z. overlaps (ways.name_of to) z ≡ true) (sym cell.called) over))
+                  | inr plain ↦ true_false (is_scalar (full s.table (object_at s by.by.formal).of)) (plain by.by.formal (passed_formal formals actuals by.by by.among) by.back) by.many
+                  | inl none ↦ passed_apart s formals actuals none by.by cell.by by.among cell.among by.back cell.back
+                      (λ same. true_false (is_scalar (full s.table (object_at s by.by.formal).of)) (subst (IsScalarObject s) (sym same) scalar) by.many)
+                      (subst (λ z. overlaps z cell.by.actual.name ≡ true) (sym by.called) (subst (λ z. overlaps (ways.name_of by.name) z ≡ true) (sym cell.called) over))
                 ]
 
         -- no place that is taken goes before one
         pub cell_aside : (c : Lodge) → Has cells c → (to : Way) → Has ways_taken to → ways.Past to c.way → ⊥
         cell_aside c has to taken past = elim (named_cell c has).sort [
           | inl scalar ↦ scalar_aside c has scalar to taken past
-          | inr (k, base, from, many) ↦ housed_aside c has k base (from_taken s state.memory cells depth facts_all next_there formals passed ways_taken outs all_passed_ways.1
+          | inr (k, base, from, many) ↦ housed_aside c has k base (from_taken s state.memory cells depth views facts_all next_there formals passed ways_taken outs all_passed_ways.1
               (named_cell c has).by.formal k from many) to taken past
         ]
 
@@ -670,11 +706,56 @@ module _ (table : Table) (typed : TypedProgram) (effects : Effects) (input : Lis
         abbrev pub waits_there : ViewStage
         waits_there = record { stage = waits_with all_passed_ways.0; views = views; cells = cells }
 
-        written_to : (to : Way) → Has ways_taken to → is_package_object s (ways.number_of to) ≡ true → Has (written_by effects top.frame.sub) (ways.number_of to)
-        written_to to has shared =
+        abbrev Given_to : Way → Type 0
+        Given_to to = FromGiven (home s depth) (sees_only s) views (view_here s easy.state) facts_called views_called to
+
+        -- a package object where a way of them begins is passed by its name, or borrowed; or it was lent to the frame
+        first_named : (to : Way) (has : Has ways_taken to) (y : ℕ) → ways.base_of to ≡ ways.OfRoot (ways.OfVariable 0 y) → is_package_object s y ≡ true
+            → ((all_passed_ways.2 to has).by.actual.name.root ≡ y) ⊎ (((h : ℕ) × (name : PlaceName) × Has facts_called (Lent Borrowed h name) × (name.root ≡ y)) ⊎ Given_to to)
+        first_named to has y base shared =
             let by = all_passed_ways.2 to has in
-            subst (λ (z : PlaceName). Has (written_by effects top.frame.sub) z.root) by.3
-            (act_of_passed by.0 by.1 by.2 (ap (λ (z : PlaceName). is_package_object s z.root) by.3 ∙ shared))
+            let first : 0 ≡ home s depth y = ap (λ b. if b then 0 else depth) (sym shared) in
+            let own : ways.base_of to ≡ ways.OfRoot (ways.OfVariable (home s depth y) y) = base ∙ ap (λ f. ways.OfRoot (ways.OfVariable f y)) first in
+            elim (lifts views by.name) [
+              | inl itself ↦ (
+                  let same : by.name ≡ to = sym itself ∙ by.means in
+                  inl (ap (λ (z : PlaceName). z.root) by.called
+                  ∙ number_based (home s depth) by.name y by.named (ap ways.base_of same ∙ own)))
+              | inr lift ↦ (
+                  let goes_there : to ≡ on lift.way lift.rest = sym by.means ∙ lifted_way views by.name lift in
+                  let whole : ways.Named (home s depth) to = base_named (home s depth) to y own in
+                  let front : ways.Named (home s depth) lift.way = on_named (home s depth) lift.way lift.rest (subst (ways.Named (home s depth)) goes_there whole) in
+                  inr (elim (borrower_from (home s depth) (sees_only s) views (view_here s easy.state) facts_called views_called lift.object lift.way
+                  (ap (sees_only s) (sym (lifted_root views by.name lift)) ∙ by.plain) lift.has) [
+                    | inl goes ↦ inl (
+                      goes.0,
+                      ways.name_of goes.1,
+                      goes.2,
+                      sym (longer goes.1 lift.way goes.4).root
+                          ∙ number_based (home s depth) lift.way y front (sym (base_on lift.way lift.rest) ∙ ap ways.base_of (sym goes_there) ∙ own),
+                    )
+                    | inr (x, u, is, given, sees, under) ↦ inr (
+                      x,
+                      u,
+                      is,
+                      given,
+                      sees,
+                      subst (ways.Under u) (sym goes_there) (under_on u lift.way (on lift.way lift.rest) under (on_under lift.way lift.rest)),
+                    )
+                  ]))
+            ]
+
+        pub goes_to : (to : Way) → Has ways_taken to → (y : ℕ) → ways.base_of to ≡ ways.OfRoot (ways.OfVariable 0 y) → is_package_object s y ≡ true
+            → Has (written_by effects top.frame.sub) y ⊎ Given_to to
+        goes_to to has y base shared =
+            let by = all_passed_ways.2 to has in
+            elim (first_named to has y base shared) [
+              | inl root ↦ inl (subst (Has (written_by effects top.frame.sub)) root (act_of_passed by.by by.among by.back (ap (is_package_object s) root ∙ shared)))
+              | inr (inr given) ↦ inr given
+              | inr (inl (h, name, lent, root)) ↦ inl (subst (Has (written_by effects top.frame.sub)) root
+                  (innermost.borrowed_writes table typed effects input ready state top below more_frames rest named p frames deep stages running awaiting of_sub at_point path views viewed_before kept scope holds placed_before above
+                  h name (called_less (Lent Borrowed h name) lent) (ap (is_package_object s) root ∙ shared)))
+            ]
 
         cell_named_root : (c : Lodge) (has : Has cells c) → (named_cell c has).by.actual.name.root ≡ ways.number_of c.name
         cell_named_root c has = ap (λ (z : PlaceName). z.root) (named_cell c has).called ∙ sym (cell_root c has)
@@ -684,6 +765,14 @@ module _ (table : Table) (typed : TypedProgram) (effects : Effects) (input : Lis
             let cell = named_cell c has in
             subst (Has (written_by effects top.frame.sub)) (cell_named_root c has)
             (act_of_passed cell.by cell.among cell.back (ap (is_package_object s) (cell_named_root c has) ∙ shared))
+
+        -- a name of them that is rooted in a package object
+        pub name_written : (to : Way) (has : Has ways_taken to) → is_package_object s (ways.number_of (all_passed_ways.2 to has).name) ≡ true
+            → Has (written_by effects top.frame.sub) (ways.number_of (all_passed_ways.2 to has).name)
+        name_written to has shared =
+            let by = all_passed_ways.2 to has in
+            let root : by.by.actual.name.root ≡ ways.number_of by.name = ap (λ (z : PlaceName). z.root) by.called in
+            subst (Has (written_by effects top.frame.sub)) root (act_of_passed by.by by.among by.back (ap (is_package_object s) root ∙ shared))
 
         -- and the callee doesn't use it
         unused_passed : (b : alias.Passed) → Has (alias.passed formals actuals) b → IsCopiedBack s b.formal → is_package_object s b.actual.name.root ≡ true
@@ -699,42 +788,107 @@ module _ (table : Table) (typed : TypedProgram) (effects : Effects) (input : Lis
             let cell = named_cell c has in
             unused_passed cell.by cell.among cell.back (ap (is_package_object s) (cell_named_root c has) ∙ shared) (subst (Uses effects n) (sym (cell_named_root c has)) uses)
 
-        unused_to : (to : Way) → Has ways_taken to → is_package_object s (ways.number_of to) ≡ true → Uses effects n (ways.number_of to) → ⊥
-        unused_to to has shared uses =
+        -- what was lent to the frame it doesn't write
+        lent_unwritten : (to : Way) (y : ℕ) → ways.base_of to ≡ ways.OfRoot (ways.OfVariable 0 y) → is_package_object s y ≡ true → Given_to to
+            → Has (written_by effects top.frame.sub) y → ⊥
+        lent_unwritten to y base shared (x, u, is, given, sees, under) written =
+            let first : 0 ≡ home s depth y = ap (λ b. if b then 0 else depth) (sym shared) in
+            let based : ways.base_of u ≡ ways.OfRoot (ways.OfVariable (home s depth y) y) =
+            sym (base_under u to under) ∙ base ∙ ap (λ f. ways.OfRoot (ways.OfVariable f y)) first in
+            let (l, (k, at, under_k, lent), changed) = (placed_before.1).1 x u is given (base_named (home s depth) u y based) in
+            let number : ways.number_of k ≡ y = number_based (home s depth) k y at (sym (base_under k u under_k) ∙ based) in
+            innermost.spared_here table typed effects input ready state top below more_frames rest named p frames deep stages running awaiting of_sub at_point path views viewed_before kept scope holds placed_before above
+            l (ways.name_of k) lent (written_disturbs table typed effects ready.accepted.effects_are l top.frame.sub (ways.number_of k)
+            (subst (Has (written_by effects top.frame.sub)) (sym number) written))
+
+        unused_to : (to : Way) → Has ways_taken to → (y : ℕ) → ways.base_of to ≡ ways.OfRoot (ways.OfVariable 0 y) → is_package_object s y ≡ true
+            → Has (written_by effects top.frame.sub) y → Uses effects n y → ⊥
+        unused_to to has y base shared written uses =
             let by = all_passed_ways.2 to has in
-            unused_passed by.0 by.1 by.2 (ap (λ (z : PlaceName). is_package_object s z.root) by.3 ∙ shared)
-            (subst (λ (z : PlaceName). Uses effects n z.root) (sym by.3) uses)
+            elim (first_named to has y base shared) [
+              | inl root ↦ unused_passed by.by by.among by.back (ap (is_package_object s) root ∙ shared) (subst (Uses effects n) (sym root) uses)
+              | inr (inr given) ↦ lent_unwritten to y base shared given written
+              | inr (inl (h, name, lent, root)) ↦ lends_there Borrowed h name (subst (λ z. Has z (Lent Borrowed h name)) (sym facts_there) lent) (ap (is_package_object s) root ∙ shared)
+                  (subst (Uses effects n) (sym root) uses)
+            ]
 
         -- so it is with each object of which a part is passed
-        pub root_written : (y : ℕ) → Has (passed_roots waits_there) y → is_package_object s y ≡ true → Has (written_by effects top.frame.sub) y
-        root_written y passed shared = elim (passed_from waits_there y passed) [
-          | inl (to, has, is) ↦ subst (Has (written_by effects top.frame.sub)) is (written_to to has (ap (is_package_object s) is ∙ shared))
+        pub root_written : (y : ℕ) → Has (passed_roots effects waits_there) y → is_package_object s y ≡ true → Has (written_by effects top.frame.sub) y
+        root_written y passed shared = elim (passed_from effects waits_there y passed) [
+          | inl (to, has, base, written) ↦ written
           | inr (c, has, is) ↦ subst (Has (written_by effects top.frame.sub)) is (written_cell c has (ap (is_package_object s) is ∙ shared))
         ]
 
-        pub root_unused : (y : ℕ) → Has (passed_roots waits_there) y → is_package_object s y ≡ true → Uses effects n y → ⊥
-        root_unused y passed shared uses = elim (passed_from waits_there y passed) [
-          | inl (to, has, is) ↦ unused_to to has (ap (is_package_object s) is ∙ shared) (subst (Uses effects n) (sym is) uses)
+        pub root_unused : (y : ℕ) → Has (passed_roots effects waits_there) y → is_package_object s y ≡ true → Uses effects n y → ⊥
+        root_unused y passed shared uses = elim (passed_from effects waits_there y passed) [
+          | inl (to, has, base, written) ↦ unused_to to has y base shared written uses
           | inr (c, has, is) ↦ unused_cell c has (ap (is_package_object s) is ∙ shared) (subst (Uses effects n) (sym is) uses)
         ]
 
-        -- the frames around keep nothing of it
-        pub spared_to : (to : Way) (has : Has ways_taken to) → IsSpared table typed effects unmoved_stage local state depth older between (homed to has).1
-        spared_to to has l name lent root =
-            let begin = homed to has in
-            let at : ways.base_of to ≡ ways.OfRoot (ways.OfVariable (home s depth begin.1) begin.1) = begin.2 ∙ ap (λ f. ways.OfRoot (ways.OfVariable f begin.1)) begin.3 in
-            let number : ways.number_of to ≡ begin.1 = number_based (home s depth) to begin.1 (base_named (home s depth) to begin.1 at) at in
-            let written = written_to to has (ap (is_package_object s) (number ∙ sym root) ∙ lent.5) in
+        -- no place that is taken goes before what a view sees
+        pub off_taken : (x : ℕ) (w : Way) → views.way x ≡ Some w → (to : Way) → Has ways_taken to → ways.Past to w → ⊥
+        off_taken x w has to taken past =
+            let by = all_passed_ways.2 to taken in
+            off_view (home s depth) (sees_only s) around_names views (still (view_here s easy.state)) facts_all names_all by.name x w (by.named, by.plain) by.unlent has
+            (subst (λ z. ways.Past z w) (sym by.means) past)
+
+        -- the ways of views don't begin at formals of the callee
+        pub view_base : (x : ℕ) (w : Way) → views.way x ≡ Some w → (g : ℕ) × (y : ℕ) × (ways.base_of w ≡ ways.OfRoot (ways.OfVariable g y)) × (g ≡ suc depth → ⊥)
+        view_base x w has =
+            let root = view_rooted (home s depth) (sees_only s) other_all views (view_here s easy.state) facts_called views_called x w has in (
+              root.0,
+              root.1,
+              root.2,
+              λ up. elim root.3 [
+                | inl named_there ↦ (
+                    let same = same_variable (home s depth (ways.number_of w)) (ways.number_of w) root.0 root.1 (sym (named_base (home s depth) w named_there) ∙ root.2) in
+                    not_above s ready.accepted.settled ready.owns in_formals (waiting_in easy.state) state.leaks depth views far_views holds.only facts_all next_there cells (ways.number_of w)
+                    (same.0 ∙ up))
+                | inr foreign ↦ (
+                    let same = (same_variable foreign.0 foreign.1 root.0 root.1 (sym foreign.2 ∙ root.2)).0 in
+                    let low = far_views x w has foreign in omega (arith, low, same, up))
+              ],
+            )
+
+        -- the frames around keep nothing of what the frame writes
+        written_spared : (y : ℕ) → Has (written_by effects top.frame.sub) y → IsSpared table typed effects unmoved_stage local state depth older between y
+        written_spared y written l name lent root =
             innermost.spared_here table typed effects input ready state top below more_frames rest named p frames deep stages running awaiting of_sub at_point path views viewed_before kept scope holds placed_before above
             l name lent (written_disturbs table typed effects ready.accepted.effects_are l top.frame.sub name.root
-            (subst (Has (written_by effects top.frame.sub)) (number ∙ sym root) written))
+            (subst (Has (written_by effects top.frame.sub)) (sym root) written))
 
-        pub open_there : IsOpen (home s depth) other_all ways_taken
+        -- so it is with what is taken, or it is behind what was lent to the frame
+        spared_to : (to : Way) → Has ways_taken to → (y : ℕ) → ways.base_of to ≡ ways.OfRoot (ways.OfVariable (home s depth y) y)
+            → IsSpared table typed effects unmoved_stage local state depth older between y ⊎ Given_to to
+        spared_to to has y base = elim (bool_cases (is_package_object s y)) [
+          | inr mine ↦ inl (λ l name lent root. true_false (is_package_object s y) (ap (is_package_object s) (sym root) ∙ lent.5) mine)
+          | inl shared ↦ elim (goes_to to has y (base ∙ ap (λ b. ways.OfRoot (ways.OfVariable (if b then 0 else depth) y)) shared) shared) [
+            | inl written ↦ inl (written_spared y written)
+            | inr given ↦ inr given
+          ]
+        ]
+
+        pub free_to : (to : Way) → Has ways_taken to → IsFree table typed effects unmoved_stage local state depth older between to
+        free_to to has =
+            let by = all_passed_ways.2 to has in
+            subst (IsFree table typed effects unmoved_stage local state depth older between) by.means
+            (free_name table typed effects unmoved_stage local state depth older between views (view_here s easy.state) facts_called views_called (placed_before.1).0
+            (λ x w z there outer gone meets. well_before.whole x w z there outer gone meets) by.name by.named by.plain
+            (λ y base. elim (spared_to to has y (ap ways.base_of (sym by.means) ∙ base)) [
+              | inl none ↦ inl none
+              | inr given ↦ inr (subst Given_to (sym by.means) given)
+            ]))
+
+        pub open_there : IsOpen (IsMovedBy (home s depth) views facts_all) (GoneElsewhere program effects older) ways_taken
         open_there = record {
-          free = λ k w under gone. (let root = gone_low table typed effects unmoved_stage local state depth older between w gone in
-              hand_base (sym (base_under (ways.Object (ways.OfHand k)) w under) ∙ root.2));
-          whole = λ to has w under gone. gone_clear table typed effects unmoved_stage local state depth older between to (homed to has) (spared_to to has) w gone (base_under to w under);
-          none = λ w k keeps_it. keeps_it;
+          free = λ k w under o. elim o [
+            | inr gone ↦ (let root = gone_low table typed effects unmoved_stage local state depth older between w gone in
+                hand_base (sym (base_under (ways.Object (ways.OfHand k)) w under) ∙ root.2))
+            | inl (u, moved, leads) ↦ (
+                let root = stands_base (home s depth) (sees_only s) views (view_here s easy.state) facts_all views_all u (moved.0, clear_all.owned (ways.name_of u) moved.1) in
+                hand_base (sym (base_under (ways.Object (ways.OfHand k)) w under) ∙ ap ways.base_of (sym leads) ∙ root.2))
+          ];
+          whole = λ to has w under gone. gone_clear table typed effects unmoved_stage local state depth older between to (free_to to has) w gone (inl under);
         }
           where
             hand_base : {k f x : ℕ} → ways.OfRoot (ways.OfHand k) ≡ ways.OfRoot (ways.OfVariable f x) → ⊥

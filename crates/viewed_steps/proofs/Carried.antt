@@ -1,9 +1,9 @@
 -- What a place has is taken by a call, or by its end, and given to a place that has no number: the
 -- state stays sound with views.
-use Rattle.std.proofs.Common.{◌≡◌, refl, sym, ap, ◌∙◌, subst, ◌⊎◌, inl, inr, ℕ, ◌+◌, Bool, true, false, not, List, [], ◌∷◌, ◌++◌, take, drop, length, get_or, append-nil, Some, arith, suc, ◌<◌, if◌then◌else◌}
+use Rattle.std.proofs.Common.{◌≡◌, refl, sym, ap, ◌∙◌, subst, ◌⊎◌, inl, inr, ℕ, ◌+◌, Bool, true, false, not, List, [], ◌∷◌, ◌++◌, take, drop, length, get_or, append-nil, suc, ◌<◌}
 use Rattle.place_names.specs.declared.fact.Fact.{Fact}
 use Rattle.type_definitions.specs.Types.{words}
-use Rattle.flow_paths.specs.Objects.{Typing, object_at, is_package_object}
+use Rattle.flow_paths.specs.Objects.{Typing, object_at}
 use Rattle.machine.specs.Words.{access_offsets}
 use Rattle.machine.specs.Words as machine
 use Rattle.machine.specs.Memory as memory
@@ -20,12 +20,10 @@ use Rattle.soundness.specs.Typed.{Matches, Kept, Spot, IsMade, loc_of}
 use Rattle.soundness.proofs.Joined.{trunk_part, steps_part}
 use Rattle.soundness.proofs.Contents.{bool_cases, word_yes, word_part, word_root, stored_step, stored_whole, taken_step}
 use Rattle.soundness.proofs.Steps.{put_count, put_freed, stores, takes}
-use Rattle.owned_loans.specs.Views.{Around, Views, ExcusedBy, Viewed, IsOuter}
-use Rattle.owned_loans.proofs.Moves.{no_hand, view_rooted}
-use Rattle.viewed_steps.specs.Taken.{IsVariableAt, IsCellAt, IsInside, trunk_type}
+use Rattle.owned_loans.specs.Views.{Views, IsMovedBy}
+use Rattle.viewed_steps.specs.Taken.{IsCellAt, IsInside, trunk_type, IsOwnAt}
 use Rattle.viewed_steps.proofs.Lodged.{lodged_spot, cell_live}
-use Rattle.viewed_steps.proofs.Between.{IsHomed, gone_also, IsClearOf, moved_between, base_under, base_along, same_variable, not_named}
-use Rattle.viewed_steps.proofs.Views.{AreFar}
+use Rattle.viewed_steps.proofs.Between.{moved_between, base_under, base_along, same_variable, OwnersStand, Begins, begun_low}
 
 -- ---- places in variables
 
@@ -43,11 +41,11 @@ module _ (s : Typing) (depth : ℕ) (k : Place) (to : Way) (inside : IsInside s 
   start_trunk : trunk inside.start ≡ inside.start
   start_trunk = elim inside.stands [
     | inl variable ↦ ap trunk variable.1 ∙ sym variable.1
-    | inr there ↦ ap trunk (there.0).1 ∙ sym (there.0).1
+    | inr there ↦ ap trunk there.1 ∙ sym there.1
   ]
 
   pub start_steps : steps_in inside.start ≡ []
-  start_steps = elim inside.stands [ inl variable ↦ ap steps_in variable.1 | inr there ↦ ap steps_in (there.0).1 ]
+  start_steps = elim inside.stands [ inl variable ↦ ap steps_in variable.1 | inr there ↦ ap steps_in there.1 ]
 
   pub trunk_is : trunk (part inside.start inside.steps) ≡ inside.start
   trunk_is = trunk_part inside.start inside.steps ∙ start_trunk
@@ -59,18 +57,18 @@ module _ (s : Typing) (depth : ℕ) (k : Place) (to : Way) (inside : IsInside s 
   pub start_reached : (view : View) → ((n : ℕ) → inside.start ≡ OfCell n → Reaches view inside.trunk (OfCell n)) → Reaches view inside.trunk inside.start
   start_reached view there = elim inside.stands [
     | inl variable ↦ subst (λ w. Reaches view w inside.start) (sym variable.0) variable.1
-    | inr cell ↦ subst (Reaches view inside.trunk) (sym (cell.0).1) (there (cell.0).0 (cell.0).1)
+    | inr cell ↦ subst (Reaches view inside.trunk) (sym cell.1) (there cell.0 cell.1)
   ]
 
   pub inside_spot : IsSettled s.table → (m : Memory) (hands : List Waiting) (leaks : List Leak) → Kept s m hands → Reaches (seen s m hands leaks) inside.trunk inside.start
       → Spot s m hands k (part inside.start inside.steps)
   inside_spot settled m hands leaks typed reach = elim inside.stands [
     | inl variable ↦ in_variable variable
-    | inr there ↦ in_cell there.0
+    | inr there ↦ in_cell there
   ]
     where
-      in_variable : IsVariableAt inside.frame inside.object k inside.trunk inside.start → Spot s m hands k (part inside.start inside.steps)
-      in_variable (trunk_there, start_there, base) = record {
+      in_variable : IsOwnAt s depth inside.frame inside.object k inside.trunk inside.start → Spot s m hands k (part inside.start inside.steps)
+      in_variable (trunk_there, start_there, base, at_home, owner) = record {
         base = trunk_is ∙ start_there ∙ ap loc_of (sym base);
         made = subst (λ b. IsMade m b) (sym base) tt;
         at = inside.at ∙ ap (λ z. offset_in s.table (trunk_type s z) inside.steps) trunk_there
@@ -98,14 +96,10 @@ module _ (s : Typing) (depth : ℕ) (k : Place) (to : Way) (inside : IsInside s 
 
   -- no frame above
   pub inside_low : inside.frame < suc depth
-  inside_low = by_package (is_package_object s inside.object) inside.at_home
-    where
-      by_package : (b : Bool) → inside.frame ≡ (if b then 0 else depth) → inside.frame < suc depth
-      by_package true is = omega (arith, is)
-      by_package false is = omega (arith, is)
+  inside_low = begun_low s depth inside.frame inside.object inside.begins
 
-  pub inside_homed : IsHomed s depth to
-  inside_homed = (inside.frame, inside.object, inside_base, inside.at_home)
+  pub inside_begins : Begins s depth to
+  inside_begins = (inside.frame, inside.object, inside_base, inside.begins)
 
   pub inside_rooted : IsRooted to
   inside_rooted = subst IsRooted (sym inside.way) (named_along inside.trunk inside.steps (rooted_base inside.trunk inside.frame inside.object inside.root))
@@ -113,18 +107,18 @@ module _ (s : Typing) (depth : ℕ) (k : Place) (to : Way) (inside : IsInside s 
   pub inside_owns : IsSettled s.table → (m : Memory) (hands : List Waiting) (leaks : List Leak) → Kept s m hands → Owned (seen s m hands leaks)
       → Reaches (seen s m hands leaks) inside.trunk inside.start → (content s m hands (trunk (part inside.start inside.steps))).owns ≡ true
   inside_owns settled m hands leaks typed owned reach = ap (λ z. (content s m hands z).owns) trunk_is ∙ elim inside.stands [
-    | inl variable ↦ subst (λ z. (content s m hands z).owns ≡ true) (sym variable.1) (ap not inside.owner)
+    | inl variable ↦ subst (λ z. (content s m hands z).owns ≡ true) (sym variable.1) (ap not variable.4)
     | inr there ↦
-        subst (λ z. (content s m hands z).owns ≡ true) (sym (there.0).1)
-        (ap not (cell_live s settled m hands leaks typed inside.trunk inside.frame inside.object (there.0).0 inside.root owned
-        (subst (Reaches (seen s m hands leaks) inside.trunk) (there.0).1 reach)))
+        subst (λ z. (content s m hands z).owns ≡ true) (sym there.1)
+        (ap not (cell_live s settled m hands leaks typed inside.trunk inside.frame inside.object there.0 inside.root owned
+        (subst (Reaches (seen s m hands leaks) inside.trunk) there.1 reach)))
   ]
 
   -- it isn't in another variable
   pub inside_other : (g y : ℕ) → (OfVariable inside.frame inside.object ≡ OfVariable g y → ⊥) → k.base ≡ memory.OfVariable g y → ⊥
   inside_other g y ne is = elim inside.stands [
     | inl variable ↦ ne (same_names (sym variable.2 ∙ is))
-    | inr there ↦ no_names (sym (there.0).2 ∙ is)
+    | inr there ↦ no_names (sym there.2 ∙ is)
   ]
     where
       same_names : {f x g y : ℕ} → memory.OfVariable f x ≡ memory.OfVariable g y → OfVariable f x ≡ OfVariable g y
@@ -136,7 +130,7 @@ module _ (s : Typing) (depth : ℕ) (k : Place) (to : Way) (inside : IsInside s 
   hands_same : (m : Memory) (hands : List Waiting) → content s m hands inside.start ≡ content s m [] inside.start
   hands_same m hands = elim inside.stands [
     | inl variable ↦ subst (λ z. content s m hands z ≡ content s m [] z) (sym variable.1) refl
-    | inr there ↦ subst (λ z. content s m hands z ≡ content s m [] z) (sym (there.0).1) refl
+    | inr there ↦ subst (λ z. content s m hands z ≡ content s m [] z) (sym there.1) refl
   ]
 
   -- the words there
@@ -170,36 +164,9 @@ past_other u w f x g y base root off past = off (same_variable g y f x (sym root
 frame_of : (f y e x : ℕ) → OfRoot (OfVariable f y) ≡ OfRoot (OfVariable e x) → f ≡ e
 frame_of f y e x is = cc
 
-module _ (home : ℕ → ℕ) (observer : ℕ → Bool) (v : Views) (other : Around home) (gone : Way → Type 0)
-    (met_apart : (x : ℕ) (w z : Way) → v.way x ≡ Some w → IsOuter home v x w → gone z → Under z w ⊎ Under w z → ⊥) (s : View) (facts : List Fact)
-    (viewed : Viewed home observer other v s facts) where
-  pub hand_clear : (h : ℕ) → IsClearOf home observer v other gone met_apart (Object (OfHand h))
-  hand_clear h = record {
-    own = λ x w has past. hand_differs (view_rooted home observer other v s facts viewed.views x w has).2
-        (base_under (Object (OfHand h)) w (past_under (Object (OfHand h)) w past));
-    far = λ w n keeps past. (let root = other.begins w n keeps in
-        hand_differs root.2 (base_under (Object (OfHand h)) w (past_under (Object (OfHand h)) w past)));
-  }
-
-  -- a variable that the frame doesn't name, and where no way of others begins
-  pub variable_clear : (e x : ℕ) → ((y : ℕ) → home y ≡ e → ⊥) → AreFar home v e → ((w : Way) (n : ℕ) → other.kept w n → base_of w ≡ OfRoot (OfVariable e x) → ⊥)
-      → IsClearOf home observer v other gone met_apart (Object (OfVariable e x))
-  variable_clear e x elsewhere far apart = record {
-    own = λ y w has past. (
-        let base = base_under (Object (OfVariable e x)) w (past_under (Object (OfVariable e x)) w past) in
-        elim (view_rooted home observer other v s facts viewed.views y w has).3 [
-          | inl named ↦ not_named home e x elsewhere w named base
-          | inr foreign ↦ (
-              let low = far y w has foreign in
-              let same = frame_of foreign.0 foreign.1 e x (sym foreign.2 ∙ base) in omega (arith, low, same))
-        ]);
-    far = λ w n keeps past. apart w n keeps (base_under (Object (OfVariable e x)) w (past_under (Object (OfVariable e x)) w past));
-  }
-
 -- ---- what goes
 
-module _ (s : Typing) (settled : IsSettled s.table) (home : ℕ → ℕ) (observer : ℕ → Bool) (v : Views) (other : Around home) (gone : Way → Type 0)
-    (met_apart : (x : ℕ) (w z : Way) → v.way x ≡ Some w → IsOuter home v x w → gone z → Under z w ⊎ Under w z → ⊥) where
+module _ (s : Typing) (settled : IsSettled s.table) (home : ℕ → ℕ) (v : Views) (before_it gone : Way → Type 0) where
   abbrev whole_slots : Memory → Place → List Slot → List Slot
   whole_slots m k slots = take k.at (slots_at s m k.base) ++ slots ++ drop (k.at + length slots) (slots_at s m k.base)
 
@@ -209,9 +176,9 @@ module _ (s : Typing) (settled : IsSettled s.table) (home : ℕ → ℕ) (observ
 
   -- What a place has goes to a hand.
   module _ (m : Memory) (rest : List Waiting) (leaks : List Leak) (facts : List Fact) (k : Place) (l : Loc) (u : Way)
-      (viewed : Viewed home observer other v (seen s m rest leaks) facts) (kept : Kept s m rest) (spot : Spot s m rest k l)
+      (stand : OwnersStand home v facts before_it (seen s m rest leaks)) (kept : Kept s m rest) (spot : Spot s m rest k l)
       (rooted : IsRooted u) (reaches : Reaches (seen s m rest leaks) u l) (owns : (content s m rest (trunk l)).owns ≡ true)
-      (clean : (w : Way) → Under u w → ExcusedBy home v other facts w → ⊥) where
+      (clean : (w : Way) → Under u w → IsMovedBy home v facts w ⊎ before_it w → ⊥) where
     abbrev got : Waiting
     got = record { of = k.of; words = words_of s m k }
 
@@ -227,7 +194,7 @@ module _ (s : Typing) (settled : IsSettled s.table) (home : ℕ → ℕ) (observ
     whole p leaf = elim (bool_cases (get_or (content s m rest (trunk l)).slots (offset_in s.table (content s m rest (trunk l)).of (p ++ steps_in l)) no_slot).gone) [
       | inr e ↦ e
       | inl e ↦ absurd (clean (along u p) (under_along u u p (under_itself u))
-          (viewed.known (along u p) (part l p) (named_along u p rooted) (reaches_along (seen s m rest leaks) u l p reaches)
+          (stand.known (along u p) (part l p) (named_along u p rooted) (reaches_along (seen s m rest leaks) u l p reaches)
           (word_part s.table (content s m rest) l p ∙ word_yes s.table (content s m rest (trunk l)) (p ++ steps_in l) owns leaf ∙ marked _ _ e)))
     ]
       where
@@ -273,7 +240,7 @@ module _ (s : Typing) (settled : IsSettled s.table) (home : ℕ → ℕ) (observ
         → word_in s.table (content s (moved_out s k m) [] (OfRoot (OfVariable g y))) p ≡ Gone
     carried_gone g y p gone = elim (below l (part (OfRoot (OfVariable g y)) p)) [
       | inl (q, is) ↦ absurd (clean (along u q) (under_along u u q (under_itself u))
-          (viewed.known (along u q) (part l q) (named_along u q rooted) (reaches_along (seen s m rest leaks) u l q reaches)
+          (stand.known (along u q) (part l q) (named_along u q rooted) (reaches_along (seen s m rest leaks) u l q reaches)
           (subst (λ z. (seen s m rest leaks).word z ≡ Gone) is (word_root s.table a (OfVariable g y) p ∙ gone))))
       | inr off ↦ carried_beside g y p off ∙ gone
     ]
@@ -298,7 +265,7 @@ module _ (s : Typing) (settled : IsSettled s.table) (home : ℕ → ℕ) (observ
         → word_in s.table (content s (moved_out s k m) [] (OfCell n)) p ≡ Gone
     carried_gone_cell n p gone = elim (below l (part (OfCell n) p)) [
       | inl (q, is) ↦ absurd (clean (along u q) (under_along u u q (under_itself u))
-          (viewed.known (along u q) (part l q) (named_along u q rooted) (reaches_along (seen s m rest leaks) u l q reaches)
+          (stand.known (along u q) (part l q) (named_along u q rooted) (reaches_along (seen s m rest leaks) u l q reaches)
           (subst (λ z. (seen s m rest leaks).word z ≡ Gone) is (word_cell a n p ∙ gone))))
       | inr off ↦ carried_beside_cell n p off ∙ gone
     ]
@@ -310,17 +277,16 @@ module _ (s : Typing) (settled : IsSettled s.table) (home : ℕ → ℕ) (observ
 
     goes_off : (f x : ℕ) → base_of u ≡ OfRoot (OfVariable f x) → Given (seen s m rest leaks) after u (Object (OfHand (length rest))) l (hand (length rest))
     goes_off f x base =
-        given_apart (seen s m rest leaks) after u (Object (OfHand (length rest))) l (hand (length rest)) viewed.owned move reaches refl (λ e. hand_differs base e)
+        given_apart (seen s m rest leaks) after u (Object (OfHand (length rest))) l (hand (length rest)) stand.owned move reaches refl (λ e. hand_differs base e)
 
     -- What is gone then is known elsewhere.
     pub carried_off : (f x : ℕ) → base_of u ≡ OfRoot (OfVariable f x)
-        → IsClearOf home observer v other gone met_apart u → ((w : Way) → other.gone w → gone w) → ((p : List Step) → gone (along u p))
-        → Viewed home observer (gone_also home other gone) v (seen s (moved_out s k m) (got ∷ rest) leaks) facts
-    carried_off f x base clear more adds =
-        subst (λ z. Viewed home observer (gone_also home other gone) v z facts) after_is
-        (moved_between home observer v other gone met_apart (seen s m rest leaks) after u (Object (OfHand (length rest))) l (hand (length rest)) facts
-        (goes_off f x base) viewed rooted clean (λ w o off. more w o) (λ p is. adds p) clear
-        (hand_clear home observer v other gone met_apart (seen s m rest leaks) facts viewed (length rest)))
+        → ((w : Way) → before_it w → gone w) → ((p : List Step) → gone (along u p))
+        → OwnersStand home v facts gone (seen s (moved_out s k m) (got ∷ rest) leaks)
+    carried_off f x base more adds =
+        subst (OwnersStand home v facts gone) after_is
+        (moved_between home v facts before_it gone (seen s m rest leaks) after u (Object (OfHand (length rest))) l (hand (length rest))
+        (goes_off f x base) stand rooted clean (λ w o off. more w o) (λ p is. adds p))
 
     -- a way from a variable that doesn't go on after the place reaches what it reached
     pub carried_off_stays : (f x : ℕ) → base_of u ≡ OfRoot (OfVariable f x) → (w : Way) (g y : ℕ) → base_of w ≡ OfRoot (OfVariable g y) → (Past u w → ⊥) → (n : ℕ)
@@ -338,7 +304,7 @@ module _ (s : Typing) (settled : IsSettled s.table) (home : ℕ → ℕ) (observ
 
   -- What a hand has goes to a place that has no number.
   module _ (m : Memory) (got : Waiting) (rest : List Waiting) (leaks : List Leak) (facts : List Fact) (k : Place) (l : Loc) (u : Way)
-      (viewed : Viewed home observer other v (seen s m (got ∷ rest) leaks) facts) (kept : Kept s m (got ∷ rest)) (spot : Spot s m (got ∷ rest) k l)
+      (stand : OwnersStand home v facts before_it (seen s m (got ∷ rest) leaks)) (kept : Kept s m (got ∷ rest)) (spot : Spot s m (got ∷ rest) k l)
       (reaches : Reaches (seen s m (got ∷ rest) leaks) u l) (owns : (content s m (got ∷ rest) (trunk l)).owns ≡ true)
       (long : length got.words ≡ words s.table k.of) (fits : Matches s.table got.of k.of)
       (bare : (p : List Step) (c : ℕ) → word_in s.table (content s m (got ∷ rest) (trunk l)) (p ++ steps_in l) ≡ Held c → ⊥) where
@@ -401,24 +367,19 @@ module _ (s : Typing) (settled : IsSettled s.table) (home : ℕ → ℕ) (observ
 
     goes_to : (f x : ℕ) → base_of u ≡ OfRoot (OfVariable f x) → Given (seen s m (got ∷ rest) leaks) then_seen (Object (OfHand (length rest))) u (hand (length rest)) l
     goes_to f x base =
-        given_apart (seen s m (got ∷ rest) leaks) then_seen (Object (OfHand (length rest))) u (hand (length rest)) l viewed.owned goes_there refl reaches
+        given_apart (seen s m (got ∷ rest) leaks) then_seen (Object (OfHand (length rest))) u (hand (length rest)) l stand.owned goes_there refl reaches
         (λ e. hand_differs base (sym e))
 
     -- What was gone there isn't any more.
     pub carried_to : (f x : ℕ) → base_of u ≡ OfRoot (OfVariable f x)
-        → ((w : Way) → Under (Object (OfHand (length rest))) w → other.gone w → ⊥)
-        → IsClearOf home observer v other gone met_apart u → ((w : Way) → other.gone w → (Under u w → ⊥) → gone w)
-        → Viewed home observer (gone_also home other gone) v (seen s (stored s k got.words m) rest leaks) facts
-    carried_to f x base hands clear stays =
-        subst (λ z. Viewed home observer (gone_also home other gone) v z facts) then_is
-        (moved_between home observer v other gone met_apart (seen s m (got ∷ rest) leaks) then_seen (Object (OfHand (length rest))) u (hand (length rest)) l facts
-        (goes_to f x base) viewed tt
-        (λ w under known. elim known [
-          | inl moved ↦ no_hand home observer other v (seen s m (got ∷ rest) leaks) facts viewed (Object (OfHand (length rest))) w tt under moved
-          | inr o ↦ hands w under o
-        ]) stays
-        (λ p is. absurd (stored_whole s.table settled full given (length rest) got l (length m.cells) (λ n. (cell m n).freed) leaks change p is))
-        (hand_clear home observer v other gone met_apart (seen s m (got ∷ rest) leaks) facts viewed (length rest)) clear)
+        → ((w : Way) → Under (Object (OfHand (length rest))) w → IsMovedBy home v facts w ⊎ before_it w → ⊥)
+        → ((w : Way) → before_it w → (Under u w → ⊥) → gone w)
+        → OwnersStand home v facts gone (seen s (stored s k got.words m) rest leaks)
+    carried_to f x base hands stays =
+        subst (OwnersStand home v facts gone) then_is
+        (moved_between home v facts before_it gone (seen s m (got ∷ rest) leaks) then_seen (Object (OfHand (length rest))) u (hand (length rest)) l
+        (goes_to f x base) stand tt hands stays
+        (λ p is. absurd (stored_whole s.table settled full given (length rest) got l (length m.cells) (λ n. (cell m n).freed) leaks change p is)))
 
     -- a way from a variable that doesn't go on after the place reaches what it reached
     pub carried_to_stays : (f x : ℕ) → base_of u ≡ OfRoot (OfVariable f x) → (w : Way) (g y : ℕ) → base_of w ≡ OfRoot (OfVariable g y) → (Past u w → ⊥) → (n : ℕ)

@@ -31,11 +31,9 @@ use Rattle.machine.specs.Owners.{is_in}
 use Rattle.owned_ways.specs.Ways.{OfRoot, OfCell, Way, Under, Past, Named, Reaches, Allows, AllowsAll, after, number_of}
 use Rattle.owned_ways.specs.Ways as ways
 use Rattle.owned_ways.proofs.Assigned.{kept_fact}
-use Rattle.owned_ways.proofs.Locations.{under_along, under_itself}
 use Rattle.part_offsets.specs.Parts.{IsSettled}
 use Rattle.soundness.specs.Seen.{home}
 use Rattle.soundness.specs.Typed.{OwnsByShape}
-use Rattle.soundness.specs.Sound.{goes_through_none}
 use Rattle.soundness.specs.Ready.{root_of}
 use Rattle.soundness.proofs.Contents.{bool_cases}
 use Rattle.soundness.proofs.Scalars.{acts, acts_append, after_append, allows_both}
@@ -43,12 +41,12 @@ use Rattle.owned_loans.specs.Views.{Views, expand}
 use Rattle.owned_loans.proofs.Safe.{Unlent}
 use Rattle.viewed_soundness.specs.Holds.{sees_only}
 use Rattle.viewed_steps.specs.Taken.{Lodge}
-use Rattle.viewed_steps.specs.Sound.{IsScalarObject, IsReachedBack, IsCopiedBack, AreKeptPlaces}
+use Rattle.viewed_steps.specs.Sound.{IsScalarObject, IsCopiedBack}
 use Rattle.viewed_steps.specs.Ready.{AreUnobserved}
 use Rattle.viewed_steps.proofs.LaidOut.{IsHoused, house_of, IsPlaceLaid, IsBackLaid, IsLaidOne, AreLaidOut, place_cell, back_cell, cell_of, cells_of, IsOpenActual, AreOpenActuals}
 use Rattle.viewed_steps.proofs.Opened.{actual_open, IsLess, open_before}
 use Rattle.viewed_steps.proofs.Called.{copies_add}
-use Rattle.viewed_steps.proofs.Entered.{inside_named, IsFrom, IsOfPlace}
+use Rattle.viewed_steps.proofs.Entered.{IsFrom, IsOfPlace}
 use Rattle.viewed_steps.proofs.Passed.{apart_pair, flat_has, later_none, after_less}
 
 -- ---- names that don't overlap
@@ -125,26 +123,6 @@ passed_formal (x ∷ formals) actuals b has = absurd has
 
 -- ---- before the acts of the call
 
--- Those that are copied back to go through no access value; or they are rooted in objects that aren't observers,
--- and are for formals of scalar types, or for other ones and rooted in owners.
-abbrev pub AreKept : Typing → List ℕ → TypedTree → Type 0
-AreKept s (x ∷ formals) (More e rest) =
-    (is_in (object_at s x).mode ≡ false → (goes_through_none e ≡ true)
-    ⊎ (IsReachedBack s x e × ((y : ℕ) → Has (root_of e) y → sees_only s y ≡ false))) × AreKept s formals rest
-AreKept s formals actuals = Unit {0}
-
-pub are_kept : (s : Typing) (formals : List ℕ) (actuals : TypedTree) → AreKeptPlaces s formals actuals
-    → AreUnobserved s formals actuals → AreKept s formals actuals
-are_kept s [] actuals places unobserved = tt
-are_kept s (x ∷ formals) (More e rest) places unobserved = (
-  λ other. elim (places.0 other) [
-    | inl direct ↦ inl direct
-    | inr reached ↦ inr (reached, λ y has. unobserved.0 other y has)
-  ],
-  are_kept s formals rest places.1 unobserved.1,
-)
-are_kept s (x ∷ formals) actuals places unobserved = tt
-
 not_in : (m : Mode) → is_in m ≡ false → m ≡ mode.In → ⊥
 not_in mode.In e is = cc
 not_in mode.Out e is = cc
@@ -216,12 +194,12 @@ module _ (s : Typing) (own_law : OwnsByShape s.table) (depth : ℕ) (facts : Lis
       by_mode mode.InOut other allowed = allowed.0
   one_open x m e known outs is other roots allowed less apart = tt
 
-  pub all_open : (formals : List ℕ) (actuals : TypedTree) (known : List Fact) (outs : List PlaceName) → AreKept s formals actuals → NoOverlap s formals actuals
+  pub all_open : (formals : List ℕ) (actuals : TypedTree) (known : List Fact) (outs : List PlaceName) → AreUnobserved s formals actuals → NoOverlap s formals actuals
       → AllowsAll known (acts (actual_acts (ways_of formals) actuals)) → ((f : Fact) → Has facts f → IsLess outs known f)
       → ((k : PlaceName) → Has outs k → (b : alias.Passed) → Has (alias.passed formals actuals) b → IsCopiedBack s b.formal → overlaps k b.actual.name ≡ true → ⊥)
       → AreOpenActuals s depth facts formals actuals
-  all_open [] actuals known outs kept none allowed less apart = tt
-  all_open (x ∷ formals) (More e rest) known outs kept none allowed less apart =
+  all_open [] actuals known outs unobserved none allowed less apart = tt
+  all_open (x ∷ formals) (More e rest) known outs unobserved none allowed less apart =
       let first : List Act = acts (actual_act (passing s procedure x) e) in
       let others : List Act = acts (actual_acts (ways_of formals) rest) in
       let each = allows_both known first others (subst (AllowsAll known) (acts_append (actual_act (passing s procedure x) e) (actual_acts (ways_of formals) rest)) allowed) in
@@ -229,17 +207,11 @@ module _ (s : Typing) (own_law : OwnsByShape s.table) (depth : ℕ) (facts : Lis
       λ w is. subst (λ z. Has (alias.passed_as x z ++ alias.passed formals rest) (record { formal = x; actual = w })) (sym is) (inl refl) in
       let later : (b : alias.Passed) → Has (alias.passed formals rest) b → Has (alias.passed (x ∷ formals) (More e rest)) b =
       λ b has. Has-append_right (alias.passed_as x (written e)) (alias.passed formals rest) b has in (
-        λ other. elim (kept.0 other) [
-          | inl direct ↦ inl direct
-          | inr (scalar, roots) ↦ inr (
-            scalar,
-            one_open x (object_at s x).mode e known outs refl (not_in (object_at s x).mode other) roots each.0 less
-                (λ w is k has over. apart k has (record { formal = x; actual = w }) (among w is) (not_in (object_at s x).mode other) over),
-          )
-        ],
+        λ other. one_open x (object_at s x).mode e known outs refl (not_in (object_at s x).mode other) (λ y has. unobserved.0 other y has) each.0 less
+            (λ w is k has over. apart k has (record { formal = x; actual = w }) (among w is) (not_in (object_at s x).mode other) over),
         rest_open x e formals rest known outs none less
             (λ k has b there back over. apart k has b (later b there) back over) (written e) refl
-            (λ more less_then apart_then. all_open formals rest (after first known) more kept.1 (later_none s x e formals rest none) each.1 less_then apart_then),
+            (λ more less_then apart_then. all_open formals rest (after first known) more unobserved.1 (later_none s x e formals rest none) each.1 less_then apart_then),
       )
     where
       -- what is asked of the others
@@ -300,7 +272,7 @@ module _ (s : Typing) (own_law : OwnsByShape s.table) (depth : ℕ) (facts : Lis
 
           same_written : {a b : Written} → Some a ≡ Some b → a ≡ b
           same_written e = cc
-  all_open (x ∷ formals) actuals known outs kept none allowed less apart = tt
+  all_open (x ∷ formals) actuals known outs unobserved none allowed less apart = tt
 
 -- ---- the cells
 
@@ -372,7 +344,7 @@ module _ (s : Typing) (settled : IsSettled s.table) (own_law : OwnsByShape s.tab
       → k.base ≡ memory.OfCell h.cell
   house_base s depth v view x y path k h = elim (h.inside).stands [
     | inl variable ↦ (let never : OfRoot (ways.OfVariable (h.inside).frame (h.inside).object) ≡ OfCell h.cell = sym variable.1 ∙ h.start in cc)
-    | inr cell ↦ (cell.0).2 ∙ ap memory.OfCell (same_cell (sym (cell.0).1 ∙ h.start))
+    | inr cell ↦ cell.2 ∙ ap memory.OfCell (same_cell (sym cell.1 ∙ h.start))
   ]
     where
       same_cell : {a b : ℕ} → OfCell a ≡ OfCell b → a ≡ b
@@ -383,14 +355,14 @@ module _ (s : Typing) (settled : IsSettled s.table) (own_law : OwnsByShape s.tab
       → IsOfPlace a k → (h : IsHoused s depth v view x y path k) → AllowsAll known (acts (actual_act (passing s procedure x) (Name p y path u))) → ((f : Fact) → Has facts f → Has known f)
       → is_scalar (full s.table (object_at s x).of) ≡ false → Called (x ∷ formals) (More (Name p y path u) rest) (a ∷ passed) (house_of s depth v view x y path k h)
   housed_cell x m p y u path k a known formals rest passed is other of h allowed less many = record {
-    whole = h.to;
-    named = inside_named s settled depth k h.to h.inside;
+    whole = h.name;
+    named = h.named;
     plain = ap (sees_only s) (ap (λ (z : PlaceName). z.root) h.called) ∙ h.plain;
-    begins = subst (Under (h.inside).trunk) (sym (h.inside).way) (under_along (h.inside).trunk (h.inside).trunk (h.inside).steps (under_itself (h.inside).trunk));
+    begins = h.begins;
     deep = h.deep;
     leads = h.leads;
     reaches = h.reaches;
-    unlent = unlent_there x m p y u path known h.to is other h.called allowed less;
+    unlent = unlent_there x m p y u path known h.name is other h.called allowed less;
     by = record { formal = x; actual = record { pos = p; name = name_of y path; of = u } };
     among = inl refl;
     back = λ in_mode. other (sym is ∙ in_mode);

@@ -1,6 +1,6 @@
 -- What a place of the frame has is leaked, and the place is gone: a call with a formal of mode `out`, before the
 -- formal is declared.
-use Rattle.std.proofs.Common.{◌≡◌, refl, sym, ap, ◌∙◌, subst, ◌⊎◌, inl, inr, ℕ, Bool, not, true, List, [], ◌∷◌, ◌<◌, Some}
+use Rattle.std.proofs.Common.{◌≡◌, refl, sym, ap, ◌∙◌, subst, ◌⊎◌, inl, inr, ℕ, Bool, not, true, List, [], ◌∷◌, ◌<◌}
 use Rattle.spark_base.specs.Lists.{Has}
 use Rattle.place_names.specs.declared.fact.Fact.{Fact}
 use Rattle.place_names.specs.declared.fact.Fact.TheVariants.{Moved, Lent}
@@ -19,9 +19,9 @@ use Rattle.place_names.specs.declared.act.Mode.TheVariants as mode
 use Rattle.spark_base.proofs.Lists.{Has-append_cases, Has-filter}
 use Rattle.soundness.proofs.Contents.{bool_cases}
 use Rattle.std.specs.List.{filter}
-use Rattle.owned_loans.specs.Views.{Around, Views, AreClear, expand, Viewed, IsOuter}
-use Rattle.owned_loans.proofs.Moves.{view_on, reached, own_loan, lends_on}
-use Rattle.viewed_steps.proofs.Between.{gone_also, IsClearOf}
+use Rattle.owned_loans.specs.Views.{Views, AreClear, expand}
+use Rattle.viewed_steps.proofs.Between.{OwnersStand}
+use Rattle.owned_loans.proofs.Moves.{IsPlace, expand_under}
 
 -- The numbers at a place and in it are leaked, and the place has none.
 pub record IsEmptied (s t : View) (l : Loc) : Type 0 where
@@ -100,7 +100,7 @@ module _ (s t : View) (l : Loc) (d : IsEmptied s t l) where
 
 -- ---- with views
 
-fewer_clear : (observer : ℕ → Bool) (facts facts' : List Fact) → ((f : Fact) → Has facts' f → Has facts f) → AreClear observer facts → AreClear observer facts'
+pub fewer_clear : (observer : ℕ → Bool) (facts facts' : List Fact) → ((f : Fact) → Has facts' f → Has facts f) → AreClear observer facts → AreClear observer facts'
 fewer_clear observer facts facts' part clear = record {
   moved = λ k h n m has lent. clear.moved k h n m (part (Moved n) has) (part (Lent k h m) lent);
   lent = λ b h n m one two. clear.lent b h n m (part _ one) (part _ two);
@@ -117,82 +117,55 @@ pub record AreLeft (home : ℕ → ℕ) (v : Views) (facts facts' : List Fact) (
 pub none_left : (home : ℕ → ℕ) (v : Views) (facts : List Fact) (u : Way) → AreLeft home v facts facts u
 none_left home v facts u = record { part = λ f has. has; loans = λ k h n has. has; moved = λ w named has. inl has }
 
--- So are the facts after the act of an actual of mode `out`, if names that go on from it stand for themselves.
-pub out_left : (home : ℕ → ℕ) (v : Views) (facts : List Fact) (to : Way) (owning access : Bool) → Named home to
-    → ((w : Way) → Named home w → Under to w → expand v w ≡ w)
-    → AreLeft home v facts (effect (act.Actual (name_of to) mode.Out owning access) facts) to
-out_left home v facts to owning access named itself = record {
-  part = λ f has. elim (Has-append_cases (filter (λ g. not (removes (act.Actual (name_of to) mode.Out owning access) g)) facts) [] f has) [
-    | inl old ↦ (Has-filter (λ g. not (removes (act.Actual (name_of to) mode.Out owning access) g)) facts f old).0
+-- So are the facts after the act of an actual of mode `out`, whose name isn't a view by itself.
+pub out_left : (home : ℕ → ℕ) (v : Views) (facts : List Fact) (name : Way) (owning access : Bool) → Named home name
+    → IsPlace v name → AreLeft home v facts (effect (act.Actual (name_of name) mode.Out owning access) facts) (expand v name)
+out_left home v facts name owning access named place = record {
+  part = λ f has. elim (Has-append_cases (filter (λ g. not (removes (act.Actual (name_of name) mode.Out owning access) g)) facts) [] f has) [
+    | inl old ↦ (Has-filter (λ g. not (removes (act.Actual (name_of name) mode.Out owning access) g)) facts f old).0
     | inr never ↦ absurd never
   ];
-  loans = λ k h n has. kept_fact (act.Actual (name_of to) mode.Out owning access) facts (Lent k h n) has refl;
-  moved = λ w named_w has. elim (bool_cases (covers (name_of to) (name_of w))) [
-    | inl covered ↦ inr (let under = covered_under home to w named named_w covered in subst (Under to) (sym (itself w named_w under)) under)
-    | inr other ↦ inl (kept_fact (act.Actual (name_of to) mode.Out owning access) facts (Moved (name_of w)) has other)
+  loans = λ k h n has. kept_fact (act.Actual (name_of name) mode.Out owning access) facts (Lent k h n) has refl;
+  moved = λ w named_w has. elim (bool_cases (covers (name_of name) (name_of w))) [
+    | inl covered ↦ inr (expand_under v name w place (covered_under home name w named named_w covered))
+    | inr other ↦ inl (kept_fact (act.Actual (name_of name) mode.Out owning access) facts (Moved (name_of w)) has other)
   ];
 }
 
-module _ (home : ℕ → ℕ) (observer : ℕ → Bool) (v : Views) (other : Around home) (gone : Way → Type 0)
-    (apart : (x : ℕ) (w z : Way) → v.way x ≡ Some w → IsOuter home v x w → gone z → Under z w ⊎ Under w z → ⊥) where
+module _ (home : ℕ → ℕ) (v : Views) (before_it gone : Way → Type 0) where
   -- An act that takes back what was moved at a way or past it: meanwhile others know of that.
-  pub taken_back : (s : View) (u : Way) (facts facts' : List Fact) → Viewed home observer other v s facts → AreLeft home v facts facts' u
-      → ((w : Way) → other.gone w → gone w) → ((w : Way) → Under u w → gone w)
-      → Viewed home observer (gone_also home other gone) v s facts'
-  taken_back s u facts facts' viewed left more adds = record {
-    owned = viewed.owned;
-    covered = viewed.covered;
-    known = λ w m n r h. elim (viewed.known w m n r h) [
+  pub taken_back : (s : View) (u : Way) (facts facts' : List Fact) → OwnersStand home v facts before_it s → AreLeft home v facts facts' u
+      → ((w : Way) → before_it w → gone w) → ((w : Way) → Under u w → gone w) → OwnersStand home v facts' gone s
+  taken_back s u facts facts' stand left more adds = record {
+    owned = stand.owned;
+    covered = stand.covered;
+    known = λ w m n r h. elim (stand.known w m n r h) [
       | inr else ↦ inr (more w else)
-      | inl (inr away) ↦ inl (inr away)
-      | inl (inl (z, moved, leads)) ↦ elim (left.moved z moved.0 moved.1) [
-        | inl stays ↦ inl (inl (z, (moved.0, stays), leads))
+      | inl (z, moved, leads) ↦ elim (left.moved z moved.0 moved.1) [
+        | inl stays ↦ inl (z, (moved.0, stays), leads)
         | inr under ↦ inr (adds w (subst (Under u) leads under))
       ]
     ];
-    clear = fewer_clear observer facts facts' left.part viewed.clear;
-    views = λ x w has.
-        view_on home observer other v s s facts facts' x w (viewed.views x w has) (λ b n loan. own_loan observer facts facts' left.loans b x n loan)
-        (reached home observer other v s facts x w (viewed.views x w has));
-    whole = apart;
-    whole_away = viewed.whole_away;
-    shown = viewed.shown;
-    past = viewed.past;
-    lends = λ k n lent. lends_on observer v facts facts' left.loans k n (viewed.lends k n lent);
-    far = viewed.far;
-    bare = λ w n p none. absurd none;
   }
 
-  pub emptied : (s t : View) (u : Way) (l : Loc) (facts facts' : List Fact) → IsEmptied s t l → Viewed home observer other v s facts → IsRooted u
-      → Reaches s u l → AreLeft home v facts facts' u → IsClearOf home observer v other gone apart u
-      → ((w : Way) → other.gone w → (Under u w → ⊥) → gone w)
-      → ((p : List Step) → gone (along u p)) → Viewed home observer (gone_also home other gone) v t facts'
-  emptied s t u l facts facts' d viewed rooted reaches left off more adds = record {
-    owned = owned_then s t l d viewed.owned;
-    covered = covered_then s t l d viewed.covered;
+  pub emptied : (s t : View) (u : Way) (l : Loc) (facts facts' : List Fact) → IsEmptied s t l → OwnersStand home v facts before_it s → IsRooted u
+      → Reaches s u l → AreLeft home v facts facts' u
+      → ((w : Way) → before_it w → (Under u w → ⊥) → gone w)
+      → ((p : List Step) → gone (along u p)) → OwnersStand home v facts' gone t
+  emptied s t u l facts facts' d stand rooted reaches left more adds = record {
+    owned = owned_then s t l d stand.owned;
+    covered = covered_then s t l d stand.covered;
     known = λ w m n r h. elim (below l m) [
       | inl b ↦ (
           let same : w ≡ along u b.0 =
-          one_way s viewed.owned w (along u b.0) m (before s t l d w m n r) (subst (Reaches s (along u b.0)) (sym b.1) (reaches_along s u l b.0 reaches)) in
+          one_way s stand.owned w (along u b.0) m (before s t l d w m n r) (subst (Reaches s (along u b.0)) (sym b.1) (reaches_along s u l b.0 reaches)) in
           inr (subst gone (sym same) (adds b.0)))
-      | inr outside ↦ elim (viewed.known w m n (before s t l d w m n r) (sym (d.off m outside) ∙ h)) [
-        | inr else ↦ inr (more w else (λ under. outside (inside_there s t l d viewed.owned u rooted reaches w m n under r)))
-        | inl (inr away) ↦ inl (inr away)
-        | inl (inl (z, moved, leads)) ↦ elim (left.moved z moved.0 moved.1) [
-          | inl stays ↦ inl (inl (z, (moved.0, stays), leads))
-          | inr under ↦ absurd (outside (inside_there s t l d viewed.owned u rooted reaches w m n (subst (Under u) leads under) r))
+      | inr outside ↦ elim (stand.known w m n (before s t l d w m n r) (sym (d.off m outside) ∙ h)) [
+        | inr else ↦ inr (more w else (λ under. outside (inside_there s t l d stand.owned u rooted reaches w m n under r)))
+        | inl (z, moved, leads) ↦ elim (left.moved z moved.0 moved.1) [
+          | inl stays ↦ inl (z, (moved.0, stays), leads)
+          | inr under ↦ absurd (outside (inside_there s t l d stand.owned u rooted reaches w m n (subst (Under u) leads under) r))
         ]
       ]
     ];
-    clear = fewer_clear observer facts facts' left.part viewed.clear;
-    views = λ x w has.
-        view_on home observer other v s t facts facts' x w (viewed.views x w has) (λ b n loan. own_loan observer facts facts' left.loans b x n loan)
-        (keeps_off s t l d viewed.owned u rooted reaches w (OfCell (v.cell x)) (reached home observer other v s facts x w (viewed.views x w has)) (λ past. off.own x w has past));
-    whole = apart;
-    whole_away = viewed.whole_away;
-    shown = viewed.shown;
-    past = viewed.past;
-    lends = λ k n lent. lends_on observer v facts facts' left.loans k n (viewed.lends k n lent);
-    far = λ w n held. keeps_off s t l d viewed.owned u rooted reaches w (OfCell n) (viewed.far w n held) (λ past. off.far w n held past);
-    bare = λ w n p none. absurd none;
   }

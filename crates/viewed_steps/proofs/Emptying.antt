@@ -1,13 +1,13 @@
 -- A formal of mode `out` that isn't scalar: what the place of its actual has is leaked, and is gone; the formal
 -- has what an object has without a value.
-use Rattle.std.proofs.Common.{◌≡◌, refl, sym, ap, ◌∙◌, subst, ◌⊎◌, inl, inr, ℕ, suc, ◌+◌, true, false, not, List, [], ◌++◌, take, drop, length, get_or, arith, append-nil, Some}
+use Rattle.std.proofs.Common.{◌≡◌, refl, sym, ap, ◌∙◌, subst, inl, inr, ℕ, suc, ◌+◌, true, not, List, [], ◌++◌, take, drop, length, get_or, arith, append-nil, Some}
 use Rattle.spark_base.specs.Lists.{Has}
 use Rattle.place_names.specs.declared.fact.Fact.{Fact}
-use Rattle.flow_paths.specs.Objects.{Typing, object_at, is_anonymous, view_of}
+use Rattle.flow_paths.specs.Objects.{Typing, object_at}
 use Rattle.machine.specs.Words.{access_offsets, default}
 use Rattle.machine.specs.Memory.{Slot, Memory, Place, fresh, no_slot, variable_slots, slots_at, slots_of, words_of, gone_at, moved_out, declared}
 use Rattle.machine.specs.States.{Waiting, Leak}
-use Rattle.owned_ways.specs.Ways.{Step, OfVariable, Loc, OfRoot, OfCell, IsSame, Reaches, Way, Empty, Gone, Held, Under, Past, part, along, number_of}
+use Rattle.owned_ways.specs.Ways.{Step, OfVariable, Loc, OfRoot, OfCell, IsSame, Reaches, Way, Empty, Gone, Held, Under, Past, part, along}
 use Rattle.owned_ways.proofs.Locations.{below}
 use Rattle.part_offsets.specs.Parts.{IsSettled}
 use Rattle.soundness.specs.Seen.{content, trunk, steps_in, word_in, seen, home, is_view_formal}
@@ -17,29 +17,26 @@ use Rattle.soundness.proofs.Contents.{word_part, word_root}
 use Rattle.soundness.proofs.Defaults.{none_default}
 use Rattle.soundness.proofs.Memories.{put_other}
 use Rattle.soundness.proofs.Lasting.{keeps, lengths, less_kept, declared_kept}
-use Rattle.owned_loans.specs.Views.{Around, Views, expand, Viewed, IsOuter}
-use Rattle.owned_loans.proofs.Safe.{off_view}
-use Rattle.owned_loans.proofs.Moves.{same_viewed}
-use Rattle.viewed_soundness.specs.Holds.{is_view, sees_only}
-use Rattle.viewed_soundness.proofs.Names.{owner_sees, both_no, true_false, not_view}
+use Rattle.owned_loans.specs.Views.{Views}
+use Rattle.viewed_soundness.specs.Holds.{is_view}
+use Rattle.viewed_soundness.proofs.Names.{true_false, not_view}
 use Rattle.viewed_soundness.proofs.Evaluated.{matches_named}
 use Rattle.viewed_steps.specs.Taken.{Lodge, AreCarried, IsPassedOn, IsBare}
-use Rattle.viewed_steps.proofs.Between.{gone_also, same_reaches, IsClearOf, same_variable}
+use Rattle.viewed_steps.proofs.Between.{same_reaches, same_variable, OwnersStand, same_stand}
 use Rattle.viewed_steps.proofs.Carried.{inside_low, inside_other, inside_at, inside_spot, inside_reached, inside_rooted, inside_owns, inside_word}
 use Rattle.viewed_steps.proofs.Beside.{put_beside}
 use Rattle.viewed_steps.proofs.Emptied.{IsEmptied, none_left, owner_before, keeps_off, emptied}
 use Rattle.viewed_steps.proofs.Vacated.{vacated, vacated_gone, default_same}
 use Rattle.viewed_steps.proofs.Outs.{HasStill, places_apart, ways_apart}
 use Rattle.viewed_steps.proofs.Views.{AreAccess, view_cases}
-use Rattle.viewed_steps.proofs.Entered.{inside_plain, inside_named, inside_number, inside_itself}
+use Rattle.viewed_steps.proofs.Entered.{inside_no_view}
 
 module _ (s : Typing) (settled : IsSettled s.table) (own_law : OwnsByShape s.table) (in_formals : AreAccess s)
     (hands : List Waiting) (leaks : List Leak) (depth : ℕ) (v : Views) (only : (x : ℕ) (w : Way) → v.way x ≡ Some w → is_view s x ≡ true) (facts : List Fact)
     (scope : List ℕ) (cells : List Lodge)
-    (other : Around (home s depth)) (gone : Way → Type 0)
-    (gone_apart : (y : ℕ) (w z : Way) → v.way y ≡ Some w → IsOuter (home s depth) v y w → gone z → Under z w ⊎ Under w z → ⊥)
-    (x : ℕ) (k : Place) (to : Way) (passed : IsPassedOn s cells depth facts scope x k to) (none_kept : (w : Way) (n : ℕ) → other.kept w n → ⊥)
-    (m : Memory) (typed : Kept s m hands) (viewed : Viewed (home s depth) (sees_only s) other v (seen s m hands leaks) facts)
+    (other gone : Way → Type 0)
+    (x : ℕ) (k : Place) (to : Way) (passed : IsPassedOn s cells depth v facts scope x k to)
+    (m : Memory) (typed : Kept s m hands) (stand : OwnersStand (home s depth) v facts other (seen s m hands leaks))
     (blank : (p : List Step) → word_in s.table (content s m [] (OfRoot (OfVariable (suc depth) x))) p ≡ Empty)
     (there : Reaches (seen s m hands leaks) (passed.inside).trunk (passed.inside).start) (found : List Leak) where
   abbrev at : Loc
@@ -56,22 +53,6 @@ module _ (s : Typing) (settled : IsSettled s.table) (own_law : OwnsByShape s.tab
 
   reached : Reaches (seen s m hands leaks) to at
   reached = inside_reached s depth k to passed.inside (seen s m hands leaks) there
-
-  plain_name : sees_only s (number_of to) ≡ false
-  plain_name =
-      ap (sees_only s) (inside_number s settled depth k to passed.inside)
-      ∙ owner_sees s (passed.inside).object (inside_plain s settled depth k to passed.inside) (passed.inside).owner
-
-  itself : expand v to ≡ to
-  itself = inside_itself s settled depth k to passed.inside v only
-
-  clear_to : IsClearOf (home s depth) (sees_only s) v other gone gone_apart to
-  clear_to = record {
-    own = λ y w has past.
-        off_view (home s depth) (sees_only s) other v (seen s m hands leaks) facts viewed to y w
-        (inside_named s settled depth k to passed.inside, plain_name) passed.unlent has (subst (λ z. Past z w) (sym itself) past);
-    far = λ w n keeps_it past. none_kept w n keeps_it;
-  }
 
   frames_differ : (f y g z : ℕ) → (f ≡ g → ⊥) → OfVariable f y ≡ OfVariable g z → ⊥
   frames_differ f y g z ne e = (let same : f ≡ g = cc in ne same)
@@ -118,9 +99,11 @@ module _ (s : Typing) (settled : IsSettled s.table) (own_law : OwnsByShape s.tab
   out_views g y view =
       ap (λ z. (get_or z 0 no_slot).word)
       (new_other g y (λ e. formal_plain (subst (λ z. is_view s z ≡ true) (sym (same_variable (suc depth) x g y (ap OfRoot e)).1) view))
-      ∙ other_base g y (λ e. true_false (is_view s y) view
-      (ap (is_view s) (sym (same_variable (passed.inside).frame (passed.inside).object g y (ap OfRoot e)).1)
-      ∙ both_no (is_anonymous (view_of s (passed.inside).object)) (is_view_formal s (passed.inside).object) (inside_plain s settled depth k to passed.inside) (passed.inside).owner)))
+      ∙ put_beside s 0 k.base (take k.at (slots_at s m k.base) ++ marks ++ drop (k.at + length marks) (slots_at s m k.base)) m g y
+      (inside_no_view s settled depth k to passed.inside g y view))
+    where
+      marks : List Slot
+      marks = gone_at (access_offsets s.table k.of) (slots_of s m k)
 
   -- what is left to be declared has nothing still
   pub out_blank : (y : ℕ) → (y ≡ x → ⊥) → (p : List Step) → word_in s.table (content s m [] (OfRoot (OfVariable (suc depth) y))) p ≡ Empty
@@ -133,14 +116,14 @@ module _ (s : Typing) (settled : IsSettled s.table) (own_law : OwnsByShape s.tab
   module _ (checks : Checks s.table (content s m hands (trunk at)) (steps_in at) leaks found) where
     change : IsEmptied (seen s m hands leaks) (seen s mid hands found) at
     change =
-        vacated s settled m hands leaks k at typed spot (inside_owns s depth k to passed.inside settled m hands leaks typed viewed.owned there) found checks
+        vacated s settled m hands leaks k at typed spot (inside_owns s depth k to passed.inside settled m hands leaks typed stand.owned there) found checks
 
-    pub out_viewed : ((w : Way) → other.gone w → (Under to w → ⊥) → gone w) → ((p : List Step) → gone (along to p))
-        → Viewed (home s depth) (sees_only s) (gone_also (home s depth) other gone) v (seen s next hands found) facts
-    out_viewed more adds =
-        same_viewed (home s depth) (sees_only s) (gone_also (home s depth) other gone) v (seen s mid hands found) (seen s next hands found) facts declared_same
-        (emptied (home s depth) (sees_only s) v other gone gone_apart (seen s m hands leaks) (seen s mid hands found) to at facts facts change viewed
-        (inside_rooted s depth k to passed.inside) reached (none_left (home s depth) v facts to) clear_to more adds)
+    pub out_stand : ((w : Way) → other w → (Under to w → ⊥) → gone w) → ((p : List Step) → gone (along to p))
+        → OwnersStand (home s depth) v facts gone (seen s next hands found)
+    out_stand more adds =
+        same_stand (home s depth) v facts gone (seen s mid hands found) (seen s next hands found) declared_same
+        (emptied (home s depth) v other gone (seen s m hands leaks) (seen s mid hands found) to at facts facts change stand
+        (inside_rooted s depth k to passed.inside) reached (none_left (home s depth) v facts to) more adds)
 
     -- the word of a part of a variable, as owners see it
     seen_next : (g y : ℕ) (p : List Step)
@@ -172,7 +155,7 @@ module _ (s : Typing) (settled : IsSettled s.table) (own_law : OwnsByShape s.tab
     gone_then g y p gone_there = elim (below at (part (OfRoot (OfVariable g y)) p)) [
       | inl (q, is) ↦
           seen_next g y p ∙ ap (seen s mid hands found).word is
-          ∙ vacated_gone s settled m hands leaks k at typed spot (inside_owns s depth k to passed.inside settled m hands leaks typed viewed.owned there) found q
+          ∙ vacated_gone s settled m hands leaks k at typed spot (inside_owns s depth k to passed.inside settled m hands leaks typed stand.owned there) found q
           (ap (seen s m hands leaks).word (sym is) ∙ seen_before g y p ∙ gone_there)
       | inr off ↦ seen_next g y p ∙ change.off (part (OfRoot (OfVariable g y)) p) off ∙ seen_before g y p ∙ gone_there
     ]
@@ -187,7 +170,7 @@ module _ (s : Typing) (settled : IsSettled s.table) (own_law : OwnsByShape s.tab
       gone_cells = λ n p off gone_there. elim (below at (part (OfCell n) p)) [
         | inl (q, is) ↦
             cell_next n p ∙ ap (seen s mid hands found).word is
-            ∙ vacated_gone s settled m hands leaks k at typed spot (inside_owns s depth k to passed.inside settled m hands leaks typed viewed.owned there) found q
+            ∙ vacated_gone s settled m hands leaks k at typed spot (inside_owns s depth k to passed.inside settled m hands leaks typed stand.owned there) found q
             (ap (seen s m hands leaks).word (sym is) ∙ cell_before n p ∙ gone_there)
         | inr off ↦ cell_next n p ∙ change.off (part (OfCell n) p) off ∙ cell_before n p ∙ gone_there
       ];
@@ -206,13 +189,13 @@ module _ (s : Typing) (settled : IsSettled s.table) (own_law : OwnsByShape s.tab
               subst (λ z. word_in s.table (content s next [] z) q ≡ word_in s.table (content s mid [] z) q) (sym variable.1)
               (seen_next (passed.inside).frame (passed.inside).object q
               ∙ word_root s.table (content s mid hands) (OfVariable (passed.inside).frame (passed.inside).object) q)
-          | inr cell ↦ subst (λ z. word_in s.table (content s next [] z) q ≡ word_in s.table (content s mid [] z) q) (sym (cell.0).1) refl
+          | inr cell ↦ subst (λ z. word_in s.table (content s next [] z) q ≡ word_in s.table (content s mid [] z) q) (sym cell.1) refl
         ]
 
     pub out_stays : (w : Way) → (Past to w → ⊥) → (c : ℕ) → Reaches (seen s m hands leaks) w (OfCell c) → Reaches (seen s next hands found) w (OfCell c)
     out_stays w aside c reach =
         same_reaches (seen s mid hands found) (seen s next hands found) declared_same w (OfCell c)
-        (keeps_off (seen s m hands leaks) (seen s mid hands found) at change viewed.owned to (inside_rooted s depth k to passed.inside) reached w (OfCell c) reach aside)
+        (keeps_off (seen s m hands leaks) (seen s mid hands found) at change stand.owned to (inside_rooted s depth k to passed.inside) reached w (OfCell c) reach aside)
 
     -- a place that is apart from it has what it had
     pub out_still : ((c : Lodge) → Has cells c → Reaches (seen s m hands leaks) c.way (OfCell c.cell)) → (z : Way) → (Under to z → ⊥) × (Under z to → ⊥)
@@ -221,11 +204,11 @@ module _ (s : Typing) (settled : IsSettled s.table) (own_law : OwnsByShape s.tab
       (λ g y q p low is.
           seen_next g y (p ++ q)
           ∙ change.off (part (OfRoot (OfVariable g y)) (p ++ q))
-          (places_apart (seen s m hands leaks) viewed.owned to at reached g y q p (subst (λ w. (Under to w → ⊥) × (Under w to → ⊥)) is apart))
+          (places_apart (seen s m hands leaks) stand.owned to at reached g y q p (subst (λ w. (Under to w → ⊥) × (Under w to → ⊥)) is apart))
           ∙ seen_before g y (p ++ q)),
       (λ c q p has is.
           cell_next c.cell (p ++ q)
           ∙ change.off (part (OfCell c.cell) (p ++ q))
-          (ways_apart (seen s m hands leaks) viewed.owned to at reached c.way (OfCell c.cell) (reached_cells c has) q p (subst (λ w. (Under to w → ⊥) × (Under w to → ⊥)) is apart))
+          (ways_apart (seen s m hands leaks) stand.owned to at reached c.way (OfCell c.cell) (reached_cells c has) q p (subst (λ w. (Under to w → ⊥) × (Under w to → ⊥)) is apart))
           ∙ cell_before c.cell (p ++ q)),
     )

@@ -1,45 +1,41 @@
 -- What a call takes for formals: a scalar value, a scalar place, or another place in a variable of its
 -- caller. A formal of mode `in out` has what its actual had; the place of the actual is gone meanwhile, and
 -- has no number.
-use Rattle.viewed_soundness.specs.Holds.{is_view, sees_only, IsNamed, is_given}
+use Rattle.viewed_soundness.specs.Holds.{is_view, IsNamed, is_given}
 use Rattle.std.proofs.Common.{◌≡◌, refl, sym, ap, ◌∙◌, subst, ◌⊎◌, inl, inr, ℕ, suc, ◌+◌, Bool, true, false, not, ◌&&◌, ◌||◌, List, [], ◌∷◌, ◌++◌, take, drop, length, get_or, arith, if◌then◌else◌, Some}
 use Rattle.std.proofs.lemmas.List.{length-map}
 use Rattle.spark_base.specs.Lists.{Has}
 use Rattle.spark_base.specs.declared.position.Pos.{Pos}
 use Rattle.place_names.specs.declared.fact.Fact.{Fact}
-use Rattle.place_names.specs.declared.fact.Fact.TheVariants.{Moved}
-use Rattle.place_names.specs.declared.rule.Loan.TheVariants.{Borrowed}
-use Rattle.place_names.specs.Names.{Name as PlaceName, overlaps}
 use Rattle.type_definitions.specs.Types.{shape_of, words, full, is_scalar, is_owning}
 use Rattle.flow_paths.specs.Objects.{Typing, object_at, is_variable, is_borrowing, is_observing, is_anonymous, is_observer, is_package_object, view_of}
 use Rattle.machine.specs.Words.{access_offsets}
+use Rattle.machine.specs.Memory as memory
 use Rattle.machine.specs.Memory.{Slot, Memory, Place, fresh, no_slot, variable_slots, slots_at, slots_of, words_of, gone_at, moved_out, declared}
 use Rattle.machine.specs.Words as machine
 use Rattle.machine.specs.Calls.{Passed, Value, From, To}
 use Rattle.machine.specs.States.{Waiting, Leak}
-use Rattle.owned_ways.specs.Ways.{Step, OfVariable, OfHand, Loc, OfRoot, OfCell, Reaches, Way, Object, Empty, Lost, Into, All, Held, Under, Past, Named, along, base_of, number_of, name_of}
-use Rattle.owned_ways.proofs.Locations.{same_loc, under_along, under_itself}
+use Rattle.owned_ways.specs.Ways.{Step, OfVariable, OfHand, Loc, OfRoot, OfCell, Reaches, Way, Object, Empty, Held, Under, Past, Named, along, base_of, number_of}
+use Rattle.owned_ways.proofs.Locations.{same_loc}
 use Rattle.part_offsets.specs.Parts.{type_in, has_part, IsSettled}
 use Rattle.soundness.specs.Seen.{content, word_in, seen, home, is_view_formal, in_hand}
 use Rattle.type_definitions.specs.declared.table.Shape.TheVariants as shape
 use Rattle.soundness.specs.Typed.{Matches, IsCell, OwnsByShape, Kept, Spot, Points}
 use Rattle.soundness.proofs.Memories.{put_other}
-use Rattle.soundness.proofs.Moments.{number_part}
+use Rattle.soundness.proofs.Moments.{number_part, declared_sound}
 use Rattle.soundness.proofs.Steps.{matches_words, plain_end, alike, taken_slots, room}
 use Rattle.soundness.proofs.Lasting.{keeps, declared_kept}
 use Rattle.soundness.proofs.Stays.{One}
-use Rattle.owned_loans.specs.Views.{Around, Views, expand, ExcusedBy, Viewed, IsOuter}
-use Rattle.owned_loans.proofs.Safe.{off_view}
-use Rattle.owned_loans.proofs.Others.{clean_away}
-use Rattle.owned_loans.proofs.Ways.{lifts, lifted_root, flip, meet_overlaps}
-use Rattle.viewed_soundness.proofs.Names.{both_no, true_false, view_access, not_view, owner_sees}
+use Rattle.owned_loans.specs.Views.{Views, IsMovedBy, expand}
+use Rattle.owned_loans.proofs.Ways.{lifts, lifted_root}
+use Rattle.viewed_soundness.proofs.Names.{both_no, true_false, view_access, not_view}
 use Rattle.viewed_soundness.proofs.Evaluated.{matches_named}
-use Rattle.viewed_steps.specs.Taken.{Lodge, trunk_type, IsPlainPlace, AreCarried, IsInside, IsPassedOn, IsBare, IsApartFrom}
-use Rattle.viewed_steps.proofs.Between.{IsHomed, homed_outer, gone_also, IsClearOf, base_along, base_under, same_variable}
-use Rattle.viewed_steps.proofs.Carried.{inside_homed, inside_low, carried_gone, carried_held_cell, carried_gone_cell, carried_beside_cell, inside_other, inside_at, inside_spot, inside_reached, inside_base, inside_rooted, inside_owns, inside_word, carried_bare, carried_held, carried_beside, carried_off_stays, carried_off}
+use Rattle.viewed_steps.specs.Taken.{Lodge, trunk_type, IsPlainPlace, AreCarried, IsInside, IsPassedOn, IsBare, IsApartFrom, IsOwnAt}
+use Rattle.viewed_steps.proofs.Between.{base_along, base_under, same_variable, OwnersStand, Begins, as_sound, from_sound}
+use Rattle.viewed_steps.proofs.Carried.{inside_begins, inside_low, carried_gone, carried_held_cell, carried_gone_cell, carried_beside_cell, inside_other, inside_at, inside_spot, inside_reached, inside_base, inside_rooted, inside_owns, inside_word, carried_bare, carried_held, carried_beside, carried_off_stays, carried_off}
 use Rattle.viewed_steps.proofs.Outs.{Out, HasStill, places_apart, ways_apart}
 use Rattle.viewed_steps.proofs.Beside.{put_beside}
-use Rattle.viewed_steps.proofs.Declared.{declared_viewed, declared_low}
+use Rattle.viewed_steps.proofs.Declared.{declared_low}
 use Rattle.viewed_steps.proofs.Views.{AreAccess, AreFar, base_named, view_cases}
 
 named_part : (home : ℕ → ℕ) (w : Way) (p : List Step) → Named home w → Named home (along w p)
@@ -62,45 +58,51 @@ not_observing s x plain = neither (is_variable (object_at s x).kind) (is_borrowi
     neither true a false e = refl
     neither false a b e = refl
 
-number_based : (w : Way) (f x : ℕ) → base_of w ≡ OfRoot (OfVariable f x) → number_of w ≡ x
-number_based (Object (OfVariable g y)) f x is = cc
-number_based (Object (OfHand h)) f x is = cc
-number_based (Lost n) f x is = cc
-number_based (Into w i) f x is = number_based w f x is
-number_based (All w) f x is = number_based w f x is
-
 module _ (s : Typing) (settled : IsSettled s.table) (depth : ℕ) (k : Place) (to : Way) (inside : IsInside s depth k to) where
-  -- the variable is no view
-  pub inside_plain : is_anonymous (view_of s inside.object) ≡ false
-  inside_plain = elim inside.stands [ inr there ↦ there.1 | inl variable ↦ by_kind variable.0 (is_anonymous (view_of s inside.object)) refl ]
+  -- its variable is no view, if it is in one
+  pub own_plain : IsOwnAt s depth inside.frame inside.object k inside.trunk inside.start → is_view s inside.object ≡ false
+  own_plain own = both_no (is_anonymous (view_of s inside.object)) (is_view_formal s inside.object) (by_kind (is_anonymous (view_of s inside.object)) refl) own.4
     where
-      by_kind : inside.trunk ≡ Object (OfVariable inside.frame inside.object) → (b : Bool) → is_anonymous (view_of s inside.object) ≡ b → b ≡ false
-      by_kind is false e = refl
-      by_kind is true view =
+      by_kind : (b : Bool) → is_anonymous (view_of s inside.object) ≡ b → is_anonymous (view_of s inside.object) ≡ false
+      by_kind false e = e
+      by_kind true view =
           let access = view_access (shape_of s.table (object_at s inside.object).of) view in
           let none = plain_end s.table settled (object_at s inside.object).of access.0 access.1 inside.steps
-          (ap (λ z. has_part s.table (trunk_type s z) inside.steps) (sym is) ∙ inside.there) in
+          (ap (λ z. has_part s.table (trunk_type s z) inside.steps) (sym own.0) ∙ inside.there) in
           let fits : Matches s.table k.of (object_at s inside.object).of =
           subst (λ p. Matches s.table k.of (type_in s.table (object_at s inside.object).of p)) none
-          (subst (λ z. Matches s.table k.of (type_in s.table (trunk_type s z) inside.steps)) is inside.of) in
+          (subst (λ z. Matches s.table k.of (type_in s.table (trunk_type s z) inside.steps)) own.0 inside.of) in
           absurd (not_view s.table (object_at s inside.object).of view (matches_named s.table k.of (object_at s inside.object).of fits inside.named))
 
-  pub inside_named : Named (home s depth) to
-  inside_named =
+  -- its way is a name of the frame then, that stands for itself
+  pub own_named : IsOwnAt s depth inside.frame inside.object k inside.trunk inside.start → Named (home s depth) to
+  own_named own =
       subst (Named (home s depth)) (sym inside.way)
       (named_part (home s depth) inside.trunk inside.steps
-      (base_named (home s depth) inside.trunk inside.object (inside.root ∙ ap (λ z. OfRoot (OfVariable z inside.object)) inside.at_home)))
+      (base_named (home s depth) inside.trunk inside.object (inside.root ∙ ap (λ z. OfRoot (OfVariable z inside.object)) own.3)))
 
-  pub inside_number : number_of to ≡ inside.object
-  inside_number = ap number_of inside.way ∙ number_part inside.trunk inside.steps ∙ number_based inside.trunk inside.frame inside.object inside.root
+  pub own_number : IsOwnAt s depth inside.frame inside.object k inside.trunk inside.start → number_of to ≡ inside.object
+  own_number own = ap number_of inside.way ∙ number_part inside.trunk inside.steps ∙ ap number_of own.0
 
-  pub inside_itself : (v : Views) → ((x : ℕ) (w : Way) → v.way x ≡ Some w → is_view s x ≡ true) → expand v to ≡ to
-  inside_itself v only = elim (lifts v to) [
+  pub own_itself : IsOwnAt s depth inside.frame inside.object k inside.trunk inside.start → (v : Views)
+      → ((x : ℕ) (w : Way) → v.way x ≡ Some w → is_view s x ≡ true) → expand v to ≡ to
+  own_itself own v only = elim (lifts v to) [
     | inl itself ↦ itself
-    | inr l ↦ absurd (true_false (is_view s l.object) (only l.object l.way l.has)
-        (ap (is_view s) (sym (lifted_root v to l) ∙ inside_number)
-        ∙ both_no (is_anonymous (view_of s inside.object)) (is_view_formal s inside.object) inside_plain inside.owner))
+    | inr l ↦ absurd (true_false (is_view s l.object) (only l.object l.way l.has) (ap (is_view s) (sym (lifted_root v to l) ∙ own_number own) ∙ own_plain own))
   ]
+
+  -- it isn't in the variable of a view
+  pub inside_no_view : (g y : ℕ) → is_view s y ≡ true → k.base ≡ memory.OfVariable g y → ⊥
+  inside_no_view g y view is = elim inside.stands [
+    | inl own ↦ true_false (is_view s y) view (subst (λ z. is_view s z ≡ false) (same_object (sym own.2 ∙ is)) (own_plain own))
+    | inr cell ↦ no_names (sym cell.2 ∙ is)
+  ]
+    where
+      same_object : {f x g y : ℕ} → memory.OfVariable f x ≡ memory.OfVariable g y → x ≡ y
+      same_object e = cc
+
+      no_names : {n g y : ℕ} → memory.OfCell n ≡ memory.OfVariable g y → ⊥
+      no_names e = cc
 
 -- ---- what is passed
 
@@ -137,51 +139,51 @@ IsShownTo [] passed y z = ⊥
 IsShownTo (x ∷ formals) [] y z = ⊥
 IsShownTo (x ∷ formals) (a ∷ passed) y z = ((x ≡ y) × (a ≡ Value (z ∷ []))) ⊎ IsShownTo formals passed y z
 
--- No fact says of the way that it was moved, or of what leads to it or lies in it.
-abbrev pub IsWhole : List Fact → Way → Type 0
-IsWhole facts to = (n : PlaceName) → Has facts (Moved n) → overlaps n (name_of to) ≡ true → ⊥
+-- No fact says of the way that it was moved, or of what goes on from it.
+abbrev pub IsWhole : Typing → ℕ → Views → List Fact → Way → Type 0
+IsWhole s depth v facts to = (w : Way) → Under to w → IsMovedBy (home s depth) v facts w → ⊥
 
 abbrev pub DiffersFrom : ℕ → List ℕ → Type 0
 DiffersFrom x formals = (y : ℕ) → Has formals y → y ≡ x → ⊥
 
 -- What is taken isn't moved, or is emptied: it is the first of the places that are.
-abbrev pub IsTakenAs : List Fact → Place → Way → Passed → List Out → List Out → Type 0
-IsTakenAs facts k to a outs later =
-    ((a ≡ From k) × IsWhole facts to × (outs ≡ later)) ⊎ ((pos : Pos) × (a ≡ To k) × (outs ≡ record { way = to; place = k; pos = pos } ∷ later))
+abbrev pub IsTakenAs : Typing → ℕ → Views → List Fact → Place → Way → Passed → List Out → List Out → Type 0
+IsTakenAs s depth v facts k to a outs later =
+    ((a ≡ From k) × IsWhole s depth v facts to × (outs ≡ later)) ⊎ ((pos : Pos) × (a ≡ To k) × (outs ≡ record { way = to; place = k; pos = pos } ∷ later))
 
 -- What is passed, with the ways of the places that are taken, and those of them that are emptied.
-abbrev pub ArePassedOn : Typing → Memory → List Lodge → ℕ → List Fact → List ℕ → List ℕ → List Passed → List Way → List Out → Type 0
-ArePassedOn s m cells depth facts scope [] passed ways outs = (ways ≡ []) × (outs ≡ [])
-ArePassedOn s m cells depth facts scope (x ∷ formals) [] ways outs = (ways ≡ []) × (outs ≡ [])
-ArePassedOn s m cells depth facts scope (x ∷ formals) (a ∷ passed) [] outs = IsPlainOne s m cells x a × ArePassedOn s m cells depth facts scope formals passed [] outs
-ArePassedOn s m cells depth facts scope (x ∷ formals) (a ∷ passed) (to ∷ ways) outs =
-    (IsPlainOne s m cells x a × ArePassedOn s m cells depth facts scope formals passed (to ∷ ways) outs)
-    ⊎ ((k : Place) × (later : List Out) × IsTakenAs facts k to a outs later × IsPassedOn s cells depth facts scope x k to × IsApartFrom to ways × DiffersFrom x formals
-    × ArePassedOn s m cells depth facts scope formals passed ways later)
+abbrev pub ArePassedOn : Typing → Memory → List Lodge → ℕ → Views → List Fact → List ℕ → List ℕ → List Passed → List Way → List Out → Type 0
+ArePassedOn s m cells depth v facts scope [] passed ways outs = (ways ≡ []) × (outs ≡ [])
+ArePassedOn s m cells depth v facts scope (x ∷ formals) [] ways outs = (ways ≡ []) × (outs ≡ [])
+ArePassedOn s m cells depth v facts scope (x ∷ formals) (a ∷ passed) [] outs = IsPlainOne s m cells x a × ArePassedOn s m cells depth v facts scope formals passed [] outs
+ArePassedOn s m cells depth v facts scope (x ∷ formals) (a ∷ passed) (to ∷ ways) outs =
+    (IsPlainOne s m cells x a × ArePassedOn s m cells depth v facts scope formals passed (to ∷ ways) outs)
+    ⊎ ((k : Place) × (later : List Out) × IsTakenAs s depth v facts k to a outs later × IsPassedOn s cells depth v facts scope x k to × IsApartFrom to ways × DiffersFrom x formals
+    × ArePassedOn s m cells depth v facts scope formals passed ways later)
 
 -- the ways of such places begin at variables of the frame, or at package objects
-pub passed_base : (s : Typing) (m : Memory) (cells : List Lodge) (depth : ℕ) (facts : List Fact) (scope : List ℕ) (formals : List ℕ) (passed : List Passed) (ways : List Way) (outs : List Out)
-    → ArePassedOn s m cells depth facts scope formals passed ways outs → (k : Way) → Has ways k → IsHomed s depth k
-passed_base s m cells depth facts scope [] passed ways outs none k has = absurd (subst (λ z. Has z k) none.0 has)
-passed_base s m cells depth facts scope (x ∷ formals) [] ways outs none k has = absurd (subst (λ z. Has z k) none.0 has)
-passed_base s m cells depth facts scope (x ∷ formals) (a ∷ passed) [] outs are k has = absurd has
-passed_base s m cells depth facts scope (x ∷ formals) (a ∷ passed) (to ∷ ways) outs (inl are) k has = passed_base s m cells depth facts scope formals passed (to ∷ ways) outs are.1 k has
-passed_base s m cells depth facts scope (x ∷ formals) (a ∷ passed) (to ∷ ways) outs (inr (place, later, how, one, apart, differ, more)) k (inl same) =
-    subst (IsHomed s depth) same (inside_homed s depth place to one.inside)
-passed_base s m cells depth facts scope (x ∷ formals) (a ∷ passed) (to ∷ ways) outs (inr (place, later, how, one, apart, differ, more)) k (inr has) =
-    passed_base s m cells depth facts scope formals passed ways later more k has
+pub passed_base : (s : Typing) (m : Memory) (cells : List Lodge) (depth : ℕ) (v : Views) (facts : List Fact) (scope : List ℕ) (formals : List ℕ) (passed : List Passed) (ways : List Way) (outs : List Out)
+    → ArePassedOn s m cells depth v facts scope formals passed ways outs → (k : Way) → Has ways k → Begins s depth k
+passed_base s m cells depth v facts scope [] passed ways outs none k has = absurd (subst (λ z. Has z k) none.0 has)
+passed_base s m cells depth v facts scope (x ∷ formals) [] ways outs none k has = absurd (subst (λ z. Has z k) none.0 has)
+passed_base s m cells depth v facts scope (x ∷ formals) (a ∷ passed) [] outs are k has = absurd has
+passed_base s m cells depth v facts scope (x ∷ formals) (a ∷ passed) (to ∷ ways) outs (inl are) k has = passed_base s m cells depth v facts scope formals passed (to ∷ ways) outs are.1 k has
+passed_base s m cells depth v facts scope (x ∷ formals) (a ∷ passed) (to ∷ ways) outs (inr (place, later, how, one, apart, differ, more)) k (inl same) =
+    subst (Begins s depth) same (inside_begins s depth place to one.inside)
+passed_base s m cells depth v facts scope (x ∷ formals) (a ∷ passed) (to ∷ ways) outs (inr (place, later, how, one, apart, differ, more)) k (inr has) =
+    passed_base s m cells depth v facts scope formals passed ways later more k has
 
 -- each is the way of a place that is passed on
-pub passed_one : (s : Typing) (m : Memory) (cells : List Lodge) (depth : ℕ) (facts : List Fact) (scope : List ℕ) (formals : List ℕ) (passed : List Passed) (ways : List Way) (outs : List Out)
-    → ArePassedOn s m cells depth facts scope formals passed ways outs → (to : Way) → Has ways to → (x : ℕ) × (k : Place) × IsPassedOn s cells depth facts scope x k to
-passed_one s m cells depth facts scope [] passed ways outs none to has = absurd (subst (λ z. Has z to) none.0 has)
-passed_one s m cells depth facts scope (x ∷ formals) [] ways outs none to has = absurd (subst (λ z. Has z to) none.0 has)
-passed_one s m cells depth facts scope (x ∷ formals) (a ∷ passed) [] outs are to has = absurd has
-passed_one s m cells depth facts scope (x ∷ formals) (a ∷ passed) (k ∷ ways) outs (inl are) to has = passed_one s m cells depth facts scope formals passed (k ∷ ways) outs are.1 to has
-passed_one s m cells depth facts scope (x ∷ formals) (a ∷ passed) (k ∷ ways) outs (inr (place, later, how, one, apart, differ, more)) to (inl same) =
-    (x, place, subst (IsPassedOn s cells depth facts scope x place) same one)
-passed_one s m cells depth facts scope (x ∷ formals) (a ∷ passed) (k ∷ ways) outs (inr (place, later, how, one, apart, differ, more)) to (inr has) =
-    passed_one s m cells depth facts scope formals passed ways later more to has
+pub passed_one : (s : Typing) (m : Memory) (cells : List Lodge) (depth : ℕ) (v : Views) (facts : List Fact) (scope : List ℕ) (formals : List ℕ) (passed : List Passed) (ways : List Way) (outs : List Out)
+    → ArePassedOn s m cells depth v facts scope formals passed ways outs → (to : Way) → Has ways to → (x : ℕ) × (k : Place) × IsPassedOn s cells depth v facts scope x k to
+passed_one s m cells depth v facts scope [] passed ways outs none to has = absurd (subst (λ z. Has z to) none.0 has)
+passed_one s m cells depth v facts scope (x ∷ formals) [] ways outs none to has = absurd (subst (λ z. Has z to) none.0 has)
+passed_one s m cells depth v facts scope (x ∷ formals) (a ∷ passed) [] outs are to has = absurd has
+passed_one s m cells depth v facts scope (x ∷ formals) (a ∷ passed) (k ∷ ways) outs (inl are) to has = passed_one s m cells depth v facts scope formals passed (k ∷ ways) outs are.1 to has
+passed_one s m cells depth v facts scope (x ∷ formals) (a ∷ passed) (k ∷ ways) outs (inr (place, later, how, one, apart, differ, more)) to (inl same) =
+    (x, place, subst (IsPassedOn s cells depth v facts scope x place) same one)
+passed_one s m cells depth v facts scope (x ∷ formals) (a ∷ passed) (k ∷ ways) outs (inr (place, later, how, one, apart, differ, more)) to (inr has) =
+    passed_one s m cells depth v facts scope formals passed ways later more to has
 
 -- A place is passed.
 abbrev pub IsOfPlace : Passed → Place → Type 0
@@ -209,18 +211,18 @@ IsFrom (x ∷ formals) [] y k = ⊥
 IsFrom (x ∷ formals) (a ∷ passed) y k = ((x ≡ y) × IsOfPlace a k) ⊎ IsFrom formals passed y k
 
 -- it is taken, if it isn't scalar
-pub from_taken : (s : Typing) (m : Memory) (cells : List Lodge) (depth : ℕ) (facts : List Fact) (scope : List ℕ) (formals : List ℕ) (passed : List Passed) (ways : List Way) (outs : List Out)
-    → ArePassedOn s m cells depth facts scope formals passed ways outs → (y : ℕ) (k : Place) → IsFrom formals passed y k → is_scalar (full s.table (object_at s y).of) ≡ false
-    → (to : Way) × Has ways to × IsPassedOn s cells depth facts scope y k to
-from_taken s m cells depth facts scope [] passed ways outs are y k from many = absurd from
-from_taken s m cells depth facts scope (x ∷ formals) [] ways outs are y k from many = absurd from
-from_taken s m cells depth facts scope (x ∷ formals) (a ∷ passed) [] outs are y k (inl (same, is)) many = absurd (plain_from s m cells x a are.0 y k same is many)
-from_taken s m cells depth facts scope (x ∷ formals) (a ∷ passed) [] outs are y k (inr later) many = from_taken s m cells depth facts scope formals passed [] outs are.1 y k later many
-from_taken s m cells depth facts scope (x ∷ formals) (a ∷ passed) (to ∷ ways) outs (inl are) y k (inl (same, is)) many = absurd (plain_from s m cells x a are.0 y k same is many)
-from_taken s m cells depth facts scope (x ∷ formals) (a ∷ passed) (to ∷ ways) outs (inl are) y k (inr later) many =
-    from_taken s m cells depth facts scope formals passed (to ∷ ways) outs are.1 y k later many
-from_taken s m cells depth facts scope (x ∷ formals) (a ∷ passed) (to ∷ ways) outs (inr (place, later_outs, how, one, apart, differ, more)) y k (inl (same, is)) many =
-    (to, inl refl, subst (λ z. IsPassedOn s cells depth facts scope z k to) same (subst (λ z. IsPassedOn s cells depth facts scope x z to) (same_place how) one))
+pub from_taken : (s : Typing) (m : Memory) (cells : List Lodge) (depth : ℕ) (v : Views) (facts : List Fact) (scope : List ℕ) (formals : List ℕ) (passed : List Passed) (ways : List Way) (outs : List Out)
+    → ArePassedOn s m cells depth v facts scope formals passed ways outs → (y : ℕ) (k : Place) → IsFrom formals passed y k → is_scalar (full s.table (object_at s y).of) ≡ false
+    → (to : Way) × Has ways to × IsPassedOn s cells depth v facts scope y k to
+from_taken s m cells depth v facts scope [] passed ways outs are y k from many = absurd from
+from_taken s m cells depth v facts scope (x ∷ formals) [] ways outs are y k from many = absurd from
+from_taken s m cells depth v facts scope (x ∷ formals) (a ∷ passed) [] outs are y k (inl (same, is)) many = absurd (plain_from s m cells x a are.0 y k same is many)
+from_taken s m cells depth v facts scope (x ∷ formals) (a ∷ passed) [] outs are y k (inr later) many = from_taken s m cells depth v facts scope formals passed [] outs are.1 y k later many
+from_taken s m cells depth v facts scope (x ∷ formals) (a ∷ passed) (to ∷ ways) outs (inl are) y k (inl (same, is)) many = absurd (plain_from s m cells x a are.0 y k same is many)
+from_taken s m cells depth v facts scope (x ∷ formals) (a ∷ passed) (to ∷ ways) outs (inl are) y k (inr later) many =
+    from_taken s m cells depth v facts scope formals passed (to ∷ ways) outs are.1 y k later many
+from_taken s m cells depth v facts scope (x ∷ formals) (a ∷ passed) (to ∷ ways) outs (inr (place, later_outs, how, one, apart, differ, more)) y k (inl (same, is)) many =
+    (to, inl refl, subst (λ z. IsPassedOn s cells depth v facts scope z k to) same (subst (λ z. IsPassedOn s cells depth v facts scope x z to) (same_place how) one))
   where
     one_place : {a b : Place} → IsOfPlace (From a) b ⊎ IsOfPlace (To a) b → a ≡ b
     one_place (inl (inl e)) = cc
@@ -228,49 +230,48 @@ from_taken s m cells depth facts scope (x ∷ formals) (a ∷ passed) (to ∷ wa
     one_place (inr (inl e)) = cc
     one_place (inr (inr e)) = cc
 
-    same_place : IsTakenAs facts place to a outs later_outs → place ≡ k
+    same_place : IsTakenAs s depth v facts place to a outs later_outs → place ≡ k
     same_place (inl (from, whole, rest)) = one_place (inl (subst (λ b. IsOfPlace b k) from is))
     same_place (inr (pos, goes, rest)) = one_place (inr (subst (λ b. IsOfPlace b k) goes is))
-from_taken s m cells depth facts scope (x ∷ formals) (a ∷ passed) (to ∷ ways) outs (inr (place, later_outs, how, one, apart, differ, more)) y k (inr later) many =
-    let found = from_taken s m cells depth facts scope formals passed ways later_outs more y k later many in
+from_taken s m cells depth v facts scope (x ∷ formals) (a ∷ passed) (to ∷ ways) outs (inr (place, later_outs, how, one, apart, differ, more)) y k (inr later) many =
+    let found = from_taken s m cells depth v facts scope formals passed ways later_outs more y k later many in
     (found.0, inr found.1, found.2)
 
 -- two that are taken are one, or are apart
-pub passed_pair : (s : Typing) (m : Memory) (cells : List Lodge) (depth : ℕ) (facts : List Fact) (scope : List ℕ) (formals : List ℕ) (passed : List Passed) (ways : List Way) (outs : List Out)
-    → ArePassedOn s m cells depth facts scope formals passed ways outs → (u w : Way) → Has ways u → Has ways w → (u ≡ w) ⊎ ((Under u w → ⊥) × (Under w u → ⊥))
-passed_pair s m cells depth facts scope [] passed ways outs are u w has_u has_w = absurd (subst (λ z. Has z u) are.0 has_u)
-passed_pair s m cells depth facts scope (x ∷ formals) [] ways outs are u w has_u has_w = absurd (subst (λ z. Has z u) are.0 has_u)
-passed_pair s m cells depth facts scope (x ∷ formals) (a ∷ passed) [] outs are u w has_u has_w = absurd has_u
-passed_pair s m cells depth facts scope (x ∷ formals) (a ∷ passed) (to ∷ ways) outs (inl are) u w has_u has_w =
-    passed_pair s m cells depth facts scope formals passed (to ∷ ways) outs are.1 u w has_u has_w
-passed_pair s m cells depth facts scope (x ∷ formals) (a ∷ passed) (to ∷ ways) outs (inr (place, later, how, one, apart, differ, more)) u w (inl first) (inl second) = inl (sym first ∙ second)
-passed_pair s m cells depth facts scope (x ∷ formals) (a ∷ passed) (to ∷ ways) outs (inr (place, later, how, one, apart, differ, more)) u w (inl first) (inr has_w) =
+pub passed_pair : (s : Typing) (m : Memory) (cells : List Lodge) (depth : ℕ) (v : Views) (facts : List Fact) (scope : List ℕ) (formals : List ℕ) (passed : List Passed) (ways : List Way) (outs : List Out)
+    → ArePassedOn s m cells depth v facts scope formals passed ways outs → (u w : Way) → Has ways u → Has ways w → (u ≡ w) ⊎ ((Under u w → ⊥) × (Under w u → ⊥))
+passed_pair s m cells depth v facts scope [] passed ways outs are u w has_u has_w = absurd (subst (λ z. Has z u) are.0 has_u)
+passed_pair s m cells depth v facts scope (x ∷ formals) [] ways outs are u w has_u has_w = absurd (subst (λ z. Has z u) are.0 has_u)
+passed_pair s m cells depth v facts scope (x ∷ formals) (a ∷ passed) [] outs are u w has_u has_w = absurd has_u
+passed_pair s m cells depth v facts scope (x ∷ formals) (a ∷ passed) (to ∷ ways) outs (inl are) u w has_u has_w =
+    passed_pair s m cells depth v facts scope formals passed (to ∷ ways) outs are.1 u w has_u has_w
+passed_pair s m cells depth v facts scope (x ∷ formals) (a ∷ passed) (to ∷ ways) outs (inr (place, later, how, one, apart, differ, more)) u w (inl first) (inl second) = inl (sym first ∙ second)
+passed_pair s m cells depth v facts scope (x ∷ formals) (a ∷ passed) (to ∷ ways) outs (inr (place, later, how, one, apart, differ, more)) u w (inl first) (inr has_w) =
     inr (subst (λ z. (Under z w → ⊥) × (Under w z → ⊥)) first (apart w has_w))
-passed_pair s m cells depth facts scope (x ∷ formals) (a ∷ passed) (to ∷ ways) outs (inr (place, later, how, one, apart, differ, more)) u w (inr has_u) (inl second) =
+passed_pair s m cells depth v facts scope (x ∷ formals) (a ∷ passed) (to ∷ ways) outs (inr (place, later, how, one, apart, differ, more)) u w (inr has_u) (inl second) =
     inr (subst (λ z. (Under u z → ⊥) × (Under z u → ⊥)) second ((apart u has_u).1, (apart u has_u).0))
-passed_pair s m cells depth facts scope (x ∷ formals) (a ∷ passed) (to ∷ ways) outs (inr (place, later, how, one, apart, differ, more)) u w (inr has_u) (inr has_w) =
-    passed_pair s m cells depth facts scope formals passed ways later more u w has_u has_w
+passed_pair s m cells depth v facts scope (x ∷ formals) (a ∷ passed) (to ∷ ways) outs (inr (place, later, how, one, apart, differ, more)) u w (inr has_u) (inr has_w) =
+    passed_pair s m cells depth v facts scope formals passed ways later more u w has_u has_w
 
 -- what is emptied is among them
-pub outs_taken : (s : Typing) (m : Memory) (cells : List Lodge) (depth : ℕ) (facts : List Fact) (scope : List ℕ) (formals : List ℕ) (passed : List Passed) (ways : List Way) (outs : List Out)
-    → ArePassedOn s m cells depth facts scope formals passed ways outs → (o : Out) → Has outs o → Has ways o.way
-outs_taken s m cells depth facts scope [] passed ways outs none o has = absurd (subst (λ z. Has z o) none.1 has)
-outs_taken s m cells depth facts scope (x ∷ formals) [] ways outs none o has = absurd (subst (λ z. Has z o) none.1 has)
-outs_taken s m cells depth facts scope (x ∷ formals) (a ∷ passed) [] outs are o has = outs_taken s m cells depth facts scope formals passed [] outs are.1 o has
-outs_taken s m cells depth facts scope (x ∷ formals) (a ∷ passed) (to ∷ ways) outs (inl are) o has = outs_taken s m cells depth facts scope formals passed (to ∷ ways) outs are.1 o has
-outs_taken s m cells depth facts scope (x ∷ formals) (a ∷ passed) (to ∷ ways) outs (inr (place, later, inl (from, whole, same), one, apart, differ, more)) o has =
-    inr (outs_taken s m cells depth facts scope formals passed ways later more o (subst (λ z. Has z o) same has))
-outs_taken s m cells depth facts scope (x ∷ formals) (a ∷ passed) (to ∷ ways) outs (inr (place, later, inr (pos, goes, same), one, apart, differ, more)) o has =
+pub outs_taken : (s : Typing) (m : Memory) (cells : List Lodge) (depth : ℕ) (v : Views) (facts : List Fact) (scope : List ℕ) (formals : List ℕ) (passed : List Passed) (ways : List Way) (outs : List Out)
+    → ArePassedOn s m cells depth v facts scope formals passed ways outs → (o : Out) → Has outs o → Has ways o.way
+outs_taken s m cells depth v facts scope [] passed ways outs none o has = absurd (subst (λ z. Has z o) none.1 has)
+outs_taken s m cells depth v facts scope (x ∷ formals) [] ways outs none o has = absurd (subst (λ z. Has z o) none.1 has)
+outs_taken s m cells depth v facts scope (x ∷ formals) (a ∷ passed) [] outs are o has = outs_taken s m cells depth v facts scope formals passed [] outs are.1 o has
+outs_taken s m cells depth v facts scope (x ∷ formals) (a ∷ passed) (to ∷ ways) outs (inl are) o has = outs_taken s m cells depth v facts scope formals passed (to ∷ ways) outs are.1 o has
+outs_taken s m cells depth v facts scope (x ∷ formals) (a ∷ passed) (to ∷ ways) outs (inr (place, later, inl (from, whole, same), one, apart, differ, more)) o has =
+    inr (outs_taken s m cells depth v facts scope formals passed ways later more o (subst (λ z. Has z o) same has))
+outs_taken s m cells depth v facts scope (x ∷ formals) (a ∷ passed) (to ∷ ways) outs (inr (place, later, inr (pos, goes, same), one, apart, differ, more)) o has =
     elim (subst (λ z. Has z o) same has) [
       | inl first ↦ inl (ap (λ (z : Out). z.way) first)
-      | inr others ↦ inr (outs_taken s m cells depth facts scope formals passed ways later more o others)
+      | inr others ↦ inr (outs_taken s m cells depth v facts scope formals passed ways later more o others)
     ]
 
--- Nothing is gone elsewhere in hands, or in the places that are still to be taken; and others keep no way.
-pub record IsOpen (home : ℕ → ℕ) (other : Around home) (ways : List Way) : Type 0 where
-  pub free : (h : ℕ) (w : Way) → Under (Object (OfHand h)) w → other.gone w → ⊥
-  pub whole : (to : Way) → Has ways to → (w : Way) → Under to w → other.gone w → ⊥
-  pub none : (w : Way) (n : ℕ) → other.kept w n → ⊥
+-- Nothing is moved by facts or gone elsewhere in hands, or gone elsewhere in the places that are still to be taken.
+pub record IsOpen (moved other : Way → Type 0) (ways : List Way) : Type 0 where
+  pub free : (h : ℕ) (w : Way) → Under (Object (OfHand h)) w → moved w ⊎ other w → ⊥
+  pub whole : (to : Way) → Has ways to → (w : Way) → Under to w → other w → ⊥
 
 -- The formals that are still to be declared have nothing.
 abbrev pub AreBlank : Typing → ℕ → Memory → List ℕ → Type 0
@@ -295,13 +296,14 @@ module _ (s : Typing) (settled : IsSettled s.table) (own_law : OwnsByShape s.tab
       by_package true e = omega (arith, e)
       by_package false e = omega (arith, e)
 
-  abbrev ViewedIn : Around (home s depth) → Memory → Type 0
-  ViewedIn other m = Viewed (home s depth) (sees_only s) other v (seen s m hands leaks) facts
+  abbrev StandIn : (Way → Type 0) → Memory → Type 0
+  StandIn other m = OwnersStand (home s depth) v facts other (seen s m hands leaks)
 
   -- ---- one that is taken
 
-  module _ (other : Around (home s depth)) (x : ℕ) (k : Place) (to : Way) (passed : IsPassedOn s cells depth facts scope x k to) (whole : IsWhole facts to)
-      (open_there : IsOpen (home s depth) other (to ∷ [])) (m : Memory) (typed : Kept s m hands) (viewed : ViewedIn other m)
+  module _ (other : Way → Type 0) (x : ℕ) (k : Place) (to : Way) (passed : IsPassedOn s cells depth v facts scope x k to) (whole : IsWhole s depth v facts to)
+      (open_there : IsOpen (IsMovedBy (home s depth) v facts) other (to ∷ []))
+      (m : Memory) (typed : Kept s m hands) (stand : StandIn other m)
       (blank : (p : List Step) → word_in s.table (content s m [] (OfRoot (OfVariable (suc depth) x))) p ≡ Empty)
       (there : Reaches (seen s m hands leaks) (passed.inside).trunk (passed.inside).start) where
     abbrev inside : IsInside s depth k to
@@ -320,48 +322,22 @@ module _ (s : Typing) (settled : IsSettled s.table) (own_law : OwnsByShape s.tab
     next = declared (suc depth) x (words_of s m k) (moved_out s k m)
 
     -- gone elsewhere, or in the place
-    abbrev with_it : Around (home s depth)
-    with_it = gone_also (home s depth) other (λ w. other.gone w ⊎ ((p : List Step) × (w ≡ along to p)))
-
-    with_apart : (y : ℕ) (w z : Way) → v.way y ≡ Some w → IsOuter (home s depth) v y w → with_it.gone z → Under z w ⊎ Under w z → ⊥
-    with_apart y w z has foreign (inl gone) meets = viewed.whole y w z has foreign gone meets
-    with_apart y w z has outer (inr (p, is)) meets =
-        homed_outer s depth (sees_only s) other.lent v to (inside_homed s depth k to passed.inside) viewed.shown
-        (λ l at at_home lent over. passed.unlent l (number_of at) (name_of at) (viewed.lends l (name_of at) lent).has (meet_overlaps at to (flip to at over)))
-        y w z has outer (subst (Under to) (sym is) (under_along to to p (under_itself to))) meets
+    abbrev with_it : Way → Type 0
+    with_it w = other w ⊎ ((p : List Step) × (w ≡ along to p))
 
     spot : Spot s m hands k at
     spot = inside_spot s depth k to passed.inside settled m hands leaks typed there
 
-    plain_name : sees_only s (number_of to) ≡ false
-    plain_name = ap (sees_only s) (inside_number s settled depth k to passed.inside) ∙ owner_sees s (passed.inside).object (inside_plain s settled depth k to passed.inside) (passed.inside).owner
-
-    itself : expand v to ≡ to
-    itself = inside_itself s settled depth k to passed.inside v only
-
-    named_to : Named (home s depth) to
-    named_to = inside_named s settled depth k to passed.inside
-
-    pub clean : (w : Way) → Under to w → ExcusedBy (home s depth) v other facts w → ⊥
-    clean w under (inl moved) =
-        clean_away (home s depth) (sees_only s) other v (seen s m hands leaks) facts viewed to w (named_to, plain_name)
-        (λ h n has over. passed.unlent Borrowed h n has over) whole (subst (λ z. Under z w) (sym itself) under) moved
+    pub clean : (w : Way) → Under to w → IsMovedBy (home s depth) v facts w ⊎ other w → ⊥
+    clean w under (inl moved) = whole w under moved
     clean w under (inr o) = open_there.whole to (inl refl) w under o
 
-    clear_to : IsClearOf (home s depth) (sees_only s) v other with_it.gone with_apart to
-    clear_to = record {
-      own = λ y w has past.
-          off_view (home s depth) (sees_only s) other v (seen s m hands leaks) facts viewed to y w (named_to, plain_name) passed.unlent has
-          (subst (λ z. Past z w) (sym itself) past);
-      far = λ w n keeps_it past. open_there.none w n keeps_it;
-    }
-
-    viewed_mid : Viewed (home s depth) (sees_only s) with_it v (seen s mid (got ∷ hands) leaks) facts
-    viewed_mid =
-        carried_off s settled (home s depth) (sees_only s) v other with_it.gone with_apart m hands leaks facts k at to viewed typed spot
+    stand_mid : OwnersStand (home s depth) v facts with_it (seen s mid (got ∷ hands) leaks)
+    stand_mid =
+        carried_off s settled (home s depth) v other with_it m hands leaks facts k at to stand typed spot
         (inside_rooted s depth k to passed.inside) (inside_reached s depth k to passed.inside (seen s m hands leaks) there)
-        (inside_owns s depth k to passed.inside settled m hands leaks typed viewed.owned there) clean
-        (passed.inside).frame (passed.inside).object (inside_base s depth k to passed.inside) clear_to (λ w o. inl o) (λ p. inr (p, refl))
+        (inside_owns s depth k to passed.inside settled m hands leaks typed stand.owned there) clean
+        (passed.inside).frame (passed.inside).object (inside_base s depth k to passed.inside) (λ w o. inl o) (λ p. inr (p, refl))
 
     kept_mid : Kept s mid (got ∷ hands)
     kept_mid = (keeps s settled own_law).moved m hands k at spot typed
@@ -388,14 +364,16 @@ module _ (s : Typing) (settled : IsSettled s.table) (own_law : OwnsByShape s.tab
         ap (λ z. word_in s.table (record { of = (object_at s x).of; slots = z; owns = not (is_view_formal s x) }) p)
         (other_base (suc depth) x (frames_differ (passed.inside).frame (passed.inside).object (suc depth) x (λ e. (let low = inside_low s depth k to passed.inside in omega (arith, e, low))))) ∙ blank p
 
-    pub viewed_next : Viewed (home s depth) (sees_only s) with_it v (seen s next hands leaks) facts
-    viewed_next =
-        declared_viewed s settled (home s depth) (sees_only s) with_it v mid got hands leaks facts (suc depth) x viewed_mid
+    pub stand_next : OwnersStand (home s depth) v facts with_it (seen s next hands leaks)
+    stand_next =
+        from_sound (home s depth) v facts with_it (seen s next hands leaks)
+        (declared_sound s settled (home s depth) (λ w. IsMovedBy (home s depth) v facts w ⊎ with_it w) mid got hands leaks [] (suc depth) x
+        (as_sound (home s depth) v facts with_it (seen s mid (got ∷ hands) leaks) stand_mid)
         (λ h w under o. elim o [
-          | inl away ↦ open_there.free h w under away
-          | inr (p, is) ↦ hand_base (sym (base_under (Object (OfHand h)) w under) ∙ ap base_of is ∙ base_along to p ∙ inside_base s depth k to passed.inside)
-        ]) kept_mid blank_mid passed.owner long (alike s.table settled k.of (object_at s x).of passed.fits)
-        (λ y w has foreign same. (let low = far y w has foreign in omega (arith, low, same))) (λ y w has named at_home root. not_above x at_home) (λ w keeps_it base. elim keeps_it [ inl there ↦ open_there.none w there.0 there.1 | inr there ↦ there.2 ])
+          | inl moved ↦ open_there.free h w under (inl moved)
+          | inr (inl away) ↦ open_there.free h w under (inr away)
+          | inr (inr (p, is)) ↦ hand_base (sym (base_under (Object (OfHand h)) w under) ∙ ap base_of is ∙ base_along to p ∙ inside_base s depth k to passed.inside)
+        ]) kept_mid blank_mid passed.owner long (alike s.table settled k.of (object_at s x).of passed.fits))
       where
         hand_base : {h f x : ℕ} → OfRoot (OfHand h) ≡ OfRoot (OfVariable f x) → ⊥
         hand_base e = cc
@@ -405,9 +383,9 @@ module _ (s : Typing) (settled : IsSettled s.table) (own_law : OwnsByShape s.tab
 
     bare_mid : (p : List Step) (c : ℕ) → word_in s.table (content s mid [] (passed.inside).start) (p ++ (passed.inside).steps) ≡ Held c → ⊥
     bare_mid p c held =
-        carried_bare s settled (home s depth) (sees_only s) v other with_it.gone with_apart m hands leaks facts k at to viewed typed spot
+        carried_bare s settled (home s depth) v other with_it m hands leaks facts k at to stand typed spot
         (inside_rooted s depth k to passed.inside) (inside_reached s depth k to passed.inside (seen s m hands leaks) there)
-        (inside_owns s depth k to passed.inside settled m hands leaks typed viewed.owned there) clean p c
+        (inside_owns s depth k to passed.inside settled m hands leaks typed stand.owned there) clean p c
         (inside_word s depth k to passed.inside mid (got ∷ hands) p ∙ held)
 
     -- ---- what changed
@@ -422,9 +400,9 @@ module _ (s : Typing) (settled : IsSettled s.table) (own_law : OwnsByShape s.tab
     held_before : (g y : ℕ) (p : List Step) (c : ℕ) → word_in s.table (content s mid [] (OfRoot (OfVariable g y))) p ≡ Held c
         → word_in s.table (content s m [] (OfRoot (OfVariable g y))) p ≡ Held c
     held_before g y p c held =
-        carried_held s settled (home s depth) (sees_only s) v other with_it.gone with_apart m hands leaks facts k at to viewed typed spot
+        carried_held s settled (home s depth) v other with_it m hands leaks facts k at to stand typed spot
         (inside_rooted s depth k to passed.inside) (inside_reached s depth k to passed.inside (seen s m hands leaks) there)
-        (inside_owns s depth k to passed.inside settled m hands leaks typed viewed.owned there) clean g y p c held
+        (inside_owns s depth k to passed.inside settled m hands leaks typed stand.owned there) clean g y p c held
 
     pub one_held : (g y : ℕ) (p : List Step) (c : ℕ) → word_in s.table (content s next [] (OfRoot (OfVariable g y))) p ≡ Held c
         → (word_in s.table (content s m [] (OfRoot (OfVariable g y))) p ≡ Held c) ⊎ ((g ≡ suc depth) × (y ≡ x))
@@ -445,17 +423,17 @@ module _ (s : Typing) (settled : IsSettled s.table) (own_law : OwnsByShape s.tab
       held = λ g y p c other_frame off held. elim (one_held g y p c held) [ inl before ↦ before | inr mine ↦ absurd (other_frame mine.0) ];
       gone = λ g y p other_frame off gone.
           new_word g y (frames_differ (suc depth) x g y (λ e. other_frame (sym e))) p
-          ∙ carried_gone s settled (home s depth) (sees_only s) v other with_it.gone with_apart m hands leaks facts k at to viewed typed spot
+          ∙ carried_gone s settled (home s depth) v other with_it m hands leaks facts k at to stand typed spot
           (inside_rooted s depth k to passed.inside) (inside_reached s depth k to passed.inside (seen s m hands leaks) there)
-          (inside_owns s depth k to passed.inside settled m hands leaks typed viewed.owned there) clean g y p gone;
+          (inside_owns s depth k to passed.inside settled m hands leaks typed stand.owned there) clean g y p gone;
       in_cells = λ n p c off held.
-          carried_held_cell s settled (home s depth) (sees_only s) v other with_it.gone with_apart m hands leaks facts k at to viewed typed spot
+          carried_held_cell s settled (home s depth) v other with_it m hands leaks facts k at to stand typed spot
           (inside_rooted s depth k to passed.inside) (inside_reached s depth k to passed.inside (seen s m hands leaks) there)
-          (inside_owns s depth k to passed.inside settled m hands leaks typed viewed.owned there) clean n p c held;
+          (inside_owns s depth k to passed.inside settled m hands leaks typed stand.owned there) clean n p c held;
       gone_cells = λ n p off gone.
-          carried_gone_cell s settled (home s depth) (sees_only s) v other with_it.gone with_apart m hands leaks facts k at to viewed typed spot
+          carried_gone_cell s settled (home s depth) v other with_it m hands leaks facts k at to stand typed spot
           (inside_rooted s depth k to passed.inside) (inside_reached s depth k to passed.inside (seen s m hands leaks) there)
-          (inside_owns s depth k to passed.inside settled m hands leaks typed viewed.owned there) clean n p gone;
+          (inside_owns s depth k to passed.inside settled m hands leaks typed stand.owned there) clean n p gone;
     }
 
     pub one_views : (g y : ℕ) → is_view s y ≡ true
@@ -463,9 +441,8 @@ module _ (s : Typing) (settled : IsSettled s.table) (own_law : OwnsByShape s.tab
     one_views g y view =
         ap (λ z. (get_or z 0 no_slot).word)
         (new_other g y (λ e. formal_plain (subst (λ z. is_view s z ≡ true) (sym (same_variable (suc depth) x g y (ap OfRoot e)).1) view))
-        ∙ other_base g y (λ e. true_false (is_view s y) view
-        (ap (is_view s) (sym (same_variable (passed.inside).frame (passed.inside).object g y (ap OfRoot e)).1)
-        ∙ both_no (is_anonymous (view_of s (passed.inside).object)) (is_view_formal s (passed.inside).object) (inside_plain s settled depth k to passed.inside) (passed.inside).owner)))
+        ∙ put_beside s 0 k.base (take k.at (slots_at s m k.base) ++ marks ++ drop (k.at + length marks) (slots_at s m k.base)) m g y
+        (inside_no_view s settled depth k to passed.inside g y view))
 
     pub one_bare : IsBare s depth k to next passed.inside
     one_bare p c held = bare_mid p c (sym (start_word (p ++ (passed.inside).steps)) ∙ held)
@@ -476,7 +453,7 @@ module _ (s : Typing) (settled : IsSettled s.table) (own_law : OwnsByShape s.tab
               subst (λ z. word_in s.table (content s next [] z) q ≡ word_in s.table (content s mid [] z) q) (sym variable.1)
               (new_word (passed.inside).frame (passed.inside).object
               (frames_differ (suc depth) x (passed.inside).frame (passed.inside).object (λ e. (let low = inside_low s depth k to passed.inside in omega (arith, e, low)))) q)
-          | inr cell ↦ subst (λ z. word_in s.table (content s next [] z) q ≡ word_in s.table (content s mid [] z) q) (sym (cell.0).1) refl
+          | inr cell ↦ subst (λ z. word_in s.table (content s next [] z) q ≡ word_in s.table (content s mid [] z) q) (sym cell.1) refl
         ]
 
     -- a way from another frame that doesn't go on after the place reaches what it reached
@@ -484,9 +461,9 @@ module _ (s : Typing) (settled : IsSettled s.table) (own_law : OwnsByShape s.tab
         → Reaches (seen s m hands leaks) w (OfCell c) → Reaches (seen s next hands leaks) w (OfCell c)
     one_stays w g y base other_frame aside c reach =
         declared_low s mid got hands leaks (suc depth) x w g y base (frames_differ (suc depth) x g y (λ e. other_frame (sym e))) c
-        (carried_off_stays s settled (home s depth) (sees_only s) v other with_it.gone with_apart m hands leaks facts k at to viewed typed spot
+        (carried_off_stays s settled (home s depth) v other with_it m hands leaks facts k at to stand typed spot
         (inside_rooted s depth k to passed.inside) (inside_reached s depth k to passed.inside (seen s m hands leaks) there)
-        (inside_owns s depth k to passed.inside settled m hands leaks typed viewed.owned there) clean
+        (inside_owns s depth k to passed.inside settled m hands leaks typed stand.owned there) clean
         (passed.inside).frame (passed.inside).object (inside_base s depth k to passed.inside) w g y base aside c reach)
 
     -- what is left to be declared has nothing still
@@ -503,15 +480,15 @@ module _ (s : Typing) (settled : IsSettled s.table) (own_law : OwnsByShape s.tab
     one_still reached_cells z apart = (
       (λ g y q p low is.
           new_word g y (frames_differ (suc depth) x g y (λ e. omega (arith, e, low))) (p ++ q)
-          ∙ carried_beside s settled (home s depth) (sees_only s) v other with_it.gone with_apart m hands leaks facts k at to viewed typed spot
+          ∙ carried_beside s settled (home s depth) v other with_it m hands leaks facts k at to stand typed spot
           (inside_rooted s depth k to passed.inside) (inside_reached s depth k to passed.inside (seen s m hands leaks) there)
-          (inside_owns s depth k to passed.inside settled m hands leaks typed viewed.owned there) clean g y (p ++ q)
-          (places_apart (seen s m hands leaks) viewed.owned to at (inside_reached s depth k to passed.inside (seen s m hands leaks) there) g y q p
+          (inside_owns s depth k to passed.inside settled m hands leaks typed stand.owned there) clean g y (p ++ q)
+          (places_apart (seen s m hands leaks) stand.owned to at (inside_reached s depth k to passed.inside (seen s m hands leaks) there) g y q p
           (subst (λ w. (Under to w → ⊥) × (Under w to → ⊥)) is apart))),
       (λ c q p has is.
-          carried_beside_cell s settled (home s depth) (sees_only s) v other with_it.gone with_apart m hands leaks facts k at to viewed typed spot
+          carried_beside_cell s settled (home s depth) v other with_it m hands leaks facts k at to stand typed spot
           (inside_rooted s depth k to passed.inside) (inside_reached s depth k to passed.inside (seen s m hands leaks) there)
-          (inside_owns s depth k to passed.inside settled m hands leaks typed viewed.owned there) clean c.cell (p ++ q)
-          (ways_apart (seen s m hands leaks) viewed.owned to at (inside_reached s depth k to passed.inside (seen s m hands leaks) there) c.way (OfCell c.cell) (reached_cells c has) q p
+          (inside_owns s depth k to passed.inside settled m hands leaks typed stand.owned there) clean c.cell (p ++ q)
+          (ways_apart (seen s m hands leaks) stand.owned to at (inside_reached s depth k to passed.inside (seen s m hands leaks) there) c.way (OfCell c.cell) (reached_cells c has) q p
           (subst (λ w. (Under to w → ⊥) × (Under w to → ⊥)) is apart))),
     )

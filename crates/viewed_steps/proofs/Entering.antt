@@ -18,21 +18,20 @@ use Rattle.soundness.proofs.Lasting.{keeps}
 use Rattle.soundness.specs.Seen.{content, trunk, steps_in, word_in, seen, home}
 use Rattle.soundness.specs.Changes.{Checks, leaks_at}
 use Rattle.soundness.specs.Typed.{OwnsByShape, Kept}
-use Rattle.owned_loans.specs.Views.{Around, Views, Viewed, IsOuter}
+use Rattle.owned_loans.specs.Views.{Views, IsMovedBy}
 use Rattle.owned_loans.proofs.Ways.{beginnings}
-use Rattle.owned_loans.proofs.Moves.{same_viewed}
-use Rattle.viewed_soundness.specs.Holds.{sees_only, is_view}
+use Rattle.viewed_soundness.specs.Holds.{is_view}
 use Rattle.viewed_steps.specs.Taken.{Lodge, AreCarried, TakenBy, IsPassedOn, IsBare, IsApartFrom, AreTaken}
 use Rattle.viewed_steps.proofs.Left.{cells_same}
-use Rattle.viewed_steps.proofs.Between.{IsHomed, carried_same, carried_then, same_reaches, gone_also, more_gone, base_along, base_under, taken_more}
-use Rattle.viewed_steps.proofs.Carried.{inside_homed, inside_low, start_reached, inside_at, inside_spot, inside_owns, inside_word}
+use Rattle.viewed_steps.proofs.Between.{carried_same, carried_then, same_reaches, more_gone, base_along, base_under, taken_more, OwnersStand, same_stand, Begins}
+use Rattle.viewed_steps.proofs.Carried.{inside_begins, inside_low, start_reached, inside_at, inside_spot, inside_owns, inside_word}
 use Rattle.viewed_steps.proofs.Alike.{IsLaidIn, plain_place}
 use Rattle.viewed_steps.proofs.Views.{AreFar, AreAccess}
 use Rattle.viewed_steps.proofs.Shown.{HasCells, then_cells, taken_cells, Stands, one_stands}
 use Rattle.viewed_steps.proofs.Vacated.{place_checks}
 use Rattle.viewed_steps.proofs.Outs.{Out, IsUnderOne, found_in, HasStill, HaveStill, still_then}
-use Rattle.viewed_steps.proofs.Entered.{IsPlainPassed, IsPlainOne, DiffersFrom, ArePassedOn, IsOpen, AreBlank, passed_base, outs_taken, viewed_next, kept_next, one_held, one_carried, one_views, one_bare, one_stays, one_blank, one_still, IsShownTo}
-use Rattle.viewed_steps.proofs.Emptying.{out_viewed, out_kept, out_views, out_blank, out_held, out_carried, out_bare, out_stays, out_still}
+use Rattle.viewed_steps.proofs.Entered.{IsPlainPassed, IsPlainOne, DiffersFrom, ArePassedOn, IsOpen, AreBlank, passed_base, outs_taken, stand_next, kept_next, one_held, one_carried, one_views, one_bare, one_stays, one_blank, one_still, IsShownTo}
+use Rattle.viewed_steps.proofs.Emptying.{out_stand, out_kept, out_views, out_blank, out_held, out_carried, out_bare, out_stays, out_still}
 
 -- what has a number owns
 pub owns_there : (s : Typing) → IsSettled s.table → OwnsByShape s.table → (m : Memory) (f x : ℕ) (q : List Step) (k : ℕ)
@@ -51,20 +50,23 @@ module _ (s : Typing) (settled : IsSettled s.table) (own_law : OwnsByShape s.tab
     (hands : List Waiting) (depth : ℕ) (v : Views) (far : AreFar (home s depth) v depth)
     (only : (x : ℕ) (w : Way) → v.way x ≡ Some w → is_view s x ≡ true) (facts : List Fact) (scope : List ℕ)
     (cells : List Lodge) (begins : (c : Lodge) → Has cells c → (g : ℕ) × (y : ℕ) × (base_of c.way ≡ OfRoot (OfVariable g y)) × (g ≡ suc depth → ⊥)) where
-  abbrev ViewedIn : Around (home s depth) → List Leak → Memory → Type 0
-  ViewedIn other leaks m = Viewed (home s depth) (sees_only s) other v (seen s m hands leaks) facts
+  abbrev StandIn : (Way → Type 0) → List Leak → Memory → Type 0
+  StandIn other leaks m = OwnersStand (home s depth) v facts other (seen s m hands leaks)
+
+  abbrev Moved : Way → Type 0
+  Moved = IsMovedBy (home s depth) v facts
 
   -- what is taken is gone
-  abbrev pub taken_also : Around (home s depth) → List Way → Around (home s depth)
-  taken_also other ways = gone_also (home s depth) other (λ w. other.gone w ⊎ TakenBy ways w)
+  abbrev pub taken_also : (Way → Type 0) → List Way → Way → Type 0
+  taken_also other ways w = other w ⊎ TakenBy ways w
 
   -- what is to be emptied may be gone
-  abbrev pub outs_also : Around (home s depth) → List Out → Around (home s depth)
-  outs_also other outs = gone_also (home s depth) other (λ w. other.gone w ⊎ IsUnderOne outs w)
+  abbrev pub outs_also : (Way → Type 0) → List Out → Way → Type 0
+  outs_also other outs w = other w ⊎ IsUnderOne outs w
 
   -- one place is gone
-  abbrev pub away : Around (home s depth) → Way → Around (home s depth)
-  away other to = gone_also (home s depth) other (λ w. other.gone w ⊎ ((p : List Step) × (w ≡ along to p)))
+  abbrev pub away : (Way → Type 0) → Way → Way → Type 0
+  away other to w = other w ⊎ ((p : List Step) × (w ≡ along to p))
 
   -- The cells of places are there, and no way that is to be taken goes before one.
   abbrev pub AreThere : List Way → List Leak → Memory → Type 0
@@ -84,9 +86,9 @@ module _ (s : Typing) (settled : IsSettled s.table) (own_law : OwnsByShape s.tab
     pub stays : (w : Way) (g y : ℕ) → base_of w ≡ OfRoot (OfVariable g y) → (g ≡ suc depth → ⊥) → ((to : Way) → Has ways to → Past to w → ⊥) → (c : ℕ)
         → Reaches (seen s m hands leaks) w (OfCell c) → Reaches (seen s n hands found) w (OfCell c)
 
-  abbrev pub Enter : Around (home s depth) → List Leak → List Leak → List ℕ → List Passed → List Way → Memory → Memory → Type 0
+  abbrev pub Enter : (Way → Type 0) → List Leak → List Leak → List ℕ → List Passed → List Way → Memory → Memory → Type 0
   Enter other leaks found formals passed ways m n =
-      AreDeclared formals passed ways leaks found m n × ViewedIn (taken_also other ways) found n × AreTaken s cells n depth facts scope (returns_of formals passed) ways
+      AreDeclared formals passed ways leaks found m n × StandIn (taken_also other ways) found n × AreTaken s cells n depth v facts scope (returns_of formals passed) ways
 
   pub formals_of_returns : (formals : List ℕ) (passed : List Passed) (r : Return) → Has (returns_of formals passed) r → Has formals r.formal
   formals_of_returns [] passed r has = absurd has
@@ -98,7 +100,7 @@ module _ (s : Typing) (settled : IsSettled s.table) (own_law : OwnsByShape s.tab
   formals_of_returns (x ∷ formals) (To k ∷ passed) r (inr has) = inr (formals_of_returns formals passed r has)
 
   plain_returns : (n : Memory) (x : ℕ) (a : Passed) (formals : List ℕ) (passed : List Passed) (ways : List Way) (before : Memory) → IsPlainOne s before cells x a
-      → AreTaken s cells n depth facts scope (returns_of formals passed) ways → AreTaken s cells n depth facts scope (returns_of (x ∷ formals) (a ∷ passed)) ways
+      → AreTaken s cells n depth v facts scope (returns_of formals passed) ways → AreTaken s cells n depth v facts scope (returns_of (x ∷ formals) (a ∷ passed)) ways
   plain_returns n x (Value ws) formals passed ways before plain taken = taken
   plain_returns n x (From k) formals passed [] before (inl plain) taken = (plain, taken)
   plain_returns n x (From k) formals passed (to ∷ ways) before (inl plain) taken = inl (plain, taken)
@@ -118,25 +120,21 @@ module _ (s : Typing) (settled : IsSettled s.table) (own_law : OwnsByShape s.tab
     stays = λ w g y base other_frame aside c reach. reach;
   }
 
-  nothing_entered : (other : Around (home s depth)) (leaks : List Leak) (formals : List ℕ) (passed : List Passed) (ways : List Way) (outs : List Out) (before m : Memory)
-      → returns_of formals passed ≡ [] → (ways ≡ []) × (outs ≡ []) → Kept s m hands → ViewedIn (outs_also other outs) leaks m
+  nothing_entered : (other : Way → Type 0) (leaks : List Leak) (formals : List ℕ) (passed : List Passed) (ways : List Way) (outs : List Out) (before m : Memory)
+      → returns_of formals passed ≡ [] → (ways ≡ []) × (outs ≡ []) → Kept s m hands → StandIn (outs_also other outs) leaks m
       → Enter other leaks (leaks ++ found_in s before outs) formals passed ways m m
-  nothing_entered other leaks formals passed ways outs before m none (no_ways, no_outs) typed viewed =
+  nothing_entered other leaks formals passed ways outs before m none (no_ways, no_outs) typed stand =
       subst (λ z. Enter other leaks z formals passed ways m m) (sym (ap (λ z. leaks ++ found_in s before z) no_outs ∙ append-nil leaks)) (
         nothing_declared formals passed ways leaks m typed,
-        more_gone (home s depth) (sees_only s) v (outs_also other outs) (λ w. other.gone w ⊎ TakenBy ways w)
-            (λ y w z has foreign o meets. elim o [
-              | inl gone ↦ viewed.whole y w z has foreign (inl gone) meets
-              | inr taken ↦ absurd (subst (λ ks. Has ks taken.0) no_ways taken.1)
-            ]) (seen s m hands leaks) facts (λ w o. elim o [
-              | inl gone ↦ inl gone
-              | inr under ↦ absurd (subst (λ ks. Has ks under.0) no_outs under.1)
-            ]) viewed,
-        subst (λ z. AreTaken s cells m depth facts scope z ways) (sym none) no_ways,
+        more_gone (home s depth) v facts (outs_also other outs) (taken_also other ways) (seen s m hands leaks) (λ w o. elim o [
+          | inl gone ↦ inl gone
+          | inr under ↦ absurd (subst (λ ks. Has ks under.0) no_outs under.1)
+        ]) stand,
+        subst (λ z. AreTaken s cells m depth v facts scope z ways) (sym none) no_ways,
       )
 
   -- scalar ones change nothing that owners see
-  plain_then : (other : Around (home s depth)) (leaks found : List Leak) (x : ℕ) (a : Passed) (formals : List ℕ) (passed : List Passed) (ways : List Way) (before m then_m n : Memory)
+  plain_then : (other : Way → Type 0) (leaks found : List Leak) (x : ℕ) (a : Passed) (formals : List ℕ) (passed : List Passed) (ways : List Way) (before m then_m n : Memory)
       → IsPlainOne s before cells x a → Stands s settled own_law in_formals hands leaks (suc depth) x a m then_m → Enter other leaks found formals passed ways then_m n
       → Enter other leaks found (x ∷ formals) (a ∷ passed) ways m n
   plain_then other leaks found x a formals passed ways before m then_m n plain on later = (
@@ -161,9 +159,9 @@ module _ (s : Typing) (settled : IsSettled s.table) (own_law : OwnsByShape s.tab
     plain_returns n x a formals passed ways before plain later.2,
   )
 
-  taken_then : (other : Around (home s depth)) (leaks mid found : List Leak) (x : ℕ) (k : Place) (a : Passed) (to : Way) (formals : List ℕ) (passed : List Passed) (ways : List Way)
+  taken_then : (other : Way → Type 0) (leaks mid found : List Leak) (x : ℕ) (k : Place) (a : Passed) (to : Way) (formals : List ℕ) (passed : List Passed) (ways : List Way)
       (m next n : Memory) → returns_of (x ∷ formals) (a ∷ passed) ≡ record { formal = x; to = k } ∷ returns_of formals passed
-      → (one : IsPassedOn s cells depth facts scope x k to) → IsApartFrom to ways → DiffersFrom x formals
+      → (one : IsPassedOn s cells depth v facts scope x k to) → IsApartFrom to ways → DiffersFrom x formals
       → ((g y : ℕ) (p : List Step) (c : ℕ) → word_in s.table (content s next [] (OfRoot (OfVariable g y))) p ≡ Held c
       → (word_in s.table (content s m [] (OfRoot (OfVariable g y))) p ≡ Held c) ⊎ ((g ≡ suc depth) × (y ≡ x)))
       → ((g y : ℕ) → is_view s y ≡ true
@@ -186,18 +184,12 @@ module _ (s : Typing) (settled : IsSettled s.table) (own_law : OwnsByShape s.tab
       carried = carried_then s (λ g. g ≡ suc depth → ⊥) cells [] [] [] m next n (λ w taken. taken) (λ w taken. taken) carried later.0.carried;
       stays = λ w g y base other_frame aside c reach. later.0.stays w g y base other_frame (λ z has. aside z (inr has)) c (one_stays w g y base other_frame (aside to (inl refl)) c reach);
     },
-    more_gone (home s depth) (sees_only s) v
-        (taken_also (away other to) ways)
-        (λ w. other.gone w ⊎ TakenBy (to ∷ ways) w)
-        (λ y w z has foreign o meets. later.1.whole y w z has foreign (elim o [
-          | inl gone ↦ inl (inl gone)
-          | inr (k, has_k, p, is) ↦ elim has_k [ inl same ↦ inl (inr (p, is ∙ ap (λ q. along q p) (sym same))) | inr rest ↦ inr (k, rest, p, is) ]
-        ]) meets) (seen s n hands found) facts
+    more_gone (home s depth) v facts (taken_also (away other to) ways) (taken_also other (to ∷ ways)) (seen s n hands found)
         (λ w o. elim o [
           | inr taken ↦ inr (taken_more to ways w taken)
           | inl before ↦ elim before [ inl away ↦ inl away | inr (p, is) ↦ inr (to, inl refl, p, is) ]
         ]) later.1,
-    subst (λ z. AreTaken s cells n depth facts scope z (to ∷ ways)) (sym return_is) (inr (
+    subst (λ z. AreTaken s cells n depth v facts scope z (to ∷ ways)) (sym return_is) (inr (
       (
         one,
         (λ p c is. bare p c (start_before (p ++ (one.inside).steps) c is)),
@@ -217,8 +209,8 @@ module _ (s : Typing) (settled : IsSettled s.table) (own_law : OwnsByShape s.tab
               | inr h ↦ (let same = h.0 in let low = inside_low s depth k to one.inside in absurd (omega (arith, same, low)))
             ])
         | inr cell ↦
-            subst (λ z. word_in s.table (content s next [] z) q ≡ Held c) (sym (cell.0).1)
-            ((later.0.carried).in_cells (cell.0).0 q c (λ taken. (taken.3).1) (subst (λ z. word_in s.table (content s n [] z) q ≡ Held c) (cell.0).1 is))
+            subst (λ z. word_in s.table (content s next [] z) q ≡ Held c) (sym cell.1)
+            ((later.0.carried).in_cells cell.0 q c (λ taken. (taken.3).1) (subst (λ z. word_in s.table (content s n [] z) q ≡ Held c) cell.1 is))
       ]
 
   -- ---- what is known elsewhere after one is taken
@@ -230,28 +222,29 @@ module _ (s : Typing) (settled : IsSettled s.table) (own_law : OwnsByShape s.tab
   along_under to w (p, is) = subst (Under to) (sym is) (under_along to to p (under_itself to))
 
   -- the others are open still
-  pub others_open : (other : Around (home s depth)) (to : Way) (ways : List Way) → IsHomed s depth to → IsApartFrom to ways → IsOpen (home s depth) other (to ∷ ways)
-      → IsOpen (home s depth) (away other to) ways
+  pub others_open : (other : Way → Type 0) (to : Way) (ways : List Way) → Begins s depth to → IsApartFrom to ways → IsOpen Moved other (to ∷ ways)
+      → IsOpen Moved (away other to) ways
   others_open other to ways from apart open_there = record {
     free = λ h w under o. elim o [
-      | inl gone ↦ open_there.free h w under gone
-      | inr (p, is) ↦ hand_base h from.0 from.1 (sym (base_under (Object (OfHand h)) w under) ∙ ap base_of is ∙ base_along to p ∙ from.2)
+      | inl moved ↦ open_there.free h w under (inl moved)
+      | inr (inl gone) ↦ open_there.free h w under (inr gone)
+      | inr (inr (p, is)) ↦ hand_base h from.0 from.1 (sym (base_under (Object (OfHand h)) w under) ∙ ap base_of is ∙ base_along to p ∙ from.2)
     ];
     whole = λ z has w under o. elim o [
       | inl gone ↦ open_there.whole z (inr has) w under gone
       | inr at ↦ elim (beginnings to z w (along_under to w at) under) [ inl a ↦ (apart z has).0 a | inr b ↦ (apart z has).1 b ]
     ];
-    none = open_there.none;
   }
 
   -- what isn't emptied is open, too
-  pub taken_open : (other : Around (home s depth)) (to : Way) (ways : List Way) (outs : List Out) → ((o : Out) → Has outs o → Has ways o.way)
-      → ((z : Way) → Has ways z → IsHomed s depth z) → IsApartFrom to ways → IsOpen (home s depth) other (to ∷ ways)
-      → IsOpen (home s depth) (outs_also other outs) (to ∷ [])
+  pub taken_open : (other : Way → Type 0) (to : Way) (ways : List Way) (outs : List Out) → ((o : Out) → Has outs o → Has ways o.way)
+      → ((z : Way) → Has ways z → Begins s depth z) → IsApartFrom to ways → IsOpen Moved other (to ∷ ways)
+      → IsOpen Moved (outs_also other outs) (to ∷ [])
   taken_open other to ways outs among from apart open_there = record {
     free = λ h w under o. elim o [
-      | inl gone ↦ open_there.free h w under gone
-      | inr (one, has, below) ↦ (let root = from one.way (among one has) in
+      | inl moved ↦ open_there.free h w under (inl moved)
+      | inr (inl gone) ↦ open_there.free h w under (inr gone)
+      | inr (inr (one, has, below)) ↦ (let root = from one.way (among one has) in
           hand_base h root.0 root.1 (sym (base_under (Object (OfHand h)) w under) ∙ base_under one.way w below ∙ root.2))
     ];
     whole = λ z has w under o. elim has [
@@ -264,22 +257,17 @@ module _ (s : Typing) (settled : IsSettled s.table) (own_law : OwnsByShape s.tab
         ]
       ]
     ];
-    none = open_there.none;
   }
 
   -- the place of one that isn't emptied is gone beside those that are
-  pub beside_outs : (other : Around (home s depth)) (to : Way) (outs : List Out) (leaks : List Leak) (m : Memory)
-      → ViewedIn (away (outs_also other outs) to) leaks m → ViewedIn (outs_also (away other to) outs) leaks m
-  beside_outs other to outs leaks m viewed =
-      more_gone (home s depth) (sees_only s) v (away (outs_also other outs) to) ((outs_also (away other to) outs).gone)
-      (λ y w z has foreign o meets. viewed.whole y w z has foreign (elim o [
-        | inr under ↦ inl (inr under)
-        | inl before ↦ elim before [ inl gone ↦ inl (inl gone) | inr at ↦ inr at ]
-      ]) meets) (seen s m hands leaks) facts
+  pub beside_outs : (other : Way → Type 0) (to : Way) (outs : List Out) (leaks : List Leak) (m : Memory)
+      → StandIn (away (outs_also other outs) to) leaks m → StandIn (outs_also (away other to) outs) leaks m
+  beside_outs other to outs leaks m stand =
+      more_gone (home s depth) v facts (away (outs_also other outs) to) (outs_also (away other to) outs) (seen s m hands leaks)
       (λ w o. elim o [
         | inr at ↦ inl (inr at)
         | inl before ↦ elim before [ inl gone ↦ inl (inl gone) | inr under ↦ inr under ]
-      ]) viewed
+      ]) stand
 
   -- What there is where the actuals are evaluated.
   pub record AtFirst (before : Memory) : Type 0 where
@@ -289,7 +277,7 @@ module _ (s : Typing) (settled : IsSettled s.table) (own_law : OwnsByShape s.tab
     pub there : (c : Lodge) → Has cells c → Reaches (seen s before hands leaks) c.way (OfCell c.cell)
 
   -- a place that is passed on is reached where the cells are
-  pub one_reached : (x : ℕ) (k : Place) (to : Way) (one : IsPassedOn s cells depth facts scope x k to) (leaks : List Leak) (m : Memory)
+  pub one_reached : (x : ℕ) (k : Place) (to : Way) (one : IsPassedOn s cells depth v facts scope x k to) (leaks : List Leak) (m : Memory)
       → ((c : Lodge) → Has cells c → Reaches (seen s m hands leaks) c.way (OfCell c.cell)) → Reaches (seen s m hands leaks) (one.inside).trunk (one.inside).start
   one_reached x k to one leaks m there =
       start_reached s depth k to one.inside (seen s m hands leaks) (λ n is. (
@@ -298,7 +286,7 @@ module _ (s : Typing) (settled : IsSettled s.table) (own_law : OwnsByShape s.tab
 
   -- ---- what a place has still is leaked
 
-  pub still_checks : (x : ℕ) (k : Place) (to : Way) (one : IsPassedOn s cells depth facts scope x k to) (pos : Pos) (leaks : List Leak) (before m : Memory)
+  pub still_checks : (x : ℕ) (k : Place) (to : Way) (one : IsPassedOn s cells depth v facts scope x k to) (pos : Pos) (leaks : List Leak) (before m : Memory)
       → AtFirst before → HasStill s cells depth before m to
       → Checks s.table (content s m hands (trunk (inside_at s depth k to one.inside))) (steps_in (inside_at s depth k to one.inside)) leaks (leaks ++ leaks_at s pos before k)
   still_checks x k to one pos leaks before m first_one still =
@@ -325,9 +313,9 @@ module _ (s : Typing) (settled : IsSettled s.table) (own_law : OwnsByShape s.tab
             (still.0 (one.inside).frame (one.inside).object (one.inside).steps p (inside_low s depth k to one.inside)
             ((one.inside).way ∙ ap (λ z. along z (one.inside).steps) variable.0))
         | inr cell ↦ (
-            let found = one.among (cell.0).0 (cell.0).1 in
+            let found = one.among cell.0 cell.1 in
             subst (λ z. word_in s.table (content s m [] z) (p ++ (one.inside).steps) ≡ word_in s.table (content s before [] z) (p ++ (one.inside).steps))
-            (ap OfCell found.3 ∙ sym (cell.0).1)
+            (ap OfCell found.3 ∙ sym cell.1)
             (still.1 found.0 (one.inside).steps p found.1 ((one.inside).way ∙ ap (λ z. along z (one.inside).steps) (sym found.2))))
       ]
 
@@ -340,41 +328,41 @@ module _ (s : Typing) (settled : IsSettled s.table) (own_law : OwnsByShape s.tab
   laid_in leaks m (From k) plain typed there = plain_place s settled own_law in_formals hands leaks (suc depth) cells begins m k plain typed there
   laid_in leaks m (To k) plain typed there = plain_place s settled own_law in_formals hands leaks (suc depth) cells begins m k plain typed there
 
-  pub all_declared : (other : Around (home s depth)) (leaks : List Leak) (formals : List ℕ) (passed : List Passed) (ways : List Way) (outs : List Out) (before m : Memory)
-      → ArePassedOn s before cells depth facts scope formals passed ways outs → IsOpen (home s depth) other ways → AtFirst before → Kept s m hands
-      → AreThere ways leaks m → ViewedIn (outs_also other outs) leaks m → AreBlank s depth m formals → HaveStill s cells depth before m outs → HasCells before m
+  pub all_declared : (other : Way → Type 0) (leaks : List Leak) (formals : List ℕ) (passed : List Passed) (ways : List Way) (outs : List Out) (before m : Memory)
+      → ArePassedOn s before cells depth v facts scope formals passed ways outs → IsOpen Moved other ways → AtFirst before → Kept s m hands
+      → AreThere ways leaks m → StandIn (outs_also other outs) leaks m → AreBlank s depth m formals → HaveStill s cells depth before m outs → HasCells before m
       → Enter other leaks (leaks ++ found_in s before outs) formals passed ways m (with_formals s (suc depth) formals passed m)
-  all_declared other leaks [] passed ways outs before m are open_there at_first typed cells_there viewed blank still had =
-      nothing_entered other leaks [] passed ways outs before m refl are typed viewed
-  all_declared other leaks (x ∷ formals) [] ways outs before m are open_there at_first typed cells_there viewed blank still had =
-      nothing_entered other leaks (x ∷ formals) [] ways outs before m refl are typed viewed
-  all_declared other leaks (x ∷ formals) (a ∷ passed) [] outs before m are open_there at_first typed cells_there viewed blank still had =
+  all_declared other leaks [] passed ways outs before m are open_there at_first typed cells_there stand blank still had =
+      nothing_entered other leaks [] passed ways outs before m refl are typed stand
+  all_declared other leaks (x ∷ formals) [] ways outs before m are open_there at_first typed cells_there stand blank still had =
+      nothing_entered other leaks (x ∷ formals) [] ways outs before m refl are typed stand
+  all_declared other leaks (x ∷ formals) (a ∷ passed) [] outs before m are open_there at_first typed cells_there stand blank still had =
       let on = one_stands s settled own_law in_formals hands leaks (suc depth) x a before m cells are.0 (λ plain. laid_in leaks m a plain typed (λ c has. (cells_there c has).0)) had typed in
       let mid : Memory = with_formal s (suc depth) x a m in
       plain_then other leaks (leaks ++ found_in s before outs) x a formals passed [] before m mid (with_formals s (suc depth) formals passed mid) are.0 on
       (all_declared other leaks formals passed [] outs before mid are.1 open_there at_first on.typed
       (λ c has. (same_reaches (seen s m hands leaks) (seen s mid hands leaks) on.same c.way (OfCell c.cell) (cells_there c has).0, (cells_there c has).1))
-      (same_viewed (home s depth) (sees_only s) (outs_also other outs) v (seen s m hands leaks) (seen s mid hands leaks) facts on.same viewed)
+      (same_stand (home s depth) v facts (outs_also other outs) (seen s m hands leaks) (seen s mid hands leaks) on.same stand)
       (λ y has p. on.hold (suc depth) y p ∙ blank y (inr has) p)
       (λ o has. still_then s cells depth before m mid o.way (still o has) ((λ f y q p low is. on.hold f y (p ++ q)), (λ c q p has is. cells_same s m mid hands leaks on.same c.cell (p ++ q)))) (then_cells before m mid had on.cells))
-  all_declared other leaks (x ∷ formals) (a ∷ passed) (to ∷ ways) outs before m (inl are) open_there at_first typed cells_there viewed blank still had =
+  all_declared other leaks (x ∷ formals) (a ∷ passed) (to ∷ ways) outs before m (inl are) open_there at_first typed cells_there stand blank still had =
       let on = one_stands s settled own_law in_formals hands leaks (suc depth) x a before m cells are.0 (λ plain. laid_in leaks m a plain typed (λ c has. (cells_there c has).0)) had typed in
       let mid : Memory = with_formal s (suc depth) x a m in
       plain_then other leaks (leaks ++ found_in s before outs) x a formals passed (to ∷ ways) before m mid (with_formals s (suc depth) formals passed mid) are.0 on
       (all_declared other leaks formals passed (to ∷ ways) outs before mid are.1 open_there at_first on.typed
       (λ c has. (same_reaches (seen s m hands leaks) (seen s mid hands leaks) on.same c.way (OfCell c.cell) (cells_there c has).0, (cells_there c has).1))
-      (same_viewed (home s depth) (sees_only s) (outs_also other outs) v (seen s m hands leaks) (seen s mid hands leaks) facts on.same viewed)
+      (same_stand (home s depth) v facts (outs_also other outs) (seen s m hands leaks) (seen s mid hands leaks) on.same stand)
       (λ y has p. on.hold (suc depth) y p ∙ blank y (inr has) p)
       (λ o has. still_then s cells depth before m mid o.way (still o has) ((λ f y q p low is. on.hold f y (p ++ q)), (λ c q p has is. cells_same s m mid hands leaks on.same c.cell (p ++ q)))) (then_cells before m mid had on.cells))
-  all_declared other leaks (x ∷ formals) (a ∷ passed) (to ∷ ways) outs before m (inr (k, later, inl (is, whole, same), one, apart, differ, more)) open_there at_first typed cells_there viewed blank still had =
+  all_declared other leaks (x ∷ formals) (a ∷ passed) (to ∷ ways) outs before m (inr (k, later, inl (is, whole, same), one, apart, differ, more)) open_there at_first typed cells_there stand blank still had =
       let new = blank x (inl refl) in
       let there_now = one_reached x k to one leaks m (λ c has. (cells_there c has).0) in
       let next : Memory = declared (suc depth) x (words_of s m k) (moved_out s k m) in
-      let among = outs_taken s before cells depth facts scope formals passed ways later more in
-      let from = passed_base s before cells depth facts scope formals passed ways later more in
-      let root : IsHomed s depth to = inside_homed s depth k to one.inside in
+      let among = outs_taken s before cells depth v facts scope formals passed ways later more in
+      let from = passed_base s before cells depth v facts scope formals passed ways later more in
+      let root : Begins s depth to = inside_begins s depth k to one.inside in
       let mine = taken_open other to ways later among from apart open_there in
-      let here : ViewedIn (outs_also other later) leaks m = subst (λ z. ViewedIn (outs_also other z) leaks m) same viewed in
+      let here : StandIn (outs_also other later) leaks m = subst (λ z. StandIn (outs_also other z) leaks m) same stand in
       subst (λ z. Enter other leaks (leaks ++ found_in s before outs) (x ∷ formals) (z ∷ passed) (to ∷ ways) m (with_formals s (suc depth) (x ∷ formals) (z ∷ passed) m)) (sym is)
       (subst (λ z. Enter other leaks (leaks ++ found_in s before z) (x ∷ formals) (From k ∷ passed) (to ∷ ways) m (with_formals s (suc depth) (x ∷ formals) (From k ∷ passed) m)) (sym same)
       (taken_then other leaks leaks (leaks ++ found_in s before later) x k (From k) to formals passed ways m next (with_formals s (suc depth) formals passed next) refl one apart differ
@@ -391,55 +379,47 @@ module _ (s : Typing) (settled : IsSettled s.table) (own_law : OwnsByShape s.tab
             c.way begin.0 begin.1 begin.2 begin.3 ((cells_there c has).1 to (inl refl)) c.cell (cells_there c has).0),
         (λ z there. (cells_there c has).1 z (inr there)),
       ))
-      (beside_outs other to later leaks next (viewed_next s settled own_law in_formals hands leaks depth v far only facts scope cells (outs_also other later) x k to one whole mine m typed here new there_now))
+      (beside_outs other to later leaks next (stand_next s settled own_law in_formals hands leaks depth v far only facts scope cells (outs_also other later) x k to one whole mine m typed here new there_now))
       (λ y has p. one_blank s settled own_law in_formals hands leaks depth v far only facts scope cells (outs_also other later) x k to one whole mine m typed here new there_now y (differ y has) p (blank y (inr has) p))
       (λ o has. still_then s cells depth before m next o.way (still o (subst (λ z. Has z o) (sym same) has))
       (one_still s settled own_law in_formals hands leaks depth v far only facts scope cells (outs_also other later) x k to one whole mine m typed here new there_now (λ c has_c. (cells_there c has_c).0) o.way (apart o.way (among o has))))
       (then_cells before m next had (taken_cells s k (suc depth) x (words_of s m k) m)))))
-  all_declared other leaks (x ∷ formals) (a ∷ passed) (to ∷ ways) outs before m (inr (k, later, inr (pos, is, same), one, apart, differ, more)) open_there at_first typed cells_there viewed blank still had =
+  all_declared other leaks (x ∷ formals) (a ∷ passed) (to ∷ ways) outs before m (inr (k, later, inr (pos, is, same), one, apart, differ, more)) open_there at_first typed cells_there stand blank still had =
       let new = blank x (inl refl) in
       let there_now = one_reached x k to one leaks m (λ c has. (cells_there c has).0) in
       let next : Memory = declared (suc depth) x (default s.table (object_at s x).of) (moved_out s k m) in
-      let among = outs_taken s before cells depth facts scope formals passed ways later more in
-      let from = passed_base s before cells depth facts scope formals passed ways later more in
-      let root : IsHomed s depth to = inside_homed s depth k to one.inside in
+      let among = outs_taken s before cells depth v facts scope formals passed ways later more in
+      let from = passed_base s before cells depth v facts scope formals passed ways later more in
+      let root : Begins s depth to = inside_begins s depth k to one.inside in
       let out : Out = record { way = to; place = k; pos = pos } in
-      let here : ViewedIn (outs_also other (out ∷ later)) leaks m = subst (λ z. ViewedIn (outs_also other z) leaks m) same viewed in
+      let here : StandIn (outs_also other (out ∷ later)) leaks m = subst (λ z. StandIn (outs_also other z) leaks m) same stand in
       let found : List Leak = leaks ++ leaks_at s pos before k in
       let mine = still_checks x k to one pos leaks before m at_first (still out (subst (λ z. Has z out) (sym same) (inl refl))) in
-      let gone_apart : (y : ℕ) (w z : Way) → v.way y ≡ Some w → IsOuter (home s depth) v y w → (outs_also (away other to) later).gone z → Under z w ⊎ Under w z → ⊥ =
-      λ y w z has foreign o meets. elim o [
-        | inr (other_one, has_one, under) ↦ viewed.whole y w z has foreign (inr (other_one, subst (λ z. Has z other_one) (sym same) (inr has_one), under)) meets
-        | inl before ↦ elim before [
-          | inl gone ↦ viewed.whole y w z has foreign (inl gone) meets
-          | inr at ↦ viewed.whole y w z has foreign (inr (out, subst (λ z. Has z out) (sym same) (inl refl), along_under to z at)) meets
-        ]
-      ] in
       subst (λ z. Enter other leaks (leaks ++ found_in s before outs) (x ∷ formals) (z ∷ passed) (to ∷ ways) m (with_formals s (suc depth) (x ∷ formals) (z ∷ passed) m)) (sym is)
       (subst (λ z. Enter other leaks (leaks ++ found_in s before z) (x ∷ formals) (To k ∷ passed) (to ∷ ways) m (with_formals s (suc depth) (x ∷ formals) (To k ∷ passed) m)) (sym same)
       (subst (λ z. Enter other leaks z (x ∷ formals) (To k ∷ passed) (to ∷ ways) m (with_formals s (suc depth) (x ∷ formals) (To k ∷ passed) m)) (append_assoc leaks (leaks_at s pos before k) (found_in s before later))
       (taken_then other leaks found (found ++ found_in s before later) x k (To k) to formals passed ways m next (with_formals s (suc depth) formals passed next) refl one apart differ
-      (λ g y p c held. inl (out_held s settled own_law in_formals hands leaks depth v only facts scope cells (outs_also other (out ∷ later)) ((outs_also (away other to) later).gone) gone_apart x k to one
-      open_there.none m typed here new there_now found mine g y p c held))
-      (out_views s settled own_law in_formals hands leaks depth v only facts scope cells (outs_also other (out ∷ later)) ((outs_also (away other to) later).gone) gone_apart x k to one
-      open_there.none m typed here new there_now found)
-      (out_bare s settled own_law in_formals hands leaks depth v only facts scope cells (outs_also other (out ∷ later)) ((outs_also (away other to) later).gone) gone_apart x k to one
-      open_there.none m typed here new there_now found mine)
-      (out_carried s settled own_law in_formals hands leaks depth v only facts scope cells (outs_also other (out ∷ later)) ((outs_also (away other to) later).gone) gone_apart x k to one
-      open_there.none m typed here new there_now found mine)
+      (λ g y p c held. inl (out_held s settled own_law in_formals hands leaks depth v only facts scope cells (outs_also other (out ∷ later)) (outs_also (away other to) later) x k to one
+      m typed here new there_now found mine g y p c held))
+      (out_views s settled own_law in_formals hands leaks depth v only facts scope cells (outs_also other (out ∷ later)) (outs_also (away other to) later) x k to one
+      m typed here new there_now found)
+      (out_bare s settled own_law in_formals hands leaks depth v only facts scope cells (outs_also other (out ∷ later)) (outs_also (away other to) later) x k to one
+      m typed here new there_now found mine)
+      (out_carried s settled own_law in_formals hands leaks depth v only facts scope cells (outs_also other (out ∷ later)) (outs_also (away other to) later) x k to one
+      m typed here new there_now found mine)
       (λ w g y base other_frame aside c reach.
-      out_stays s settled own_law in_formals hands leaks depth v only facts scope cells (outs_also other (out ∷ later)) ((outs_also (away other to) later).gone) gone_apart x k to one
-      open_there.none m typed here new there_now found mine w aside c reach)
+      out_stays s settled own_law in_formals hands leaks depth v only facts scope cells (outs_also other (out ∷ later)) (outs_also (away other to) later) x k to one
+      m typed here new there_now found mine w aside c reach)
       (all_declared (away other to) found formals passed ways later before next more (others_open other to ways root apart open_there) at_first
-      (out_kept s settled own_law in_formals hands leaks depth v only facts scope cells (outs_also other (out ∷ later)) ((outs_also (away other to) later).gone) gone_apart x k to one
-      open_there.none m typed here new there_now found)
+      (out_kept s settled own_law in_formals hands leaks depth v only facts scope cells (outs_also other (out ∷ later)) (outs_also (away other to) later) x k to one
+      m typed here new there_now found)
       (λ c has. (
-        out_stays s settled own_law in_formals hands leaks depth v only facts scope cells (outs_also other (out ∷ later)) ((outs_also (away other to) later).gone) gone_apart x k to one
-            open_there.none m typed here new there_now found mine c.way ((cells_there c has).1 to (inl refl)) c.cell (cells_there c has).0,
+        out_stays s settled own_law in_formals hands leaks depth v only facts scope cells (outs_also other (out ∷ later)) (outs_also (away other to) later) x k to one
+            m typed here new there_now found mine c.way ((cells_there c has).1 to (inl refl)) c.cell (cells_there c has).0,
         (λ z there. (cells_there c has).1 z (inr there)),
       ))
-      (out_viewed s settled own_law in_formals hands leaks depth v only facts scope cells (outs_also other (out ∷ later)) ((outs_also (away other to) later).gone) gone_apart x k to one
-      open_there.none m typed here new there_now found mine
+      (out_stand s settled own_law in_formals hands leaks depth v only facts scope cells (outs_also other (out ∷ later)) (outs_also (away other to) later) x k to one
+      m typed here new there_now found mine
       (λ w o off. elim o [
         | inl gone ↦ inl (inl gone)
         | inr (other_one, has_one, under) ↦ elim has_one [
@@ -447,23 +427,23 @@ module _ (s : Typing) (settled : IsSettled s.table) (own_law : OwnsByShape s.tab
           | inr rest ↦ inr (other_one, rest, under)
         ]
       ]) (λ p. inl (inr (p, refl))))
-      (λ y has p. out_blank s settled own_law in_formals hands leaks depth v only facts scope cells (outs_also other (out ∷ later)) ((outs_also (away other to) later).gone) gone_apart x k to one
-      open_there.none m typed here new there_now found y (differ y has) p (blank y (inr has) p))
+      (λ y has p. out_blank s settled own_law in_formals hands leaks depth v only facts scope cells (outs_also other (out ∷ later)) (outs_also (away other to) later) x k to one
+      m typed here new there_now found y (differ y has) p (blank y (inr has) p))
       (λ o has. still_then s cells depth before m next o.way (still o (subst (λ z. Has z o) (sym same) (inr has)))
-      (out_still s settled own_law in_formals hands leaks depth v only facts scope cells (outs_also other (out ∷ later)) ((outs_also (away other to) later).gone) gone_apart x k to one
-      open_there.none m typed here new there_now found mine (λ c has_c. (cells_there c has_c).0) o.way (apart o.way (among o has))))
+      (out_still s settled own_law in_formals hands leaks depth v only facts scope cells (outs_also other (out ∷ later)) (outs_also (away other to) later) x k to one
+      m typed here new there_now found mine (λ c has_c. (cells_there c has_c).0) o.way (apart o.way (among o has))))
       (then_cells before m next had (taken_cells s k (suc depth) x (default s.table (object_at s x).of) m))))))
 
   -- ---- where no place is taken
 
   -- nothing is emptied
-  pub none_emptied : (formals : List ℕ) (passed : List Passed) (outs : List Out) (before : Memory) → ArePassedOn s before cells depth facts scope formals passed [] outs → outs ≡ []
+  pub none_emptied : (formals : List ℕ) (passed : List Passed) (outs : List Out) (before : Memory) → ArePassedOn s before cells depth v facts scope formals passed [] outs → outs ≡ []
   none_emptied [] passed outs before are = are.1
   none_emptied (x ∷ formals) [] outs before are = are.1
   none_emptied (x ∷ formals) (a ∷ passed) outs before are = none_emptied formals passed outs before are.1
 
   -- and owners see the same
-  pub none_taken_same : (leaks : List Leak) (formals : List ℕ) (passed : List Passed) (outs : List Out) (before m : Memory) → ArePassedOn s before cells depth facts scope formals passed [] outs
+  pub none_taken_same : (leaks : List Leak) (formals : List ℕ) (passed : List Passed) (outs : List Out) (before m : Memory) → ArePassedOn s before cells depth v facts scope formals passed [] outs
       → HasCells before m → Kept s m hands → ((c : Lodge) → Has cells c → Reaches (seen s m hands leaks) c.way (OfCell c.cell))
       → IsSame (seen s m hands leaks) (seen s (with_formals s (suc depth) formals passed m) hands leaks)
   none_taken_same leaks [] passed outs before m are had typed there = record { word = λ l. refl; made = refl; freed = λ n. refl; leaked = λ n. refl }

@@ -209,7 +209,7 @@ module _ (table : Table) (typed : TypedProgram) (effects : Effects) (input : Lis
         let from = fact_added program effects ready.accepted.effects_are (flow_sub own named) top.before (Lent l h m) lends in
         act_uses m.root shared from.0 from.2 from.1 from.3 (lending_uses (from.1).act l h m from.4)
 
-    borrowed_writes : (h : ℕ) (m : PlaceName) → Has own_facts (Lent Borrowed h m) → is_package_object s m.root ≡ true → Has (written_by effects top.frame.sub) m.root
+    pub borrowed_writes : (h : ℕ) (m : PlaceName) → Has own_facts (Lent Borrowed h m) → is_package_object s m.root ≡ true → Has (written_by effects top.frame.sub) m.root
     borrowed_writes h m lends shared =
         let from = fact_added program effects ready.accepted.effects_are (flow_sub own named) top.before (Lent Borrowed h m) lends in
         act_writes_it m.root shared from.0 from.2 from.1 from.3 (borrowing_writes (from.1).act h m from.4)

@@ -20,8 +20,8 @@ use Rattle.owned_loans.specs.Views.{Views, expand}
 use Rattle.owned_loans.proofs.Safe.{Open}
 use Rattle.viewed_soundness.specs.Holds.{sees_only}
 use Rattle.viewed_steps.specs.Ready.{is_shown_type}
-use Rattle.viewed_steps.specs.Taken.{Lodge, IsLodged, IsVariableAt, IsInside}
-use Rattle.viewed_steps.specs.Sound.{IsScalarObject, IsReachedBack}
+use Rattle.viewed_steps.specs.Taken.{Lodge, IsLodged, IsInside, IsOwnAt}
+use Rattle.viewed_steps.specs.Sound.{IsScalarObject}
 use Rattle.viewed_steps.proofs.Outs.{Out}
 use Rattle.viewed_steps.proofs.Entered.{IsTyped, IsFit}
 
@@ -31,7 +31,7 @@ use Rattle.viewed_steps.proofs.Entered.{IsTyped, IsFit}
 abbrev pub IsOwnPut : Typing → ℕ → ℕ → TypedTree → Place → Type 0
 IsOwnPut s depth x (Name p y path u) k =
     (to : Way) × (inside : IsInside s depth k to) × (ways.name_of to ≡ name_of y path) × (inside.object ≡ y) × Matches s.table k.of (object_at s x).of
-    × IsVariableAt inside.frame inside.object k inside.trunk inside.start
+    × IsOwnAt s depth inside.frame inside.object k inside.trunk inside.start
 IsOwnPut s depth x e k = ⊥
 
 -- A place in a cell: a name of the cell begins that of the actual, which is rooted in an object that isn't an
@@ -53,18 +53,22 @@ IsPlainAt s depth v view (Name p y path u) k =
     IsFixed s k ⊎ ((c : Lodge) × IsInCell s depth v view y path k c × (is_scalar (full s.table k.of) ≡ true))
 IsPlainAt s depth v view e k = ⊥
 
--- Another place in a cell that an owner leads to.
+-- Another place in a cell: the name of the cell, and what it stands for.
 pub record IsHoused (s : Typing) (depth : ℕ) (v : Views) (view : ways.View) (x y : ℕ) (path : TypedTree) (k : Place) : Type 0 where
   pub to : Way
   pub inside : IsInside s depth k to
-  pub called : ways.name_of to ≡ name_of y path
-  pub object : inside.object ≡ y
+  pub name : Way
+  pub named : Named (home s depth) name
+  pub called : ways.name_of name ≡ name_of y path
+  pub means : expand v name ≡ to
   pub fits : Matches s.table k.of (object_at s x).of
+  pub front : Way
+  pub begins : ways.Under front name
   pub cell : ℕ
   pub start : inside.start ≡ ways.OfCell cell
   pub plain : sees_only s y ≡ false
-  pub deep : (r : ways.Root) → inside.trunk ≡ ways.Object r → ⊥
-  pub leads : expand v inside.trunk ≡ inside.trunk
+  pub deep : (r : ways.Root) → front ≡ ways.Object r → ⊥
+  pub leads : expand v front ≡ inside.trunk
   pub reaches : Reaches view inside.trunk (ways.OfCell cell)
 
 abbrev pub IsHousedPut : Typing → ℕ → Views → ways.View → ℕ → TypedTree → Place → Type 0
@@ -73,7 +77,7 @@ IsHousedPut s depth v view x e k = ⊥
 
 -- Its cell.
 abbrev pub house_of : (s : Typing) (depth : ℕ) (v : Views) (view : ways.View) (x y : ℕ) (path : TypedTree) (k : Place) → IsHoused s depth v view x y path k → Lodge
-house_of s depth v view x y path k h = record { name = (h.inside).trunk; way = (h.inside).trunk; cell = h.cell }
+house_of s depth v view x y path k h = record { name = h.front; way = (h.inside).trunk; cell = h.cell }
 
 -- A scalar place, or another place in a variable of the frame.
 abbrev pub IsPlaceLaid : Typing → ℕ → Views → ways.View → ℕ → TypedTree → Place → Type 0
@@ -168,9 +172,6 @@ IsOpenActual s depth facts (Name p y path u) =
     × ((q : Way) → Named (home s depth) q → ways.name_of q ≡ name_of y path → Open facts q))
 IsOpenActual s depth facts e = Unit {0}
 
--- So is each for a formal of a scalar type, or rooted in an owner; the others go through none.
 abbrev pub AreOpenActuals : Typing → ℕ → List Fact → List ℕ → TypedTree → Type 0
-AreOpenActuals s depth facts (x ∷ formals) (More e rest) =
-    (is_in (object_at s x).mode ≡ false → (goes_through_none e ≡ true) ⊎ (IsReachedBack s x e × IsOpenActual s depth facts e))
-    × AreOpenActuals s depth facts formals rest
+AreOpenActuals s depth facts (x ∷ formals) (More e rest) = (is_in (object_at s x).mode ≡ false → IsOpenActual s depth facts e) × AreOpenActuals s depth facts formals rest
 AreOpenActuals s depth facts formals actuals = Unit {0}

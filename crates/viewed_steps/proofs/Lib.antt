@@ -25,6 +25,7 @@ pub mod Left
 pub mod Between
 pub mod Lodged
 pub mod Aside
+pub mod Stilled
 pub mod Opened
 pub mod Emptied
 pub mod Vacated

@@ -17,7 +17,7 @@ use Rattle.soundness.specs.Seen.{content, word_in, home}
 use Rattle.soundness.specs.Sound.{Stage, facts_of, AreStages, view_of as view_here}
 use Rattle.owned_loans.specs.Views.{known_gone}
 use Rattle.owned_loans.proofs.Moves.{view_on}
-use Rattle.viewed_steps.specs.Taken.{IsInside, IsBare, IsVariableAt, IsAmong}
+use Rattle.viewed_steps.specs.Taken.{IsInside, IsBare, IsAmong, IsOwnAt}
 use Rattle.viewed_steps.proofs.Between.{still_taken}
 use Rattle.viewed_steps.specs.Awaited.{lasting_of}
 use Rattle.viewed_steps.specs.Sound.{ViewStage, stages_of, IsWaiting, AreWaiting, IsWayOf, IsBareOf}
@@ -56,6 +56,9 @@ module _ (table : Table) (typed : TypedProgram) (effects : Effects)
       shown = waits.shown;
       apart = waits.apart;
       written = waits.written;
+      goes = waits.goes;
+      names = waits.names;
+      off = waits.off;
       uses = waits.uses;
       writes = waits.writes;
       clear = waits.clear;
@@ -79,22 +82,22 @@ module _ (table : Table) (typed : TypedProgram) (effects : Effects)
         reaches = reach c.way c.cell (inr (c, has, refl, refl));
         aside = kept.aside;
       });
-      taken = still_taken s g.cells state.memory next.memory g.stage.depth (facts_of program effects g.stage) (lasting_of s waits.point.scope) backs g.stage.returns
+      taken = still_taken s g.cells state.memory next.memory g.stage.depth g.views (facts_of program effects g.stage) (lasting_of s waits.point.scope) backs g.stage.returns
           (λ k to has inside among none p c held. place_on k to has inside among none p c held) waits.taken;
     }
       where
         -- no number comes to what was taken
-        variable_on : (k : Place) (to : Way) → Has g.stage.returns to → (inside : IsInside s g.stage.depth k to) → IsVariableAt inside.frame inside.object k inside.trunk inside.start
+        variable_on : (k : Place) (to : Way) → Has g.stage.returns to → (inside : IsInside s g.stage.depth k to) → IsOwnAt s g.stage.depth inside.frame inside.object k inside.trunk inside.start
             → (b : Bool) → is_package_object s inside.object ≡ b → IsBare s g.stage.depth k to state.memory inside → IsBare s g.stage.depth k to next.memory inside
         variable_on k to has inside variable true shared none p c held =
-            let first : inside.frame ≡ 0 = inside.at_home ∙ ap (λ z. if z then 0 else g.stage.depth) shared in
+            let first : inside.frame ≡ 0 = variable.3 ∙ ap (λ z. if z then 0 else g.stage.depth) shared in
             let trunk_is : inside.trunk ≡ Object (OfVariable 0 inside.object) = variable.0 ∙ ap (λ f. Object (OfVariable f inside.object)) first in
             let start_is : inside.start ≡ OfRoot (OfVariable 0 inside.object) = variable.1 ∙ ap (λ f. OfRoot (OfVariable f inside.object)) first in
             let taken : IsBareOf s g inside.trunk inside.start inside.steps =
             (subst (Has g.stage.returns) inside.way has, inr (inside.object, shared, sym trunk_is, sym start_is)) in
             bare inside.trunk inside.start inside.steps taken p c (bare_word s next g inside.trunk inside.start inside.steps (p ++ inside.steps) taken ∙ held)
         variable_on k to has inside variable false local_one none p c held =
-            let own : inside.frame ≡ g.stage.depth = inside.at_home ∙ ap (λ z. if z then 0 else g.stage.depth) local_one in
+            let own : inside.frame ≡ g.stage.depth = variable.3 ∙ ap (λ z. if z then 0 else g.stage.depth) local_one in
             none p c
             (subst (λ z. word_in s.table (content s state.memory [] z) (p ++ inside.steps) ≡ Held c) (sym variable.1)
             (still inside.frame inside.object (p ++ inside.steps) c (omega (arith, own, some)) (omega (arith, own, less))
@@ -105,9 +108,9 @@ module _ (table : Table) (typed : TypedProgram) (effects : Effects)
         place_on k to has inside among none p c held = elim inside.stands [
           | inl variable ↦ variable_on k to has inside variable (is_package_object s inside.object) refl none p c held
           | inr cell ↦ (
-              let found = among (cell.0).0 (cell.0).1 in
+              let found = among cell.0 cell.1 in
               let taken : IsBareOf s g inside.trunk inside.start inside.steps =
-              (subst (Has g.stage.returns) inside.way has, inl (found.0, found.1, found.2, ap OfCell found.3 ∙ sym (cell.0).1)) in
+              (subst (Has g.stage.returns) inside.way has, inl (found.0, found.1, found.2, ap OfCell found.3 ∙ sym cell.1)) in
               bare inside.trunk inside.start inside.steps taken p c (bare_word s next g inside.trunk inside.start inside.steps (p ++ inside.steps) taken ∙ held))
         ]
 

@@ -17,7 +17,7 @@ use Rattle.place_names.specs.declared.rule.Rule.TheVariants.{A1, O10}
 use Rattle.place_names.specs.declared.selector.Sel.{Sel}
 use Rattle.place_names.specs.declared.selector.Sel.TheVariants.{Field, Elem, Deref}
 use Rattle.place_names.specs.Names.{Name as PlaceName, is_equal, begins, is_prefix, agree_along, overlaps, has_elem, covers, strict_prefixes}
-use Rattle.place_names.proofs.Names.{both_parts, both_true}
+use Rattle.place_names.proofs.Names.{both_parts, both_true, overlaps-sym}
 use Rattle.place_names.specs.Facts.{adds, removes, effect}
 use Rattle.place_names.specs.Rules.{lent, moved_or_borrowed, moved_or_lent, breaks_O2, breaks_O3, breaks_O10}
 use Rattle.place_names.specs.Reports.{Report}
@@ -27,7 +27,7 @@ use Rattle.flow_paths.specs.declared.report.Effects.{Effects}
 use Rattle.flow_paths.specs.Instructions.{Call}
 use Rattle.flow_paths.specs.Objects.{Typing, Signature, object_at, sub_at, is_formal, is_package_object, is_named_access, is_variable_access, is_anonymous, view_of, Passing, passing, passing_by, passings}
 use Rattle.machine.specs.Owners.{is_in}
-use Rattle.soundness.specs.Seen.{is_view_formal}
+use Rattle.soundness.specs.Seen.{is_view_formal, home}
 use Rattle.flow_paths.specs.Names.{Written, written, name_of}
 use Rattle.flow_paths.specs.Acts.{actual_act, actual_acts}
 use Rattle.flow_paths.specs.Views.{is_in_mode, text_report}
@@ -44,9 +44,8 @@ use Rattle.machine.specs.Calls.{Passed, Value, From, To, all_passed, out_checks,
 use Rattle.machine.specs.States.{Leak, Return, Outcome, Goes, stack_words, frame_words, frame_at_start, sub_of}
 use Rattle.machine.specs.Step.{Turn, typing, here, start, raised, leaking_goes, call}
 use Rattle.machine.specs.Step as steps
-use Rattle.owned_ways.specs.Ways.{Way, Under, Allows, AllowsAll, after}
+use Rattle.owned_ways.specs.Ways.{Way, Under, Allows, AllowsAll, after, Named}
 use Rattle.owned_ways.specs.Ways as ways
-use Rattle.owned_ways.proofs.Named.{under_overlaps, under_front}
 use Rattle.part_offsets.specs.Parts.{IsSettled}
 use Rattle.soundness.specs.Typed.{Matches, OwnsByShape}
 use Rattle.soundness.specs.Changes.{leaks_at}
@@ -56,21 +55,24 @@ use Rattle.soundness.proofs.Freeing.{plain_parts}
 use Rattle.soundness.proofs.Passing.{Enters, formals_there, entered, signature_is, plain_type}
 use Rattle.soundness.proofs.Scalars.{acts, acts_append, after_append, allows_both}
 use Rattle.soundness.proofs.Stays.{Quiet}
-use Rattle.owned_loans.specs.Views.{Views}
+use Rattle.owned_loans.specs.Views.{Views, expand, Around, Viewed}
 use Rattle.owned_loans.proofs.Clear.{refused}
 use Rattle.owned_loans.proofs.Allowed.{either_right}
-use Rattle.owned_loans.proofs.Safe.{Unlent, Unmoved}
+use Rattle.owned_loans.proofs.Safe.{Unlent, Unmoved, clean_below}
 use Rattle.viewed_steps.specs.Sound.{IsScalarObject, IsCopiedBack, IsKindOfFormal}
 use Rattle.viewed_steps.specs.Ready.{roots_passed, AreDifferent, AreActualsTo}
-use Rattle.viewed_soundness.proofs.Names.{true_false, both_no}
+use Rattle.viewed_soundness.proofs.Names.{true_false, both_no, owner_sees}
 use Rattle.viewed_soundness.proofs.Outcomes.{named_plain}
 use Rattle.viewed_steps.proofs.Views.{given_cases, given_type, unowned_view, scalar_unseen}
-use Rattle.viewed_steps.specs.Taken.{Lodge, IsInside, IsAmong, IsPlainPlace, IsApartFrom}
+use Rattle.viewed_steps.specs.Taken.{Lodge, IsInside, IsAmong, IsPlainPlace, IsApartFrom, IsOwnAt}
 use Rattle.viewed_steps.proofs.Outs.{Out, found_in}
 use Rattle.viewed_steps.proofs.LaidOut.{IsHoused, house_of, IsValueLaid, IsOwnPut, IsPlainAt, IsHousedPut, IsPlaceLaid, IsBackLaid, IsLaidOne, AreLaidOut, own_out, place_out, housed_out, back_out, out_of, outs_of, plain_cell, back_cell, cell_of, cells_of}
 use Rattle.viewed_steps.proofs.Called.{copies_add}
-use Rattle.viewed_steps.proofs.Entered.{IsPlainOne, DiffersFrom, IsTakenAs, ArePassedOn}
+use Rattle.viewed_steps.proofs.Entered.{IsPlainOne, DiffersFrom, IsTakenAs, ArePassedOn, own_named, own_number, own_plain, own_itself}
 use Rattle.soundness.proofs.Fixed.{plain_word}
+use Rattle.viewed_steps.proofs.Aside.{names_off}
+use Rattle.viewed_soundness.specs.Holds.{is_view, sees_only}
+use Rattle.place_names.specs.declared.rule.Loan.TheVariants.{Borrowed}
 
 -- ---- what the rules on facts say
 
@@ -220,11 +222,19 @@ module _ (program : FlowProgram) (effects : Effects) where
 
 -- ---- what is passed
 
--- The name of an actual, with its formal, which isn't scalar.
-abbrev pub IsNamedBy : Typing → List ℕ → TypedTree → Way → Type 0
-IsNamedBy s formals actuals to =
-    (b : alias.Passed) × Has (alias.passed formals actuals) b × IsCopiedBack s b.formal × (b.actual.name ≡ ways.name_of to)
-    × (is_scalar (full s.table (object_at s b.formal).of) ≡ false)
+-- A way that the name of an actual stands for, with its formal, which isn't scalar.
+pub record IsNamedBy (s : Typing) (depth : ℕ) (v : Views) (facts : List Fact) (formals : List ℕ) (actuals : TypedTree) (to : Way) : Type 0 where
+  pub by : alias.Passed
+  pub among : Has (alias.passed formals actuals) by
+  pub back : IsCopiedBack s by.formal
+  pub name : Way
+  pub named : Named (home s depth) name
+  pub plain : sees_only s (ways.number_of name) ≡ false
+  pub means : expand v name ≡ to
+  pub called : by.actual.name ≡ ways.name_of name
+  pub unlent : Unlent facts name
+  pub cleared : (n : PlaceName) → Has facts (Moved n) → covers (ways.name_of name) n ≡ true → ⊥
+  pub many : is_scalar (full s.table (object_at s by.formal).of) ≡ false
 
 module _ (s : Typing) where
   -- the name of one doesn't overlap those of later ones
@@ -239,20 +249,6 @@ module _ (s : Typing) where
       (λ r report. none r (subst (λ z. Has (overlap_reports s z) r) (sym all)
       (Has-append_left (flat_map (pair_reports s first) (alias.passed formals actuals)) (overlap_reports s (alias.passed formals actuals)) r
       (flat_has (pair_reports s first) (alias.passed formals actuals) b r has report)))) over
-
-  -- what is apart from all later ones
-  pub apart_from : (x : ℕ) (e : TypedTree) (m : Written) (formals : List ℕ) (actuals : TypedTree) (to : Way) (ways_left : List Way) → IsCopiedBack s x
-      → written e ≡ Some m → m.name ≡ ways.name_of to
-      → ((r : Report) → Has (overlap_reports s (alias.passed (x ∷ formals) (More e actuals))) r → ⊥)
-      → ((k : Way) → Has ways_left k → IsNamedBy s formals actuals k) → IsApartFrom to ways_left
-  apart_from x e m formals actuals to ways_left in_out is called none names k has =
-      let b = names k has in
-      let apart : overlaps (ways.name_of to) (ways.name_of k) ≡ true → ⊥ =
-      (λ over. first_apart x e m formals actuals in_out is none b.0 b.1 b.2
-      (subst (λ z. overlaps z b.0.actual.name ≡ true) (sym called) (subst (λ z. overlaps (ways.name_of to) z ≡ true) (sym b.3) over))) in (
-        λ under. apart (under_front to k under),
-        λ under. apart (under_overlaps k to under),
-      )
 
   -- the reports on the others are among those
   pub later_none : (x : ℕ) (e : TypedTree) (formals : List ℕ) (actuals : TypedTree)
@@ -277,18 +273,48 @@ after_less (a ∷ more) none facts f has =
 
 -- ---- all that is passed
 
-module _ (s : Typing) (own_law : OwnsByShape s.table) (settled : IsSettled s.table) (m : Memory) (cells : List Lodge) (depth : ℕ) (v : Views) (view : ways.View) (facts : List Fact) (scope : List ℕ) (procedure : Bool) where
+module _ (s : Typing) (own_law : OwnsByShape s.table) (settled : IsSettled s.table) (m : Memory) (cells : List Lodge) (depth : ℕ) (v : Views)
+    (only : (x : ℕ) (w : Way) → v.way x ≡ Some w → is_view s x ≡ true) (view : ways.View) (facts : List Fact)
+    (other : Around (home s depth)) (stilled : ways.View) (viewed : Viewed (home s depth) (sees_only s) other v stilled facts) (scope : List ℕ) (procedure : Bool) where
   abbrev copies_of : List ℕ → TypedTree → List Placed
   copies_of formals actuals = actual_acts (map (passing s procedure) formals) actuals
 
   -- its ways
   abbrev Passes : List ℕ → TypedTree → List Passed → List Out → Type 0
   Passes formals actuals passed outs =
-      (ways_there : List Way) × ArePassedOn s m cells depth facts scope formals passed ways_there outs × ((k : Way) → Has ways_there k → IsNamedBy s formals actuals k)
+      (ways_there : List Way) × ArePassedOn s m cells depth v facts scope formals passed ways_there outs × ((k : Way) → Has ways_there k → IsNamedBy s depth v facts formals actuals k)
 
-  more_named : (x : ℕ) (e : TypedTree) (formals : List ℕ) (actuals : TypedTree) (k : Way) → IsNamedBy s formals actuals k → IsNamedBy s (x ∷ formals) (More e actuals) k
-  more_named x e formals actuals k (b, has, is, called, many) =
-      (b, Has-append_right (alias.passed_as x (written e)) (alias.passed formals actuals) b has, is, called, many)
+  more_named : (x : ℕ) (e : TypedTree) (formals : List ℕ) (actuals : TypedTree) (k : Way) → IsNamedBy s depth v facts formals actuals k
+      → IsNamedBy s depth v facts (x ∷ formals) (More e actuals) k
+  more_named x e formals actuals k one = record {
+    by = one.by;
+    among = Has-append_right (alias.passed_as x (written e)) (alias.passed formals actuals) one.by one.among;
+    back = one.back;
+    name = one.name;
+    named = one.named;
+    plain = one.plain;
+    means = one.means;
+    called = one.called;
+    unlent = one.unlent;
+    cleared = one.cleared;
+    many = one.many;
+  }
+
+  -- what a name stands for is apart from all later ones
+  apart_from : (x : ℕ) (e : TypedTree) (m : Written) (formals : List ℕ) (actuals : TypedTree) (name : Way) (ways_left : List Way) → IsCopiedBack s x
+      → written e ≡ Some m → Named (home s depth) name → sees_only s (ways.number_of name) ≡ false → Unlent facts name → m.name ≡ ways.name_of name
+      → ((r : Report) → Has (overlap_reports s (alias.passed (x ∷ formals) (More e actuals))) r → ⊥)
+      → ((k : Way) → Has ways_left k → IsNamedBy s depth v facts formals actuals k) → IsApartFrom (expand v name) ways_left
+  apart_from x e m formals actuals name ways_left in_out is named plain unlent called none names k has =
+      let b = names k has in
+      let apart : overlaps (ways.name_of name) (ways.name_of b.name) ≡ true → ⊥ =
+      (λ over. first_apart s x e m formals actuals in_out is none b.by b.among b.back
+      (subst (λ z. overlaps z b.by.actual.name ≡ true) (sym called) (subst (λ z. overlaps (ways.name_of name) z ≡ true) (sym b.called) over))) in (
+        λ under. names_off (home s depth) (sees_only s) other v stilled facts viewed name b.name (named, plain) (b.named, b.plain) unlent b.unlent apart
+            (subst (Under (expand v name)) (sym b.means) under),
+        λ under. names_off (home s depth) (sees_only s) other v stilled facts viewed b.name name (b.named, b.plain) (named, plain) b.unlent unlent
+            (λ over. apart (overlaps-sym (ways.name_of name) (ways.name_of b.name) ∙ over)) (subst (λ z. Under z (expand v name)) (sym b.means) under),
+      )
 
   plain_first : (x : ℕ) (e : TypedTree) (a : Passed) (formals : List ℕ) (actuals : TypedTree) (passed : List Passed) (outs : List Out) → IsPlainOne s m cells x a
       → Passes formals actuals passed outs → Passes (x ∷ formals) (More e actuals) (a ∷ passed) outs
@@ -321,23 +347,59 @@ module _ (s : Typing) (own_law : OwnsByShape s.table) (settled : IsSettled s.tab
   AllowsOne known x e = AllowsAll known (acts (actual_act (passing s procedure x) e))
 
   -- A place that is passed on, of this name.
-  abbrev OwnPlace : ℕ → ℕ → TypedTree → Place → Type 0
-  OwnPlace x y path k =
-      (to : Way) × (inside : IsInside s depth k to) × (ways.name_of to ≡ name_of y path) × (inside.object ≡ y) × Matches s.table k.of (object_at s x).of
-      × IsAmong cells inside.start inside.trunk
+  record OwnPlace (x y : ℕ) (path : TypedTree) (k : Place) : Type 0 where
+    to : Way
+    inside : IsInside s depth k to
+    name : Way
+    named : Named (home s depth) name
+    plain : sees_only s (ways.number_of name) ≡ false
+    means : expand v name ≡ to
+    called : ways.name_of name ≡ name_of y path
+    fits : Matches s.table k.of (object_at s x).of
+    among : IsAmong cells inside.start inside.trunk
+    own : IsOwnAt s depth inside.frame inside.object k inside.trunk inside.start → y ≡ inside.object
 
   in_variable : (x : ℕ) (p : Pos) (y u : ℕ) (path : TypedTree) (k : Place) → (own : IsOwnPut s depth x (Name p y path u) k) → OwnPlace x y path k
-  in_variable x p y u path k own = (own.0, own.1, own.2, own.3, own.4, λ n is. absurd (no_cell n (sym (own.5).1 ∙ is)))
+  in_variable x p y u path k (to, inside, called, is, fits, own) = record {
+    to = to;
+    inside = inside;
+    name = to;
+    named = own_named s settled depth k to inside own;
+    plain = ap (sees_only s) (own_number s settled depth k to inside own) ∙ owner_sees s inside.object (no_left (is_anonymous (view_of s inside.object)) (is_view_formal s inside.object)
+        (own_plain s settled depth k to inside own)) own.4;
+    means = own_itself s settled depth k to inside own v only;
+    called = called;
+    fits = fits;
+    among = λ n is. absurd (no_cell n (sym own.1 ∙ is));
+    own = λ at. sym is;
+  }
     where
       no_cell : (n : ℕ) → {f z : ℕ} → ways.OfRoot (ways.OfVariable f z) ≡ ways.OfCell n → ⊥
       no_cell n e = cc
 
+      no_left : (a b : Bool) → a || b ≡ false → a ≡ false
+      no_left true b e = e
+      no_left false b e = refl
+
   in_cell : (x y : ℕ) (path : TypedTree) (k : Place) → (h : IsHoused s depth v view x y path k) → Has cells (house_of s depth v view x y path k h) → OwnPlace x y path k
-  in_cell x y path k h has =
-      (h.to, h.inside, h.called, h.object, h.fits, λ n is. (house_of s depth v view x y path k h, has, refl, same_cell (sym h.start ∙ is)))
+  in_cell x y path k h has = record {
+    to = h.to;
+    inside = h.inside;
+    name = h.name;
+    named = h.named;
+    plain = ap (sees_only s) (ap (λ (z : PlaceName). z.root) h.called) ∙ h.plain;
+    means = h.means;
+    called = h.called;
+    fits = h.fits;
+    among = λ n is. (house_of s depth v view x y path k h, has, refl, same_cell (sym h.start ∙ is));
+    own = λ at. absurd (no_cell (sym at.1 ∙ h.start));
+  }
     where
       same_cell : {a b : ℕ} → ways.OfCell a ≡ ways.OfCell b → a ≡ b
       same_cell e = cc
+
+      no_cell : {n f z : ℕ} → ways.OfRoot (ways.OfVariable f z) ≡ ways.OfCell n → ⊥
+      no_cell e = cc
 
   -- another place, by the mode
   own_first : (x : ℕ) (how : Mode) (p : Pos) (y u : ℕ) (path : TypedTree) (k : Place) (a : Passed) (formals : List ℕ) (actuals : TypedTree) (passed : List Passed) (known : List Fact)
@@ -347,36 +409,54 @@ module _ (s : Typing) (own_law : OwnsByShape s.table) (settled : IsSettled s.tab
       → ((f : Fact) → Has facts f → Has known f)
       → Allows known (act.Actual (name_of y path) how (is_owning s.table (object_at s x).of) (procedure && is_named_access (view_of s x)))
       → ((w : Way) → Allows known (act.Actual (ways.name_of w) how (is_owning s.table (object_at s x).of) (procedure && is_named_access (view_of s x))) → Unlent known w)
-      → (Allows known (act.Actual (ways.name_of own.0) how (is_owning s.table (object_at s x).of) (procedure && is_named_access (view_of s x)))
-      → IsTakenAs facts k own.0 a outs later × ((n : PlaceName) → Has facts (Moved n) → covers (ways.name_of own.0) n ≡ true → ⊥))
+      → (Allows known (act.Actual (ways.name_of own.name) how (is_owning s.table (object_at s x).of) (procedure && is_named_access (view_of s x))) → Unlent facts own.name
+      → IsTakenAs s depth v facts k own.to a outs later × ((n : PlaceName) → Has facts (Moved n) → covers (ways.name_of own.name) n ≡ true → ⊥))
       → Passes formals actuals passed later → Passes (x ∷ formals) (More (Name p y path u) actuals) (a ∷ passed) outs
-  own_first x how p y u path k a formals actuals passed known outs later back many (to, inside, called, object_is, fits, among) local differ within none less allowed unlent taken (ways_left, are, names) =
+  own_first x how p y u path k a formals actuals passed known outs later back many own local differ within none less allowed unlent taken (ways_left, are, names) =
       let actual : Written = record { pos = p; name = name_of y path; of = u } in
-      let by_way : Allows known (act.Actual (ways.name_of to) how (is_owning s.table (object_at s x).of) (procedure && is_named_access (view_of s x))) =
-      subst (λ z. Allows known (act.Actual z how (is_owning s.table (object_at s x).of) (procedure && is_named_access (view_of s x)))) (sym called) allowed in (
-        to ∷ ways_left,
+      let by_name : Allows known (act.Actual (ways.name_of own.name) how (is_owning s.table (object_at s x).of) (procedure && is_named_access (view_of s x))) =
+      subst (λ z. Allows known (act.Actual z how (is_owning s.table (object_at s x).of) (procedure && is_named_access (view_of s x)))) (sym own.called) allowed in
+      let free : Unlent facts own.name = λ l h n has over. unlent own.name by_name l h n (less (Lent l h n) has) over in (
+        own.to ∷ ways_left,
         inr (
           k,
           later,
-          (taken by_way).0,
+          (taken by_name free).0,
           record {
-            inside = inside;
-            among = among;
-            fits = fits;
+            inside = own.inside;
+            called = own.named;
+            name = own.name;
+            leads = own.means;
+            plain = own.plain;
+            among = own.among;
+            fits = own.fits;
             formal = local;
             owner = copied_owner x back;
             many = many;
-            within = λ own owns. within inside.object (inl (sym object_is)) own owns;
-            unlent = λ l h n has over. unlent to by_way l h n (less (Lent l h n) has) over;
-            cleared = (taken by_way).1;
+            within = λ at mine owns. within own.inside.object (inl (own.own at)) mine owns;
+            unlent = free;
+            cleared = (taken by_name free).1;
           },
-          apart_from s x (Name p y path u) actual formals actuals to ways_left back refl (sym called) none names,
+          subst (λ z. IsApartFrom z ways_left) own.means
+              (apart_from x (Name p y path u) actual formals actuals own.name ways_left back refl own.named own.plain free (sym own.called) none names),
           differ,
           are,
         ),
         λ z has. elim has [
           | inr rest ↦ more_named x (Name p y path u) formals actuals z (names z rest)
-          | inl same ↦ (record { formal = x; actual = actual }, inl refl, back, sym called ∙ ap ways.name_of same, many)
+          | inl same ↦ record {
+            by = record { formal = x; actual = actual };
+            among = inl refl;
+            back = back;
+            name = own.name;
+            named = own.named;
+            plain = own.plain;
+            means = own.means ∙ same;
+            called = sym own.called;
+            unlent = free;
+            cleared = (taken by_name free).1;
+            many = many;
+          }
         ],
       )
 
@@ -412,10 +492,15 @@ module _ (s : Typing) (own_law : OwnsByShape s.table) (settled : IsSettled s.tab
       let owning : Bool = is_owning s.table (object_at s x).of in
       let access : Bool = procedure && is_named_access (view_of s x) in
       own_first x mode.InOut p y u path k (From k) formals actuals passed known later later (back_of x mode.InOut is no_in_out) many own local differ within none less
-      (act_allowed x mode.InOut p y u path known is no_in_out allowed) (λ w by_way. passed_unlent known w owning access by_way)
-      (λ by_way. (
-        inl (refl, (λ n has over. passed_unmoved known own.0 owning access by_way n (less (Moved n) has) over), refl),
-        λ n has covered. passed_unmoved known own.0 owning access by_way n (less (Moved n) has) (covers_overlaps (ways.name_of own.0) n covered),
+      (act_allowed x mode.InOut p y u path known is no_in_out allowed) (λ w by_name. passed_unlent known w owning access by_name)
+      (λ by_name free. (
+        inl (
+          refl,
+          (λ w under moved. clean_below (home s depth) (sees_only s) other v stilled facts viewed own.name w (own.named, own.plain) (λ h n has over. free Borrowed h n has over)
+              (λ n has over. passed_unmoved known own.name owning access by_name n (less (Moved n) has) over) (subst (λ z. Under z w) (sym own.means) under) moved),
+          refl,
+        ),
+        λ n has covered. passed_unmoved known own.name owning access by_name n (less (Moved n) has) (covers_overlaps (ways.name_of own.name) n covered),
       )) rest
 
   in_out_own : (x : ℕ) (e : TypedTree) (k : Place) (formals : List ℕ) (actuals : TypedTree) (passed : List Passed) (known : List Fact) (later : List Out)
@@ -435,16 +520,16 @@ module _ (s : Typing) (own_law : OwnsByShape s.table) (settled : IsSettled s.tab
       → DiffersFrom x formals → IsWithin (Name p y path u) → NoOverlap (x ∷ formals) (More (Name p y path u) actuals) → ((f : Fact) → Has facts f → Has known f)
       → LessAfter known x (Name p y path u) → AllowsOne known x (Name p y path u)
       → Passes formals actuals passed later
-      → Passes (x ∷ formals) (More (Name p y path u) actuals) (To k ∷ passed) (record { way = own.0; place = k; pos = p } ∷ later)
+      → Passes (x ∷ formals) (More (Name p y path u) actuals) (To k ∷ passed) (record { way = own.to; place = k; pos = p } ∷ later)
   out_first x p y u path k formals actuals passed known later is many own local differ within none less less_after allowed rest =
       let owning : Bool = is_owning s.table (object_at s x).of in
       let access : Bool = procedure && is_named_access (view_of s x) in
-      own_first x mode.Out p y u path k (To k) formals actuals passed known (record { way = own.0; place = k; pos = p } ∷ later) later (back_of x mode.Out is no_out) many own local differ
-      within none less (act_allowed x mode.Out p y u path known is no_out allowed) (λ w by_way. out_unlent known w owning access by_way) (λ by_way. (
+      own_first x mode.Out p y u path k (To k) formals actuals passed known (record { way = own.to; place = k; pos = p } ∷ later) later (back_of x mode.Out is no_out) many own local differ
+      within none less (act_allowed x mode.Out p y u path known is no_out allowed) (λ w by_name. out_unlent known w owning access by_name) (λ by_name free. (
         inr (p, refl, refl),
         λ n has covered. out_cleared (name_of y path) owning access known n
             (subst (λ z. Has (after (acts (actual_act (passing_by z owning access) (Name p y path u))) known) (Moved n)) is (less_after (Moved n) has))
-            (subst (λ z. covers z n ≡ true) own.2 covered),
+            (subst (λ z. covers z n ≡ true) own.called covered),
       )) rest
 
   out_own : (x : ℕ) (e : TypedTree) (k : Place) (formals : List ℕ) (actuals : TypedTree) (passed : List Passed) (known : List Fact) (later : List Out)
@@ -544,7 +629,7 @@ module _ (s : Typing) (own_law : OwnsByShape s.table) (settled : IsSettled s.tab
       (λ c has. lodged c (Has-append_right (cell_of s m depth v view x (object_at s x).mode e a laid.0) (cells_of s m depth v view formals rest passed laid.1) c has)))
   all_passed_on (x ∷ formals) (More e rest) [] known laid kinds local differ within none same allowed lodged = absurd laid
   all_passed_on (x ∷ formals) actuals passed known laid kinds local differ within none same allowed lodged =
-      ([], subst (λ z. ArePassedOn s m cells depth facts scope (x ∷ formals) z [] []) (sym laid) (refl, refl), λ k has. absurd has)
+      ([], subst (λ z. ArePassedOn s m cells depth v facts scope (x ∷ formals) z [] []) (sym laid) (refl, refl), λ k has. absurd has)
 
 -- ---- what is checked, and what is to be copied back
 

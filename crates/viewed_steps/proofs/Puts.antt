@@ -1,13 +1,14 @@
 -- What an actual comes to: a value, or a place, in a variable or in a cell.
-use Rattle.std.proofs.Common.{◌≡◌, refl, sym, ap, ◌∙◌, subst, ◌⊎◌, inl, inr, ℕ, append-nil, Bool, true, false, List, [], ◌∷◌, Some, if◌then◌else◌, arith}
+use Rattle.std.proofs.Common.{◌≡◌, refl, sym, ap, ◌∙◌, subst, ◌⊎◌, inl, inr, ℕ, append-nil, Bool, true, false, List, [], ◌∷◌, Some, if◌then◌else◌, arith, ◌++◌}
 use Rattle.spark_base.specs.declared.position.Pos.{Pos}
 use Rattle.place_names.specs.declared.fact.Fact.{Fact}
 use Rattle.type_definitions.specs.Types.{shape_of, full, is_scalar, is_owning}
 use Rattle.typed_tree.specs.Trees.{TypedTree, Name}
-use Rattle.flow_paths.specs.Objects.{object_at, is_anonymous, view_of, ByValue}
-use Rattle.flow_paths.specs.Names.{waiting as waits_in, name_of}
+use Rattle.typed_tree.specs.Trees as typed
+use Rattle.flow_paths.specs.Objects.{object_at, is_anonymous, view_of, ByValue, Typing}
+use Rattle.flow_paths.specs.Names.{waiting as waits_in, name_of, selectors}
 use Rattle.flow_paths.specs.Acts.{acts_in, index_acts}
-use Rattle.machine.specs.Words.{access_offsets, fits_type}
+use Rattle.machine.specs.Words.{access_offsets, fits_type, component_type}
 use Rattle.machine.specs.Words as machine
 use Rattle.machine.specs.Memory.{Slot, Memory, Base, Place, fresh, no_slot, variable_slots, slots_at, slots_of, words_of, gone_at, with_slots, stored, moved_out, declared}
 use Rattle.machine.specs.Memory as memory
@@ -20,12 +21,12 @@ use Rattle.owned_ways.specs.Ways as ways
 use Rattle.owned_ways.proofs.Locations.{under_along, under_itself, reaches_along}
 use Rattle.owned_ways.proofs.Unique.{one_location}
 use Rattle.owned_ways.proofs.Dropped.{named_base}
-use Rattle.owned_loans.proofs.Ways.{lifts, lifted_root}
+use Rattle.owned_loans.proofs.Ways.{lifts, lifted_way}
 use Rattle.part_offsets.specs.Parts.{type_in, offset_in, has_part, IsSettled}
 use Rattle.soundness.specs.Seen.{IsNear, content, trunk, steps_in, seen, home, is_view_formal}
 use Rattle.soundness.specs.Typed.{Matches, OwnsByShape, Kept, Spot, IsFixed, loc_of}
 use Rattle.soundness.specs.Sound.{goes_through_none}
-use Rattle.typed_laws.specs.Needed.{Gives, Stays, IndexLaw, IsPlace as IsPlaceOf}
+use Rattle.typed_laws.specs.Needed.{Stays, IndexLaw, IsPlace as IsPlaceOf, Leads, Gives}
 use Rattle.soundness.proofs.Joined.{steps_part}
 use Rattle.soundness.proofs.Fixed.{plain_word}
 use Rattle.soundness.proofs.Scalars.{acts, number_along, named_along}
@@ -34,30 +35,61 @@ use Rattle.soundness.proofs.Taking.{Takes}
 use Rattle.soundness.proofs.Walks.{way_along, Walked}
 use Rattle.viewed_soundness.proofs.Walks.{walk}
 use Rattle.soundness.proofs.Passing.{IsValue}
-use Rattle.owned_loans.specs.Views.{Around, Views, expand, ExcusedBy, Viewed}
+use Rattle.owned_loans.specs.Views.{Around, Views, expand, ExcusedBy, Viewed, Go, Part, Down, on}
 use Rattle.owned_loans.proofs.Moves.{IsPlace, expand_along, reached}
-use Rattle.owned_loans.proofs.Meeting.{stands_base}
-use Rattle.viewed_soundness.specs.Holds.{IsNamed, PartsAreNamed, Holds, sees_only, IsOwners, is_view}
-use Rattle.viewed_soundness.proofs.Names.{Starts, true_false, no_parts_in, is_place, both_no}
+use Rattle.owned_loans.proofs.Meeting.{stands_base, stands}
+use Rattle.viewed_soundness.specs.Holds.{IsNamed, PartsAreNamed, Holds, sees_only, IsOwners}
+use Rattle.viewed_soundness.proofs.Names.{Starts, true_false, no_parts_in, is_place}
 use Rattle.viewed_soundness.proofs.Stays.{Goes as GoesAlong, taking, steps_taking, name_quiet}
 use Rattle.viewed_steps.specs.Taken.{Lodge}
-use Rattle.viewed_steps.specs.Sound.{IsKindOfFormal, AreOwners}
+use Rattle.viewed_steps.specs.Sound.{IsKindOfFormal}
 use Rattle.viewed_steps.specs.Ready.{IsOwnPlace}
 use Rattle.viewed_steps.proofs.Views.{AreAccess, formal_view, scalar_no_view}
 use Rattle.viewed_steps.proofs.Read.{scalar_named}
-use Rattle.viewed_steps.proofs.Between.{base_along, same_variable}
+use Rattle.viewed_steps.proofs.Between.{base_along, IsBegun}
 use Rattle.viewed_steps.proofs.Lodged.{spot_lodged}
 use Rattle.viewed_steps.proofs.Aside.{cell_name}
 use Rattle.viewed_steps.proofs.Direct.{IsDirect, steps_direct, past_none, direct_leads, direct_itself, IsIn, walked_in, both_quiet, direct_part, part_reached}
 use Rattle.viewed_steps.proofs.LaidOut.{IsOwnPut, IsPlainAt, IsOpenActual, IsHousedPut}
 use Rattle.viewed_steps.proofs.Entered.{IsFit}
+use Rattle.soundness.proofs.Keeping.{top_points, scalar}
+use Rattle.place_names.specs.declared.selector.Sel.{Sel}
+use Rattle.place_names.specs.declared.selector.Sel.TheVariants.{Field, Elem, Deref}
+use Rattle.place_names.specs.Names.{Name as PlaceName}
+use Rattle.owned_ways.proofs.Named.{longer}
 use Rattle.viewed_steps.proofs.Copies.{copy_quiet}
 use Rattle.viewed_soundness.proofs.Outcomes.{named_plain}
 use Rattle.soundness.proofs.Keeping.{top_points, scalar}
-use Rattle.soundness.proofs.Moments.{number_part}
 use Rattle.viewed_soundness.proofs.Given.{IsLow}
 use Rattle.viewed_soundness.specs.Taken.{types_taken, TakesFit}
 use Rattle.viewed_steps.proofs.Supplied.{Supplies}
+
+-- ---- names that go through access values
+
+abbrev has_deref : List Sel → Bool
+has_deref [] = false
+has_deref (Deref ∷ k) = true
+has_deref (Field i ∷ k) = has_deref k
+has_deref (Elem ∷ k) = has_deref k
+
+derefs_part : (k : List Sel) (i : Step) → has_deref k ≡ false → has_deref (k ++ ways.sel_of i ∷ []) ≡ false
+derefs_part [] (ways.Component i) none = refl
+derefs_part [] (ways.Element i) none = refl
+derefs_part (Deref ∷ k) i none = cc
+derefs_part (Field j ∷ k) i none = derefs_part k i none
+derefs_part (Elem ∷ k) i none = derefs_part k i none
+
+along_derefs : (r : Root) (p : List Step) → has_deref (ways.sels_of (along (Object r) p)) ≡ false
+along_derefs r [] = refl
+along_derefs r (i ∷ p) = derefs_part (ways.sels_of (along (Object r) p)) i (along_derefs r p)
+
+path_derefs : (s : Typing) (t u : ℕ) (path : TypedTree) → Leads s t path u → goes_through_none path ≡ false → has_deref (selectors path) ≡ true
+unfolding goes_through_none selectors Leads
+path_derefs s t u typed.NoMore leads some = cc
+path_derefs s t u (typed.Component i rest) leads some = path_derefs s (component_type s.table t i) u rest leads.1 some
+path_derefs s t u (typed.Element index low high rest) leads some = path_derefs s leads.0 u rest leads.3 some
+path_derefs s t u (typed.Designated rest) leads some = refl
+path_derefs s t u path never some = absurd never
 
 module _ (h : Here) (settled : IsSettled h.typing.table) (hands : List Waiting) (leaks : List Leak) (m : Memory) (waits : List (List machine.Word))
     (other : Around (home h.typing h.frame)) (facts : List Fact) (v : Views)
@@ -304,13 +336,12 @@ module _ (h : Here) (settled : IsSettled h.typing.table) (hands : List Waiting) 
             object = y;
             steps = steps_in l;
             frame = home h.typing h.frame y;
-            at_home = refl;
+            begins = inl refl;
             trunk = Object (OfVariable (home h.typing h.frame y) y);
             start = OfRoot (OfVariable (home h.typing h.frame y) y);
-            stands = inl (refl, refl, base);
+            stands = inl (refl, refl, base, refl, owner);
             root = refl;
             way = is ∙ ap (along (Object (OfVariable (home h.typing h.frame y) y))) (sym steps_are);
-            owner = owner;
             there = ap (λ z. has_part h.typing.table (content h.typing m hands z).of (steps_in l)) (sym b) ∙ spot.there;
             at = spot.at ∙ ap (λ z. offset_in h.typing.table (content h.typing m hands z).of (steps_in l)) b;
             of = subst (λ z. Matches h.typing.table k.of (type_in h.typing.table (content h.typing m hands z).of (steps_in l))) b spot.of;
@@ -319,7 +350,7 @@ module _ (h : Here) (settled : IsSettled h.typing.table) (hands : List Waiting) 
           called,
           refl,
           subst (λ z. Matches h.typing.table z (object_at h.typing x).of) (sym of) fits,
-          (refl, refl, base),
+          (refl, refl, base, refl, owner),
         ),
       )
   own_walked on p x y u path q w own fits owner is called (Raises e n) there base = there
@@ -371,117 +402,127 @@ module _ (h : Here) (settled : IsSettled h.typing.table) (hands : List Waiting) 
       ap (λ z. Into z i) (root_part w k r reach (ap trunk (sym at) ∙ is)) ∙ ap (along (Object r)) (ap steps_in (sym at))
   root_part (All w) l r (k, n, reach, held, at) is = (let never : OfCell n ≡ OfRoot r = ap trunk (sym at) ∙ is in cc)
 
-  -- a name that may go through access values, of an owner
+  -- what goes on from a way to a cell is in a cell
+  on_cell : (w : Way) (n : ℕ) → Reaches (seen h.typing m hands leaks) w (OfCell n) → (rest : List Go) (l : Loc) → Reaches (seen h.typing m hands leaks) (on w rest) l
+      → (c : ℕ) × (trunk l ≡ OfCell c)
+  on_cell w n reach [] l there = (n, ap trunk (one_location (seen h.typing m hands leaks) w l (OfCell n) there reach))
+  on_cell w n reach (Part i ∷ rest) l (k, there, at) = (let found = on_cell w n reach rest k there in (found.0, ap trunk at ∙ found.1))
+  on_cell w n reach (Down ∷ rest) l (k, c, there, held, at) = (c, ap trunk at)
+
+  -- a name that goes through an access value leads to no part of a variable
+  deref_in_cell : (w : Way) (l : Loc) (f z : ℕ) → has_deref (ways.sels_of w) ≡ true → Reaches (seen h.typing m hands leaks) (expand v w) l → trunk l ≡ OfRoot (OfVariable f z) → ⊥
+  deref_in_cell w l f z derefs reach base = elim (lifts v w) [
+    | inl itself ↦ true_false (has_deref (ways.sels_of w)) derefs
+        (ap (λ q. has_deref (ways.sels_of q)) (sym itself ∙ root_part (expand v w) l (OfVariable f z) reach base) ∙ along_derefs (OfVariable f z) (steps_in l))
+    | inr lift ↦ (
+        let view = seen h.typing m hands leaks in
+        let found = on_cell lift.way (v.cell lift.object)
+        (reached (home h.typing h.frame) (sees_only h.typing) other v view facts lift.object lift.way (well.views lift.object lift.way lift.has)) lift.rest l
+        (subst (λ q. Reaches view q l) (lifted_way v w lift) reach) in
+        let never : OfCell found.0 ≡ OfRoot (OfVariable f z) = sym found.1 ∙ base in cc)
+  ]
+
+  -- where what a name stands for begins
+  begun_there : (w : Way) → Named (home h.typing h.frame) w → sees_only h.typing (ways.number_of w) ≡ false
+      → (f : ℕ) × (y : ℕ) × (ways.base_of (expand v w) ≡ OfRoot (OfVariable f y)) × IsBegun h.typing h.frame f y
+  begun_there w named plain = elim (stands (home h.typing h.frame) (sees_only h.typing) v (seen h.typing m hands leaks) facts well.views w (named, plain)) [
+    | inl own ↦ (home h.typing h.frame (ways.number_of (expand v w)), ways.number_of (expand v w), named_base (home h.typing h.frame) (expand v w) own.named, inl refl)
+    | inr held ↦ (
+        let front = (longer held.way (expand v w) held.under).base in
+        elim (formals_low held.object held.way held.has) [
+          | inl named_there ↦ (
+            home h.typing h.frame (ways.number_of held.way),
+            ways.number_of held.way,
+            front ∙ named_base (home h.typing h.frame) held.way named_there,
+            inl refl,
+          )
+          | inr low ↦ (low.0.0, low.0.1, front ∙ low.0.2, inr (low.2, low.1))
+        ])
+  ]
+
+  -- a name that goes through access values
   housed_walked : (on : List (List machine.Word)) (p : Pos) (x y u : ℕ) (path : TypedTree) (w : Way) → IsNamed h.typing.table u → Matches h.typing.table u (object_at h.typing x).of
-      → is_view_formal h.typing y ≡ false → is_anonymous (view_of h.typing y) ≡ false → Named (home h.typing h.frame) w → ways.number_of w ≡ y → ways.name_of w ≡ name_of y path
-      → sees_only h.typing y ≡ false
+      → has_deref (selectors path) ≡ true → Named (home h.typing h.frame) w → ways.number_of w ≡ y → ways.name_of w ≡ name_of y path → sees_only h.typing y ≡ false
       → (z : Evaluated Place) → Walked h.typing settled hands leaks m on (expand v w) u z → Quiet (at on) (λ k. IsKeptPut x (Name p y path u) k) z
-  housed_walked on p x y u path w own fits owner plain named root called sees (Raises e n) is = is
-  housed_walked on p x y u path w own fits owner plain named root called sees (Traps t n) never = absurd never
-  housed_walked on p x y u path w own fits owner plain named root called sees (Done k n) (l, same, spot, reaches, of) = (same, by_base k.base refl)
+  housed_walked on p x y u path w own fits derefs named root called sees (Raises e n) is = is
+  housed_walked on p x y u path w own fits derefs named root called sees (Traps t n) never = absurd never
+  housed_walked on p x y u path w own fits derefs named root called sees (Done k n) (l, same, spot, reaches, of) = (same, by_base k.base refl)
     where
-      owned_one : (u : Way) → ways.number_of u ≡ y → expand v u ≡ u
-      owned_one u number = elim (lifts v u) [
-        | inl itself ↦ itself
-        | inr lift ↦ absurd (true_false (is_view h.typing lift.object) (holds.only lift.object lift.way lift.has)
-            (ap (is_view h.typing) (sym (lifted_root v u lift) ∙ number)
-            ∙ both_no (is_anonymous (view_of h.typing y)) (is_view_formal h.typing y) plain owner))
-      ]
-
-      reach : Reaches (seen h.typing m hands leaks) w l
-      reach = subst (λ z. Reaches (seen h.typing m hands leaks) z l) (owned_one w root) reaches
-
-      base_there : ways.base_of w ≡ OfRoot (OfVariable (home h.typing h.frame y) y)
-      base_there = named_base (home h.typing h.frame) w named ∙ ap (λ z. OfRoot (OfVariable (home h.typing h.frame z) z)) root
-
       by_base : (b : Base) → k.base ≡ b → IsKeptPut x (Name p y path u) k
       by_base (memory.OfVariable f z) base =
-          let b : trunk l ≡ OfRoot (OfVariable f z) = spot.base ∙ ap loc_of base in
-          let is : w ≡ along (Object (OfVariable f z)) (steps_in l) = root_part w l (OfVariable f z) reach b in
-          let both = same_variable f z (home h.typing h.frame y) y (sym (base_along (Object (OfVariable f z)) (steps_in l)) ∙ ap ways.base_of (sym is) ∙ base_there) in
-          inl (
-            w,
-            record {
-              object = z;
-              steps = steps_in l;
-              frame = f;
-              at_home = both.0 ∙ ap (home h.typing h.frame) (sym both.1);
-              trunk = Object (OfVariable f z);
-              start = OfRoot (OfVariable f z);
-              stands = inl (refl, refl, base);
-              root = refl;
-              way = is;
-              owner = ap (is_view_formal h.typing) both.1 ∙ owner;
-              there = ap (λ c. has_part h.typing.table (content h.typing m hands c).of (steps_in l)) (sym b) ∙ spot.there;
-              at = spot.at ∙ ap (λ c. offset_in h.typing.table (content h.typing m hands c).of (steps_in l)) b;
-              of = subst (λ c. Matches h.typing.table k.of (type_in h.typing.table (content h.typing m hands c).of (steps_in l))) b spot.of;
-              named = subst (IsNamed h.typing.table) (sym of) own;
-            },
-            called,
-            both.1,
-            subst (λ c. Matches h.typing.table c (object_at h.typing x).of) (sym of) fits,
-            (refl, refl, base),
-          )
+          absurd (deref_in_cell w l f z (ap (λ (q : PlaceName). has_deref q.sels) called ∙ derefs) reaches (spot.base ∙ ap loc_of base))
       by_base (memory.OfCell c) base =
           let view = seen h.typing m hands leaks in
           let found = cell_name v view
           (λ b z has. reached (home h.typing h.frame) (sees_only h.typing) other v view facts b z (well.views b z has)) w l c reaches (spot.base ∙ ap loc_of base) in
-          let number : ways.number_of found.name ≡ y = sym (ap ways.number_of found.is ∙ number_part found.name found.rest) ∙ root in
-          let itself : expand v found.name ≡ found.name = owned_one found.name number in
-          let reach_cell : Reaches view found.name (OfCell c) = subst (λ z. Reaches view z (OfCell c)) itself found.reaches in
-          let base_name : ways.base_of found.name ≡ OfRoot (OfVariable (home h.typing h.frame y) y) = sym (ap ways.base_of found.is ∙ base_along found.name found.rest) ∙ base_there in
-          let cell : Lodge = record { name = found.name; way = found.name; cell = c } in
-          let in_cell = spot_lodged h.typing settled m hands leaks kept k l cell (home h.typing h.frame y) y spot base base_name reach_cell in
+          let begun = begun_there w named (ap (sees_only h.typing) root ∙ sees) in
+          let goes : expand v w ≡ along (expand v found.name) found.rest = ap (expand v) found.is ∙ expand_along v found.name found.rest in
+          let base_name : ways.base_of (expand v found.name) ≡ OfRoot (OfVariable begun.0 begun.1) =
+          sym (base_along (expand v found.name) found.rest) ∙ ap ways.base_of (sym goes) ∙ begun.2 in
+          let cell : Lodge = record { name = found.name; way = expand v found.name; cell = c } in
+          let in_cell = spot_lodged h.typing settled m hands leaks kept k l cell begun.0 begun.1 spot base base_name found.reaches in
           let lodged = in_cell.0 in
-          let stands : l ≡ part (OfCell c) found.rest =
-          one_location view w l (part (OfCell c) found.rest) reach (subst (λ z. Reaches view z (part (OfCell c) found.rest)) (sym found.is) (reaches_along view found.name (OfCell c) found.rest reach_cell)) in
-          let steps_are : found.rest ≡ lodged.steps = sym (in_cell.1 ∙ ap steps_in stands ∙ steps_part (OfCell c) found.rest ∙ append-nil found.rest) in
+          let stands_at : l ≡ part (OfCell c) found.rest =
+          one_location view (expand v w) l (part (OfCell c) found.rest) reaches
+          (subst (λ z. Reaches view z (part (OfCell c) found.rest)) (sym goes) (reaches_along view (expand v found.name) (OfCell c) found.rest found.reaches)) in
+          let steps_are : found.rest ≡ lodged.steps = sym (in_cell.1 ∙ ap steps_in stands_at ∙ steps_part (OfCell c) found.rest ∙ append-nil found.rest) in
           inr (record {
-            to = w;
+            to = expand v w;
             inside = record {
-              object = y;
+              object = begun.1;
               steps = lodged.steps;
-              frame = home h.typing h.frame y;
-              at_home = refl;
-              trunk = found.name;
+              frame = begun.0;
+              begins = begun.3;
+              trunk = expand v found.name;
               start = OfCell c;
-              stands = inr ((c, refl, base), plain);
+              stands = inr (c, refl, base);
               root = base_name;
-              way = found.is ∙ ap (along found.name) steps_are;
-              owner = owner;
+              way = goes ∙ ap (along (expand v found.name)) steps_are;
               there = lodged.there;
               at = lodged.at;
               of = lodged.of;
               named = subst (IsNamed h.typing.table) (sym of) own;
             };
+            name = w;
+            named = named;
             called = called;
-            object = refl;
+            means = refl;
             fits = subst (λ z. Matches h.typing.table z (object_at h.typing x).of) (sym of) fits;
+            front = found.name;
+            begins = subst (ways.Under found.name) (sym found.is) (under_along found.name found.name found.rest (under_itself found.name));
             cell = c;
             start = refl;
             plain = sees;
             deep = found.deep;
-            leads = itself;
-            reaches = reach_cell;
+            leads = refl;
+            reaches = found.reaches;
           })
 
   pub housed_given : (before on : List (List machine.Word)) (x : ℕ) (e : TypedTree) (t : ℕ) → IsPlaceOf h.typing e t → IsNamed h.typing.table t → Matches h.typing.table t (object_at h.typing x).of
-      → AreOwners h.typing e → Takes (waits_in e) before on → IsOpenActual h.typing h.frame facts e
+      → (goes_through_none e ≡ true → IsOwnPlace h.typing e) → Takes (waits_in e) before on → IsOpenActual h.typing h.frame facts e
       → AllowsAll facts (acts (index_acts h.typing e)) → Quiet (at on) (λ k. IsKeptPut x e k) (place_of h e (at before))
   unfolding waits_in goes_through_none
-  housed_given before on x (Name p y path u) t (leads, type) own fits owner takes (inl direct) allowed =
-      quiet_on on (λ k. IsOwnPut h.typing h.frame x (Name p y path u) k) (λ k. IsKeptPut x (Name p y path u) k) (λ k put. inl put) (place_of h (Name p y path u) (at before))
-      (own_place_given before on x (Name p y path u) t (leads, type) own fits (λ z has. (owner z has).1) takes direct allowed)
-  housed_given before on x (Name p y path u) t (leads, type) own fits owner takes (inr (sees, opens)) allowed =
-      let inner = steps_taking h settled hands leaks m waits other facts v kept well holds alone live index_law own_law parts_named (object_at h.typing y).of u path leads before on takes allowed in
-      quiet_then (at on) (λ way. GoesAlong h.typing.table (object_at h.typing y).of u path way) (λ k. IsKeptPut x (Name p y path u) k) (steps_of h path (at before))
-      (λ way now. walked h.typing way (variable_place h y) now) inner.0
-      (λ way goes.
-      let root : Way = Object (OfVariable (home h.typing h.frame y) y) in
-      housed_walked on p x y u path (way_along way root) (subst (IsNamed h.typing.table) (sym type) own) (subst (λ z. Matches h.typing.table z (object_at h.typing x).of) (sym type) fits)
-      (owner y (inl refl)).1 (owner y (inl refl)).0 (named_along (home h.typing h.frame) way root refl) (number_along way root)
-      (λ j. record { root = number_along way root j; sels = goes.sels root j }) sees
-      (walked h.typing way (variable_place h y) (at on))
-      (name_quiet h settled hands leaks m on other facts v kept well holds alone live index_law own_law parts_named y path u way goes opens))
+  housed_given before on x (Name p y path u) t (leads, type) own fits owner takes opens allowed = by_path (goes_through_none path) refl opens
+    where
+      direct_there : goes_through_none path ≡ true → Quiet (at on) (λ k. IsKeptPut x (Name p y path u) k) (place_of h (Name p y path u) (at before))
+      direct_there none =
+          quiet_on on (λ k. IsOwnPut h.typing h.frame x (Name p y path u) k) (λ k. IsKeptPut x (Name p y path u) k) (λ k put. inl put) (place_of h (Name p y path u) (at before))
+          (own_place_given before on x (Name p y path u) t (leads, type) own fits (owner none) takes none allowed)
+
+      by_path : (b : Bool) → goes_through_none path ≡ b → IsOpenActual h.typing h.frame facts (Name p y path u)
+          → Quiet (at on) (λ k. IsKeptPut x (Name p y path u) k) (place_of h (Name p y path u) (at before))
+      by_path true none opens = direct_there none
+      by_path false some (inl none) = absurd (true_false (goes_through_none path) none some)
+      by_path false some (inr (sees, open_names)) =
+          let inner = steps_taking h settled hands leaks m waits other facts v kept well holds alone live index_law own_law parts_named (object_at h.typing y).of u path leads before on takes allowed in
+          quiet_then (at on) (λ way. GoesAlong h.typing.table (object_at h.typing y).of u path way) (λ k. IsKeptPut x (Name p y path u) k) (steps_of h path (at before))
+          (λ way now. walked h.typing way (variable_place h y) now) inner.0
+          (λ way goes.
+          let root : Way = Object (OfVariable (home h.typing h.frame y) y) in
+          housed_walked on p x y u path (way_along way root) (subst (IsNamed h.typing.table) (sym type) own) (subst (λ z. Matches h.typing.table z (object_at h.typing x).of) (sym type) fits)
+          (path_derefs h.typing (object_at h.typing y).of u path leads some) (named_along (home h.typing h.frame) way root refl) (number_along way root)
+          (λ j. record { root = number_along way root j; sels = goes.sels root j }) sees
+          (walked h.typing way (variable_place h y) (at on))
+          (name_quiet h settled hands leaks m on other facts v kept well holds alone live index_law own_law parts_named y path u way goes open_names))
   housed_given before on x e t place own fits owner takes opens allowed = absurd place
   -- ---- all of them

@@ -67,7 +67,7 @@ use Rattle.viewed_steps.proofs.Views.{AreAccess}
 
 -- a way through a place without a number ends there
 module _ (view : View) (k : Way) (at : Loc) (target : Reaches view k at) (empty : (p : List ways.Step) → view.word (part at p) ≡ Empty) where
-  ends_there : (w : Way) (l : Loc) → Reaches view w l → Under k w → Below at l
+  pub ends_there : (w : Way) (l : Loc) → Reaches view w l → Under k w → Below at l
   ends_there (Object x) l r u = ([], one_location view (Object x) l at r (subst (λ z. Reaches view z at) u target))
   ends_there (Lost x) l r u = ([], one_location view (Lost x) l at r (subst (λ z. Reaches view z at) u target))
   ends_there (Into w i) l (m, r, e) u = elim u [

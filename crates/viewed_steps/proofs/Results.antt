@@ -536,6 +536,17 @@ module _ (table : Table) (typed : TypedProgram) (effects : Effects) (input : Lis
               shown = was.shown;
               apart = was.apart;
               written = was.written;
+              goes = was.goes;
+              names = λ to has. (let n = was.names to has in record {
+                name = n.name;
+                called = n.called;
+                plain = n.plain;
+                leads = n.leads;
+                unlent = n.unlent;
+                cleared = n.cleared;
+                written = n.written;
+              });
+              off = was.off;
               uses = was.uses;
               clear = was.clear;
               views = was.views;

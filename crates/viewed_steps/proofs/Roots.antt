@@ -9,6 +9,7 @@ use Rattle.place_names.specs.declared.rule.Loan.TheVariants.{Borrowed, Observed}
 use Rattle.owned_ways.specs.Ways.{Way, Object, Lost, Into, All, View, Under, Named, name_of}
 use Rattle.owned_loans.specs.Views.{on, Views, expand, IsThrough, HasLoan, AreShared, AreViews, IsView}
 use Rattle.owned_loans.proofs.Ways.{under_on, on_under, on_named, Lifted, lifts, lifted_root, lifted_way}
+use Rattle.owned_ways.proofs.Locations.{under_itself}
 
 named_front : (at_home : ℕ → ℕ) (k w : Way) → Under k w → Named at_home w → Named at_home k
 named_front at_home k (Object r) u named = subst (Named at_home) (sym u) named
@@ -37,6 +38,40 @@ module _ (at_home : ℕ → ℕ) (observer : ℕ → Bool) (v : Views) (s : View
   -- what a named way goes on from is named
   front_named : {x : ℕ} (w : Way) → IsView at_home observer v s facts x w → (z : Lifted v (v.up x)) → Named at_home w → Named at_home z.way
   front_named w view z named = on_named at_home z.way z.rest (subst (Named at_home) (sym view.leads ∙ lifted_way v (v.up _) z) named)
+
+  -- Or it goes on from what a view was given that it changes.
+  abbrev pub FromGiven : Way → Type 0
+  FromGiven w = (x : ℕ) × (u : Way) × (v.way x ≡ Some u) × (Named at_home (v.up x) → ⊥) × (observer x ≡ false) × Under u w
+
+  further_from : (x : ℕ) (w : Way) → IsView at_home observer v s facts x w → (z : Lifted v (v.up x)) → GoesOn Borrowed z.way ⊎ FromGiven z.way
+      → GoesOn Borrowed w ⊎ FromGiven w
+  further_from x w view z (inl own) = inl (further Borrowed x w view z own)
+  further_from x w view z (inr (y, u, has, given, sees, under)) = inr (
+    y,
+    u,
+    has,
+    given,
+    sees,
+    subst (Under u) (sym (lifted_way v (v.up x) z) ∙ view.leads) (under_on u z.way (on z.way z.rest) under (on_under z.way z.rest)),
+  )
+
+  from_given : (n x : ℕ) (w : Way) → x < n → observer x ≡ false → v.way x ≡ Some w → GoesOn Borrowed w ⊎ FromGiven w
+  from_given zero x w less borrows has = absurd (omega (arith, less))
+  from_given (suc n) x w less borrows has = elim (views x w has) [
+    | inr passed ↦ inr (x, w, has, passed.given, borrows, under_itself w)
+    | inl view ↦ elim (lifts v (v.up x)) [
+      | inl e ↦ (
+          let place = own_place x w view e in
+          inl (x, v.loan x, subst (λ b. HasLoan observer b x facts (name_of (v.loan x))) borrows view.lent, place.0, place.1))
+      | inr z ↦ (
+          let root = lifted_root v (v.up x) z in
+          let older = view.older borrows in
+          further_from x w view z (from_given n z.object z.way (omega (arith, less, older, root)) (ap observer (sym root) ∙ view.plain) z.has))
+    ]
+  ]
+
+  pub borrower_from : (x : ℕ) (w : Way) → observer x ≡ false → v.way x ≡ Some w → GoesOn Borrowed w ⊎ FromGiven w
+  borrower_from x w borrows has = from_given (suc x) x w (omega arith) borrows has
 
   -- Or it goes on from what others have lent.
   module _ (lent : Loan → PlaceName → Type 0) (shown : AreShared at_home observer lent v) where

@@ -31,22 +31,15 @@ use Rattle.owned_loans.proofs.Meeting.{stands}
 use Rattle.owned_loans.proofs.Moves.{reached}
 use Rattle.viewed_steps.specs.Taken.{TakenBy, Lodge}
 use Rattle.owned_loans.proofs.Meeting.{stands}
-use Rattle.viewed_steps.proofs.Between.{base_along as along_base, number_based, home_low, taken_from as words_taken, taken_base, near_base}
+use Rattle.viewed_steps.proofs.Between.{base_along as along_base, number_based, taken_from as words_taken, taken_base, near_base, begun_low}
 use Rattle.viewed_steps.proofs.Roots.{GoesOn, borrower_goes, view_goes}
 use Rattle.viewed_steps.proofs.Showing.{none_moved as shown_unmoved}
 use Rattle.viewed_steps.specs.Awaited.{lasting_of}
 use Rattle.viewed_steps.proofs.Whole.{flat_has}
 use Rattle.viewed_steps.specs.Sound.{loan_by, withheld, KeptBy, ViewStage, stages_of, Lies, GoneElsewhere, IsWaiting, IsFirst, AreWaiting, IsWayOf, IsBareOf, shown_at, LentBy, passed_roots}
-use Rattle.viewed_steps.proofs.Withheld.{kept_cases, kept_root, kept_fact, taken_passed, cell_passed, passed_from}
+use Rattle.viewed_steps.proofs.Withheld.{kept_cases, kept_root, kept_fact, taken_passed, cell_passed, passed_from, flat_from}
 use Rattle.viewed_steps.proofs.Views.{base_named, same_lies}
 use Rattle.machine.specs.Owners.{waiting_in}
-
-flat_from : {A B : Type 0} (f : A → List B) (xs : List A) (y : B) → Has (flat_map f xs) y → (x : A) × Has xs x × Has (f x) y
-flat_from f [] y h = absurd h
-flat_from f (x ∷ xs) y h = elim (Has-append_cases (f x) (flat_map f xs) y h) [
-  | inl mine ↦ (x, inl refl, mine)
-  | inr later ↦ (let found = flat_from f xs y later in (found.0, inr found.1, found.2))
-]
 
 -- ---- near ways
 
@@ -171,8 +164,8 @@ module _ (table : Table) (typed : TypedProgram) (effects : Effects)
       | inl fact ↦ unmoved e.stage first.0 name (subst (Has (facts_of program effects e.stage)) is fact)
       | inr shown ↦ shown_unmoved program (sub_of program e.stage.frame.sub) e.stage.before name (subst (Has (shown_at program e.stage)) is shown)
     ]
-    | inr (y, passed, root) ↦ elim (passed_from e y passed) [
-      | inl (to, taken, same) ↦ subst (λ z. Has z to) (first.1).2 taken
+    | inr (y, passed, root) ↦ elim (passed_from effects e y passed) [
+      | inl (to, taken, same, written) ↦ subst (λ z. Has z to) (first.1).2 taken
       | inr (c, there, same) ↦ subst (λ z. Has z c) first.4 there
     ]
   ]
@@ -308,7 +301,7 @@ module _ (table : Table) (typed : TypedProgram) (effects : Effects)
         (k, package_named s g.stage.depth depth k root named, under, (g, has, some, f, there, root, refl, is))
 
     -- so it is with a part of an object that is passed
-    root_for : (g : ViewStage) → Has older g → 0 < g.stage.depth → (y : ℕ) (w : Way) → Has (passed_roots g) y → base_of w ≡ OfRoot (OfVariable (home s g.stage.depth y) y)
+    root_for : (g : ViewStage) → Has older g → 0 < g.stage.depth → (y : ℕ) (w : Way) → Has (passed_roots effects g) y → base_of w ≡ OfRoot (OfVariable (home s g.stage.depth y) y)
         → is_package_object s y ≡ true → IsLentFor Borrowed w
     root_for g has some y w passed base shared =
         let named : Named (home s g.stage.depth) w = base_named (home s g.stage.depth) w y base in
@@ -323,7 +316,7 @@ module _ (table : Table) (typed : TypedProgram) (effects : Effects)
       | inr passed ↦ (
           let on_root : number_of w ≡ number_of k = (longer k w under).root in
           let at : base_of w ≡ OfRoot (OfVariable (home s g.stage.depth (number_of k)) (number_of k)) = (longer k w under).base ∙ named_base (home s g.stage.depth) k named in
-          inr (root_for g has some (number_of k) w (subst (λ (z : Name). Has (passed_roots g) z.root) is passed) at (ap (is_package_object s) (sym on_root) ∙ shared)))
+          inr (root_for g has some (number_of k) w (subst (λ (z : Name). Has (passed_roots effects g) z.root) is passed) at (ap (is_package_object s) (sym on_root) ∙ shared)))
     ]
 
     -- what is moved or borrowed
@@ -416,7 +409,7 @@ module _ (table : Table) (typed : TypedProgram) (effects : Effects)
             base = named_base (home s g.stage.depth) c.name kept.named;
             low = low_home (is_package_object s (number_of c.name)) g.stage.depth less;
             other = elim (bool_cases (is_package_object s (number_of c.name))) [
-              | inl shared ↦ inr (Borrowed, root_for g has some (number_of c.name) c.name (cell_passed g c there) (named_base (home s g.stage.depth) c.name kept.named) shared)
+              | inl shared ↦ inr (Borrowed, root_for g has some (number_of c.name) c.name (cell_passed effects g c there) (named_base (home s g.stage.depth) c.name kept.named) shared)
               | inr own ↦ inl (λ e. other_frame s g.stage.depth depth some less (number_of c.name) own (sym (ap (λ z. if z then 0 else g.stage.depth) own) ∙ e))
             ];
           })
@@ -488,8 +481,8 @@ module _ (table : Table) (typed : TypedProgram) (effects : Effects)
       | inl first ↦ absurd (subst (λ z. TakenBy z w) (first.1).2 taken).1
       | inr (some, less, callee, backs, waits, shared) ↦ (
           let base = taken_base s g.stage.returns g.stage.depth
-          (words_taken s g.cells state.memory g.stage.depth (facts_of program effects g.stage) (lasting_of s waits.point.scope) backs g.stage.returns waits.taken) w taken in
-          (base.0, base.1, base.2, (let at_home = base.3 in let low = home_low s g.stage.depth base.1 in omega (arith, at_home, low, less))))
+          (words_taken s g.cells state.memory g.stage.depth g.views (facts_of program effects g.stage) (lasting_of s waits.point.scope) backs g.stage.returns waits.taken) w taken in
+          (base.0, base.1, base.2, (let low = begun_low s g.stage.depth base.0 base.1 base.3 in omega (arith, low, less))))
     ]
     gone_low w (g, has, inl (u, moved, leads)) = elim (between g has) [
       | inl first ↦ absurd (unmoved g.stage first.0 (name_of u) moved.1)
@@ -506,18 +499,39 @@ module _ (table : Table) (typed : TypedProgram) (effects : Effects)
           ])
     ]
 
+    -- a part of a package object that was taken goes on from a place that is kept
+    taken_lent : (g : ViewStage) → Has older g → 0 < g.stage.depth → (callee : ℕ) (backs : List Return) → IsWaiting table typed effects state callee backs g → SharesHere g
+        → (to : Way) → Has g.stage.returns to → (y : ℕ) → base_of to ≡ OfRoot (OfVariable 0 y) → is_package_object s y ≡ true → (w : Way) → Under to w → IsLentFor Borrowed w
+    taken_lent g has some callee backs waits sharing to taken y base shared w under =
+        let at_home : 0 ≡ home s g.stage.depth y = ap (λ b. if b then 0 else g.stage.depth) (sym shared) in
+        let based : base_of to ≡ OfRoot (OfVariable (home s g.stage.depth y) y) = base ∙ ap (λ f. OfRoot (OfVariable f y)) at_home in
+        elim (waits.goes to taken y base shared) [
+          | inl written ↦ root_for g has some y w (taken_passed effects g to y taken base written) ((longer to w under).base ∙ based) shared
+          | inr (x, u, is, given, sees, above) ↦ (
+              let named : Named (home s g.stage.depth) u = base_named (home s g.stage.depth) u y (sym (longer u to above).base ∙ based) in
+              let (l, through, changed) = sharing x u is given named in
+              let (k, at, below, lent) = through_for g l u through in
+              (k, at, under_on k u w below (under_on u to w above under), subst (λ z. LentElsewhere older z (name_of k)) (changed sees) lent))
+        ]
+
     -- what is near and gone elsewhere is a part of a package object, and goes on from a place that is kept
     pub near_lent : (w : Way) → IsNear depth w → GoneElsewhere program effects older w → IsLentFor Borrowed w
     near_lent w near (g, has, inr (to, taken, p, is)) = elim (between g has) [
       | inl first ↦ absurd (subst (λ z. Has z to) (first.1).2 taken)
-      | inr (some, less, callee, backs, waits, shared) ↦ (
-          let begin = words_taken s g.cells state.memory g.stage.depth (facts_of program effects g.stage) (lasting_of s waits.point.scope) backs g.stage.returns waits.taken to taken in
-          let at : base_of to ≡ OfRoot (OfVariable (home s g.stage.depth begin.1) begin.1) = begin.2 ∙ ap (λ f. OfRoot (OfVariable f begin.1)) begin.3 in
-          let based : base_of w ≡ OfRoot (OfVariable (home s g.stage.depth begin.1) begin.1) = ap base_of is ∙ along_base to p ∙ at in
-          let there : Named (home s g.stage.depth) w = base_named (home s g.stage.depth) w begin.1 based in
-          root_for g has some begin.1 w
-          (subst (Has (passed_roots g)) (number_based (home s g.stage.depth) to begin.1 (base_named (home s g.stage.depth) to begin.1 at) at) (taken_passed g to taken)) based
-          (ap (is_package_object s) (sym (number_based (home s g.stage.depth) w begin.1 there based)) ∙ near_package s g.stage.depth depth some less w there near))
+      | inr (some, less, callee, backs, waits, sharing) ↦ (
+          let begin = words_taken s g.cells state.memory g.stage.depth g.views (facts_of program effects g.stage) (lasting_of s waits.point.scope) backs g.stage.returns waits.taken to taken in
+          let based : base_of w ≡ OfRoot (OfVariable begin.0 begin.1) = ap base_of is ∙ along_base to p ∙ begin.2 in
+          elim begin.3 [
+            | inr (above, low) ↦ absurd (elim (near_base depth w begin.0 begin.1 near based) [ inl none ↦ omega (arith, above, none) | inr same ↦ omega (arith, low, less, same) ])
+            | inl at_home ↦ (
+                let own : base_of w ≡ OfRoot (OfVariable (home s g.stage.depth begin.1) begin.1) = based ∙ ap (λ f. OfRoot (OfVariable f begin.1)) at_home in
+                let there : Named (home s g.stage.depth) w = base_named (home s g.stage.depth) w begin.1 own in
+                let shared : is_package_object s begin.1 ≡ true =
+                ap (is_package_object s) (sym (number_based (home s g.stage.depth) w begin.1 there own)) ∙ near_package s g.stage.depth depth some less w there near in
+                taken_lent g has some callee backs waits sharing to taken begin.1
+                (begin.2 ∙ (λ j. OfRoot (OfVariable ((at_home ∙ ap (λ b. if b then 0 else g.stage.depth) shared) j) begin.1))) shared w
+                (subst (Under to) (sym is) (under_along to to p (under_itself to))))
+          ])
     ]
     near_lent w near (g, has, inl (u, moved, leads)) = elim (between g has) [
       | inl first ↦ absurd (unmoved g.stage first.0 (name_of u) moved.1)
@@ -633,12 +647,7 @@ module _ (table : Table) (typed : TypedProgram) (effects : Effects)
         | inl first ↦ absurd (subst (λ z. Has z (along w p)) (first.1).2 taken)
         | inr (some, less, callee, backs, waits, shares) ↦ inr (
           Borrowed,
-          (
-              let base : base_of (along w p) ≡ OfRoot (OfVariable (home s g.stage.depth y) y) =
-              along_base w p ∙ ap base_of (sym is) ∙ (λ j. OfRoot (OfVariable (if sym shared j then 0 else g.stage.depth) y)) in
-              let named : Named (home s g.stage.depth) (along w p) = base_named (home s g.stage.depth) (along w p) y base in
-              root_for g has some y (along w p)
-              (subst (Has (passed_roots g)) (number_based (home s g.stage.depth) (along w p) y named base) (taken_passed g (along w p) taken)) base shared),
+          taken_lent g has some callee backs waits shares (along w p) taken y (along_base w p ∙ ap base_of (sym is)) shared (along w p) (under_itself (along w p)),
         )
       ],
     )

@@ -26,7 +26,7 @@ use Rattle.flow_paths.specs.Views.{encloses, scope_of, traversed_formal, sub_act
 use Rattle.machine.specs.States.{sub_of}
 use Rattle.machine.specs.Owners.{is_in}
 use Rattle.soundness.specs.Typed.{OwnsByShape}
-use Rattle.soundness.specs.Sound.{Accepted, IsNamedSub, IsAtPoint, IsProcedure, IsRunnable, is_temporary_object, has_returned, IsEntered, Uses}
+use Rattle.soundness.specs.Sound.{Accepted, IsNamedSub, IsAtPoint, IsProcedure, IsRunnable, is_temporary_object, has_returned, IsEntered, goes_through_none, Uses}
 use Rattle.soundness.specs.Ready.{root_of, stored_at, AreScoped, AreNew, AreElaborated, AreReturning}
 use Rattle.typed_laws.specs.Needed.{Matches, Leads, Stays, Gives, IsPlace}
 use Rattle.soundness.specs.Seen.{is_view_formal}
@@ -109,7 +109,7 @@ is_shown_type s x = is_owning s.table (object_at s x).of || is_anonymous (view_o
 abbrev pub IsActualTo : Typing → ℕ → Mode → TypedTree → Type 0
 IsActualTo s x mode.In e = (is_shown_type s x ≡ false → IsValueTo s x e) × (is_shown_type s x ≡ true → IsSeen s x e)
 IsActualTo s x m e =
-    (t : ℕ) × IsPlace s e t × Matches s.table t (object_at s x).of × ((is_scalar (full s.table t) ≡ true) ⊎ IsOwnPlace s e)
+    (t : ℕ) × IsPlace s e t × Matches s.table t (object_at s x).of × ((is_scalar (full s.table t) ≡ true) ⊎ (goes_through_none e ≡ true → IsOwnPlace s e))
 
 -- So is each that there is a formal for; each formal that isn't of a scalar type has an actual.
 abbrev pub AreActualsTo : Typing → List ℕ → TypedTree → Type 0

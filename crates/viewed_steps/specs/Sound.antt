@@ -13,14 +13,14 @@ use Rattle.place_names.specs.Facts.{place}
 use Rattle.place_names.specs.declared.fact.Fact.TheVariants.{Moved, Lent}
 use Rattle.place_names.specs.declared.rule.Loan.{Loan}
 use Rattle.place_names.specs.declared.rule.Loan.TheVariants.{Borrowed, Observed}
-use Rattle.place_names.specs.Names.{Name as PlaceName, overlaps, object}
+use Rattle.place_names.specs.Names.{Name as PlaceName, overlaps, object, covers}
 use Rattle.type_definitions.specs.Types.{Table, full, is_scalar, is_owning}
-use Rattle.typed_tree.specs.Trees.{TypedTree, Name, NoMore, More}
+use Rattle.typed_tree.specs.Trees.{TypedTree, Name, NoMore}
 use Rattle.typed_tree.specs.Programs.{TypedProgram}
 use Rattle.flow_paths.specs.declared.report.Effects.{Effects}
 use Rattle.flow_paths.specs.Instructions.{Instruction, Declare, Assign, Call, EndScope, Finish}
 use Rattle.flow_paths.specs.Objects.{Typing, object_at, sub_at, is_formal, is_observer, is_named_access, view_of, is_package_object, has_scope_end, is_anonymous}
-use Rattle.flow_paths.specs.Points.{NamedPoint, FlowPoint}
+use Rattle.flow_paths.specs.Points.{NamedPoint}
 use Rattle.flow_paths.specs.Laid.{FlowSub, FlowProgram, NamedSub, flow_typing, flow_program, flow_named}
 use Rattle.flow_paths.specs.Paths.{ControlPath}
 use Rattle.flow_paths.specs.Effects.{written_by, path_points}
@@ -30,16 +30,15 @@ use Rattle.flow_paths.specs.Views.{encloses, scope_of, traversed_formal, sub_act
 use Rattle.machine.specs.Words.{Cell}
 use Rattle.machine.specs.Memory.{Memory, variable_slots, no_slot}
 use Rattle.machine.specs.States.{Return, Waiting, Frame, State, Outcome, Goes, Ends, sub_of}
-use Rattle.machine.specs.Owners.{is_in, WellOwned, waiting_in}
+use Rattle.machine.specs.Owners.{WellOwned, waiting_in}
 use Rattle.machine.specs.Run.{step, no_point}
-use Rattle.owned_ways.specs.Ways.{Object, Step, OfVariable, OfRoot, Held, Way, Named, Under, Past, name_of, number_of, OfCell, Reaches, Loc, along, View}
+use Rattle.owned_ways.specs.Ways.{Object, Step, OfVariable, OfRoot, Held, Way, Named, Under, Past, name_of, number_of, OfCell, Reaches, Loc, along, View, base_of}
 use Rattle.soundness.specs.Seen.{content, word_in, home, is_view_formal}
 use Rattle.soundness.specs.Typed.{Kept}
 use Rattle.soundness.specs.Sound.{goes_through_none, is_temporary_object, IsNamedSub, IsAtPoint, IsRunnable, Stage, facts_of, AreStages, Uses, IsPlain, InScope, IsTrap, has_returned}
 use Rattle.soundness.specs.Sound as owners
 use Rattle.owned_loans.specs.Views.{known_gone, Views, IsMovedBy, AreClear, IsForeign, AreShared, AreViews, IsOuter, ViewedAlone, expand}
 use Rattle.viewed_soundness.specs.Holds.{IsNamed, IsAccess, PartsAreNamed, is_view, sees_only, IsOwners, is_given, is_exclusive, lends_first}
-use Rattle.soundness.specs.Ready.{root_of}
 use Rattle.viewed_steps.specs.Awaited.{is_held, lasting_of, AreAwaited}
 use Rattle.viewed_steps.specs.Taken.{TakenBy, Lodge, AreTaken, AreCarried}
 
@@ -62,19 +61,6 @@ IsOwnless s x = ((object_at s x).mode ≡ mode.In) × (is_owning s.table (object
 abbrev pub IsKindOfFormal : Typing → ℕ → Type 0
 IsKindOfFormal s x = IsScalarObject s x ⊎ ((IsCopiedBack s x × IsNamed s.table (object_at s x).of) ⊎ (IsShown s x ⊎ IsOwnless s x))
 
--- Actuals that are copied back to go through no access value, or are for formals of scalar types, or are rooted in
--- owners.
-abbrev pub AreOwners : Typing → TypedTree → Type 0
-AreOwners s e = (y : ℕ) → Has (root_of e) y → (is_anonymous (view_of s y) ≡ false) × (is_view_formal s y ≡ false)
-
-abbrev pub IsReachedBack : Typing → ℕ → TypedTree → Type 0
-IsReachedBack s x e = IsScalarObject s x ⊎ AreOwners s e
-
-abbrev pub AreKeptPlaces : Typing → List ℕ → TypedTree → Type 0
-AreKeptPlaces s (x ∷ formals) (More e rest) =
-    (is_in (object_at s x).mode ≡ false → (goes_through_none e ≡ true) ⊎ IsReachedBack s x e) × AreKeptPlaces s formals rest
-AreKeptPlaces s formals actuals = Unit {0}
-
 -- Anonymous access types are those of objects and results alone; formals are such, those of functions of mode
 -- `in`, and what they are shown isn't changed through them, but through the first one of a function that gives a
 -- borrower, which is shown alone; those of procedures of mode `in` that own nothing are of access-to-variable
@@ -91,9 +77,6 @@ pub record IsViewClass (program : FlowProgram) : Type 0 where
       → (object_at (flow_typing program) x).mode ≡ mode.In
   pub procedures : (n : ℕ) → (sub_at (flow_typing program) n).result ≡ None → (x : ℕ) → Has (sub_at (flow_typing program) n).formals x
       → is_formal (flow_typing program) x ≡ true → is_view_formal (flow_typing program) x ≡ true → is_named_access (view_of (flow_typing program) x) ≡ true
-  pub copied : (sub : FlowSub) → Has program.subs sub → (p : FlowPoint) → Has sub.points p → (n : ℕ) (actuals : TypedTree) (result : Option ℕ)
-      → p.instr ≡ Call n actuals result → ((x : ℕ) → Has (sub_of program n).formals x → is_formal (flow_typing program) x ≡ true)
-      → AreKeptPlaces (flow_typing program) (sub_of program n).formals actuals
 
 -- ---- where objects last
 
@@ -215,16 +198,24 @@ shown_at program g = shown_after program (sub_of program g.frame.sub) g.before
 abbrev pub known_at : FlowProgram → Effects → Stage → List Fact
 known_at program effects g = facts_of program effects g ++ shown_at program g
 
--- The objects of which a frame passes parts to be copied back to, as it names them.
-abbrev pub passed_roots : ViewStage → List ℕ
-passed_roots g = map number_of g.stage.returns ++ map (λ (c : Lodge). number_of c.name) g.cells
+-- The package object where a way begins, if it does at one.
+abbrev pub shared_root : Loc → List ℕ
+shared_root (OfRoot (OfVariable f y)) = if f == 0 then y ∷ [] else []
+shared_root l = []
 
-abbrev pub is_passed : ViewStage → Fact → Bool
-is_passed g f = list_any (λ y. y == (place f).root) (passed_roots g)
+-- The package objects of which a frame passes parts to be copied back to, and the objects by which it names cells of such
+-- parts.
+abbrev pub passed_roots : Effects → ViewStage → List ℕ
+passed_roots effects g =
+    filter (λ y. list_any (λ z. z == y) (written_by effects g.stage.frame.sub)) (flat_map (λ (to : Way). shared_root (base_of to)) g.stage.returns)
+    ++ map (λ (c : Lodge). number_of c.name) g.cells
+
+abbrev pub is_passed : Effects → ViewStage → Fact → Bool
+is_passed effects g f = list_any (λ y. y == (place f).root) (passed_roots effects g)
 
 -- What a frame keeps from what it calls: such objects as a whole, as moved ones, and what it knows of others.
 abbrev pub withheld : FlowProgram → Effects → ViewStage → List Fact
-withheld program effects g = filter (λ f. not (is_passed g f)) (known_at program effects g.stage) ++ map (λ y. Moved (object y)) (passed_roots g)
+withheld program effects g = filter (λ f. not (is_passed effects g f)) (known_at program effects g.stage) ++ map (λ y. Moved (object y)) (passed_roots effects g)
 
 -- A cell of a place that is copied back to is there: it is named by the frame, and no way that was taken goes before
 -- the name's way.
@@ -233,6 +224,22 @@ pub record IsKept (s : Typing) (state : State) (g : ViewStage) (c : Lodge) : Typ
   pub leads : expand g.views c.name ≡ c.way
   pub reaches : Reaches (owners.view_of s state) c.way (OfCell c.cell)
   pub aside : (to : Way) → Has g.stage.returns to → Past to c.way → ⊥
+
+-- A place is behind what a view was given, and may be changed through it.
+abbrev pub IsGivenTo : Typing → ViewStage → Way → Type 0
+IsGivenTo s g to =
+    (x : ℕ) × (w : Way) × (g.views.way x ≡ Some w) × (Named (home s g.stage.depth) (g.views.up x) → ⊥) × (sees_only s x ≡ false) × Under w to
+
+-- A name of the frame stands for such a place: it isn't lent, and no part of it is moved. If it is rooted in a package object,
+-- the frame writes that.
+pub record IsNameTaken (s : Typing) (effects : Effects) (facts : List Fact) (g : ViewStage) (to : Way) : Type 0 where
+  pub name : Way
+  pub called : Named (home s g.stage.depth) name
+  pub plain : sees_only s (number_of name) ≡ false
+  pub leads : expand g.views name ≡ to
+  pub unlent : (l : Loan) (h : ℕ) (n : PlaceName) → Has facts (Lent l h n) → overlaps n (name_of name) ≡ true → ⊥
+  pub cleared : (n : PlaceName) → Has facts (Moved n) → covers (name_of name) n ≡ true → ⊥
+  pub written : is_package_object s (number_of name) ≡ true → Has (written_by effects g.stage.frame.sub) (number_of name)
 
 -- A package object: its way and its location.
 abbrev pub IsPackageAt : Typing → Way → Loc → Type 0
@@ -269,8 +276,15 @@ pub record IsWaiting (table : Table) (typed : TypedProgram) (effects : Effects) 
       → Uses effects g.stage.frame.sub name.root × (l ≡ Borrowed → Has (written_by effects g.stage.frame.sub) name.root)
   pub apart : (f : Fact) (h : ℕ) (name : PlaceName) → Has (known_at (flow_program table typed) effects g.stage) f → loan_by f ≡ Borrowed
       → Has (known_at (flow_program table typed) effects g.stage) (Lent Observed h name) → overlaps (place f) name ≡ true → ⊥
-  pub written : (y : ℕ) → Has (passed_roots g) y → is_package_object (flow_typing (flow_program table typed)) y ≡ true
+  pub written : (y : ℕ) → Has (passed_roots effects g) y → is_package_object (flow_typing (flow_program table typed)) y ≡ true
       → Has (written_by effects g.stage.frame.sub) y
+  -- a package object of which a part was taken is written, or was lent to the frame
+  pub goes : (to : Way) → Has g.stage.returns to → (y : ℕ) → base_of to ≡ OfRoot (OfVariable 0 y) → is_package_object (flow_typing (flow_program table typed)) y ≡ true
+      → Has (written_by effects g.stage.frame.sub) y ⊎ IsGivenTo (flow_typing (flow_program table typed)) g to
+  pub names : (to : Way) → Has g.stage.returns to
+      → IsNameTaken (flow_typing (flow_program table typed)) effects (facts_of (flow_program table typed) effects g.stage) g to
+  -- none of the places goes before what a view sees
+  pub off : (x : ℕ) (w : Way) → g.views.way x ≡ Some w → (to : Way) → Has g.stage.returns to → Past to w → ⊥
   pub uses : (x : ℕ) → Uses effects callee x → Uses effects g.stage.frame.sub x
   pub writes : (x : ℕ) → Has (written_by effects callee) x → Has (written_by effects g.stage.frame.sub) x
   pub clear : AreClear (sees_only (flow_typing (flow_program table typed))) (facts_of (flow_program table typed) effects g.stage)
@@ -282,7 +296,7 @@ pub record IsWaiting (table : Table) (typed : TypedProgram) (effects : Effects) 
   -- no number stands in what was taken
   pub bare : (w : Way) (l : Loc) (p : List Step) → IsBareOf (flow_typing (flow_program table typed)) g w l p → (q : List Step) (n : ℕ)
       → word_in (flow_typing (flow_program table typed)).table (content (flow_typing (flow_program table typed)) state.memory [] l) (q ++ p) ≡ Held n → ⊥
-  pub taken : AreTaken (flow_typing (flow_program table typed)) g.cells state.memory g.stage.depth (facts_of (flow_program table typed) effects g.stage)
+  pub taken : AreTaken (flow_typing (flow_program table typed)) g.cells state.memory g.stage.depth g.views (facts_of (flow_program table typed) effects g.stage)
       (lasting_of (flow_typing (flow_program table typed)) point.scope) backs g.stage.returns
 
 -- The frame of the package objects has no views, and nothing waits in it.

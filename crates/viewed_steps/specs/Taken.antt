@@ -1,23 +1,24 @@
 -- What a call takes from places of its caller, and gives back when it ends.
 --
 -- While the call is in progress, the formal owns what the place had, and the place has no number.
-use Rattle.std.specs.Prelude.{◌≡◌, ◌⊎◌, ℕ, true, false, List, [], ◌∷◌, ◌++◌}
+use Rattle.std.specs.Prelude.{◌≡◌, ◌⊎◌, ◌<◌, ℕ, true, false, List, [], ◌∷◌, ◌++◌, suc}
 use Rattle.spark_base.specs.Lists.{Has}
 use Rattle.place_names.specs.declared.fact.Fact.{Fact}
 use Rattle.place_names.specs.declared.fact.Fact.TheVariants.{Moved, Lent}
 use Rattle.place_names.specs.declared.rule.Loan.{Loan}
 use Rattle.place_names.specs.Names.{Name as PlaceName, overlaps, covers}
 use Rattle.type_definitions.specs.Types.{full, is_scalar, is_owning}
-use Rattle.flow_paths.specs.Objects.{Typing, object_at, designated, is_package_object, is_anonymous, view_of}
+use Rattle.flow_paths.specs.Objects.{Typing, object_at, designated, is_package_object}
 use Rattle.flow_paths.specs.Scopes.{is_within}
 use Rattle.machine.specs.Memory.{Memory, Place}
 use Rattle.machine.specs.Memory as memory
 use Rattle.machine.specs.States.{Return}
-use Rattle.owned_ways.specs.Ways.{Step, Loc, OfVariable, OfRoot, OfCell, Way, Object, Lost, Into, All, Held, Gone, Under, along, base_of, name_of, object_of}
+use Rattle.owned_ways.specs.Ways.{Step, Loc, OfVariable, OfRoot, OfCell, Way, Object, Lost, Into, All, Held, Gone, Under, Named, along, base_of, name_of, number_of, object_of}
 use Rattle.part_offsets.specs.Parts.{type_in, offset_in, has_part}
 use Rattle.soundness.specs.Seen.{content, word_in, home, is_view_formal}
 use Rattle.soundness.specs.Typed.{Matches, IsFixed}
-use Rattle.viewed_soundness.specs.Holds.{IsNamed}
+use Rattle.owned_loans.specs.Views.{Views, expand}
+use Rattle.viewed_soundness.specs.Holds.{IsNamed, sees_only}
 
 -- A way is one of these, or goes on from it to a part.
 abbrev pub TakenBy : List Way → Way → Type 0
@@ -59,10 +60,14 @@ pub record AreCarried (s : Typing) (these : ℕ → Type 0) (cells : List Lodge)
   pub gone_cells : (k : ℕ) (p : List Step) → (IsTakenIn cells ways k p → ⊥)
       → word_in s.table (content s m [] (OfCell k)) p ≡ Gone → word_in s.table (content s n [] (OfCell k)) p ≡ Gone
 
--- A place in a variable of a frame, or in a package object, or in a cell that such a one owns: its way. Where it
--- stands there doesn't go by what is in memory.
+-- A place in a variable of a frame, or in a package object, or in a cell: its way, which begins at such a variable, or at
+-- one of a frame below that isn't that of the package objects. Where it stands there doesn't go by what is in memory.
 abbrev pub IsVariableAt : ℕ → ℕ → Place → Way → Loc → Type 0
 IsVariableAt f x k trunk start = (trunk ≡ Object (OfVariable f x)) × (start ≡ OfRoot (OfVariable f x)) × (k.base ≡ memory.OfVariable f x)
+
+abbrev pub IsOwnAt : Typing → ℕ → ℕ → ℕ → Place → Way → Loc → Type 0
+IsOwnAt s depth f x k trunk start =
+    (trunk ≡ Object (OfVariable f x)) × (start ≡ OfRoot (OfVariable f x)) × (k.base ≡ memory.OfVariable f x) × (f ≡ home s depth x) × (is_view_formal s x ≡ false)
 
 abbrev pub IsCellAt : Place → Loc → Type 0
 IsCellAt k start = (n : ℕ) × (start ≡ OfCell n) × (k.base ≡ memory.OfCell n)
@@ -71,13 +76,12 @@ pub record IsInside (s : Typing) (depth : ℕ) (k : Place) (to : Way) : Type 0 w
   pub object : ℕ
   pub steps : List Step
   pub frame : ℕ
-  pub at_home : frame ≡ home s depth object
+  pub begins : (frame ≡ home s depth object) ⊎ ((0 < frame) × (frame < suc depth))
   pub trunk : Way
   pub start : Loc
-  pub stands : IsVariableAt frame object k trunk start ⊎ (IsCellAt k start × (is_anonymous (view_of s object) ≡ false))
+  pub stands : IsOwnAt s depth frame object k trunk start ⊎ IsCellAt k start
   pub root : base_of trunk ≡ OfRoot (OfVariable frame object)
   pub way : to ≡ along trunk steps
-  pub owner : is_view_formal s object ≡ false
   pub there : has_part s.table (trunk_type s trunk) steps ≡ true
   pub at : k.at ≡ offset_in s.table (trunk_type s trunk) steps
   pub of : Matches s.table k.of (type_in s.table (trunk_type s trunk) steps)
@@ -105,26 +109,32 @@ abbrev pub IsAmong : List Lodge → Loc → Way → Type 0
 IsAmong cells start trunk = (n : ℕ) → start ≡ OfCell n → (c : Lodge) × Has cells c × (c.way ≡ trunk) × (c.cell ≡ n)
 
 -- What is passed for a formal that isn't scalar and is copied back: such a place, whose variable is in
--- scope if it may own, which isn't lent, of which no part is known to be moved, and whose value the formal may have.
-pub record IsPassedOn (s : Typing) (cells : List Lodge) (depth : ℕ) (facts : List Fact) (scope : List ℕ) (x : ℕ) (k : Place) (to : Way) : Type 0 where
+-- scope if it may own, and whose value the formal may have. A name of the frame stands for its way, which isn't lent,
+-- and of which no part is known to be moved.
+pub record IsPassedOn (s : Typing) (cells : List Lodge) (depth : ℕ) (v : Views) (facts : List Fact) (scope : List ℕ) (x : ℕ) (k : Place) (to : Way) : Type 0 where
   pub inside : IsInside s depth k to
+  pub name : Way
+  pub called : Named (home s depth) name
+  pub leads : expand v name ≡ to
+  pub plain : sees_only s (number_of name) ≡ false
   pub among : IsAmong cells inside.start inside.trunk
   pub fits : Matches s.table k.of (object_at s x).of
   pub formal : is_package_object s x ≡ false
   pub owner : is_view_formal s x ≡ false
   pub many : is_scalar (full s.table (object_at s x).of) ≡ false
-  pub within : is_package_object s inside.object ≡ false → is_owning s.table (object_at s inside.object).of ≡ true → is_within inside.object scope ≡ true
-  pub unlent : (l : Loan) (h : ℕ) (n : PlaceName) → Has facts (Lent l h n) → overlaps n (name_of to) ≡ true → ⊥
-  pub cleared : (n : PlaceName) → Has facts (Moved n) → covers (name_of to) n ≡ true → ⊥
+  pub within : IsOwnAt s depth inside.frame inside.object k inside.trunk inside.start → is_package_object s inside.object ≡ false
+      → is_owning s.table (object_at s inside.object).of ≡ true → is_within inside.object scope ≡ true
+  pub unlent : (l : Loan) (h : ℕ) (n : PlaceName) → Has facts (Lent l h n) → overlaps n (name_of name) ≡ true → ⊥
+  pub cleared : (n : PlaceName) → Has facts (Moved n) → covers (name_of name) n ≡ true → ⊥
 
 -- No number stands in the place.
 abbrev pub IsBare : (s : Typing) (depth : ℕ) (k : Place) (to : Way) → Memory → IsInside s depth k to → Type 0
 IsBare s depth k to m inside =
     (p : List Step) (c : ℕ) → word_in s.table (content s m [] inside.start) (p ++ inside.steps) ≡ Held c → ⊥
 
-abbrev pub IsTaken : Typing → List Lodge → Memory → ℕ → List Fact → List ℕ → Return → Way → Type 0
-IsTaken s cells m depth facts scope r to =
-    (passed : IsPassedOn s cells depth facts scope r.formal r.to to) × IsBare s depth r.to to m passed.inside
+abbrev pub IsTaken : Typing → List Lodge → Memory → ℕ → Views → List Fact → List ℕ → Return → Way → Type 0
+IsTaken s cells m depth v facts scope r to =
+    (passed : IsPassedOn s cells depth v facts scope r.formal r.to to) × IsBare s depth r.to to m passed.inside
 
 -- None of these ways begins another one, or is begun by it.
 abbrev pub IsApartFrom : Way → List Way → Type 0
@@ -136,9 +146,9 @@ IsAnother x rest = (r : Return) → Has rest r → r.formal ≡ x → ⊥
 
 -- Formals of scalar types are copied back to scalar places, which owners don't see; the others to places
 -- that were taken, one after the other.
-abbrev pub AreTaken : Typing → List Lodge → Memory → ℕ → List Fact → List ℕ → List Return → List Way → Type 0
-AreTaken s cells m depth facts scope [] ways = ways ≡ []
-AreTaken s cells m depth facts scope (r ∷ rest) [] = IsCopiedTo s cells r × AreTaken s cells m depth facts scope rest []
-AreTaken s cells m depth facts scope (r ∷ rest) (to ∷ ways) =
-    (IsCopiedTo s cells r × AreTaken s cells m depth facts scope rest (to ∷ ways))
-    ⊎ (IsTaken s cells m depth facts scope r to × IsApartFrom to ways × IsAnother r.formal rest × AreTaken s cells m depth facts scope rest ways)
+abbrev pub AreTaken : Typing → List Lodge → Memory → ℕ → Views → List Fact → List ℕ → List Return → List Way → Type 0
+AreTaken s cells m depth v facts scope [] ways = ways ≡ []
+AreTaken s cells m depth v facts scope (r ∷ rest) [] = IsCopiedTo s cells r × AreTaken s cells m depth v facts scope rest []
+AreTaken s cells m depth v facts scope (r ∷ rest) (to ∷ ways) =
+    (IsCopiedTo s cells r × AreTaken s cells m depth v facts scope rest (to ∷ ways))
+    ⊎ (IsTaken s cells m depth v facts scope r to × IsApartFrom to ways × IsAnother r.formal rest × AreTaken s cells m depth v facts scope rest ways)
