@@ -31,7 +31,6 @@ use Rattle.flow_paths.specs.Laid.{FlowSub}
 use Rattle.flow_paths.specs.Effects.{asks_for_end, path_points}
 use Rattle.flow_paths.specs.Aliases.{alias_reports}
 use Rattle.flow_paths.specs.Views.{encloses_within}
-use Rattle.viewed_soundness.specs.Taken.{GivesPlainly}
 use Rattle.soundness.specs.Sound.{calls_procedures}
 use Rattle.program_check.specs.Sources.{flow_of}
 use Rattle.file_positions.specs.Texts.{AreParsed}
