@@ -55,7 +55,6 @@ use Rattle.anonymous_types.proofs.Main as anonymous
 use Rattle.typed_laws.specs.Fine.{Laws, counts, lists}
 use Rattle.typed_steps.specs.Steps.{IsTypedStep, AreTyped as AreStepsTyped}
 use Rattle.typed_points.specs.Meant.{AreMeantUnits, typing_meant}
-use Rattle.machine.specs.States.{sub_of}
 use Rattle.machine.specs.Owners.{is_in, is_in_formal}
 use Rattle.soundness.specs.Seen.{is_view_formal}
 use Rattle.soundness.specs.Typed.{OwnsByShape}
@@ -483,10 +482,17 @@ module _ (files : List (List SourceUnit)) where
               (found.0, found.1, λ lends. borrows x (inl (More (CallIn k n a) rest, is)) found.0 (borrow lends)))
           by (Assign (Name r x path u) (CallIn k n a)) is taking borrow = λ gives.
               (let found = assigns_view wide parts_here sub.result r x path u k n a taking gives in
-              let target : Name r x path u ≡ Name r x NoMore u = ap (λ z. Name r x z u) found.0 in
-              (r, x, u, target, found.2, found.3, λ lends. borrows x
-              (inr (r, u, CallIn k n a, is ∙ ap (λ z. Assign z (CallIn k n a)) target)) found.2
-              (ap (λ z. flow.is_borrowing (full wide.table z)) found.1 ∙ borrow lends)))
+              let target : Name r x path u ≡ Name r x NoMore u = ap (λ z. Name r x z u) found.0 in (
+                r,
+                x,
+                u,
+                target,
+                found.2,
+                found.3,
+                λ lends. borrows x
+                    (inr (r, u, CallIn k n a, is ∙ ap (λ z. Assign z (CallIn k n a)) target)) found.2
+                    (ap (λ z. flow.is_borrowing (full wide.table z)) found.1 ∙ borrow lends),
+              ))
           by (Assign target (CallIn k n a)) is taking borrow = λ gives. absurd (taking.0.1)
           by (Hold (More (CallIn k n a) rest)) is taking borrow = λ gives. (holds_view wide parts_here sub.result k n a rest taking gives, borrow)
           by i is taking borrow = tt
