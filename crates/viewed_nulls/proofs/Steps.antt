@@ -49,6 +49,7 @@ use Rattle.viewed_steps.specs.Sound.{IsBeyond, IsResting, HoldsAt, ArePlaced, No
 use Rattle.viewed_steps.specs.Ready.{IsReady}
 use Rattle.viewed_steps.proofs.Standing as standing
 use Rattle.viewed_steps.proofs.Innermost as innermost
+use Rattle.viewed_steps.proofs.CallTakes as call_takes
 use Rattle.viewed_steps.proofs.Calling as calling
 use Rattle.viewed_steps.proofs.CallActs as acting
 use Rattle.viewed_steps.proofs.Followed as followed
@@ -452,7 +453,7 @@ module _ (table : Table) (typed : TypedProgram) (effects : Effects) (input : Lis
             (calling.outs table typed effects input ready state top below more_frames rest named p frames deep stages running awaiting of_sub at_point path views viewed_before kept scope holds placed_before above k actuals result e passed given)
             state.memory state.memory
             (calling.all_passed_ways table typed effects input ready state top below more_frames rest named p frames deep stages running awaiting of_sub at_point path views viewed_before kept scope holds placed_before above k actuals result e passed given).1
-            (calling.open_there table typed effects input ready state top below more_frames rest named p frames deep stages running awaiting of_sub at_point path views viewed_before kept scope holds placed_before above k actuals result e passed given)
+            (call_takes.open_there table typed effects input ready state top below more_frames rest named p frames deep stages running awaiting of_sub at_point path views viewed_before kept scope holds placed_before above k actuals result e passed given)
             (call_begins.at_first table typed effects input ready state top below more_frames rest named p frames deep stages running awaiting of_sub at_point path views viewed_before kept scope holds placed_before above k actuals result e passed given) so_easy.kept
             (λ c has. (
               (calling.named_cell table typed effects input ready state top below more_frames rest named p frames deep stages running awaiting of_sub at_point path views viewed_before kept scope holds placed_before above k actuals result e passed given c has).reaches,

@@ -1,15 +1,6 @@
 -- The state after a call: the caller waits, and what is called begins.
-use Rattle.flow_paths.specs.Views.{sub_acts}
-use Rattle.viewed_steps.specs.Traversals.{SeesFirst}
-use Rattle.owned_ways.proofs.Dropped.{named_base}
-use Rattle.viewed_steps.proofs.Begun.{begins_traversal, no_returns, taker_takes}
-use Rattle.viewed_steps.proofs.CallActs as acting
-use Rattle.viewed_steps.proofs.Followed as followed
-use Rattle.viewed_steps.proofs.Traversed.{none_given, empty_given, named_given}
-use Rattle.typed_tree.specs.declared.object.ObjectKind.{ObjectKind}
-use Rattle.typed_tree.specs.declared.object.ObjectKind.TheVariants as object_kind
-use Rattle.spark_base.proofs.Lists.{Has-append_left, Has-append_cases}
-use Rattle.std.proofs.Common.{◌≡◌, refl, sym, ap, ◌∙◌, subst, ◌⊎◌, inl, inr, ℕ, suc, ◌<◌, true, false, List, [], ◌∷◌, ◌++◌, take, drop, length, get_or, arith, Option, Some, None, Bool, ◌||◌, flat_map}
+use Rattle.spark_base.proofs.Lists.{Has-append_cases}
+use Rattle.std.proofs.Common.{◌≡◌, refl, sym, ap, ◌∙◌, subst, ◌⊎◌, inl, inr, ℕ, suc, ◌<◌, true, false, List, [], ◌∷◌, ◌++◌, take, drop, length, get_or, arith, Option, Some, None, Bool, flat_map}
 use Rattle.spark_base.specs.Lists.{Has}
 use Rattle.place_names.specs.declared.fact.Fact.{Fact}
 use Rattle.place_names.specs.declared.fact.Fact.TheVariants.{Moved, Lent}
@@ -20,19 +11,19 @@ use Rattle.type_definitions.specs.Types.{Table}
 use Rattle.typed_tree.specs.Trees.{TypedTree}
 use Rattle.typed_tree.specs.Programs.{TypedProgram}
 use Rattle.flow_paths.specs.declared.report.Effects.{Effects}
-use Rattle.flow_paths.specs.Instructions.{Call, EndScope, Finish}
-use Rattle.flow_paths.specs.Objects.{Typing, object_at, is_anonymous, is_package_object, view_of, Passing, Signature, is_formal_kind}
+use Rattle.flow_paths.specs.Instructions.{Call}
+use Rattle.flow_paths.specs.Objects.{Typing, object_at, is_package_object, Passing, Signature}
 use Rattle.flow_paths.specs.Aliases.{overlap_reports, passed_reports, call_reports}
 use Rattle.flow_paths.specs.Aliases as alias
 use Rattle.flow_paths.specs.Points.{NamedPoint}
 use Rattle.flow_paths.specs.Laid.{FlowSub, FlowProgram, NamedSub, flow_sub, typing_of, flow_typing, flow_program, flow_named}
-use Rattle.flow_paths.specs.Paths.{PathPoint, is_some_point, ControlPath, begins, goes_on, facts_before}
+use Rattle.flow_paths.specs.Paths.{PathPoint, is_some_point, ControlPath, goes_on, facts_before}
 use Rattle.flow_paths.specs.Effects.{flow_sub_at, path_points}
-use Rattle.flow_paths.specs.Scopes.{taken, scope_behind, Leads, is_temporary}
+use Rattle.flow_paths.specs.Scopes.{taken, scope_behind, Leads}
 use Rattle.machine.specs.Words as machine
 use Rattle.machine.specs.Memory.{Memory, no_slot, variable_slots}
 use Rattle.machine.specs.Evaluate.{Now, Exception}
-use Rattle.machine.specs.States.{Frame, State, Leak, sub_of, frame_at_start, Outcome, Goes}
+use Rattle.machine.specs.States.{Frame, State, Leak, sub_of, frame_at_start, Outcome}
 use Rattle.machine.specs.Step.{Turn, turn, start, led, successor}
 use Rattle.machine.specs.Step as steps
 use Rattle.machine.specs.Calls.{Passed, all_passed, with_formals, returns_of, out_checks}
@@ -40,61 +31,53 @@ use Rattle.machine.specs.Owners.{waiting_in}
 use Rattle.place_names.specs.declared.act.Mode.TheVariants as mode
 use Rattle.owned_ways.specs.Ways.{Step, Way, after, AllowsAll, Past}
 use Rattle.owned_ways.specs.Ways as ways
-use Rattle.owned_ways.proofs.Locations.{past_under, under_along, under_itself}
 use Rattle.soundness.specs.Seen.{IsNear, content, seen, home, trunk, word_in, steps_in}
 use Rattle.soundness.specs.Typed.{Kept}
 use Rattle.soundness.specs.Sound.{Stage, facts_of, AreStages, Uses, IsRunnable, returns_value, InScope, IsNamedSub, IsAtPoint, view_of as view_here}
 use Rattle.soundness.proofs.Stays.{Quiet}
-use Rattle.soundness.proofs.Numbers.{index_law}
-use Rattle.soundness.proofs.Lasting.{keeps}
 use Rattle.soundness.proofs.Passing.{entered, signature_is}
 use Rattle.soundness.proofs.Points.{path_there}
 use Rattle.soundness.proofs.Used.{called_used}
-use Rattle.soundness.proofs.Around.{IsFar, package_named}
+use Rattle.soundness.proofs.Around.{IsFar}
 use Rattle.soundness.proofs.Waits.{led_waits}
 use Rattle.soundness.proofs.Eased.{eased}
-use Rattle.owned_loans.specs.Views.{expand, Around, known_gone, Views, IsMovedBy, ExcusedBy, AreClear as FactsAreClear, AreViews, Viewed, ViewedAlone, IsOuter, AreShared}
-use Rattle.owned_loans.proofs.Ways.{under_on, Meet, meets_front, flip}
-use Rattle.owned_loans.proofs.Moves.{expand_under, view_on, reached}
-use Rattle.viewed_soundness.proofs.Names.{true_false, given_view}
+use Rattle.owned_loans.specs.Views.{Around, known_gone, Views, IsMovedBy, AreClear as FactsAreClear, AreViews, Viewed, ViewedAlone, IsOuter}
+use Rattle.owned_loans.proofs.Moves.{view_on, reached}
 use Rattle.viewed_soundness.specs.Holds.{Holds, is_view, sees_only, IsOwners, is_given}
-use Rattle.viewed_soundness.proofs.Given.{IsLow, low_there, low_begins}
+use Rattle.viewed_soundness.proofs.Given.{IsLow}
 use Rattle.viewed_steps.specs.Awaited.{temporaries_of, lasting_of, awaited, WaitsAt, AreAwaited, AreOwnless, TakesPassed}
-use Rattle.viewed_steps.proofs.Waited.{within_lasting, Shares, plain_unheld}
-use Rattle.viewed_steps.specs.Sound.{IsCopiedBack, IsBeyond, AreUnmet, HoldsAt, ArePlaced, NoneAbove, ViewStage, stages_of, GoneElsewhere, Disturbs, IsWaiting, AreWaiting, calls_one, LeadsAlong, IsResting, IsKindOfFormal, AreReturned, withheld, KeptBy, IsWayOf, IsBareOf, HasTraversals, NoneGiven, IsTraversal, passed_roots, shown_at, shown_one, known_at, LentBy}
+use Rattle.viewed_steps.proofs.Waited.{Shares}
+use Rattle.viewed_steps.specs.Sound.{IsCopiedBack, IsBeyond, AreUnmet, HoldsAt, ArePlaced, NoneAbove, ViewStage, stages_of, GoneElsewhere, Disturbs, IsWaiting, AreWaiting, LeadsAlong, IsResting, IsKindOfFormal, AreReturned, withheld, IsBareOf, HasTraversals, passed_roots, shown_at, shown_one, known_at}
 use Rattle.viewed_steps.specs.Ready.{IsReady, IsCalled}
-use Rattle.viewed_steps.specs.Taken.{TakenBy, AreTaken, AreCarried, Lodge}
+use Rattle.viewed_steps.specs.Taken.{TakenBy, AreTaken, Lodge}
 use Rattle.viewed_steps.proofs.Apart.{moved_same}
 use Rattle.viewed_steps.proofs.Waiting.{StandsBetween, kept_low, beside_them, handed, bare_still, none_moved}
 use Rattle.viewed_steps.proofs.Onward.{all_on}
-use Rattle.viewed_steps.proofs.Between.{OwnersStand, fewer_taken, same_variable}
+use Rattle.viewed_steps.proofs.Between.{OwnersStand, fewer_taken}
 use Rattle.viewed_steps.proofs.Outside.{kept_clear, IsFree}
 use Rattle.flow_paths.specs.Effects.{written_by}
 use Rattle.viewed_steps.proofs.LaidOut.{AreLaidOut}
 use Rattle.viewed_steps.proofs.Outs.{Out, found_in}
 use Rattle.viewed_steps.proofs.Entered.{ArePassedOn, IsOpen, AreBlank, not_above}
-use Rattle.viewed_steps.proofs.Entering.{owns_there, AreDeclared, Enter, formals_of_returns, all_declared, AtFirst}
-use Rattle.viewed_steps.proofs.Passed.{IsNamedBy, found_there, all_returned, call_goes}
-use Rattle.viewed_steps.proofs.Cells.{passed_formal, IsCellNamed}
+use Rattle.viewed_steps.proofs.Entering.{AreDeclared, Enter, formals_of_returns, all_declared, AtFirst}
+use Rattle.viewed_steps.proofs.Passed.{IsNamedBy, found_there, all_returned}
+use Rattle.viewed_steps.proofs.Cells.{IsCellNamed}
 use Rattle.viewed_steps.proofs.Standing.{or_right}
 use Rattle.viewed_steps.proofs.Uses.{called_writes}
 use Rattle.viewed_steps.proofs.Standing as standing
 use Rattle.viewed_steps.proofs.Packages as packages
 use Rattle.viewed_steps.proofs.Innermost as innermost
-use Rattle.viewed_steps.proofs.Views.{AreAccess, AreFar, kind_given, given_type, not_elsewhere}
+use Rattle.viewed_steps.proofs.Views.{AreAccess, AreFar}
 use Rattle.viewed_steps.proofs.Shown.{same_cells}
-use Rattle.viewed_steps.proofs.Exclusive.{AreLent, IsFrom, from_past, from_far, from_apart, from_place}
-use Rattle.viewed_steps.proofs.Opening.{opened_first, opened_rooted, Opens, all_opened, low_of, opened_from, opened_views, opened_whole, opened_lies, opened_held, opened_placed}
+use Rattle.viewed_steps.proofs.Exclusive.{AreLent}
+use Rattle.viewed_steps.proofs.CallTakes as call_takes
 use Rattle.viewed_steps.proofs.Calling as calling
 use Rattle.viewed_steps.proofs.Bared.{taken_bare}
 use Rattle.viewed_steps.proofs.Withheld.{kept_cases}
-use Rattle.viewed_steps.proofs.Handed.{elsewhere_excused}
 use Rattle.viewed_steps.proofs.Showing.{IsShownOf, none_moved as none_shown}
 use Rattle.std.specs.Prelude.{flat_map}
 use Rattle.place_names.specs.declared.rule.Loan.TheVariants.{Observed}
 use Rattle.viewed_steps.proofs.CallShows as shows
-use Rattle.viewed_steps.proofs.Seeing.{named_written}
-use Rattle.viewed_steps.proofs.Lending.{actual_named}
 use Rattle.viewed_steps.proofs.Stilled.{still}
 use Rattle.viewed_steps.proofs.Supplied.{SuppliesAll}
 
@@ -346,10 +329,10 @@ module _ (table : Table) (typed : TypedProgram) (effects : Effects) (input : Lis
         cell_aside = calling.cell_aside table typed effects input ready state top below more_frames rest named p frames deep stages running awaiting of_sub at_point path views viewed_before kept scope holds placed_before above n actuals result e passed given
 
         abbrev free_to : (to : Way) → Has ways_taken to → IsFree table typed effects unmoved_stage local state depth older between to
-        free_to = calling.free_to table typed effects input ready state top below more_frames rest named p frames deep stages running awaiting of_sub at_point path views viewed_before kept scope holds placed_before above n actuals result e passed given
+        free_to = call_takes.free_to table typed effects input ready state top below more_frames rest named p frames deep stages running awaiting of_sub at_point path views viewed_before kept scope holds placed_before above n actuals result e passed given
 
         abbrev open_there : IsOpen (IsMovedBy (home s depth) views facts_all) (GoneElsewhere program effects older) ways_taken
-        open_there = calling.open_there table typed effects input ready state top below more_frames rest named p frames deep stages running awaiting of_sub at_point path views viewed_before kept scope holds placed_before above n actuals result e passed given
+        open_there = call_takes.open_there table typed effects input ready state top below more_frames rest named p frames deep stages running awaiting of_sub at_point path views viewed_before kept scope holds placed_before above n actuals result e passed given
 
         abbrev blank_formals : AreBlank s depth state.memory formals
         blank_formals = calling.blank_formals table typed effects input ready state top below more_frames rest named p frames deep stages running awaiting of_sub at_point path views viewed_before kept scope holds placed_before above n actuals result e passed given
@@ -369,7 +352,7 @@ module _ (table : Table) (typed : TypedProgram) (effects : Effects) (input : Lis
         pub at_first : AtFirst s ready.accepted.settled ready.owns in_formals (waiting_in easy.state) depth views far_views holds.only facts_all next_there cells cell_begins state.memory
         at_first = record { typed = (viewed_easy plain_there.0).1; leaks = state.leaks; owned = well_before.owned; there = λ c has. (named_cell c has).reaches }
 
-        enters : Enter s ready.accepted.settled ready.owns in_formals (waiting_in easy.state) depth views far_views holds.only facts_all next_there cells cell_begins (GoneElsewhere program effects older) state.leaks leaks_then formals passed ways_taken
+        pub enters : Enter s ready.accepted.settled ready.owns in_formals (waiting_in easy.state) depth views far_views holds.only facts_all next_there cells cell_begins (GoneElsewhere program effects older) state.leaks leaks_then formals passed ways_taken
             state.memory with_all
         enters =
             all_declared s ready.accepted.settled ready.owns in_formals (waiting_in easy.state) depth views far_views holds.only facts_all next_there cells cell_begins (GoneElsewhere program effects older) state.leaks formals passed ways_taken outs
@@ -393,34 +376,34 @@ module _ (table : Table) (typed : TypedProgram) (effects : Effects) (input : Lis
         waits_there = calling.waits_there table typed effects input ready state top below more_frames rest named p frames deep stages running awaiting of_sub at_point path views viewed_before kept scope holds placed_before above n actuals result e passed given
 
         abbrev root_written : (y : ℕ) → Has (passed_roots effects waits_there) y → is_package_object s y ≡ true → Has (written_by effects top.frame.sub) y
-        root_written = calling.root_written table typed effects input ready state top below more_frames rest named p frames deep stages running awaiting of_sub at_point path views viewed_before kept scope holds placed_before above n actuals result e passed given
+        root_written = call_takes.root_written table typed effects input ready state top below more_frames rest named p frames deep stages running awaiting of_sub at_point path views viewed_before kept scope holds placed_before above n actuals result e passed given
 
         abbrev root_unused : (y : ℕ) → Has (passed_roots effects waits_there) y → is_package_object s y ≡ true → Uses effects n y → ⊥
-        root_unused = calling.root_unused table typed effects input ready state top below more_frames rest named p frames deep stages running awaiting of_sub at_point path views viewed_before kept scope holds placed_before above n actuals result e passed given
+        root_unused = call_takes.root_unused table typed effects input ready state top below more_frames rest named p frames deep stages running awaiting of_sub at_point path views viewed_before kept scope holds placed_before above n actuals result e passed given
 
-        frames_there : after_call.frames ≡ frame_at_start n (returns_of formals passed) ∷ (waits_stage.frame ∷ outer)
+        pub frames_there : after_call.frames ≡ frame_at_start n (returns_of formals passed) ∷ (waits_stage.frame ∷ outer)
         frames_there =
             ap (λ z. frame_at_start n (returns_of formals passed) ∷ led main_turn (record top.frame { waits = steps.waiting main_turn }) z) call_point.1
 
-        hands_there : waiting_in after_call ≡ waiting_in easy.state
+        pub hands_there : waiting_in after_call ≡ waiting_in easy.state
         hands_there = led_waits main_turn (record top.frame { waits = steps.waiting main_turn }) (successor main_turn 0)
 
         abbrev called_view : ways.View
         called_view = seen s with_all (waiting_in easy.state) leaks_then
 
-        view_called : called_view ≡ view_here s after_call
+        pub view_called : called_view ≡ view_here s after_call
         view_called = (λ j. seen s with_all (sym hands_there j) (leaks_same j))
 
-        stands_then : OwnersStand (home s depth) views facts_all (λ w. GoneElsewhere program effects older w ⊎ TakenBy all_passed_ways.0 w) (view_here s after_call)
+        pub stands_then : OwnersStand (home s depth) views facts_all (λ w. GoneElsewhere program effects older w ⊎ TakenBy all_passed_ways.0 w) (view_here s after_call)
         stands_then = subst (OwnersStand (home s depth) views facts_all (λ w. GoneElsewhere program effects older w ⊎ TakenBy all_passed_ways.0 w)) view_called enters.1
 
         -- its views see what they saw
         views_then : AreViews (home s depth) (sees_only s) views (view_here s after_call) facts_called
         views_then x w has =
-            let base = calling.view_base table typed effects input ready state top below more_frames rest named p frames deep stages running awaiting of_sub at_point path views viewed_before kept scope holds placed_before above n actuals result e passed given x w has in
+            let base = call_takes.view_base table typed effects input ready state top below more_frames rest named p frames deep stages running awaiting of_sub at_point path views viewed_before kept scope holds placed_before above n actuals result e passed given x w has in
             view_on (home s depth) (sees_only s) other_all views (view_here s easy.state) (view_here s after_call) facts_called facts_called x w (views_called x w has) (λ b m loan. loan)
             (subst (λ z. ways.Reaches z w (ways.OfCell (views.cell x))) view_called
-            (declared_there.stays w base.0 base.1 base.2 base.3 (calling.off_taken table typed effects input ready state top below more_frames rest named p frames deep stages running awaiting of_sub at_point path views viewed_before kept scope holds placed_before above n actuals result e passed given x w has)
+            (declared_there.stays w base.0 base.1 base.2 base.3 (call_takes.off_taken table typed effects input ready state top below more_frames rest named p frames deep stages running awaiting of_sub at_point path views viewed_before kept scope holds placed_before above n actuals result e passed given x w has)
             (views.cell x) (reached (home s depth) (sees_only s) other_all views (view_here s easy.state) facts_called x w (views_called x w has))))
 
         abbrev all_called : (f : Fact) → Has facts_called f → Has facts_all f
@@ -437,7 +420,7 @@ module _ (table : Table) (typed : TypedProgram) (effects : Effects) (input : Lis
             → word_in s.table (content s state.memory [] (ways.OfRoot (ways.OfVariable f x))) q ≡ ways.Held k
         held_called f x q k off held = elim (declared_there.held f x q k held) [ inl before ↦ before | inr mine ↦ absurd (off mine.0) ]
 
-        not_up : (x : ℕ) → home s depth x ≡ suc depth → ⊥
+        pub not_up : (x : ℕ) → home s depth x ≡ suc depth → ⊥
         not_up = not_above s ready.accepted.settled ready.owns in_formals (waiting_in easy.state) state.leaks depth views far_views holds.only facts_all next_there cells
 
         -- the variables of its views stay
@@ -486,7 +469,7 @@ module _ (table : Table) (typed : TypedProgram) (effects : Effects) (input : Lis
         same_loan : {l k : Loan} {h b : ℕ} {m q : PlaceName} → Lent l h m ≡ Lent k b q → (l ≡ k) × (m ≡ q)
         same_loan is = (cc, cc)
 
-        is_waiting : IsWaiting table typed effects after_call n (returns_of formals passed) waits_there
+        pub is_waiting : IsWaiting table typed effects after_call n (returns_of formals passed) waits_there
         is_waiting = record {
           runs = running.0;
           plain = running.1;
@@ -527,13 +510,13 @@ module _ (table : Table) (typed : TypedProgram) (effects : Effects) (input : Lis
             leads = by.means;
             unlent = λ l h m lent over. by.unlent l h m (all_called (Lent l h m) (subst (λ z. Has z (Lent l h m)) facts_there lent)) over;
             cleared = λ m moved covered. by.cleared m (all_called (Moved m) (subst (λ z. Has z (Moved m)) facts_there moved)) covered;
-            written = calling.name_written table typed effects input ready state top below more_frames rest named p frames deep stages running awaiting of_sub at_point path views viewed_before kept scope holds placed_before above n actuals result e passed given to has;
+            written = call_takes.name_written table typed effects input ready state top below more_frames rest named p frames deep stages running awaiting of_sub at_point path views viewed_before kept scope holds placed_before above n actuals result e passed given to has;
           });
-          off = calling.off_taken table typed effects input ready state top below more_frames rest named p frames deep stages running awaiting of_sub at_point path views viewed_before kept scope holds placed_before above n actuals result e passed given;
+          off = call_takes.off_taken table typed effects input ready state top below more_frames rest named p frames deep stages running awaiting of_sub at_point path views viewed_before kept scope holds placed_before above n actuals result e passed given;
           goes = λ to has y base shared.
               subst (λ d. Has (written_by effects top.frame.sub) y
               ⊎ ((x : ℕ) × (w : Way) × (views.way x ≡ Some w) × (ways.Named (home s d) (views.up x) → ⊥) × (sees_only s x ≡ false) × ways.Under w to)) (sym deep)
-              (calling.goes_to table typed effects input ready state top below more_frames rest named p frames deep stages running awaiting of_sub at_point path views viewed_before kept scope holds placed_before above n actuals result e passed given to has y base shared);
+              (call_takes.goes_to table typed effects input ready state top below more_frames rest named p frames deep stages running awaiting of_sub at_point path views viewed_before kept scope holds placed_before above n actuals result e passed given to has y base shared);
           uses = λ x uses. called_used program effects ready.accepted.effects_are top.frame.sub (flow_sub own named) sub_at_all sub_less n callee_less
               main_turn.point (standing.in_sub table typed effects input ready state top older outer named p frames of_sub at_point) actuals result e x uses;
           writes = λ x written. called_writes program effects ready.accepted.effects_are top.frame.sub (flow_sub own named) sub_at_all sub_less n callee_less
@@ -566,7 +549,7 @@ module _ (table : Table) (typed : TypedProgram) (effects : Effects) (input : Lis
               (fewer_taken s cells with_all depth views facts_all facts_called next_there all_called (returns_of formals passed) all_passed_ways.0 enters.2));
         }
 
-        others_wait : AreWaiting table typed effects after_call top.frame.sub top.frame.returns older
+        pub others_wait : AreWaiting table typed effects after_call top.frame.sub top.frame.returns older
         others_wait =
             all_on table typed effects unmoved_stage local state after_call depth
             (λ f x q k some less held. held_called f x q k (λ above_it. omega (arith, less, above_it)) held)
@@ -587,7 +570,7 @@ module _ (table : Table) (typed : TypedProgram) (effects : Effects) (input : Lis
             }) running.2
 
         -- what is gone then is known to those that wait
-        known_called : (w : Way) (l : ways.Loc) → ways.IsRooted w → ways.Reaches (view_here s after_call) w l → (view_here s after_call).word l ≡ ways.Gone
+        pub known_called : (w : Way) (l : ways.Loc) → ways.IsRooted w → ways.Reaches (view_here s after_call) w l → (view_here s after_call).word l ≡ ways.Gone
             → GoneElsewhere program effects (waits_there ∷ older) w
         known_called w l rooted r gone = elim (stands_then.known w l rooted r gone) [
           | inr (inl (g, has, what)) ↦ (g, inr has, what)
@@ -600,7 +583,7 @@ module _ (table : Table) (typed : TypedProgram) (effects : Effects) (input : Lis
           )
         ]
 
-        returned_there : AreReturned s (frame_at_start n (returns_of formals passed))
+        pub returned_there : AreReturned s (frame_at_start n (returns_of formals passed))
         returned_there = (
           λ x has. all_returned s ready.accepted.settled depth views view_now ready.owns state.memory formals actuals passed laid called.actuals_stay kinds x
               (subst (λ z. Has z x) (ap (λ (z : Signature). z.formals) (signature_is program n)) has),
@@ -609,271 +592,7 @@ module _ (table : Table) (typed : TypedProgram) (effects : Effects) (input : Lis
         )
 
         -- nothing that is gone meets what its views see of others
-        viewed_before_whole : AreUnmet program effects waits_there older
+        pub viewed_before_whole : AreUnmet program effects waits_there older
         viewed_before_whole =
             subst (λ d. (x : ℕ) (w z : Way) → views.way x ≡ Some w → IsOuter (home s d) views x w → GoneElsewhere program effects older z → ways.Under z w ⊎ ways.Under w z → ⊥)
             (sym deep) viewed_before.whole
-
-        -- ---- the views of what is called
-
-        abbrev opened : Opens (steps.here main_turn) ready.accepted.settled (waiting_in easy.state) state.leaks state.memory [] other facts_now views (viewed_easy plain_there.0).1
-            (viewed_easy plain_there.0).0 holds_now alone live_now in_formals index_law ready.owns ready.class.parts_named formals_low procedure formals actuals passed
-        opened =
-            all_opened (steps.here main_turn) ready.accepted.settled (waiting_in easy.state) state.leaks state.memory [] other facts_now views (viewed_easy plain_there.0).1
-            (viewed_easy plain_there.0).0 holds_now alone live_now in_formals index_law ready.owns ready.class.parts_named formals_low procedure formals actuals passed called.differ given
-
-        abbrev callee_views : Views
-        callee_views = opened.0
-
-        from_there : AreLent s facts_now formals actuals → (y : ℕ) (w : Way) → callee_views.way y ≡ Some w
-            → IsFrom s depth views facts_now (alias.passed formals actuals) y w
-        from_there lent =
-            opened_from (steps.here main_turn) ready.accepted.settled (waiting_in easy.state) state.leaks state.memory [] other facts_now views (viewed_easy plain_there.0).1
-            (viewed_easy plain_there.0).0 holds_now alone live_now in_formals index_law ready.owns ready.class.parts_named formals_low procedure formals actuals passed callee_views opened.1 lent
-
-        low_called : (y : ℕ) (w : Way) → callee_views.way y ≡ Some w → IsLow s depth w
-        low_called =
-            low_of (steps.here main_turn) ready.accepted.settled (waiting_in easy.state) state.leaks state.memory [] other facts_now views (viewed_easy plain_there.0).1
-            (viewed_easy plain_there.0).0 holds_now alone live_now in_formals index_law ready.owns ready.class.parts_named formals_low procedure formals actuals passed callee_views opened.1
-
-        abbrev less_now : (f : Fact) → Has facts_all f → Has facts_now f
-        less_now = calling.less_now table typed effects input ready state top below more_frames rest named p frames deep stages running awaiting of_sub at_point path views viewed_before kept scope holds placed_before above n actuals result e passed given
-
-        -- no place that is taken meets what they see
-        meets_taken : (y : ℕ) (w : Way) → callee_views.way y ≡ Some w → (to : Way) → Has ways_taken to → Meet w to → ⊥
-        meets_taken y w has to taken meets =
-            let by = all_passed_ways.2 to taken in
-            elim by_callee [
-              | inl modes ↦ modes.1 by.by.formal (passed_formal formals actuals by.by by.among) by.back
-              | inr lent ↦ from_place s depth views facts_now (alias.passed formals actuals) y w (from_there lent y w has) around_names (still (view_here s easy.state)) facts_all names_all less_now
-                  by.by by.among by.back by.name by.called by.named by.plain by.unlent (subst (Meet w) (sym by.means) meets)
-            ]
-
-        -- nor one that another one of them sees, if it changes that
-        callee_apart : (x y : ℕ) (w u : Way) → callee_views.way x ≡ Some w → callee_views.way y ≡ Some u → (y ≡ x → ⊥) → sees_only s x ≡ false
-            → ways.Under w u ⊎ ways.Under u w → ⊥
-        callee_apart x y w u has there differs plain meets =
-            let found = opened.1.way x w has in
-            elim by_callee [
-              | inl modes ↦ true_false (sees_only s x) (modes.2 x found.1 found.0) plain
-              | inr lent ↦ from_apart s depth views facts_now (alias.passed formals actuals) x w (from_there lent x w has) other (view_here s easy.state) (viewed_easy plain_there.0).0
-                  y u (from_there lent y u there) differs meets
-            ]
-
-        -- none of the frames around goes past what it changes
-        callee_past : (x : ℕ) (w : Way) → callee_views.way x ≡ Some w → (ways.Named (home s (suc depth)) (callee_views.up x) → ⊥) → sees_only s x ≡ false → (k : Way) (m : ℕ)
-            → KeptBy (waits_there ∷ older) k m → Past w k → ⊥
-        callee_past x w has named plain k m keeps past =
-            let found = opened.1.way x w has in
-            elim by_callee [
-              | inl modes ↦ true_false (sees_only s x) (modes.2 x found.1 found.0) plain
-              | inr lent ↦ by_frame (from_there lent x w has) keeps
-            ]
-          where
-            by_frame : IsFrom s depth views facts_now (alias.passed formals actuals) x w → KeptBy (waits_there ∷ older) k m → ⊥
-            by_frame from (g, inr there, way) =
-                from_far s depth views facts_now (alias.passed formals actuals) x w from other (view_here s easy.state) (viewed_easy plain_there.0).0 k m (g, there, way) past
-            by_frame from (g, inl same, way) = elim (subst (λ z. IsWayOf z k m) (sym same) way) [
-              | inl (y, is, cell) ↦ from_past s depth views facts_now (alias.passed formals actuals) x w from other (view_here s easy.state) (viewed_easy plain_there.0).0 y k is past
-              | inr (c, there, is, number) ↦ (
-                  let cell = named_cell c there in
-                  let below : ways.Under c.way (expand views cell.whole) =
-                  subst (λ z. ways.Under z (expand views cell.whole)) cell.leads (expand_under views c.name cell.whole (λ r is. absurd (cell.deep r is)) cell.begins) in
-                  from_place s depth views facts_now (alias.passed formals actuals) x w from around_names (still (view_here s easy.state)) facts_all names_all less_now
-                  cell.by cell.among cell.back cell.whole cell.called cell.named cell.plain cell.unlent
-                  (inl (under_on w c.way (expand views cell.whole) (past_under w c.way (subst (Past w) (sym is) past)) below)))
-            ]
-
-        -- it begins at no variable of its frame
-        low_frame : (w : Way) (f y : ℕ) → ways.base_of w ≡ ways.OfRoot (ways.OfVariable f y) → IsLow s depth w → f ≡ suc depth → ⊥
-        low_frame w f y base (inl at_home) same =
-            not_up (ways.number_of w) ((same_variable (home s depth (ways.number_of w)) (ways.number_of w) f y (sym (named_base (home s depth) w at_home) ∙ base)).0 ∙ same)
-        low_frame w f y base (inr (foreign, low, some)) same =
-            (let frames_are = (same_variable foreign.0 foreign.1 f y (sym foreign.2 ∙ base)).0 in omega (arith, low, frames_are, same))
-
-        -- its way reaches what it reached
-        reach_called : (y : ℕ) (w : Way) (k : ℕ) → callee_views.way y ≡ Some w → ways.Reaches (seen s state.memory (waiting_in easy.state) state.leaks) w (ways.OfCell k)
-            → ways.Reaches (view_here s after_call) w (ways.OfCell k)
-        reach_called y w k has reach =
-            let low = low_called y w has in
-            let begin = low_begins s depth w low in
-            subst (λ z. ways.Reaches z w (ways.OfCell k)) view_called
-            (declared_there.stays w begin.0 begin.1 begin.2 (low_frame w begin.0 begin.1 begin.2 low)
-            (λ to taken past. meets_taken y w has to taken (inr (past_under to w past))) k reach)
-
-        -- what is gone for the caller and the frames around it is excused by its facts before the call, or is taken
-        excused_called : (z : Way) → GoneElsewhere program effects (waits_there ∷ older) z → ExcusedBy (home s depth) views other facts_now z ⊎ TakenBy ways_taken z
-        excused_called z (g, inr has, what) =
-            inl (elsewhere_excused table typed effects unmoved_stage local state depth older between views own_facts z (g, has, what))
-        excused_called z (g, inl same, what) = elim (subst (λ (y : ViewStage). IsMovedBy (home s y.stage.depth) y.views (facts_of program effects y.stage) z ⊎ TakenBy y.stage.returns z) (sym same) what) [
-          | inr taken ↦ inr taken
-          | inl (u, moved, leads) ↦ inl (inl (inl (
-            u,
-            (
-              subst (λ d. ways.Named (home s d) u) deep moved.0,
-              Has-append_left own_facts handed_on (Moved (ways.name_of u))
-                  (subst (λ fs. Has fs (Moved (ways.name_of u))) (standing.facts_are table typed effects input ready state top older outer named p frames of_sub at_point path)
-                  (none_new (Moved (ways.name_of u)) moved.1)),
-            ),
-            leads,
-          )))
-        ]
-
-        callee_whole : (x : ℕ) (w z : Way) → callee_views.way x ≡ Some w → GoneElsewhere program effects (waits_there ∷ older) z → ways.Under z w ⊎ ways.Under w z → ⊥
-        callee_whole x w z has gone meets = elim (excused_called z gone) [
-          | inl excused ↦ opened_whole (steps.here main_turn) ready.accepted.settled (waiting_in easy.state) state.leaks state.memory [] other facts_now views (viewed_easy plain_there.0).1
-              (viewed_easy plain_there.0).0 holds_now alone live_now in_formals index_law ready.owns ready.class.parts_named formals_low procedure formals actuals passed callee_views opened.1
-              (ExcusedBy (home s depth) views other facts_now) (λ y is. is) x w z has excused meets
-          | inr (to, taken, steps_on, is) ↦ meets_taken x w has to taken
-              (meets_front to z w (subst (ways.Under to) (sym is) (under_along to to steps_on (under_itself to))) (flip z w meets))
-        ]
-
-        -- what its views see that begins at package objects is kept by the frames around
-        callee_shared : AreShared (home s (suc depth)) (sees_only s) (LentBy program effects (waits_there ∷ older)) callee_views
-        callee_shared x w has given_up named_there =
-            let found = opened.1.way x w has in
-            let sees = (found.2).1 in
-            let actual = named_written (steps.here main_turn) ready.accepted.settled (waiting_in easy.state) state.leaks state.memory [] other facts_now views (viewed_easy plain_there.0).1
-            (viewed_easy plain_there.0).0 holds_now alone live_now index_law ready.owns ready.class.parts_named formals_low (found.2).0 sees.from sees.called in
-            let of = actual_named formals actuals x (found.2).0 actual.0 found.4 actual.1 in
-            elim (low_there s depth w (omega (arith)) (low_called x w has)) [
-              | inl far ↦ absurd (not_elsewhere (home s (suc depth)) w named_there far.0)
-              | inr (at_home, shared_root) ↦ shows.shared_at table typed effects input ready state top below more_frames rest named p frames deep stages running awaiting of_sub at_point path views viewed_before kept scope holds placed_before above n actuals result e passed given
-                  (record { formal = x; actual = actual.0 }) of found.0 sees.from sees.from_named actual.2 sees.lifted
-                  (λ changes. elim by_callee [
-                    | inl modes ↦ absurd (true_false (sees_only s x) (modes.2 x found.1 found.0) changes)
-                    | inr lent ↦ ap (λ (z : PlaceName). sees_only s z.root) (sym actual.2) ∙ (lent x found.1 found.0 actual.0 of).plain
-                  ])
-                  w (sym found.3 ∙ sees.leads) (package_named s (suc depth) depth w shared_root named_there) shared_root
-            ]
-
-        -- no result waits in the frame below, since a call comes after no return
-        none_below : NoneGiven s below
-        none_below = elim (above.1).0.1 [
-          | inl none ↦ none
-          | inr (some, returned, none_back, was) ↦ absurd (elim (ready.traversing.ending top.frame.sub (running.0).entered some top.before top.frame.next path returned) [
-            | inl (z, ends) ↦ (let never : Call n actuals result ≡ EndScope z = sym e ∙ sym (innermost.instr_there table typed effects input ready state top below more_frames rest named p frames deep stages running awaiting of_sub at_point path views viewed_before kept scope holds placed_before above) ∙ ends in cc)
-            | inr finishes ↦ (let never : Call n actuals result ≡ Finish = sym e ∙ sym (innermost.instr_there table typed effects input ready state top below more_frames rest named p frames deep stages running awaiting of_sub at_point path views viewed_before kept scope holds placed_before above) ∙ finishes in cc)
-          ])
-        ]
-
-        entered_sound : Along (Goes after_call)
-        entered_sound = (
-          record {
-            top = called_stage;
-            views = callee_views;
-            older = waits_there ∷ older;
-            stages = subst (AreStages (called_stage ∷ stages_of (waits_there ∷ older))) (sym frames_there) (refl, refl, (refl, deep, stages));
-            running = (
-              called.runs,
-              returned_there,
-              (is_waiting, others_wait, viewed_before_whole, subst (λ d. IsBeyond program effects d views older) (sym deep) placed_before.1),
-            );
-            awaited = (
-              packages.first_waits table typed effects input ready (suc depth) n (returns_of formals passed) called.runs.named called.runs.stands called.runs.point
-                  called.runs.points called.runs.begins,
-              (waits_late all_passed_ways.0, others_await (ap returns_value e)),
-            );
-            path = begins (first_point n called.runs.named called.runs.stands called.runs.point called.runs.points called.runs.begins);
-            viewed = record {
-              owned = stands_then.owned;
-              covered = stands_then.covered;
-              known = λ w l rooted r gone. inr (known_called w l rooted r gone);
-              clear = record {
-                moved = λ l h k m has there over. has;
-                lent = λ b h k m has there off over. has;
-                seen = λ b h k m has there over. has;
-                owned = λ k has. absurd has;
-              };
-              views = opened_views (steps.here main_turn) ready.accepted.settled (waiting_in easy.state) state.leaks state.memory [] other facts_now views (viewed_easy plain_there.0).1
-                  (viewed_easy plain_there.0).0 holds_now alone live_now in_formals index_law ready.owns ready.class.parts_named formals_low procedure formals actuals passed callee_views opened.1
-                  (view_here s after_call) (facts_of program effects called_stage) callee_apart reach_called;
-              whole = λ x w z has outer gone meets. callee_whole x w z has gone meets;
-            };
-            kept = subst (Kept s with_all) (sym hands_there) declared_there.typed;
-            named = called.runs.named;
-            of_sub = called.runs.stands;
-            point = called.runs.point;
-            at_point = ([], called.runs.points, called.runs.begins, refl);
-            scope = λ f x q k held. elim (declared_there.held f x q k held) [
-              | inl before ↦ elim (scope f x q k before) [
-                | inl less ↦ inl (omega (arith, less))
-                | inr mine ↦ (let is = mine.0 in inl (omega (arith, is)))
-              ]
-              | inr mine ↦ inr (
-                mine.0,
-                within_lasting s x called.runs.point.scope (called.begins x mine.1 (ap (λ b. b || is_anonymous (view_of s x)) (owns_there s ready.accepted.settled ready.owns with_all f x q k held)))
-                    (plain_unheld s x (formal_lasts (object_at s x).kind (called.formals x mine.1))),
-              )
-            ];
-            holds = record {
-              held = λ x k lasts view at. callee_held x k view at;
-              within = λ x k view at. (let own_way = callee_held x k view at in (callee_placed x own_way.0 own_way.1).within);
-              only = λ x w has. given_view s x (opened.1.way x w has).0;
-              lies = opened_lies (steps.here main_turn) ready.accepted.settled (waiting_in easy.state) state.leaks state.memory [] other facts_now views (viewed_easy plain_there.0).1
-                  (viewed_easy plain_there.0).0 holds_now alone live_now in_formals index_law ready.owns ready.class.parts_named formals_low procedure formals actuals passed callee_views opened.1 (omega (arith));
-              owners = λ x w has. (let found = opened.1.way x w has in subst (IsOwners s) found.3 ((found.2).1).owners);
-              passed = λ x w has formal at_home. subst (ways.Named (home s (suc depth))) (opened.1.ups x) at_home;
-              own = λ x w has sees_not given_not. absurd (true_false (is_given s x) (opened.1.way x w has).0 given_not);
-            };
-            placed = callee_placed;
-            past = (callee_past, callee_shared);
-            none_above = λ f x k less view at. elim (declared_there.views f x view) [
-              | inl same ↦ above.0 f x k (omega (arith, less)) view (sym same ∙ at)
-              | inr shown ↦ (let up = shown.0 in omega (arith, less, up))
-            ];
-            traversals = (
-              (
-                none_given table typed (view_here s after_call) (record { stage = called_stage; views = callee_views; cells = [] })
-                    (empty_given table typed (record { stage = called_stage; views = callee_views; cells = [] }) refl),
-                inl (named_given table typed waits_there left_scope shared.left (innermost.named_left_here table typed effects input ready state top below more_frames rest named p frames deep stages running awaiting of_sub at_point path views viewed_before kept scope holds placed_before above)),
-                (none_below, (above.1).0.2),
-              ),
-              (
-                traversal_there,
-                ((above.1).1.0, (above.1).1.1),
-              ),
-            );
-          },
-          calls_one waits_stage cells refl (refl, refl, refl) refl none_new (subst (λ d. AreCarried s (λ f. f ≡ suc d → ⊥) cells [] state.memory with_all) (sym deep) declared_there.carried),
-        )
-          where
-            -- the first formal of a traversal function sees what its actual designates
-            traversal_there : IsTraversal table typed (record { stage = called_stage; views = callee_views; cells = [] }) waits_there
-            traversal_there f traversed =
-                let made = acting.made table typed effects input ready state top below more_frames rest named p frames deep stages running awaiting of_sub at_point path views viewed_before kept scope holds placed_before above n actuals result e f traversed in
-                let traversing = acting.traversing table typed effects input ready state top below more_frames rest named p frames deep stages running awaiting of_sub at_point path views viewed_before kept scope holds placed_before above n actuals result e f traversed in
-                begins_traversal table typed (record { stage = called_stage; views = callee_views; cells = [] }) waits_there f (callee_views.way f) traversed
-                (opened_rooted (steps.here main_turn) ready.accepted.settled (waiting_in easy.state) state.leaks state.memory [] other facts_now views (viewed_easy plain_there.0).1
-                (viewed_easy plain_there.0).0 holds_now alone live_now in_formals index_law ready.owns ready.class.parts_named formals_low procedure formals actuals passed callee_views opened.1 (sub_acts (sub_of program n)) f)
-                (no_returns s state.memory depth views view_now formals actuals passed laid
-                (λ x has. followed.modes_there table typed effects input ready state top older outer named p frames of_sub at_point path n actuals result e f traversed x (subst (λ z. Has z x) traversing.formals has)))
-                named of_sub at_successor.0 at_successor.1
-                (subst (λ d. SeesFirst s d (at_successor.0).instr n views (callee_views.way f)) (sym deep)
-                (opened_first (steps.here main_turn) ready.accepted.settled (waiting_in easy.state) state.leaks state.memory [] other facts_now views (viewed_easy plain_there.0).1
-                (viewed_easy plain_there.0).0 holds_now alone live_now in_formals index_law ready.owns ready.class.parts_named formals_low procedure formals actuals passed callee_views opened.1 f traversing.rest made.call traversing.formals made.actuals_are (followed.differ table typed effects input ready state top older outer named p frames of_sub at_point path n actuals result e f traversed) n (at_successor.0).instr
-                (taker_takes s n made.call named.sub.result (at_successor.0).instr (made.taker call_point.0 call_point.2 at_successor.0 at_successor.1))))
-                f traversed
-
-            formal_lasts : (k : ObjectKind) → is_formal_kind k ≡ true → is_temporary k ≡ false
-            formal_lasts object_kind.Formal is = refl
-            formal_lasts k is = cc
-
-            callee_held : (x k : ℕ) → is_view s x ≡ true → (get_or (variable_slots s (home s (suc depth) x) x with_all.variables) 0 no_slot).word ≡ machine.Cell k
-                → (w : Way) × (callee_views.way x ≡ Some w) × (callee_views.cell x ≡ k)
-            callee_held =
-                opened_held (steps.here main_turn) ready.accepted.settled (waiting_in easy.state) state.leaks state.memory [] other facts_now views (viewed_easy plain_there.0).1
-                (viewed_easy plain_there.0).0 holds_now alone live_now in_formals index_law ready.owns ready.class.parts_named formals_low procedure formals actuals passed callee_views opened.1
-                with_all above.0 local declared_there.views (λ x has. kind_given s in_formals x (kinds x has))
-
-            callee_placed : ArePlaced program (suc depth) (facts_of program effects called_stage) callee_views called.runs.point.scope
-            callee_placed =
-                opened_placed (steps.here main_turn) ready.accepted.settled (waiting_in easy.state) state.leaks state.memory [] other facts_now views (viewed_easy plain_there.0).1
-                (viewed_easy plain_there.0).0 holds_now alone live_now in_formals index_law ready.owns ready.class.parts_named formals_low procedure formals actuals passed callee_views opened.1
-                (omega (arith)) program (facts_of program effects called_stage) called.runs.point.scope refl
-                (λ y has given. called.begins y has (given_type s y given))
-
-      pub calls_it : Along (turn main_turn (Call n actuals result))
-      calls_it =
-          call_goes main_turn ready.accepted.settled n actuals Along ends_raised Given entered_sound ways_there refl
-          (start main_turn) then_now refl refl passed_quiet

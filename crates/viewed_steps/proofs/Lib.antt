@@ -90,7 +90,9 @@ pub mod Followed
 pub mod Begun
 pub mod CallActs
 pub mod Calling
+pub mod CallTakes
 pub mod CallShows
 pub mod CallBegins
+pub mod CallEnters
 pub mod Stepping
 pub mod Main

@@ -35,7 +35,7 @@ use Rattle.viewed_steps.proofs.Results as results
 use Rattle.viewed_steps.proofs.Giving as giving
 use Rattle.viewed_steps.proofs.ScopeEnds as scopes
 use Rattle.viewed_steps.proofs.CallEnds as ends
-use Rattle.viewed_steps.proofs.CallBegins as call_begins
+use Rattle.viewed_steps.proofs.CallEnters as call_enters
 
 module _ (table : Table) (typed : TypedProgram) (effects : Effects) (input : List ℕ) (ready : IsReady table typed effects) where
   abbrev program : FlowProgram
@@ -71,7 +71,7 @@ module _ (table : Table) (typed : TypedProgram) (effects : Effects) (input : Lis
 
     by_instruction : (i : Instruction) → p.instr ≡ i → Along (turn main_turn i)
     by_instruction Finish is = ends.ends_call table typed effects input ready state top below more_frames rest named p frames deep stages running awaiting of_sub at_point path views viewed_before kept scope holds placed_before above is
-    by_instruction (Call n actuals result) is = call_begins.calls_it table typed effects input ready state top below more_frames rest named p frames deep stages running awaiting of_sub at_point path views viewed_before kept scope holds placed_before above n actuals result is
+    by_instruction (Call n actuals result) is = call_enters.calls_it table typed effects input ready state top below more_frames rest named p frames deep stages running awaiting of_sub at_point path views viewed_before kept scope holds placed_before above n actuals result is
     by_instruction (Evaluate temporary e op) is = results.operand_step table typed effects input ready state top below more_frames rest named p frames deep stages running awaiting of_sub at_point path views viewed_before kept scope holds placed_before above temporary e op is
     by_instruction (Hold (More e last)) is = giving.return_step table typed effects input ready state top below more_frames rest named p frames deep stages running awaiting of_sub at_point path views viewed_before kept scope holds placed_before above e last is
     by_instruction (EndScope y) is = scopes.ends_scope table typed effects input ready state top below more_frames rest named p frames deep stages running awaiting of_sub at_point path views viewed_before kept scope holds placed_before above y is

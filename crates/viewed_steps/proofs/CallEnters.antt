@@ -1,0 +1,605 @@
+-- What is called sees, and the state where its frame has begun is sound.
+use Rattle.flow_paths.specs.Views.{sub_acts}
+use Rattle.viewed_steps.specs.Traversals.{SeesFirst}
+use Rattle.owned_ways.proofs.Dropped.{named_base}
+use Rattle.viewed_steps.proofs.Begun.{begins_traversal, no_returns, taker_takes}
+use Rattle.viewed_steps.proofs.CallActs as acting
+use Rattle.viewed_steps.proofs.Followed as followed
+use Rattle.viewed_steps.proofs.Traversed.{none_given, empty_given, named_given}
+use Rattle.typed_tree.specs.declared.object.ObjectKind.{ObjectKind}
+use Rattle.typed_tree.specs.declared.object.ObjectKind.TheVariants as object_kind
+use Rattle.spark_base.proofs.Lists.{Has-append_left}
+use Rattle.std.proofs.Common.{◌≡◌, refl, sym, ap, ◌∙◌, subst, ◌⊎◌, inl, inr, ℕ, suc, true, false, List, [], ◌∷◌, ◌++◌, take, drop, length, get_or, arith, Option, Some, None, Bool, ◌||◌}
+use Rattle.spark_base.specs.Lists.{Has}
+use Rattle.place_names.specs.declared.fact.Fact.{Fact}
+use Rattle.place_names.specs.declared.fact.Fact.TheVariants.{Moved}
+use Rattle.place_names.specs.Names.{Name as PlaceName}
+use Rattle.place_names.specs.declared.act.Mode.TheVariants as mode
+use Rattle.type_definitions.specs.Types.{Table}
+use Rattle.typed_tree.specs.Trees.{TypedTree}
+use Rattle.typed_tree.specs.Programs.{TypedProgram}
+use Rattle.flow_paths.specs.declared.report.Effects.{Effects}
+use Rattle.flow_paths.specs.Instructions.{Call, EndScope, Finish}
+use Rattle.flow_paths.specs.Objects.{Typing, object_at, is_anonymous, is_package_object, view_of, Passing, is_formal_kind}
+use Rattle.flow_paths.specs.Aliases.{overlap_reports, passed_reports, call_reports}
+use Rattle.flow_paths.specs.Aliases as alias
+use Rattle.flow_paths.specs.Points.{NamedPoint}
+use Rattle.flow_paths.specs.Laid.{FlowProgram, NamedSub, typing_of, flow_typing, flow_program, flow_named}
+use Rattle.flow_paths.specs.Paths.{is_some_point, ControlPath, begins, facts_before}
+use Rattle.flow_paths.specs.Effects.{path_points}
+use Rattle.flow_paths.specs.Scopes.{taken, scope_behind, Leads, is_temporary}
+use Rattle.machine.specs.Words as machine
+use Rattle.machine.specs.Memory.{Memory, no_slot, variable_slots}
+use Rattle.machine.specs.Evaluate.{Now, Exception}
+use Rattle.machine.specs.States.{Frame, State, Leak, sub_of, frame_at_start, Outcome, Goes}
+use Rattle.machine.specs.Step.{Turn, turn, start, led, successor}
+use Rattle.machine.specs.Step as steps
+use Rattle.machine.specs.Calls.{Passed, all_passed, with_formals, returns_of, out_checks}
+use Rattle.machine.specs.Owners.{waiting_in}
+use Rattle.place_names.specs.declared.act.Mode.TheVariants as mode
+use Rattle.owned_ways.specs.Ways.{Step, Way, after, AllowsAll, Past}
+use Rattle.owned_ways.specs.Ways as ways
+use Rattle.owned_ways.proofs.Locations.{past_under, under_along, under_itself}
+use Rattle.soundness.specs.Seen.{IsNear, content, seen, home, trunk}
+use Rattle.soundness.specs.Typed.{Kept}
+use Rattle.soundness.specs.Sound.{Stage, facts_of, AreStages, IsRunnable, returns_value, InScope, IsNamedSub, IsAtPoint, view_of as view_here}
+use Rattle.soundness.proofs.Stays.{Quiet}
+use Rattle.soundness.proofs.Numbers.{index_law}
+use Rattle.soundness.proofs.Lasting.{keeps}
+use Rattle.soundness.proofs.Passing.{entered}
+use Rattle.soundness.proofs.Around.{IsFar, package_named}
+use Rattle.soundness.proofs.Eased.{eased}
+use Rattle.owned_loans.specs.Views.{expand, Around, known_gone, Views, IsMovedBy, ExcusedBy, Viewed, ViewedAlone, AreShared}
+use Rattle.owned_loans.proofs.Ways.{under_on, Meet, meets_front, flip}
+use Rattle.owned_loans.proofs.Moves.{expand_under}
+use Rattle.viewed_soundness.proofs.Names.{true_false, given_view}
+use Rattle.viewed_soundness.specs.Holds.{Holds, is_view, sees_only, IsOwners, is_given}
+use Rattle.viewed_soundness.proofs.Given.{IsLow, low_there, low_begins}
+use Rattle.viewed_steps.specs.Awaited.{temporaries_of, lasting_of, awaited, WaitsAt, AreAwaited, AreOwnless, TakesPassed}
+use Rattle.viewed_steps.proofs.Waited.{within_lasting, Shares, plain_unheld}
+use Rattle.viewed_steps.specs.Sound.{IsCopiedBack, IsBeyond, AreUnmet, HoldsAt, ArePlaced, NoneAbove, ViewStage, stages_of, GoneElsewhere, IsWaiting, AreWaiting, calls_one, LeadsAlong, IsResting, IsKindOfFormal, AreReturned, KeptBy, IsWayOf, HasTraversals, NoneGiven, IsTraversal, LentBy}
+use Rattle.viewed_steps.specs.Ready.{IsReady, IsCalled}
+use Rattle.viewed_steps.specs.Taken.{TakenBy, AreCarried, Lodge}
+use Rattle.viewed_steps.proofs.Waiting.{StandsBetween, beside_them, handed}
+use Rattle.viewed_steps.proofs.Between.{OwnersStand, same_variable}
+use Rattle.viewed_steps.proofs.LaidOut.{AreLaidOut}
+use Rattle.viewed_steps.proofs.Outs.{Out, found_in}
+use Rattle.viewed_steps.proofs.Entered.{ArePassedOn}
+use Rattle.viewed_steps.proofs.Entering.{owns_there, AreDeclared, Enter}
+use Rattle.viewed_steps.proofs.Passed.{IsNamedBy, call_goes}
+use Rattle.viewed_steps.proofs.Cells.{passed_formal, IsCellNamed}
+use Rattle.viewed_steps.proofs.Standing.{or_right}
+use Rattle.viewed_steps.proofs.Standing as standing
+use Rattle.viewed_steps.proofs.Packages as packages
+use Rattle.viewed_steps.proofs.Innermost as innermost
+use Rattle.viewed_steps.proofs.Views.{AreAccess, AreFar, kind_given, given_type, not_elsewhere}
+use Rattle.viewed_steps.proofs.Exclusive.{AreLent, IsFrom, from_past, from_far, from_apart, from_place}
+use Rattle.viewed_steps.proofs.Opening.{opened_first, opened_rooted, Opens, all_opened, low_of, opened_from, opened_views, opened_whole, opened_lies, opened_held, opened_placed}
+use Rattle.viewed_steps.proofs.Calling as calling
+use Rattle.viewed_steps.proofs.Handed.{elsewhere_excused}
+use Rattle.viewed_steps.proofs.CallShows as shows
+use Rattle.viewed_steps.proofs.Seeing.{named_written}
+use Rattle.viewed_steps.proofs.Lending.{actual_named}
+use Rattle.viewed_steps.proofs.Stilled.{still}
+use Rattle.viewed_steps.proofs.CallBegins as begins
+
+module _ (table : Table) (typed : TypedProgram) (effects : Effects) (input : List ℕ) (ready : IsReady table typed effects) where
+  abbrev program : FlowProgram
+  program = flow_program table typed
+
+  abbrev s : Typing
+  s = flow_typing program
+
+  abbrev own : Typing
+  own = typing_of table typed
+
+  abbrev in_formals : AreAccess s
+  in_formals = standing.in_formals table typed effects input ready
+
+  abbrev local : (x : ℕ) → is_view s x ≡ true → is_package_object s x ≡ false
+  local = standing.local table typed effects input ready
+
+  abbrev unmoved_stage : (e : Stage) → e.frame.sub ≡ 0 → (name : PlaceName) → Has (facts_of program effects e) (Moved name) → ⊥
+  unmoved_stage = packages.unmoved_stage table typed effects input ready
+
+  abbrev first_point : (k : ℕ) (named : NamedSub) → IsNamedSub (flow_named table typed) k named → (p : NamedPoint) (rest : List NamedPoint) → named.points ≡ p ∷ rest
+      → is_some_point (path_points program effects (sub_of program k))
+  first_point = packages.first_point table typed effects input ready
+
+  module _ (state : State) (top : Stage) (below : ViewStage) (more_frames : List ViewStage) (rest : List Frame) (named : NamedSub) (p : NamedPoint)
+      (frames : state.frames ≡ top.frame ∷ (below.stage.frame ∷ rest)) (deep : top.depth ≡ suc (length rest))
+      (stages : AreStages (stages_of (below ∷ more_frames)) (below.stage.frame ∷ rest))
+      (running : IsRunnable table typed top.frame.sub × IsResting s top × AreWaiting table typed effects state top.frame.sub top.frame.returns (below ∷ more_frames))
+      (awaiting : AreAwaited table typed None (top ∷ stages_of (below ∷ more_frames)))
+      (of_sub : IsNamedSub (flow_named table typed) top.frame.sub named) (at_point : IsAtPoint named.points top.frame.next p)
+      (path : ControlPath (path_points program effects (sub_of program top.frame.sub)) top.before top.frame.next) (views : Views)
+      (viewed_before : ViewedAlone (home s (suc (length rest))) (sees_only s) (known_gone (home s (suc (length rest))) (GoneElsewhere program effects (below ∷ more_frames))) views
+      (view_here s state) (facts_of program effects top))
+      (kept : Kept s state.memory (waiting_in state)) (scope : InScope s state.memory (suc (length rest)) (lasting_of s p.scope)) (holds : HoldsAt s (suc (length rest)) views state.memory p)
+      (placed_before : ArePlaced program (suc (length rest)) (facts_of program effects top) views p.scope × IsBeyond program effects (suc (length rest)) views (below ∷ more_frames)) (above : NoneAbove s (suc (length rest)) state.memory
+      × HasTraversals table typed (view_here s state) (record { stage = top; views = views; cells = [] } ∷ (below ∷ more_frames))) where
+    abbrev outer : List Frame
+    outer = below.stage.frame ∷ rest
+
+    abbrev older : List ViewStage
+    older = below ∷ more_frames
+
+    abbrev depth : ℕ
+    depth = suc (length rest)
+
+    abbrev between : (g : ViewStage) → Has (below ∷ more_frames) g → StandsBetween table typed effects unmoved_stage local state (suc (length rest)) (below ∷ more_frames) g
+    between = innermost.between table typed effects input ready state top below more_frames rest named p frames deep stages running awaiting of_sub at_point path views viewed_before kept scope holds placed_before above
+
+    abbrev other : Around (home s (suc (length rest)))
+    other = beside_them table typed effects unmoved_stage local state (suc (length rest)) (below ∷ more_frames) between
+
+    abbrev alone : (w : Way) → IsNear (suc (length rest)) w → IsFar (suc (length rest)) (GoneElsewhere program effects (below ∷ more_frames)) w → ⊥
+    alone = innermost.alone table typed effects input ready state top below more_frames rest named p frames deep stages running awaiting of_sub at_point path views viewed_before kept scope holds placed_before above
+
+    abbrev main_turn : Turn
+    main_turn = standing.t table typed effects input ready state top older outer named p frames of_sub at_point
+
+    abbrev own_facts : List Fact
+    own_facts = standing.facts table typed effects input ready state top older outer named p frames of_sub at_point path
+
+    abbrev handed_on : List Fact
+    handed_on = handed table typed effects unmoved_stage local state (suc (length rest)) (below ∷ more_frames) between
+
+    abbrev facts_now : List Fact
+    facts_now = own_facts ++ handed_on
+
+    abbrev viewed : Viewed (home s depth) (sees_only s) other views (view_here s state) facts_now
+    viewed = innermost.viewed table typed effects input ready state top below more_frames rest named p frames deep stages running awaiting of_sub at_point path views viewed_before kept scope holds placed_before above
+
+    abbrev left_scope : List ℕ
+    left_scope = drop (taken p.instr) p.scope
+
+    abbrev shared : Shares s (taken p.instr) top.frame.waits p.scope
+    shared = innermost.shared table typed effects input ready state top below more_frames rest named p frames deep stages running awaiting of_sub at_point path views viewed_before kept scope holds placed_before above
+
+    abbrev Plain : Type 0
+    Plain = AreOwnless s (temporaries_of s (take (taken p.instr) p.scope))
+
+    abbrev easy : Turn
+    easy = eased main_turn
+
+    abbrev viewed_easy : Plain → Viewed (home s depth) (sees_only s) other views (view_here s easy.state) facts_now × Kept s state.memory (waiting_in easy.state)
+    viewed_easy = innermost.ownless_easy table typed effects input ready state top below more_frames rest named p frames deep stages running awaiting of_sub at_point path views viewed_before kept scope holds placed_before above
+
+    abbrev others_await : returns_value p.instr ≡ false → AreAwaited table typed (awaited (sub_of program top.frame.sub) (top.frame.next ∷ top.before)) (stages_of older)
+    others_await = innermost.others_await table typed effects input ready state top below more_frames rest named p frames deep stages running awaiting of_sub at_point path views viewed_before kept scope holds placed_before above
+
+    abbrev Along : Outcome → Type 0
+    Along outcome = LeadsAlong table typed effects p.instr state.memory (record { stage = top; views = views; cells = [] }) (below ∷ more_frames) outcome
+
+    abbrev ends_raised : (how : Exception) (m : Memory) → Along (steps.raised main_turn how m)
+    ends_raised = innermost.ends_raised table typed effects input ready state top below more_frames rest named p frames deep stages running awaiting of_sub at_point path views viewed_before kept scope holds placed_before above
+
+    module _ (n : ℕ) (actuals : TypedTree) (result : Option ℕ) (e : p.instr ≡ Call n actuals result) where
+      abbrev called : IsCalled table typed n actuals result
+      called = calling.called table typed effects input ready state top below more_frames rest named p frames deep stages running awaiting of_sub at_point path views viewed_before kept scope holds placed_before above n actuals result e
+
+      abbrev formals : List ℕ
+      formals = calling.formals table typed effects input ready state top below more_frames rest named p frames deep stages running awaiting of_sub at_point path views viewed_before kept scope holds placed_before above n actuals result e
+
+      abbrev kinds : (x : ℕ) → Has formals x → IsKindOfFormal s x
+      kinds = calling.kinds table typed effects input ready state top below more_frames rest named p frames deep stages running awaiting of_sub at_point path views viewed_before kept scope holds placed_before above n actuals result e
+
+      abbrev plain_there : TakesPassed s actuals (temporaries_of s (take (taken p.instr) p.scope))
+      plain_there = calling.plain_there table typed effects input ready state top below more_frames rest named p frames deep stages running awaiting of_sub at_point path views viewed_before kept scope holds placed_before above n actuals result e
+
+      abbrev procedure : Bool
+      procedure = calling.procedure table typed effects input ready state top below more_frames rest named p frames deep stages running awaiting of_sub at_point path views viewed_before kept scope holds placed_before above n actuals result e
+
+      abbrev ways_there : List Passing
+      ways_there = calling.ways_there table typed effects input ready state top below more_frames rest named p frames deep stages running awaiting of_sub at_point path views viewed_before kept scope holds placed_before above n actuals result e
+
+      abbrev holds_now : Holds s depth views state.memory
+      holds_now = calling.holds_now table typed effects input ready state top below more_frames rest named p frames deep stages running awaiting of_sub at_point path views viewed_before kept scope holds placed_before above n actuals result e
+
+      abbrev live_now : (w : Way) (l : ways.Loc) → IsOwners s w → ways.Reaches (seen s state.memory (waiting_in easy.state) state.leaks) w l
+          → (content s state.memory (waiting_in easy.state) (trunk l)).owns ≡ true
+      live_now = calling.live_now table typed effects input ready state top below more_frames rest named p frames deep stages running awaiting of_sub at_point path views viewed_before kept scope holds placed_before above n actuals result e
+
+      abbrev formals_low : (x : ℕ) (w : Way) → views.way x ≡ Some w → IsLow s depth w
+      formals_low = calling.formals_low table typed effects input ready state top below more_frames rest named p frames deep stages running awaiting of_sub at_point path views viewed_before kept scope holds placed_before above n actuals result e
+
+      abbrev by_callee : (((x : ℕ) → Has formals x → (object_at s x).mode ≡ mode.In) × ((x : ℕ) → Has formals x → IsCopiedBack s x → ⊥)
+          × ((x : ℕ) → Has formals x → is_given s x ≡ true → sees_only s x ≡ true))
+          ⊎ AreLent s facts_now formals actuals
+      by_callee = calling.by_callee table typed effects input ready state top below more_frames rest named p frames deep stages running awaiting of_sub at_point path views viewed_before kept scope holds placed_before above n actuals result e
+
+      abbrev Given : List Passed → Type 0
+      Given = calling.Given table typed effects input ready state top below more_frames rest named p frames deep stages running awaiting of_sub at_point path views viewed_before kept scope holds placed_before above n actuals result e
+
+      abbrev then_now : Now
+      then_now = calling.then_now table typed effects input ready state top below more_frames rest named p frames deep stages running awaiting of_sub at_point path views viewed_before kept scope holds placed_before above n actuals result e
+
+      abbrev passed_quiet : Quiet then_now Given (all_passed (steps.here main_turn) ways_there formals actuals (start main_turn))
+      passed_quiet = calling.passed_quiet table typed effects input ready state top below more_frames rest named p frames deep stages running awaiting of_sub at_point path views viewed_before kept scope holds placed_before above n actuals result e
+
+      abbrev view_now : ways.View
+      view_now = calling.view_now table typed effects input ready state top below more_frames rest named p frames deep stages running awaiting of_sub at_point path views viewed_before kept scope holds placed_before above n actuals result e
+
+      abbrev call_point : (k : ℕ) × (successor main_turn 0 ≡ Some k) × Has main_turn.point.next k
+      call_point = calling.call_point table typed effects input ready state top below more_frames rest named p frames deep stages running awaiting of_sub at_point path views viewed_before kept scope holds placed_before above n actuals result e
+
+      abbrev waits_with : List Way → Stage
+      waits_with = calling.waits_with table typed effects input ready state top below more_frames rest named p frames deep stages running awaiting of_sub at_point path views viewed_before kept scope holds placed_before above n actuals result e
+
+      abbrev none_new : (f : Fact) → Has (facts_before (path_points program effects (sub_of program top.frame.sub)) (top.frame.next ∷ top.before)) f → Has (facts_of program effects top) f
+      none_new = calling.none_new table typed effects input ready state top below more_frames rest named p frames deep stages running awaiting of_sub at_point path views viewed_before kept scope holds placed_before above n actuals result e
+
+      abbrev at_successor : (q : NamedPoint) × IsAtPoint named.points call_point.0 q × Leads s (scope_behind p) q.scope
+      at_successor = calling.at_successor table typed effects input ready state top below more_frames rest named p frames deep stages running awaiting of_sub at_point path views viewed_before kept scope holds placed_before above n actuals result e
+
+      abbrev late : Option ℕ
+      late = calling.late table typed effects input ready state top below more_frames rest named p frames deep stages running awaiting of_sub at_point path views viewed_before kept scope holds placed_before above n actuals result e
+
+      abbrev waits_late : (ways_taken : List Way) → WaitsAt table typed late (waits_with ways_taken)
+      waits_late = calling.waits_late table typed effects input ready state top below more_frames rest named p frames deep stages running awaiting of_sub at_point path views viewed_before kept scope holds placed_before above n actuals result e
+
+      abbrev next_there : List ℕ
+      next_there = calling.next_there table typed effects input ready state top below more_frames rest named p frames deep stages running awaiting of_sub at_point path views viewed_before kept scope holds placed_before above n actuals result e
+
+      abbrev facts_all : List Fact
+      facts_all = calling.facts_all table typed effects input ready state top below more_frames rest named p frames deep stages running awaiting of_sub at_point path views viewed_before kept scope holds placed_before above n actuals result e
+
+      module _ (passed : List Passed) (given : Given passed) where
+        abbrev far_views : AreFar (home s depth) views depth
+        far_views = calling.far_views table typed effects input ready state top below more_frames rest named p frames deep stages running awaiting of_sub at_point path views viewed_before kept scope holds placed_before above n actuals result e passed given
+
+        abbrev laid : AreLaidOut s state.memory depth views view_now formals actuals passed
+        laid = calling.laid table typed effects input ready state top below more_frames rest named p frames deep stages running awaiting of_sub at_point path views viewed_before kept scope holds placed_before above n actuals result e passed given
+
+        abbrev outs : List Out
+        outs = calling.outs table typed effects input ready state top below more_frames rest named p frames deep stages running awaiting of_sub at_point path views viewed_before kept scope holds placed_before above n actuals result e passed given
+
+        abbrev cells : List Lodge
+        cells = calling.cells table typed effects input ready state top below more_frames rest named p frames deep stages running awaiting of_sub at_point path views viewed_before kept scope holds placed_before above n actuals result e passed given
+
+        abbrev all_passed_ways : (ways_taken : List Way) × ArePassedOn s state.memory cells depth views facts_all next_there formals passed ways_taken outs
+            × ((k : Way) → Has ways_taken k → IsNamedBy s depth views facts_all formals actuals k)
+        all_passed_ways = calling.all_passed_ways table typed effects input ready state top below more_frames rest named p frames deep stages running awaiting of_sub at_point path views viewed_before kept scope holds placed_before above n actuals result e passed given
+
+        abbrev ways_taken : List Way
+        ways_taken = calling.ways_taken table typed effects input ready state top below more_frames rest named p frames deep stages running awaiting of_sub at_point path views viewed_before kept scope holds placed_before above n actuals result e passed given
+
+        abbrev around_names : Around (home s depth)
+        around_names = calling.around_names table typed effects input ready state top below more_frames rest named p frames deep stages running awaiting of_sub at_point path views viewed_before kept scope holds placed_before above n actuals result e passed given
+
+        abbrev names_all : Viewed (home s depth) (sees_only s) around_names views (still (view_here s easy.state)) facts_all
+        names_all = calling.names_all table typed effects input ready state top below more_frames rest named p frames deep stages running awaiting of_sub at_point path views viewed_before kept scope holds placed_before above n actuals result e passed given
+
+        abbrev named_cell : (c : Lodge) → Has cells c → IsCellNamed s depth facts_all views view_now formals actuals passed c
+        named_cell = calling.named_cell table typed effects input ready state top below more_frames rest named p frames deep stages running awaiting of_sub at_point path views viewed_before kept scope holds placed_before above n actuals result e passed given
+
+        abbrev cell_begins : (c : Lodge) → Has cells c → (g : ℕ) × (y : ℕ) × (ways.base_of c.way ≡ ways.OfRoot (ways.OfVariable g y)) × (g ≡ suc depth → ⊥)
+        cell_begins = calling.cell_begins table typed effects input ready state top below more_frames rest named p frames deep stages running awaiting of_sub at_point path views viewed_before kept scope holds placed_before above n actuals result e passed given
+
+        abbrev with_all : Memory
+        with_all = with_formals s (suc depth) formals passed state.memory
+
+        abbrev checks_there : List (List Leak)
+        checks_there = out_checks s main_turn.point.pos state.memory passed actuals
+
+        abbrev leaks_then : List Leak
+        leaks_then = state.leaks ++ found_in s state.memory outs
+
+        abbrev enters : Enter s ready.accepted.settled ready.owns in_formals (waiting_in easy.state) depth views far_views holds.only facts_all next_there cells cell_begins (GoneElsewhere program effects older) state.leaks leaks_then formals passed ways_taken
+            state.memory with_all
+        enters = begins.enters table typed effects input ready state top below more_frames rest named p frames deep stages running awaiting of_sub at_point path views viewed_before kept scope holds placed_before above n actuals result e passed given
+
+        abbrev declared_there : AreDeclared s ready.accepted.settled ready.owns in_formals (waiting_in easy.state) depth views far_views holds.only facts_all next_there cells cell_begins formals passed ways_taken state.leaks leaks_then
+            state.memory with_all
+        declared_there = enters.0
+
+        abbrev after_call : State
+        after_call = steps.leaking checks_there (entered main_turn ready.accepted.settled n actuals passed)
+
+        abbrev called_stage : Stage
+        called_stage = record { frame = frame_at_start n (returns_of formals passed); depth = suc depth; before = []; returns = [] }
+
+        abbrev waits_stage : Stage
+        waits_stage = waits_with all_passed_ways.0
+
+        abbrev waits_there : ViewStage
+        waits_there = calling.waits_there table typed effects input ready state top below more_frames rest named p frames deep stages running awaiting of_sub at_point path views viewed_before kept scope holds placed_before above n actuals result e passed given
+
+        abbrev frames_there : after_call.frames ≡ frame_at_start n (returns_of formals passed) ∷ (waits_stage.frame ∷ outer)
+        frames_there = begins.frames_there table typed effects input ready state top below more_frames rest named p frames deep stages running awaiting of_sub at_point path views viewed_before kept scope holds placed_before above n actuals result e passed given
+
+        abbrev hands_there : waiting_in after_call ≡ waiting_in easy.state
+        hands_there = begins.hands_there table typed effects input ready state top below more_frames rest named p frames deep stages running awaiting of_sub at_point path views viewed_before kept scope holds placed_before above n actuals result e passed given
+
+        abbrev called_view : ways.View
+        called_view = seen s with_all (waiting_in easy.state) leaks_then
+
+        abbrev view_called : called_view ≡ view_here s after_call
+        view_called = begins.view_called table typed effects input ready state top below more_frames rest named p frames deep stages running awaiting of_sub at_point path views viewed_before kept scope holds placed_before above n actuals result e passed given
+
+        abbrev stands_then : OwnersStand (home s depth) views facts_all (λ w. GoneElsewhere program effects older w ⊎ TakenBy all_passed_ways.0 w) (view_here s after_call)
+        stands_then = begins.stands_then table typed effects input ready state top below more_frames rest named p frames deep stages running awaiting of_sub at_point path views viewed_before kept scope holds placed_before above n actuals result e passed given
+
+        abbrev not_up : (x : ℕ) → home s depth x ≡ suc depth → ⊥
+        not_up = begins.not_up table typed effects input ready state top below more_frames rest named p frames deep stages running awaiting of_sub at_point path views viewed_before kept scope holds placed_before above n actuals result e passed given
+
+        abbrev is_waiting : IsWaiting table typed effects after_call n (returns_of formals passed) waits_there
+        is_waiting = begins.is_waiting table typed effects input ready state top below more_frames rest named p frames deep stages running awaiting of_sub at_point path views viewed_before kept scope holds placed_before above n actuals result e passed given
+
+        abbrev others_wait : AreWaiting table typed effects after_call top.frame.sub top.frame.returns older
+        others_wait = begins.others_wait table typed effects input ready state top below more_frames rest named p frames deep stages running awaiting of_sub at_point path views viewed_before kept scope holds placed_before above n actuals result e passed given
+
+        abbrev known_called : (w : Way) (l : ways.Loc) → ways.IsRooted w → ways.Reaches (view_here s after_call) w l → (view_here s after_call).word l ≡ ways.Gone
+            → GoneElsewhere program effects (waits_there ∷ older) w
+        known_called = begins.known_called table typed effects input ready state top below more_frames rest named p frames deep stages running awaiting of_sub at_point path views viewed_before kept scope holds placed_before above n actuals result e passed given
+
+        abbrev returned_there : AreReturned s (frame_at_start n (returns_of formals passed))
+        returned_there = begins.returned_there table typed effects input ready state top below more_frames rest named p frames deep stages running awaiting of_sub at_point path views viewed_before kept scope holds placed_before above n actuals result e passed given
+
+        abbrev viewed_before_whole : AreUnmet program effects waits_there older
+        viewed_before_whole = begins.viewed_before_whole table typed effects input ready state top below more_frames rest named p frames deep stages running awaiting of_sub at_point path views viewed_before kept scope holds placed_before above n actuals result e passed given
+
+        -- ---- the views of what is called
+
+        abbrev opened : Opens (steps.here main_turn) ready.accepted.settled (waiting_in easy.state) state.leaks state.memory [] other facts_now views (viewed_easy plain_there.0).1
+            (viewed_easy plain_there.0).0 holds_now alone live_now in_formals index_law ready.owns ready.class.parts_named formals_low procedure formals actuals passed
+        opened =
+            all_opened (steps.here main_turn) ready.accepted.settled (waiting_in easy.state) state.leaks state.memory [] other facts_now views (viewed_easy plain_there.0).1
+            (viewed_easy plain_there.0).0 holds_now alone live_now in_formals index_law ready.owns ready.class.parts_named formals_low procedure formals actuals passed called.differ given
+
+        abbrev callee_views : Views
+        callee_views = opened.0
+
+        from_there : AreLent s facts_now formals actuals → (y : ℕ) (w : Way) → callee_views.way y ≡ Some w
+            → IsFrom s depth views facts_now (alias.passed formals actuals) y w
+        from_there lent =
+            opened_from (steps.here main_turn) ready.accepted.settled (waiting_in easy.state) state.leaks state.memory [] other facts_now views (viewed_easy plain_there.0).1
+            (viewed_easy plain_there.0).0 holds_now alone live_now in_formals index_law ready.owns ready.class.parts_named formals_low procedure formals actuals passed callee_views opened.1 lent
+
+        low_called : (y : ℕ) (w : Way) → callee_views.way y ≡ Some w → IsLow s depth w
+        low_called =
+            low_of (steps.here main_turn) ready.accepted.settled (waiting_in easy.state) state.leaks state.memory [] other facts_now views (viewed_easy plain_there.0).1
+            (viewed_easy plain_there.0).0 holds_now alone live_now in_formals index_law ready.owns ready.class.parts_named formals_low procedure formals actuals passed callee_views opened.1
+
+        abbrev less_now : (f : Fact) → Has facts_all f → Has facts_now f
+        less_now = calling.less_now table typed effects input ready state top below more_frames rest named p frames deep stages running awaiting of_sub at_point path views viewed_before kept scope holds placed_before above n actuals result e passed given
+
+        -- no place that is taken meets what they see
+        meets_taken : (y : ℕ) (w : Way) → callee_views.way y ≡ Some w → (to : Way) → Has ways_taken to → Meet w to → ⊥
+        meets_taken y w has to taken meets =
+            let by = all_passed_ways.2 to taken in
+            elim by_callee [
+              | inl modes ↦ modes.1 by.by.formal (passed_formal formals actuals by.by by.among) by.back
+              | inr lent ↦ from_place s depth views facts_now (alias.passed formals actuals) y w (from_there lent y w has) around_names (still (view_here s easy.state)) facts_all names_all less_now
+                  by.by by.among by.back by.name by.called by.named by.plain by.unlent (subst (Meet w) (sym by.means) meets)
+            ]
+
+        -- nor one that another one of them sees, if it changes that
+        callee_apart : (x y : ℕ) (w u : Way) → callee_views.way x ≡ Some w → callee_views.way y ≡ Some u → (y ≡ x → ⊥) → sees_only s x ≡ false
+            → ways.Under w u ⊎ ways.Under u w → ⊥
+        callee_apart x y w u has there differs plain meets =
+            let found = opened.1.way x w has in
+            elim by_callee [
+              | inl modes ↦ true_false (sees_only s x) (modes.2 x found.1 found.0) plain
+              | inr lent ↦ from_apart s depth views facts_now (alias.passed formals actuals) x w (from_there lent x w has) other (view_here s easy.state) (viewed_easy plain_there.0).0
+                  y u (from_there lent y u there) differs meets
+            ]
+
+        -- none of the frames around goes past what it changes
+        callee_past : (x : ℕ) (w : Way) → callee_views.way x ≡ Some w → (ways.Named (home s (suc depth)) (callee_views.up x) → ⊥) → sees_only s x ≡ false → (k : Way) (m : ℕ)
+            → KeptBy (waits_there ∷ older) k m → Past w k → ⊥
+        callee_past x w has named plain k m keeps past =
+            let found = opened.1.way x w has in
+            elim by_callee [
+              | inl modes ↦ true_false (sees_only s x) (modes.2 x found.1 found.0) plain
+              | inr lent ↦ by_frame (from_there lent x w has) keeps
+            ]
+          where
+            by_frame : IsFrom s depth views facts_now (alias.passed formals actuals) x w → KeptBy (waits_there ∷ older) k m → ⊥
+            by_frame from (g, inr there, way) =
+                from_far s depth views facts_now (alias.passed formals actuals) x w from other (view_here s easy.state) (viewed_easy plain_there.0).0 k m (g, there, way) past
+            by_frame from (g, inl same, way) = elim (subst (λ z. IsWayOf z k m) (sym same) way) [
+              | inl (y, is, cell) ↦ from_past s depth views facts_now (alias.passed formals actuals) x w from other (view_here s easy.state) (viewed_easy plain_there.0).0 y k is past
+              | inr (c, there, is, number) ↦ (
+                  let cell = named_cell c there in
+                  let below : ways.Under c.way (expand views cell.whole) =
+                  subst (λ z. ways.Under z (expand views cell.whole)) cell.leads (expand_under views c.name cell.whole (λ r is. absurd (cell.deep r is)) cell.begins) in
+                  from_place s depth views facts_now (alias.passed formals actuals) x w from around_names (still (view_here s easy.state)) facts_all names_all less_now
+                  cell.by cell.among cell.back cell.whole cell.called cell.named cell.plain cell.unlent
+                  (inl (under_on w c.way (expand views cell.whole) (past_under w c.way (subst (Past w) (sym is) past)) below)))
+            ]
+
+        -- it begins at no variable of its frame
+        low_frame : (w : Way) (f y : ℕ) → ways.base_of w ≡ ways.OfRoot (ways.OfVariable f y) → IsLow s depth w → f ≡ suc depth → ⊥
+        low_frame w f y base (inl at_home) same =
+            not_up (ways.number_of w) ((same_variable (home s depth (ways.number_of w)) (ways.number_of w) f y (sym (named_base (home s depth) w at_home) ∙ base)).0 ∙ same)
+        low_frame w f y base (inr (foreign, low, some)) same =
+            (let frames_are = (same_variable foreign.0 foreign.1 f y (sym foreign.2 ∙ base)).0 in omega (arith, low, frames_are, same))
+
+        -- its way reaches what it reached
+        reach_called : (y : ℕ) (w : Way) (k : ℕ) → callee_views.way y ≡ Some w → ways.Reaches (seen s state.memory (waiting_in easy.state) state.leaks) w (ways.OfCell k)
+            → ways.Reaches (view_here s after_call) w (ways.OfCell k)
+        reach_called y w k has reach =
+            let low = low_called y w has in
+            let begin = low_begins s depth w low in
+            subst (λ z. ways.Reaches z w (ways.OfCell k)) view_called
+            (declared_there.stays w begin.0 begin.1 begin.2 (low_frame w begin.0 begin.1 begin.2 low)
+            (λ to taken past. meets_taken y w has to taken (inr (past_under to w past))) k reach)
+
+        -- what is gone for the caller and the frames around it is excused by its facts before the call, or is taken
+        excused_called : (z : Way) → GoneElsewhere program effects (waits_there ∷ older) z → ExcusedBy (home s depth) views other facts_now z ⊎ TakenBy ways_taken z
+        excused_called z (g, inr has, what) =
+            inl (elsewhere_excused table typed effects unmoved_stage local state depth older between views own_facts z (g, has, what))
+        excused_called z (g, inl same, what) = elim (subst (λ (y : ViewStage). IsMovedBy (home s y.stage.depth) y.views (facts_of program effects y.stage) z ⊎ TakenBy y.stage.returns z) (sym same) what) [
+          | inr taken ↦ inr taken
+          | inl (u, moved, leads) ↦ inl (inl (inl (
+            u,
+            (
+              subst (λ d. ways.Named (home s d) u) deep moved.0,
+              Has-append_left own_facts handed_on (Moved (ways.name_of u))
+                  (subst (λ fs. Has fs (Moved (ways.name_of u))) (standing.facts_are table typed effects input ready state top older outer named p frames of_sub at_point path)
+                  (none_new (Moved (ways.name_of u)) moved.1)),
+            ),
+            leads,
+          )))
+        ]
+
+        callee_whole : (x : ℕ) (w z : Way) → callee_views.way x ≡ Some w → GoneElsewhere program effects (waits_there ∷ older) z → ways.Under z w ⊎ ways.Under w z → ⊥
+        callee_whole x w z has gone meets = elim (excused_called z gone) [
+          | inl excused ↦ opened_whole (steps.here main_turn) ready.accepted.settled (waiting_in easy.state) state.leaks state.memory [] other facts_now views (viewed_easy plain_there.0).1
+              (viewed_easy plain_there.0).0 holds_now alone live_now in_formals index_law ready.owns ready.class.parts_named formals_low procedure formals actuals passed callee_views opened.1
+              (ExcusedBy (home s depth) views other facts_now) (λ y is. is) x w z has excused meets
+          | inr (to, taken, steps_on, is) ↦ meets_taken x w has to taken
+              (meets_front to z w (subst (ways.Under to) (sym is) (under_along to to steps_on (under_itself to))) (flip z w meets))
+        ]
+
+        -- what its views see that begins at package objects is kept by the frames around
+        callee_shared : AreShared (home s (suc depth)) (sees_only s) (LentBy program effects (waits_there ∷ older)) callee_views
+        callee_shared x w has given_up named_there =
+            let found = opened.1.way x w has in
+            let sees = (found.2).1 in
+            let actual = named_written (steps.here main_turn) ready.accepted.settled (waiting_in easy.state) state.leaks state.memory [] other facts_now views (viewed_easy plain_there.0).1
+            (viewed_easy plain_there.0).0 holds_now alone live_now index_law ready.owns ready.class.parts_named formals_low (found.2).0 sees.from sees.called in
+            let of = actual_named formals actuals x (found.2).0 actual.0 found.4 actual.1 in
+            elim (low_there s depth w (omega (arith)) (low_called x w has)) [
+              | inl far ↦ absurd (not_elsewhere (home s (suc depth)) w named_there far.0)
+              | inr (at_home, shared_root) ↦ shows.shared_at table typed effects input ready state top below more_frames rest named p frames deep stages running awaiting of_sub at_point path views viewed_before kept scope holds placed_before above n actuals result e passed given
+                  (record { formal = x; actual = actual.0 }) of found.0 sees.from sees.from_named actual.2 sees.lifted
+                  (λ changes. elim by_callee [
+                    | inl modes ↦ absurd (true_false (sees_only s x) (modes.2 x found.1 found.0) changes)
+                    | inr lent ↦ ap (λ (z : PlaceName). sees_only s z.root) (sym actual.2) ∙ (lent x found.1 found.0 actual.0 of).plain
+                  ])
+                  w (sym found.3 ∙ sees.leads) (package_named s (suc depth) depth w shared_root named_there) shared_root
+            ]
+
+        -- no result waits in the frame below, since a call comes after no return
+        none_below : NoneGiven s below
+        none_below = elim (above.1).0.1 [
+          | inl none ↦ none
+          | inr (some, returned, none_back, was) ↦ absurd (elim (ready.traversing.ending top.frame.sub (running.0).entered some top.before top.frame.next path returned) [
+            | inl (z, ends) ↦ (let never : Call n actuals result ≡ EndScope z = sym e ∙ sym (innermost.instr_there table typed effects input ready state top below more_frames rest named p frames deep stages running awaiting of_sub at_point path views viewed_before kept scope holds placed_before above) ∙ ends in cc)
+            | inr finishes ↦ (let never : Call n actuals result ≡ Finish = sym e ∙ sym (innermost.instr_there table typed effects input ready state top below more_frames rest named p frames deep stages running awaiting of_sub at_point path views viewed_before kept scope holds placed_before above) ∙ finishes in cc)
+          ])
+        ]
+
+        entered_sound : Along (Goes after_call)
+        entered_sound = (
+          record {
+            top = called_stage;
+            views = callee_views;
+            older = waits_there ∷ older;
+            stages = subst (AreStages (called_stage ∷ stages_of (waits_there ∷ older))) (sym frames_there) (refl, refl, (refl, deep, stages));
+            running = (
+              called.runs,
+              returned_there,
+              (is_waiting, others_wait, viewed_before_whole, subst (λ d. IsBeyond program effects d views older) (sym deep) placed_before.1),
+            );
+            awaited = (
+              packages.first_waits table typed effects input ready (suc depth) n (returns_of formals passed) called.runs.named called.runs.stands called.runs.point
+                  called.runs.points called.runs.begins,
+              (waits_late all_passed_ways.0, others_await (ap returns_value e)),
+            );
+            path = begins (first_point n called.runs.named called.runs.stands called.runs.point called.runs.points called.runs.begins);
+            viewed = record {
+              owned = stands_then.owned;
+              covered = stands_then.covered;
+              known = λ w l rooted r gone. inr (known_called w l rooted r gone);
+              clear = record {
+                moved = λ l h k m has there over. has;
+                lent = λ b h k m has there off over. has;
+                seen = λ b h k m has there over. has;
+                owned = λ k has. absurd has;
+              };
+              views = opened_views (steps.here main_turn) ready.accepted.settled (waiting_in easy.state) state.leaks state.memory [] other facts_now views (viewed_easy plain_there.0).1
+                  (viewed_easy plain_there.0).0 holds_now alone live_now in_formals index_law ready.owns ready.class.parts_named formals_low procedure formals actuals passed callee_views opened.1
+                  (view_here s after_call) (facts_of program effects called_stage) callee_apart reach_called;
+              whole = λ x w z has outer gone meets. callee_whole x w z has gone meets;
+            };
+            kept = subst (Kept s with_all) (sym hands_there) declared_there.typed;
+            named = called.runs.named;
+            of_sub = called.runs.stands;
+            point = called.runs.point;
+            at_point = ([], called.runs.points, called.runs.begins, refl);
+            scope = λ f x q k held. elim (declared_there.held f x q k held) [
+              | inl before ↦ elim (scope f x q k before) [
+                | inl less ↦ inl (omega (arith, less))
+                | inr mine ↦ (let is = mine.0 in inl (omega (arith, is)))
+              ]
+              | inr mine ↦ inr (
+                mine.0,
+                within_lasting s x called.runs.point.scope (called.begins x mine.1 (ap (λ b. b || is_anonymous (view_of s x)) (owns_there s ready.accepted.settled ready.owns with_all f x q k held)))
+                    (plain_unheld s x (formal_lasts (object_at s x).kind (called.formals x mine.1))),
+              )
+            ];
+            holds = record {
+              held = λ x k lasts view at. callee_held x k view at;
+              within = λ x k view at. (let own_way = callee_held x k view at in (callee_placed x own_way.0 own_way.1).within);
+              only = λ x w has. given_view s x (opened.1.way x w has).0;
+              lies = opened_lies (steps.here main_turn) ready.accepted.settled (waiting_in easy.state) state.leaks state.memory [] other facts_now views (viewed_easy plain_there.0).1
+                  (viewed_easy plain_there.0).0 holds_now alone live_now in_formals index_law ready.owns ready.class.parts_named formals_low procedure formals actuals passed callee_views opened.1 (omega (arith));
+              owners = λ x w has. (let found = opened.1.way x w has in subst (IsOwners s) found.3 ((found.2).1).owners);
+              passed = λ x w has formal at_home. subst (ways.Named (home s (suc depth))) (opened.1.ups x) at_home;
+              own = λ x w has sees_not given_not. absurd (true_false (is_given s x) (opened.1.way x w has).0 given_not);
+            };
+            placed = callee_placed;
+            past = (callee_past, callee_shared);
+            none_above = λ f x k less view at. elim (declared_there.views f x view) [
+              | inl same ↦ above.0 f x k (omega (arith, less)) view (sym same ∙ at)
+              | inr shown ↦ (let up = shown.0 in omega (arith, less, up))
+            ];
+            traversals = (
+              (
+                none_given table typed (view_here s after_call) (record { stage = called_stage; views = callee_views; cells = [] })
+                    (empty_given table typed (record { stage = called_stage; views = callee_views; cells = [] }) refl),
+                inl (named_given table typed waits_there left_scope shared.left (innermost.named_left_here table typed effects input ready state top below more_frames rest named p frames deep stages running awaiting of_sub at_point path views viewed_before kept scope holds placed_before above)),
+                (none_below, (above.1).0.2),
+              ),
+              (
+                traversal_there,
+                ((above.1).1.0, (above.1).1.1),
+              ),
+            );
+          },
+          calls_one waits_stage cells refl (refl, refl, refl) refl none_new (subst (λ d. AreCarried s (λ f. f ≡ suc d → ⊥) cells [] state.memory with_all) (sym deep) declared_there.carried),
+        )
+          where
+            -- the first formal of a traversal function sees what its actual designates
+            traversal_there : IsTraversal table typed (record { stage = called_stage; views = callee_views; cells = [] }) waits_there
+            traversal_there f traversed =
+                let made = acting.made table typed effects input ready state top below more_frames rest named p frames deep stages running awaiting of_sub at_point path views viewed_before kept scope holds placed_before above n actuals result e f traversed in
+                let traversing = acting.traversing table typed effects input ready state top below more_frames rest named p frames deep stages running awaiting of_sub at_point path views viewed_before kept scope holds placed_before above n actuals result e f traversed in
+                begins_traversal table typed (record { stage = called_stage; views = callee_views; cells = [] }) waits_there f (callee_views.way f) traversed
+                (opened_rooted (steps.here main_turn) ready.accepted.settled (waiting_in easy.state) state.leaks state.memory [] other facts_now views (viewed_easy plain_there.0).1
+                (viewed_easy plain_there.0).0 holds_now alone live_now in_formals index_law ready.owns ready.class.parts_named formals_low procedure formals actuals passed callee_views opened.1 (sub_acts (sub_of program n)) f)
+                (no_returns s state.memory depth views view_now formals actuals passed laid
+                (λ x has. followed.modes_there table typed effects input ready state top older outer named p frames of_sub at_point path n actuals result e f traversed x (subst (λ z. Has z x) traversing.formals has)))
+                named of_sub at_successor.0 at_successor.1
+                (subst (λ d. SeesFirst s d (at_successor.0).instr n views (callee_views.way f)) (sym deep)
+                (opened_first (steps.here main_turn) ready.accepted.settled (waiting_in easy.state) state.leaks state.memory [] other facts_now views (viewed_easy plain_there.0).1
+                (viewed_easy plain_there.0).0 holds_now alone live_now in_formals index_law ready.owns ready.class.parts_named formals_low procedure formals actuals passed callee_views opened.1 f traversing.rest made.call traversing.formals made.actuals_are (followed.differ table typed effects input ready state top older outer named p frames of_sub at_point path n actuals result e f traversed) n (at_successor.0).instr
+                (taker_takes s n made.call named.sub.result (at_successor.0).instr (made.taker call_point.0 call_point.2 at_successor.0 at_successor.1))))
+                f traversed
+
+            formal_lasts : (k : ObjectKind) → is_formal_kind k ≡ true → is_temporary k ≡ false
+            formal_lasts object_kind.Formal is = refl
+            formal_lasts k is = cc
+
+            callee_held : (x k : ℕ) → is_view s x ≡ true → (get_or (variable_slots s (home s (suc depth) x) x with_all.variables) 0 no_slot).word ≡ machine.Cell k
+                → (w : Way) × (callee_views.way x ≡ Some w) × (callee_views.cell x ≡ k)
+            callee_held =
+                opened_held (steps.here main_turn) ready.accepted.settled (waiting_in easy.state) state.leaks state.memory [] other facts_now views (viewed_easy plain_there.0).1
+                (viewed_easy plain_there.0).0 holds_now alone live_now in_formals index_law ready.owns ready.class.parts_named formals_low procedure formals actuals passed callee_views opened.1
+                with_all above.0 local declared_there.views (λ x has. kind_given s in_formals x (kinds x has))
+
+            callee_placed : ArePlaced program (suc depth) (facts_of program effects called_stage) callee_views called.runs.point.scope
+            callee_placed =
+                opened_placed (steps.here main_turn) ready.accepted.settled (waiting_in easy.state) state.leaks state.memory [] other facts_now views (viewed_easy plain_there.0).1
+                (viewed_easy plain_there.0).0 holds_now alone live_now in_formals index_law ready.owns ready.class.parts_named formals_low procedure formals actuals passed callee_views opened.1
+                (omega (arith)) program (facts_of program effects called_stage) called.runs.point.scope refl
+                (λ y has given. called.begins y has (given_type s y given))
+
+      pub calls_it : Along (turn main_turn (Call n actuals result))
+      calls_it =
+          call_goes main_turn ready.accepted.settled n actuals Along ends_raised Given entered_sound ways_there refl
+          (start main_turn) then_now refl refl passed_quiet
