@@ -109,7 +109,7 @@ unfolding computes naming typing lowering
 lends = lend_first files refl
 
 pub class : AreInSecondViewClass files
-class = record { main = 2; is_main = is_main; calls = record { formals = formals; lends = lends; borrowed = takes_none (program_of files) (inl calls); spared = spares_none (program_of files) (inl calls) } }
+class = record { main = 2; is_main = is_main; calls = record { formals = formals; lends = inl lends; borrowed = takes_none (program_of files) (inl calls); spared = spares_none (program_of files) (inl calls) } }
 
 -- ---- nothing is reported of it
 

@@ -161,7 +161,7 @@ module _ (p : Program) where
   pub calls_functions : CallsFunctions p → CallsWithOwners p
   calls_functions calls = record {
     formals = λ x is. inl (view_scalar calls.formals x is);
-    lends = λ n x y lends has given. inl (given_scalar calls.formals y given);
+    lends = inl (λ n x y lends has given. inl (given_scalar calls.formals y given));
     borrowed = takes_none calls.results;
     spared = spares_none calls.results;
   }

@@ -21,6 +21,7 @@ use Rattle.soundness.specs.Ready.{root_of}
 use Rattle.gathered_laws.specs.Named.{IsNamed}
 use Rattle.flow_paths.specs.Acts.{gives_variable}
 use Rattle.viewed_soundness.specs.Holds.{is_given, lends_first}
+use Rattle.viewed_steps.specs.Sound.{LendsApart}
 use Rattle.called_subs.specs.Called.{CodeCalls}
 use Rattle.order_laws.specs.Orderly.{typed_of, typing_in, bodies_of}
 use Rattle.meant_files.specs.Formless.{IsFormless}
@@ -122,6 +123,7 @@ SparePackages p =
 
 pub record CallsWithOwners (p : Program) : Type 0 where
   pub formals : FormalsAreAccess p
-  pub lends : LendFirst p
+  -- or in its calls what its first formal is passed overlaps nothing that other ones see
+  pub lends : LendFirst p ⊎ LendsApart (flow_program (known_of p).table (typed_of p))
   pub borrowed : TakeBorrowers p
   pub spared : SparePackages p

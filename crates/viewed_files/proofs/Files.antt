@@ -62,7 +62,9 @@ use Rattle.soundness.proofs.Passing.{plain_type, signature_is}
 use Rattle.soundness.specs.Sound.{Accepted, RunIsSound}
 use Rattle.soundness.proofs.Points.{flow_table}
 use Rattle.soundness.proofs.Typings.{Agree, flow_agrees}
-use Rattle.viewed_soundness.specs.Holds.{PartsAreNamed, is_given, lends_first}
+use Rattle.viewed_soundness.specs.Holds.{PartsAreNamed, is_given}
+use Rattle.viewed_steps.specs.Sound.{LendsApart}
+use Rattle.viewed_steps.proofs.Lending.{named_has}
 use Rattle.ready_laws.specs.InOrder.{IsInOrder, IsSub, AreAnswered, AreStill, ArePassed}
 use Rattle.ready_laws.proofs.Actuals.{typed_passed}
 use Rattle.order_laws.specs.Orderly.{typed_of, typing_in, bodies_of, IsOrderly}
@@ -398,10 +400,15 @@ module _ (files : List (List SourceUnit)) where
         | inr access ↦ access
       ]
 
-      lends : (n x z : ℕ) → lends_first wide x (flow.sub_at wide n) ≡ true → Has (flow.sub_at wide n).formals z → is_given wide z ≡ true → z ≡ x
-      lends n x z first has given = elim (calls.lends n x z first has given) [
-        | inl plain ↦ absurd (scalar_ungiven z plain given)
-        | inr same ↦ same
+      lends : LendsApart flow_of_files
+      lends = elim calls.lends [
+        | inr apart ↦ apart
+        | inl first ↦ λ sub has q there n actuals result is a b has_a has_b gives differs given over.
+            (elim (first n a.formal b.formal gives
+            (subst (λ (z : flow.Signature). Has z.formals b.formal) (sym (signature_is flow_of_files n)) (named_has (sub_of flow_of_files n).formals actuals b has_b)) given) [
+              | inl plain ↦ absurd (scalar_ungiven b.formal plain given)
+              | inr same ↦ differs (sym same)
+            ])
       ]
 
       passes : PassActuals flow_of_files
