@@ -3,6 +3,7 @@ mod Typing
 mod Lowering
 mod Quiet
 mod Unreported
+mod Classed
 pub mod Small
 pub mod Sound
 pub mod Observed

@@ -39,14 +39,16 @@ use Rattle.file_positions.specs.Texts.{AreParsed}
 use Rattle.file_positions.proofs.Cuts.{cut_in_order}
 use Rattle.called_subs.specs.Called.{Calls, CodeCalls}
 use Rattle.order_laws.specs.Orderly.{typed_of, typing_in}
-use Rattle.sound_files.specs.Class.{CallsProcedures, FormalsAreKinds, laid_in, AreFitActuals, PassFitActuals, AreOwnersShown, ShowOwners}
+use Rattle.sound_files.specs.Class.{CallsProcedures, FormalsAreAccess, LendFirst, laid_in, AreFitActuals, PassFitActuals}
+use Rattle.sound_files.proofs.Owners.{takes_none, spares_none}
 use Rattle.viewed_files.proofs.Files.{parsed_called_sound}
 use Rattle.accepted_runs.proofs.Runs.{RunsAreSound}
 use Rattle.accepted_runs.specs.Classes.{AreInSecondViewClass}
 use Rattle.accepted_examples.proofs.Naming.{naming}
 use Rattle.accepted_examples.proofs.Typing.{typing}
 use Rattle.accepted_examples.proofs.Lowering.{lowering}
-use Rattle.accepted_examples.proofs.Quiet.{all_pass, each, at_any}
+use Rattle.accepted_examples.proofs.Quiet.{all_pass, each}
+use Rattle.accepted_examples.proofs.Classed.{formals_access, lend_first}
 use Rattle.accepted_examples.proofs.Unreported.{path_passes, sub_passes, nothing, no_reports, no_effects}
 
 -- "procedure Q (X : in T)", from its column on
@@ -99,30 +101,16 @@ calls = λ sub has p there.
     each (λ (p : FlowPoint). calls_procedures p.instr) sub.points
     (each (λ (s : FlowSub). all_pass (λ (p : FlowPoint). calls_procedures p.instr) s.points) (flow_of files).subs refl sub has) p there
 
-abbrev own : Typing
-own = typing_in (program_of files)
-
 abbrev laid : Typing
 laid = laid_in (program_of files)
 
-abbrev kind_if_formal : Object → Bool
-kind_if_formal o = not (is_formal_kind o.kind) || (is_in o.mode && (is_owning own.table o.of && is_named_access (full own.table o.of)))
-
-kinds : all_pass kind_if_formal own.objects ≡ true
+pub formals : FormalsAreAccess (program_of files)
 unfolding computes naming typing lowering
-kinds = refl
+formals = formals_access files refl
 
-pub formals : FormalsAreKinds (program_of files)
-formals x is =
-    inr (inr (inl (by (is_formal own x) (is_in (object_at own x).mode) (is_owning own.table (object_at own x).of) (is_named_access (full own.table (object_at own x).of)) is
-    (at_any (λ (o : Object). kind_if_formal o ≡ true) own.objects text_io refl (each kind_if_formal own.objects kinds) x))))
-  where
-    by : (f i o a : Bool) → f ≡ true → not f || (i && (o && a)) ≡ true → ((f && i) && o ≡ true) × (a ≡ true)
-    by false i o a f e = absurd (true≢false (sym f))
-    by true true true true f e = (refl, refl)
-    by true true true false f e = absurd (true≢false (sym e))
-    by true true false a f e = absurd (true≢false (sym e))
-    by true false o a f e = absurd (true≢false (sym e))
+pub lends : LendFirst (program_of files)
+unfolding computes naming typing lowering
+lends = lend_first files refl
 
 -- Of three subprograms, the last one calls.
 of_three : (P : TypedSub → Type 0) (a b c : TypedSub) → P a → P b → P c → (sub : TypedSub) → Has (a ∷ (b ∷ (c ∷ []))) sub → P sub
@@ -135,16 +123,10 @@ pub passed : PassFitActuals (program_of files)
 unfolding computes naming typing lowering Calls CodeCalls
 passed =
     of_three (λ sub. CodeCalls (λ n actuals. AreFitActuals laid (sub_at laid n).formals actuals) sub.body) _ _ _ tt ((tt, tt), tt)
-    (tt, ((((λ is. inr (inl (refl, λ y has. elim has [ inl same ↦ subst (λ z. is_package_object laid z ≡ false) same refl | inr none ↦ absurd none ]))), tt), (tt, tt)), tt))
-
-pub shown : ShowOwners (program_of files)
-unfolding computes naming typing lowering Calls CodeCalls
-shown =
-    of_three (λ sub. CodeCalls (λ n actuals. AreOwnersShown laid (sub_at laid n).formals actuals) sub.body) _ _ _ tt ((tt, tt), tt)
-    (tt, ((((λ view y has. elim has [ inl same ↦ subst (λ z. is_anonymous (view_of laid z) ≡ false) same refl | inr none ↦ absurd none ]), tt), (tt, tt)), tt))
+    (tt, ((((λ is. tt), tt), (tt, tt)), tt))
 
 pub class : AreInSecondViewClass files
-class = record { main = 2; is_main = is_main; calls = record { formals = formals; passed = passed; shown = inl shown } }
+class = record { main = 2; is_main = is_main; calls = record { formals = formals; passed = passed; lends = inl lends; borrowed = takes_none (program_of files) (inl calls); spared = spares_none (program_of files) (inl calls) } }
 
 -- ---- nothing is reported of it
 

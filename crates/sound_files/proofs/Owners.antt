@@ -1,40 +1,31 @@
 -- What the class with formals that own says of the program as it is laid out, and that the third class is a part of it.
-use Rattle.std.proofs.Common.{◌≡◌, sym, ap, ◌∙◌, subst, ◌⊎◌, inl, inr, ℕ, suc, true, false, not, ◌&&◌, List, [], ◌∷◌, get_or, Option, Some, None, is_some, refl, Bool, ◌||◌}
+use Rattle.std.proofs.Common.{◌≡◌, sym, ap, ◌∙◌, subst, ◌⊎◌, inl, inr, ℕ, suc, true, false, not, ◌&&◌, List, [], Option, Some, None, is_some, refl, Bool, ◌||◌}
 use Rattle.spark_base.specs.Lists.{Has}
-use Rattle.place_names.specs.declared.act.Mode.{Mode}
 use Rattle.place_names.specs.declared.act.Mode.TheVariants as mode
 use Rattle.resolved_tree.specs.Trees.{Program}
 use Rattle.type_definitions.specs.Types.{Table, full, is_scalar, is_owning}
 use Rattle.type_definitions.specs.Whole.{known_of}
 use Rattle.typed_tree.specs.declared.object.Object.{Object}
-use Rattle.typed_tree.specs.Trees.{TypedTree, More, Name, Call as CallIn}
+use Rattle.typed_tree.specs.Trees.{More, Name, Call as CallIn}
 use Rattle.typed_tree.specs.Programs.{TypedSub, typed_program}
 use Rattle.flow_paths.specs.Instructions.{Call, Instruction, Declare, Assign, Hold}
 use Rattle.flow_paths.specs.Objects.{Typing, Signature, object_at, sub_at, is_formal_kind, is_formal, is_state, is_anonymous, is_package_object, view_of, is_borrowing}
-use Rattle.flow_paths.specs.Points.{FlowPoint}
-use Rattle.flow_paths.specs.Laid.{FlowSub, FlowProgram, flow_typing, flow_program}
+use Rattle.flow_paths.specs.Laid.{FlowProgram, flow_typing, flow_program}
 use Rattle.flow_paths.specs.Acts.{gives_variable}
 use Rattle.flow_paths.specs.Names.{has_call}
 use Rattle.viewed_soundness.specs.Holds.{is_given}
+use Rattle.viewed_soundness.specs.Taken.{GivesPlainly}
 use Rattle.type_definitions.specs.declared.judgement.View.{View}
 use Rattle.type_definitions.specs.declared.judgement.View.TheVariants as view
-use Rattle.machine.specs.States.{no_sub, sub_of}
 use Rattle.machine.specs.Owners.{is_in, is_in_formal}
 use Rattle.soundness.specs.Seen.{is_view_formal}
-use Rattle.soundness.specs.Sound.{AreCopied, calls_procedures}
-use Rattle.machine.specs.Run.{no_point}
-use Rattle.soundness.proofs.Passing.{signature_is}
+use Rattle.soundness.specs.Sound.{calls_procedures}
 use Rattle.soundness.proofs.Typings.{Agree, flow_agrees, formal_same}
-use Rattle.called_subs.specs.Called.{PointCalls, CodeCalls}
-use Rattle.called_subs.proofs.Main.{points_asked_at}
-use Rattle.called_subs.proofs.Statements.{IsFineSub}
 use Rattle.ready_laws.specs.InOrder.{IsSub}
 use Rattle.order_laws.specs.Orderly.{typed_of, typing_in, bodies_of}
-use Rattle.sound_files.specs.Class.{IsScalarAt, IsFitActual, AreFitActuals, FormalsAreScalar, CallsProcedures, ResultsAreScalar, TakesBorrower, TakeBorrowers, SparePackages, CopyToVariables, PassFitActuals, CallsFunctions, CallsWithOwners}
+use Rattle.sound_files.specs.Class.{IsScalarAt, FormalsAreScalar, CallsProcedures, ResultsAreScalar, TakesBorrower, TakeBorrowers, SparePackages, CallsFunctions, CallsWithOwners}
 use Rattle.sound_files.proofs.Functions.{FunctionsTakeIn}
-use Rattle.sound_files.proofs.Weaker.{code_weaker}
-use Rattle.sound_files.proofs.Called.{at_number}
-use Rattle.sound_files.proofs.Classes.{all_of, signature_at, signature_same, signature_there, mode_same, scalar_results}
+use Rattle.sound_files.proofs.Classes.{signature_at, signature_same, signature_there, mode_same, scalar_results}
 
 module _ (p : Program) where
   abbrev table : Table
@@ -110,44 +101,7 @@ module _ (p : Program) where
   pub main_there : (n : ℕ) (sub : TypedSub) → IsSub (bodies_of p) n sub → sub.formals ≡ [] → (x : ℕ) → Has (sub_at wide (suc n)).formals x → IsScalarAt wide x
   main_there n sub stands none x has = absurd (subst (λ fs. Has fs x) (ap (λ (z : Signature). z.formals) (signature_there p n sub stands) ∙ none) has)
 
-  -- ---- actuals
-
-  -- What is so of each call of the code is so of each point that calls.
-  pub called_there : (Asked : List ℕ → TypedTree → Type 0)
-      → ((sub : TypedSub) → Has (typed_of p).subs sub → CodeCalls (λ n actuals. Asked (sub_at wide n).formals actuals) sub.body)
-      → (sub : FlowSub) → Has flow.subs sub → (q : FlowPoint) → Has sub.points q → (n : ℕ) (actuals : TypedTree) (result : Option ℕ)
-      → q.instr ≡ Call n actuals result → Asked (sub_of flow n).formals actuals
-  called_there Asked all sub has q there n actuals result is =
-      let i = at_number flow.subs sub no_sub has in
-      let k = at_number sub.points q no_point there in
-      let same : (get_or (sub_of flow i.0).points k.0 no_point).instr ≡ Call n actuals result
-      = ap (λ (z : FlowSub). (get_or z.points k.0 no_point).instr) i.1 ∙ ap (λ (z : FlowPoint). z.instr) k.1 ∙ is in
-      subst (λ fs. Asked fs actuals) (ap (λ (z : Signature). z.formals) (signature_is flow n))
-      (subst (PointCalls (λ n actuals. Asked (sub_at wide n).formals actuals)) same
-      (points_asked_at (λ n actuals. Asked (sub_at wide n).formals actuals) table (typed_of p)
-      (all_of (IsFineSub (λ n actuals. Asked (sub_at wide n).formals actuals)) (typed_of p).subs all) i.0 k.0))
-
-  pub passed_there : PassFitActuals p → (sub : FlowSub) → Has flow.subs sub → (q : FlowPoint) → Has sub.points q → (n : ℕ) (actuals : TypedTree) (result : Option ℕ)
-      → q.instr ≡ Call n actuals result → AreFitActuals wide (sub_of flow n).formals actuals
-  passed_there = called_there (AreFitActuals wide)
-
   -- ---- the third class
-
-  scalar_fits : (m : Mode) (x : ℕ) (e : TypedTree) → IsScalarAt wide x → IsFitActual wide x m e
-  scalar_fits mode.In x e plain = tt
-  scalar_fits mode.Out x e plain = inl plain
-  scalar_fits mode.InOut x e plain = inl plain
-
-  scalar_passed : FormalsAreScalar p → (formals : List ℕ) (actuals : TypedTree) → AreFitActuals wide formals actuals
-  scalar_passed all (x ∷ formals) (More e rest) = ((λ is. scalar_fits (object_at wide x).mode x e (scalar_wide x is (all x (formal_own x is)))), scalar_passed all formals rest)
-  scalar_passed all [] actuals = tt
-  scalar_passed all (x ∷ formals) actuals = tt
-
-  code_passed : FormalsAreScalar p → CopyToVariables p → PassFitActuals p
-  code_passed all copied sub has =
-      code_weaker (λ n actuals. AreCopied own (sub_at own n).formals actuals) (λ n actuals. AreFitActuals wide (sub_at wide n).formals actuals)
-      (λ n actuals h. subst (λ (z : Signature). AreFitActuals wide z.formals actuals) (sym (signature_same p n)) (scalar_passed all (sub_at own n).formals actuals))
-      sub.body (copied sub has)
 
   -- a formal of mode `in` is one of scalar type
   given_scalar : FormalsAreScalar p → (x : ℕ) → is_given wide x ≡ true → IsScalarAt wide x
@@ -196,7 +150,7 @@ module _ (p : Program) where
   takes_none (inl calls) sub has q there = no_call sub.result q.instr (calls sub has q there)
   takes_none (inr scalar) sub has q there = scalar_takes scalar sub.result q.instr
 
-  spares_none : CallsProcedures flow ⊎ ResultsAreScalar p → SparePackages p
+  pub spares_none : CallsProcedures flow ⊎ ResultsAreScalar p → SparePackages p
   spares_none (inl calls) sub has q there n actuals result is = absurd (no_function (subst (λ i. calls_procedures i ≡ true) is (calls sub has q there)))
     where
       no_function : calls_procedures (Call n actuals (Some result)) ≡ true → ⊥
@@ -207,8 +161,7 @@ module _ (p : Program) where
   pub calls_functions : CallsFunctions p → CallsWithOwners p
   calls_functions calls = record {
     formals = λ x is. inl (view_scalar calls.formals x is);
-    passed = code_passed calls.formals calls.copied;
-    lends = λ n x y lends has given. inl (given_scalar calls.formals y given);
+    lends = inl (λ n x y lends has given. inl (given_scalar calls.formals y given));
     borrowed = takes_none calls.results;
     spared = spares_none calls.results;
   }

@@ -1,10 +1,8 @@
 -- Programs with a main procedure and without anonymous access types, by their text: those without formals and
 -- calls, those that call procedures alone, whose formals are of scalar types, and those that call functions, too,
 -- whose results are. And programs with formals of types that own, and results that stand alone.
-use Rattle.std.specs.Prelude.{◌≡◌, ◌⊎◌, ℕ, true, false, List, ◌∷◌, Option, Some, None}
+use Rattle.std.specs.Prelude.{◌≡◌, ◌⊎◌, ℕ, true, Option, Some, None}
 use Rattle.spark_base.specs.Lists.{Has}
-use Rattle.place_names.specs.declared.act.Mode.{Mode}
-use Rattle.place_names.specs.declared.act.Mode.TheVariants as mode
 use Rattle.resolved_tree.specs.Trees.{Code, Program}
 use Rattle.type_definitions.specs.Types.{full, is_scalar}
 use Rattle.type_definitions.specs.Whole.{known_of}
@@ -13,16 +11,17 @@ use Rattle.typed_tree.specs.Programs.{TypedSub}
 use Rattle.flow_paths.specs.declared.report.Effects.{Effects}
 use Rattle.flow_paths.specs.Effects.{AreEffects}
 use Rattle.flow_paths.specs.Instructions.{Call, Instruction, Declare, Assign, Hold}
-use Rattle.flow_paths.specs.Objects.{Typing, object_at, sub_at, is_formal, is_anonymous, is_named_access, is_package_object, view_of, is_borrowing}
+use Rattle.flow_paths.specs.Objects.{Typing, object_at, sub_at, is_formal, is_named_access, is_package_object, view_of, is_borrowing}
 use Rattle.flow_paths.specs.Points.{FlowPoint}
 use Rattle.flow_paths.specs.Laid.{FlowSub, FlowProgram, flow_typing, flow_program}
 use Rattle.machine.specs.States.{sub_of}
 use Rattle.soundness.specs.Seen.{is_view_formal}
-use Rattle.soundness.specs.Sound.{calls_nothing, calls_procedures, goes_through_none, AreCopied, Uses}
+use Rattle.soundness.specs.Sound.{calls_nothing, calls_procedures, AreCopied, Uses}
 use Rattle.soundness.specs.Ready.{root_of}
 use Rattle.gathered_laws.specs.Named.{IsNamed}
 use Rattle.flow_paths.specs.Acts.{gives_variable}
 use Rattle.viewed_soundness.specs.Holds.{is_given, lends_first}
+use Rattle.viewed_steps.specs.Sound.{LendsApart}
 use Rattle.called_subs.specs.Called.{CodeCalls}
 use Rattle.order_laws.specs.Orderly.{typed_of, typing_in, bodies_of}
 use Rattle.meant_files.specs.Formless.{IsFormless}
@@ -97,27 +96,6 @@ abbrev pub FormalsAreAccess : Program → Type 0
 FormalsAreAccess p =
     (x : ℕ) → is_view_formal (laid_in p) x ≡ true → IsScalarAt (laid_in p) x ⊎ (is_named_access (view_of (laid_in p) x) ≡ true)
 
--- One that is copied back to goes through no access value; or the formal is of a scalar type, or the object that it is
--- rooted in is no borrower or observer, and no formal of mode `in` that owns.
-abbrev pub IsOwnRoot : Typing → ℕ → Type 0
-IsOwnRoot s y = (is_anonymous (view_of s y) ≡ false) × (is_view_formal s y ≡ false)
-
-abbrev pub IsKeptActual : Typing → TypedTree → Type 0
-IsKeptActual s e = (goes_through_none e ≡ true) ⊎ ((y : ℕ) → Has (root_of e) y → IsOwnRoot s y)
-
--- Nothing is asked of one for a formal of mode `in`.
-abbrev pub IsFitActual : Typing → ℕ → Mode → TypedTree → Type 0
-IsFitActual s x mode.In e = Unit {0}
-IsFitActual s x m e = IsScalarAt s x ⊎ IsKeptActual s e
-
-abbrev pub AreFitActuals : Typing → List ℕ → TypedTree → Type 0
-AreFitActuals s (x ∷ formals) (More e rest) = (is_formal s x ≡ true → IsFitActual s x (object_at s x).mode e) × AreFitActuals s formals rest
-AreFitActuals s formals actuals = Unit {0}
-
-abbrev pub PassFitActuals : Program → Type 0
-PassFitActuals p =
-    (sub : TypedSub) → Has (typed_of p).subs sub → CodeCalls (λ n actuals. AreFitActuals (laid_in p) (sub_at (laid_in p) n).formals actuals) sub.body
-
 -- A function that gives a borrower sees through its first formal alone.
 abbrev pub LendFirst : Program → Type 0
 LendFirst p =
@@ -145,7 +123,7 @@ SparePackages p =
 
 pub record CallsWithOwners (p : Program) : Type 0 where
   pub formals : FormalsAreAccess p
-  pub passed : PassFitActuals p
-  pub lends : LendFirst p
+  -- or in its calls what its first formal is passed overlaps nothing that other ones see
+  pub lends : LendFirst p ⊎ LendsApart (flow_program (known_of p).table (typed_of p))
   pub borrowed : TakeBorrowers p
   pub spared : SparePackages p

@@ -11,7 +11,8 @@
 //!
 //! The classes of programs stand in `specs/Class.antt`. Of what they ask of the typed program, laws on
 //! runs ask of the one that is laid out (`proofs/Classes.antt`, and `Owners` with formals that own).
-//! What is called has a body (`Called`); formals of functions are of mode `in` (`Functions`); the main
+//! What is called has a body (`Called`); a formal is one of one subprogram (`Shared`); formals of
+//! functions are of mode `in` (`Functions`); the main
 //! procedure has none (`Mains`), and no subprogram in a text without them (`Formless`, `Formals`).
 //! Nothing here runs.
 #![tactic(auto)]

@@ -1,12 +1,11 @@
 -- What the fronts of bodies say of traversal functions: each has a first formal, of mode `in` and of an access type; and
 -- formals of anonymous access types are such.
-use Rattle.std.proofs.Common.{◌≡◌, ◌⊎◌, inl, inr, refl, sym, ap, ◌∙◌, subst, ℕ, zero, suc, ◌+◌, Bool, true, false, not, ◌&&◌, ◌||◌, Option, List, [], ◌∷◌, ◌++◌, map, get_or, arith, Some, None, true≢false, IsTrue}
+use Rattle.std.proofs.Common.{◌≡◌, ◌⊎◌, inl, inr, refl, sym, ap, ◌∙◌, subst, ℕ, zero, suc, Bool, true, false, not, ◌&&◌, ◌||◌, Option, List, [], ◌∷◌, ◌++◌, map, get_or, Some, None, true≢false, IsTrue}
 use Rattle.std.specs.Prelude.{flat_map, is_some}
 use Rattle.spark_base.specs.Lists.{Has}
 use Rattle.spark_base.proofs.Lists.{Has-append_cases}
 use Rattle.place_names.specs.declared.act.Mode.{Mode}
 use Rattle.place_names.specs.declared.act.Mode.TheVariants as mode
-use Rattle.resolved_tree.specs.declared.node.Mark.{Mark}
 use Rattle.resolved_tree.specs.Trees.{Code, NoMore, More, Plain, Anonymous, Formals, Front, Program, code_items}
 use Rattle.type_definitions.specs.declared.judgement.Fault.{Fault}
 use Rattle.type_definitions.specs.declared.judgement.View.{View}
@@ -21,13 +20,12 @@ use Rattle.type_definitions.specs.Types.{Table, full, shape_of}
 use Rattle.type_definitions.specs.Faults.{demand}
 use Rattle.type_definitions.specs.Entries.{entry_of, integer, marked, denotes_type}
 use Rattle.type_definitions.specs.Names.{Context, seen}
-use Rattle.type_definitions.specs.Expressions.{profile_of, is_access, is_anonymous, is_in, is_traversal, result_type}
-use Rattle.type_definitions.specs.Gathered.{is_anonymous_indication, declared_pos, declared_number, front_number, indicated, indicates_type, profile_from, result_indicated}
-use Rattle.type_definitions.specs.Declarations.{code_faults, front_faults, same_access, same_result, indication_faults, result_faults, group_faults, formals_group, formals_faults, formal_faults, is_traversable, has_none}
+use Rattle.type_definitions.specs.Expressions.{profile_of, is_access, is_anonymous, is_in, is_traversal}
+use Rattle.type_definitions.specs.Gathered.{is_anonymous_indication, declared_pos, declared_number, front_number, indicated, indicates_type, profile_from}
+use Rattle.type_definitions.specs.Declarations.{code_faults, same_access, same_result, indication_faults, result_faults, group_faults, formals_group, formals_faults, formal_faults, is_traversable, has_none}
 use Rattle.type_definitions.specs.Whole.{outside, known_of, type_fault}
-use Rattle.typed_tree.specs.declared.object.Object.{Object}
 use Rattle.typed_tree.specs.Expressions.{Site, object_number}
-use Rattle.typed_tree.specs.Programs.{DeclaredObject, front_formals, formal_numbers, bodies_in, over_units, subs_in, elaboration, program_objects, text_io, typed_program}
+use Rattle.typed_tree.specs.Programs.{DeclaredObject, front_formals, formal_numbers, bodies_in, over_units, subs_in, program_objects, text_io, typed_program}
 use Rattle.flow_paths.specs.Objects.{Typing, Signature, object_at, sub_at, traverses, is_anonymous as anonymous_view}
 use Rattle.flow_paths.specs.Laid.{signature}
 use Rattle.flow_paths.specs.Views.{traversed_of}

@@ -24,7 +24,7 @@ use Rattle.ready_laws.specs.InOrder.{IsInOrder, AreAnswered, AreStill, ArePassed
 use Rattle.soundness.specs.Seen.{is_view_formal}
 use Rattle.viewed_soundness.specs.Holds.{PartsAreNamed, is_given, is_exclusive, lends_first}
 use Rattle.viewed_steps.specs.Traversals.{GivesView, IsSourceName}
-use Rattle.viewed_steps.specs.Sound.{IsScalarObject, IsKindOfFormal, IsStoredAt}
+use Rattle.viewed_steps.specs.Sound.{IsScalarObject, IsKindOfFormal, IsStoredAt, LendsApart}
 use Rattle.viewed_steps.specs.Ready.{IsActualTo}
 use Rattle.view_laws.specs.InOrder.{AreViewsInOrder}
 
@@ -77,8 +77,7 @@ TakesView s result i = Unit {0}
 
 -- It is accepted and typed, and anonymous access types are those of objects and results alone. What functions give is of
 -- scalar types; or it stands alone. Formals are of the four kinds, those of functions of mode `in`, and nothing is changed
--- through these but through the first one of a function that gives a borrower, which is shown alone; and its subprograms and
--- views are in order.
+-- through these but through the first one of a function that gives a borrower; and its subprograms and views are in order.
 pub record IsViewProgram (table : Table) (typed : TypedProgram) (effects : Effects) : Type 0 where
   pub accepted : Accepted table typed effects
   pub owns : OwnsByShape (flow_program table typed).table
@@ -91,8 +90,7 @@ pub record IsViewProgram (table : Table) (typed : TypedProgram) (effects : Effec
       → is_given (flow_typing (flow_program table typed)) x ≡ true
       → lends_first (flow_typing (flow_program table typed)) x (sub_at (flow_typing (flow_program table typed)) n) ≡ false
       → is_exclusive (flow_typing (flow_program table typed)) x ≡ false
-  pub lends : (n x y : ℕ) → lends_first (flow_typing (flow_program table typed)) x (sub_at (flow_typing (flow_program table typed)) n) ≡ true
-      → Has (sub_at (flow_typing (flow_program table typed)) n).formals y → is_given (flow_typing (flow_program table typed)) y ≡ true → y ≡ x
+  pub lends : LendsApart (flow_program table typed)
   pub modes : (n t : ℕ) → (sub_at (flow_typing (flow_program table typed)) n).result ≡ Some t → (x : ℕ)
       → Has (sub_at (flow_typing (flow_program table typed)) n).formals x → (object_at (flow_typing (flow_program table typed)) x).mode ≡ mode.In
   pub procedures : (n : ℕ) → (sub_at (flow_typing (flow_program table typed)) n).result ≡ None → (x : ℕ)

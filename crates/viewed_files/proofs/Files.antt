@@ -1,6 +1,6 @@
 -- Borrowers and observers of files that break no rule are in order, and the runs of their program are sound where
 -- nothing is reported, results are of scalar types or stand alone, and formals are of scalar types or of mode `in out`.
-use Rattle.std.proofs.Common.{◌≡◌, refl, sym, ap, ◌∙◌, subst, ◌⊎◌, inl, inr, ℕ, Bool, true, false, ◌&&◌, ◌||◌, List, [], ◌∷◌, Option, Some, None}
+use Rattle.std.proofs.Common.{◌≡◌, refl, sym, ap, ◌∙◌, subst, ◌⊎◌, inl, inr, ℕ, Bool, true, false, ◌&&◌, ◌||◌, List, [], ◌∷◌, Option, Some, None, is_some}
 use Rattle.spark_base.specs.declared.position.Pos.{Pos}
 use Rattle.spark_base.specs.Lists.{Has}
 use Rattle.place_names.specs.declared.act.Mode.{Mode}
@@ -34,6 +34,7 @@ use Rattle.flow_paths.specs.Effects.{AreEffects}
 use Rattle.flow_paths.specs.Instructions.{Instruction, Declare, Assign, Call, Hold}
 use Rattle.flow_paths.specs.Objects.{Typing}
 use Rattle.flow_paths.specs.Objects as flow
+use Rattle.flow_paths.specs.Acts.{gives_variable}
 use Rattle.flow_paths.specs.Points.{FlowPoint}
 use Rattle.flow_paths.specs.Laid.{FlowSub, FlowProgram, flow_typing, flow_program}
 use Rattle.flow_paths.specs.Reports.{AreReports}
@@ -62,7 +63,9 @@ use Rattle.soundness.proofs.Passing.{plain_type, signature_is}
 use Rattle.soundness.specs.Sound.{Accepted, RunIsSound}
 use Rattle.soundness.proofs.Points.{flow_table}
 use Rattle.soundness.proofs.Typings.{Agree, flow_agrees}
-use Rattle.viewed_soundness.specs.Holds.{PartsAreNamed, is_given, lends_first}
+use Rattle.viewed_soundness.specs.Holds.{PartsAreNamed, is_given}
+use Rattle.viewed_steps.specs.Sound.{LendsApart}
+use Rattle.viewed_steps.proofs.Lending.{named_has}
 use Rattle.ready_laws.specs.InOrder.{IsInOrder, IsSub, AreAnswered, AreStill, ArePassed}
 use Rattle.ready_laws.proofs.Actuals.{typed_passed}
 use Rattle.order_laws.specs.Orderly.{typed_of, typing_in, bodies_of, IsOrderly}
@@ -77,7 +80,7 @@ use Rattle.meant_files.specs.Typed.{AreTyped}
 use Rattle.meant_files.proofs.Main.{files_denote}
 use Rattle.meant_files.proofs.Main as meant
 use Rattle.meant_files.proofs.Codes as codes
-use Rattle.scope_laws.proofs.Lists.{and_first, and_second}
+use Rattle.scope_laws.proofs.Lists.{and_second}
 use Rattle.sound_files.specs.Class.{TakesBorrower, CallsWithOwners}
 use Rattle.sound_files.proofs.Laws.{table_laws, files_declared, integers_scalar, truths_scalar}
 use Rattle.sound_files.proofs.Called.{files_bodies}
@@ -85,7 +88,7 @@ use Rattle.sound_files.proofs.Mains.{main_formless}
 use Rattle.sound_files.proofs.Functions.{functions_in}
 use Rattle.sound_files.proofs.Shared.{functions_see, formals_differ}
 use Rattle.sound_files.proofs.Declared.{declared_known, formals_apart}
-use Rattle.sound_files.proofs.Owners.{modes_there, formals_wide, main_there, passed_there}
+use Rattle.sound_files.proofs.Owners.{modes_there, formals_wide, main_there}
 use Rattle.sound_files.proofs.Classes.{are_answered}
 use Rattle.typed_runs.specs.Code.{IsTypedUse}
 use Rattle.typed_runs.proofs.Results.{results_there}
@@ -100,7 +103,7 @@ use Rattle.viewed_steps.specs.Sound.{IsScalarObject, IsKindOfFormal, IsStoredAt}
 use Rattle.view_laws.specs.Program.{PassActuals, TraversesNames, SparesPackages, TakesView, IsViewProgram}
 use Rattle.view_laws.proofs.Ready.{views_ready}
 use Rattle.viewed_files.proofs.Sources.{scalar_plain}
-use Rattle.viewed_files.proofs.Passed.{PassFit, actuals_passed, kept_places}
+use Rattle.viewed_files.proofs.Passed.{actuals_passed}
 use Rattle.viewed_files.proofs.Stored.{are_stored}
 use Rattle.viewed_files.proofs.Traversals.{shape_there, declares_view, assigns_view, holds_view, called_name, returns_source}
 use Rattle.viewed_files.proofs.Main.{IsGiven, views_in_order}
@@ -376,9 +379,6 @@ module _ (files : List (List SourceUnit)) where
           by mode.Out at = back mode.Out at (λ e. cc)
           by mode.InOut at = back mode.InOut at (λ e. cc)
 
-      fit : PassFit flow_of_files
-      fit = passed_there p calls.passed
-
       -- a formal of a scalar type owns nothing
       scalar_none : (x : ℕ) → IsScalarObject wide x → is_view_formal wide x ≡ false
       scalar_none x plain = ap (λ b. is_in_formal wide x && b) (plain_type wide owns (flow.object_at wide x).of plain) ∙ and_false (is_in_formal wide x)
@@ -401,10 +401,15 @@ module _ (files : List (List SourceUnit)) where
         | inr access ↦ access
       ]
 
-      lends : (n x z : ℕ) → lends_first wide x (flow.sub_at wide n) ≡ true → Has (flow.sub_at wide n).formals z → is_given wide z ≡ true → z ≡ x
-      lends n x z first has given = elim (calls.lends n x z first has given) [
-        | inl plain ↦ absurd (scalar_ungiven z plain given)
-        | inr same ↦ same
+      lends : LendsApart flow_of_files
+      lends = elim calls.lends [
+        | inr apart ↦ apart
+        | inl first ↦ λ sub has q there n actuals result is a b has_a has_b gives differs given over.
+            (elim (first n a.formal b.formal gives
+            (subst (λ (z : flow.Signature). Has z.formals b.formal) (sym (signature_is flow_of_files n)) (named_has (sub_of flow_of_files n).formals actuals b has_b)) given) [
+              | inl plain ↦ absurd (scalar_ungiven b.formal plain given)
+              | inr same ↦ differs (sym same)
+            ])
       ]
 
       passes : PassActuals flow_of_files
@@ -412,7 +417,7 @@ module _ (files : List (List SourceUnit)) where
           actuals_passed flow_of_files (subst (λ (rows : Table). counts (shape_of rows integer) ≡ true) same_table laws.whole)
           (subst (λ (rows : Table). lists (shape_of rows boolean) ≡ true) same_table laws.listed)
           (subst (λ (rows : Table). (t : ℕ) → words rows t ≡ words_of (words rows) (shape_of rows t)) same_table laws.word_law) owns used
-          (formals_differ p text_orderly.once) (files_firsts files apart ended up named no_fault) fit
+          (formals_differ p text_orderly.once) (files_firsts files apart ended up named no_fault)
 
       -- ---- traversal functions
 
@@ -458,7 +463,7 @@ module _ (files : List (List SourceUnit)) where
           step : IsTypedStep wide sub.result (Call n actuals result)
           step = subst (λ i. IsTypedStep wide sub.result i) is (typed sub has q there)
 
-          given_some : (o : Option ℕ) → flow.gives_variable wide o ≡ true → is_some o ≡ true
+          given_some : (o : Option ℕ) → gives_variable wide o ≡ true → is_some o ≡ true
           given_some None e = cc
           given_some (Some t) e = refl
 
@@ -485,10 +490,17 @@ module _ (files : List (List SourceUnit)) where
               (found.0, found.1, λ lends. borrows x (inl (More (CallIn k n a) rest, is)) found.0 (borrow lends)))
           by (Assign (Name r x path u) (CallIn k n a)) is taking borrow = λ gives.
               (let found = assigns_view wide parts_here sub.result r x path u k n a taking gives in
-              let target : Name r x path u ≡ Name r x NoMore u = ap (λ z. Name r x z u) found.0 in
-              (r, x, u, target, found.2, found.3, λ lends. borrows x
-              (inr (r, u, CallIn k n a, is ∙ ap (λ z. Assign z (CallIn k n a)) target)) found.2
-              (ap (λ z. flow.is_borrowing (full wide.table z)) found.1 ∙ borrow lends)))
+              let target : Name r x path u ≡ Name r x NoMore u = ap (λ z. Name r x z u) found.0 in (
+                r,
+                x,
+                u,
+                target,
+                found.2,
+                found.3,
+                λ lends. borrows x
+                    (inr (r, u, CallIn k n a, is ∙ ap (λ z. Assign z (CallIn k n a)) target)) found.2
+                    (ap (λ z. flow.is_borrowing (full wide.table z)) found.1 ∙ borrow lends),
+              ))
           by (Assign target (CallIn k n a)) is taking borrow = λ gives. absurd (taking.0.1)
           by (Hold (More (CallIn k n a) rest)) is taking borrow = λ gives. (holds_view wide parts_here sub.result k n a rest taking gives, borrow)
           by i is taking borrow = tt
@@ -514,7 +526,6 @@ module _ (files : List (List SourceUnit)) where
         functions = λ n t result x has formal is lends. functions_see p text_orderly.once n t x result has lends;
         modes = modes;
         procedures = procedures;
-        copied = λ sub has q there n actuals result is known. kept_places (flow_typing flow_of_files) (sub_of flow_of_files n).formals actuals known (fit sub has q there n actuals result is);
         order = order;
         results = λ sub has.
             results_there p laws.owns integers truths (λ t i. named_plain table (component_type table t i) (component_named t i))

@@ -1,10 +1,8 @@
 -- The actuals of typed calls of the class with formals that own are as they are asked for.
-use Rattle.std.proofs.Common.{◌≡◌, ◌∙◌, refl, sym, ap, subst, ◌⊎◌, inl, inr, ℕ, Bool, true, false, ◌&&◌, List, [], ◌∷◌, Option, ◌||◌, Some, None}
+use Rattle.std.proofs.Common.{◌≡◌, refl, sym, ap, subst, ◌⊎◌, inl, inr, ℕ, Bool, true, false, List, [], ◌∷◌, Option, ◌||◌, Some, None}
 use Rattle.spark_base.specs.Lists.{Has as Holds}
 use Rattle.place_names.specs.declared.act.Mode.{Mode}
 use Rattle.place_names.specs.declared.act.Mode.TheVariants as mode
-use Rattle.type_definitions.specs.declared.judgement.View.{View}
-use Rattle.type_definitions.specs.declared.judgement.View.TheVariants as view
 use Rattle.type_definitions.specs.declared.table.Shape.{Shape}
 use Rattle.type_definitions.specs.declared.table.Shape.TheVariants as shape
 use Rattle.type_definitions.specs.Types.{shape_of, words, words_of, full, is_scalar, is_owning}
@@ -12,7 +10,7 @@ use Rattle.type_definitions.specs.Types as types
 use Rattle.type_definitions.specs.Entries.{integer, boolean}
 use Rattle.typed_tree.specs.Trees.{TypedTree, Name, More}
 use Rattle.typed_tree.specs.Trees as typed
-use Rattle.flow_paths.specs.Objects.{Typing, Signature, object_at, sub_at, is_formal, is_package_object, is_anonymous, view_of, traverses}
+use Rattle.flow_paths.specs.Objects.{Typing, Signature, object_at, sub_at, is_formal, is_anonymous, view_of, traverses}
 use Rattle.flow_paths.specs.Instructions.{Call}
 use Rattle.flow_paths.specs.Points.{FlowPoint}
 use Rattle.flow_paths.specs.Laid.{FlowSub, FlowProgram, flow_typing}
@@ -25,15 +23,12 @@ use Rattle.typed_laws.specs.Needed.{Matches, Gives, IsPlace}
 use Rattle.typed_laws.proofs.Sound.{matches, leads, gives}
 use Rattle.typed_steps.specs.Steps.{IsViewed, Taken, IsPlaceOf, IsActual, ActualsTaken}
 use Rattle.typed_runs.specs.Code.{IsNamedOwner, NamesOwner, NamesOwners, IsName, NamesFirst, IsTypedUse}
-use Rattle.soundness.specs.Ready.{root_of}
 use Rattle.soundness.proofs.Contents.{bool_cases}
-use Rattle.soundness.proofs.Passing.{plain_type, signature_there}
+use Rattle.soundness.proofs.Passing.{signature_there}
 use Rattle.viewed_soundness.specs.Holds.{IsNamed}
 use Rattle.ready_laws.proofs.Actuals.{taken_stays, scalar_back}
 use Rattle.scope_laws.specs.Code.{Once}
 use Rattle.flow_paths.specs.Views.{traversed_of}
-use Rattle.sound_files.specs.Class.{IsScalarAt, IsKeptActual, IsFitActual, AreFitActuals}
-use Rattle.viewed_steps.specs.Sound.{IsScalarObject, IsReachedBack, AreKeptPlaces}
 use Rattle.viewed_steps.specs.Ready.{IsSeen, IsValueTo, is_shown_type}
 use Rattle.viewed_steps.proofs.Copies.{no_cell}
 use Rattle.view_laws.specs.Program.{IsPassedTo, ArePassedTo, PassActuals}
@@ -113,9 +108,9 @@ module _ (y : Typing) (whole : counts (shape_of y.table integer) ≡ true) (list
       ],
     )
 
-    actual_to : (x : ℕ) (e : TypedTree) → IsFitActual y x (object_at y x).mode e → NamesOwner y x e → NamesView y x e → IsActual y x e
+    actual_to : (x : ℕ) (e : TypedTree) → NamesOwner y x e → NamesView y x e → IsActual y x e
         → IsPassedTo y x (object_at y x).mode e
-    actual_to x e fit named viewed actual = by_mode (object_at y x).mode refl fit actual
+    actual_to x e named viewed actual = by_mode (object_at y x).mode refl actual
       where
         owning : Bool
         owning = is_owning y.table (object_at y x).of
@@ -130,30 +125,18 @@ module _ (y : Typing) (whole : counts (shape_of y.table integer) ≡ true) (list
           | inr view ↦ view_seen x e (viewed view) taken
         ]
 
-        copied : IsScalarAt y x ⊎ IsKeptActual y e → (t : ℕ) → IsPlaceOf y t e → Agree y.table t (object_at y x).of → IsPassedTo y x mode.InOut e
-        copied kept t place agree =
-            let found = named_place x t e place agree in (
-              found.0,
-              found.1,
-              found.2,
-              elim kept [
-                | inl plain ↦ inl (scalar_back y whole listed word_law found.0 (object_at y x).of found.2 plain)
-                | inr (inl none) ↦ inr (inl none)
-                | inr (inr roots) ↦ inr (inr (λ z has. (roots z has).1))
-              ],
-            )
+        copied : (t : ℕ) → IsPlaceOf y t e → Agree y.table t (object_at y x).of → IsPassedTo y x mode.InOut e
+        copied t place agree = (let found = named_place x t e place agree in (found.0, found.1, found.2))
 
-        by_mode : (m : Mode) → (object_at y x).mode ≡ m → IsFitActual y x m e → IsActual y x e → IsPassedTo y x m e
-        by_mode mode.In is fit g = (value (rw is at g), seen (rw is at g) is)
-        by_mode mode.Out is fit g = (let place = rw is at g in copied fit place.0 place.1 place.2)
-        by_mode mode.InOut is fit g = (let place = rw is at g in copied fit place.0 place.1 place.2)
+        by_mode : (m : Mode) → (object_at y x).mode ≡ m → IsActual y x e → IsPassedTo y x m e
+        by_mode mode.In is g = (value (rw is at g), seen (rw is at g) is)
+        by_mode mode.Out is g = (let place = rw is at g in copied place.0 place.1 place.2)
+        by_mode mode.InOut is g = (let place = rw is at g in copied place.0 place.1 place.2)
 
-    actuals_to : (formals : List ℕ) (actuals : TypedTree) → ((x : ℕ) → Holds formals x → is_formal y x ≡ true)
-        → AreFitActuals y formals actuals → NamesOwners y formals actuals → NamesViews y formals actuals → ActualsTaken y formals actuals → ArePassedTo y formals actuals
-    actuals_to (x ∷ formals) (More e rest) known fit named viewed (one, others) =
-        (actual_to x e (fit.0 (known x (inl refl))) named.0 viewed.0 one, actuals_to formals rest (λ z has. known z (inr has)) fit.1 named.1 viewed.1 others)
-    actuals_to [] actuals known fit named viewed taken = λ x has. absurd has
-    actuals_to (x ∷ formals) actuals known fit named viewed taken = absurd taken
+    actuals_to : (formals : List ℕ) (actuals : TypedTree) → NamesOwners y formals actuals → NamesViews y formals actuals → ActualsTaken y formals actuals → ArePassedTo y formals actuals
+    actuals_to (x ∷ formals) (More e rest) named viewed (one, others) = (actual_to x e named.0 viewed.0 one, actuals_to formals rest named.1 viewed.1 others)
+    actuals_to [] actuals named viewed taken = λ x has. absurd has
+    actuals_to (x ∷ formals) actuals named viewed taken = absurd taken
 
   -- Only the first formal of a traversal function is of an anonymous access type, and what it sees is a name.
   later_named : (formals : List ℕ) (actuals : TypedTree) → ((x : ℕ) → Holds formals x → is_anonymous (view_of y x) ≡ true → ⊥) → NamesViews y formals actuals
@@ -172,48 +155,21 @@ module _ (y : Typing) (whole : counts (shape_of y.table integer) ≡ true) (list
   views_named b [] actuals once firsts first = tt
   views_named b (x ∷ formals) actuals once firsts first = tt
 
--- Where places are that are copied back to.
-abbrev IsKeptPlace : Typing → ℕ → TypedTree → Type 0
-IsKeptPlace s x e = (goes_through_none e ≡ true) ⊎ IsReachedBack s x e
-
-kept_there : (s : Typing) (x : ℕ) (e : TypedTree) → IsScalarAt s x ⊎ IsKeptActual s e → IsKeptPlace s x e
-kept_there s x e (inl plain) = inr (inl plain)
-kept_there s x e (inr (inl none)) = inl none
-kept_there s x e (inr (inr roots)) = inr (inr roots)
-
-kept_one : (s : Typing) (x : ℕ) (e : TypedTree) (m : Mode) → is_in m ≡ false → IsFitActual s x m e → IsKeptPlace s x e
-kept_one s x e mode.In back fit = cc
-kept_one s x e mode.Out back fit = kept_there s x e fit
-kept_one s x e mode.InOut back fit = kept_there s x e fit
-
-pub kept_places : (s : Typing) (formals : List ℕ) (actuals : TypedTree) → ((x : ℕ) → Holds formals x → is_formal s x ≡ true) → AreFitActuals s formals actuals
-    → AreKeptPlaces s formals actuals
-kept_places s (x ∷ formals) (More e rest) known fit =
-    ((λ back. kept_one s x e (object_at s x).mode back (fit.0 (known x (inl refl)))), kept_places s formals rest (λ z has. known z (inr has)) fit.1)
-kept_places s [] actuals known fit = tt
-kept_places s (x ∷ formals) actuals known fit = tt
-
 module _ (program : FlowProgram) where
   abbrev s : Typing
   s = flow_typing program
 
-  -- In each call, actuals are as the class with formals that own asks.
-  abbrev pub PassFit : Type 0
-  PassFit =
-      (sub : FlowSub) → Holds program.subs sub → (p : FlowPoint) → Holds sub.points p → (n : ℕ) (actuals : TypedTree) (result : Option ℕ)
-      → p.instr ≡ Call n actuals result → AreFitActuals s (sub_of program n).formals actuals
-
-  -- So it is of a program whose steps are typed, where formals of anonymous access types are the first ones of traversal functions.
+  -- Of a program whose steps are typed, where formals of anonymous access types are the first ones of traversal functions.
   pub actuals_passed : counts (shape_of program.table integer) ≡ true → lists (shape_of program.table boolean) ≡ true
       → ((t : ℕ) → words program.table t ≡ words_of (words program.table) (shape_of program.table t)) → OwnsByShape program.table
       → ((sub : FlowSub) → Holds program.subs sub → (p : FlowPoint) → Holds sub.points p → IsTypedUse s sub.result p.instr)
       → ((n : ℕ) → Once (sub_at s n).formals)
       → ((n x : ℕ) → Holds (sub_at s n).formals x → is_anonymous (view_of s x) ≡ true → traversed_of (traverses s.table (sub_at s n).result) (sub_at s n).formals ≡ Some x)
-      → PassFit → PassActuals program
-  actuals_passed whole listed word_law own_law used once firsts fit sub has p there n actuals result is known =
+      → PassActuals program
+  actuals_passed whole listed word_law own_law used once firsts sub has p there n actuals result is known =
       let call = subst (λ i. IsTypedUse (flow_typing program) sub.result i) is (used sub has p there) in
       let same : (sub_at (flow_typing program) n).formals ≡ (sub_of program n).formals = ap (λ (z : Signature). z.formals) (signature_there program.subs n) in
-      actuals_to (flow_typing program) whole listed word_law own_law (sub_of program n).formals actuals known (fit sub has p there n actuals result is)
+      actuals_to (flow_typing program) whole listed word_law own_law (sub_of program n).formals actuals
       (subst (λ fs. NamesOwners (flow_typing program) fs actuals) same call.1.0.0)
       (subst (λ fs. NamesViews (flow_typing program) fs actuals) same
       (views_named (flow_typing program) whole listed word_law (traverses program.table (sub_at (flow_typing program) n).result) (sub_at (flow_typing program) n).formals actuals (once n) (firsts n)

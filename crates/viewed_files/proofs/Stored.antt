@@ -1,7 +1,7 @@
 -- What is declared, or assigned as a whole, and is of an anonymous access type is a variable: formals aren't declared, and no
 -- formal of mode `in` is assigned in a program without reports.
 use Rattle.std.specs.Prelude.{IsTrue}
-use Rattle.std.proofs.Common.{◌≡◌, refl, sym, ap, ◌∙◌, subst, ◌⊎◌, inl, inr, ℕ, ◌<◌, Bool, true, false, not, ◌&&◌, ◌||◌, nat_lt, List, [], ◌∷◌, ◌++◌, map, length, filter}
+use Rattle.std.proofs.Common.{◌≡◌, refl, sym, ap, ◌∙◌, subst, ◌⊎◌, inl, inr, ℕ, ◌<◌, Bool, true, false, not, ◌&&◌, ◌||◌, nat_lt, List, [], ◌∷◌, map, length, filter}
 use Rattle.std.proofs.lemmas.Bool.{ltb-true, lt-ltb}
 use Rattle.spark_base.specs.Lists.{Has}
 use Rattle.spark_base.proofs.Lists.{Has-append_right, Has-map_from, Has-filter}
@@ -17,7 +17,7 @@ use Rattle.typed_tree.specs.Trees.{TypedTree, Name, NoMore}
 use Rattle.typed_tree.specs.declared.object.Object.{Object}
 use Rattle.typed_tree.specs.Programs.{TypedSub, TypedProgram, text_io}
 use Rattle.flow_paths.specs.declared.report.Effects.{Effects}
-use Rattle.flow_paths.specs.Instructions.{Instruction, Declare, Assign}
+use Rattle.flow_paths.specs.Instructions.{Declare, Assign}
 use Rattle.flow_paths.specs.Objects.{Typing, object_at, is_variable, is_formal, is_formal_kind, is_borrower, is_observer, is_borrowing, is_observing, is_named_access, is_anonymous, is_package_object, view_of}
 use Rattle.flow_paths.specs.Names.{name_of, selectors}
 use Rattle.flow_paths.specs.Acts.{placed, acts_of, before_write, whole_acts}

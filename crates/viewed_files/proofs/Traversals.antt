@@ -1,18 +1,16 @@
 -- What typing says of traversal functions at points: their first actuals are names; what they give is taken by views, or
 -- returned by such functions; and these return null, names, or what such functions give.
-use Rattle.std.proofs.Common.{◌≡◌, refl, sym, ap, ◌∙◌, subst, ◌⊎◌, inl, inr, ℕ, Bool, true, false, List, [], ◌∷◌, Option, Some, None}
+use Rattle.std.proofs.Common.{◌≡◌, refl, sym, ap, ◌∙◌, subst, ◌⊎◌, inl, inr, ℕ, Bool, true, false, List, ◌∷◌, Option, Some, None}
 use Rattle.spark_base.specs.declared.position.Pos.{Pos}
-use Rattle.spark_base.specs.Lists.{Has as Holds}
 use Rattle.type_definitions.specs.declared.table.Shape.{Shape}
 use Rattle.type_definitions.specs.declared.table.Shape.TheVariants as shape
-use Rattle.type_definitions.specs.Types.{Table, full, shape_of, view_of}
+use Rattle.type_definitions.specs.Types.{full, shape_of, view_of}
 use Rattle.typed_tree.specs.Trees.{TypedTree, Name, Call as CallIn, Component, Designated, Element, NoMore, More}
 use Rattle.typed_tree.specs.Trees as typed
-use Rattle.flow_paths.specs.Instructions.{Instruction, Declare, Assign, Call, Hold}
-use Rattle.flow_paths.specs.Objects.{Typing, Signature, object_at, sub_at, traverses, is_anonymous}
-use Rattle.machine.specs.Words.{element_of, component_type, element_type}
-use Rattle.typed_laws.specs.Fine.{Has, Agree, Leads}
-use Rattle.typed_laws.specs.Needed.{Matches}
+use Rattle.flow_paths.specs.Instructions.{Declare, Assign, Call, Hold}
+use Rattle.flow_paths.specs.Objects.{Typing, object_at, sub_at, traverses, is_anonymous}
+use Rattle.machine.specs.Words.{element_of, component_type}
+use Rattle.typed_laws.specs.Fine.{Has, Leads}
 use Rattle.typed_laws.proofs.Sound.{matches}
 use Rattle.typed_laws.proofs.Agreeing.{agree_access}
 use Rattle.typed_steps.specs.Steps.{Taken, ActualsTaken, IsCall}

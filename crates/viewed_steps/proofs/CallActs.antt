@@ -1,5 +1,5 @@
 -- The acts of a call: its actuals are read, moved or lent, and what is copied back may be.
-use Rattle.std.proofs.Common.{◌≡◌, refl, sym, ap, ◌∙◌, subst, ◌⊎◌, inl, inr, ℕ, suc, ◌<◌, true, false, List, [], ◌∷◌, ◌++◌, map, take, length, arith, Option, Some, None, is_some, Bool, not, ◌||◌, ◌&&◌, eq-eqb, eqb-true}
+use Rattle.std.proofs.Common.{◌≡◌, refl, sym, ap, ◌∙◌, subst, ◌⊎◌, inl, inr, ℕ, suc, ◌<◌, true, false, List, [], ◌∷◌, ◌++◌, map, take, length, arith, Option, Some, None, is_some, Bool, not, ◌||◌, ◌&&◌, eqb-true}
 use Rattle.std.specs.Prelude.{is_some}
 use Rattle.spark_base.specs.Lists.{Has}
 use Rattle.spark_base.proofs.Lists.{Has-append_cases, Has-append_right, Has-map_from}
@@ -85,7 +85,7 @@ use Rattle.viewed_steps.proofs.Lending.{named_has}
 use Rattle.viewed_steps.proofs.Traversing.{first_actual, first_reads}
 use Rattle.viewed_soundness.proofs.Names.{true_false}
 use Rattle.viewed_steps.proofs.Apart.{written_disturbs}
-use Rattle.viewed_steps.proofs.Exclusive.{first_true, second_true, mode_in, sees_shown, AreLent, are_lent, lent_clears}
+use Rattle.viewed_steps.proofs.Exclusive.{first_true, second_true, mode_in, sees_shown, exclusive_shown, ChangesLent, AreLent, are_lent, lent_clears}
 use Rattle.viewed_steps.proofs.Globals.{shown_act}
 
 module _ (table : Table) (typed : TypedProgram) (effects : Effects) (input : List ℕ) (ready : IsReady table typed effects) where
@@ -622,10 +622,10 @@ module _ (table : Table) (typed : TypedProgram) (effects : Effects) (input : Lis
           of_procedure : procedure ≡ true
           of_procedure = ap (λ r. not (is_some r)) is
 
-      -- what the first formal of a function that gives a borrower is lent; it is shown alone
-      lent_first : (f : ℕ) → traversed_formal s (sub_of program n) ≡ Some f → gives_variable s (sub_at s n).result ≡ true → AreLent s facts_now formals actuals
-      lent_first f traversed borrows y has given m of =
-          let only : y ≡ f = ready.class.lends n f y lends (there_formals y has) given in
+      -- what the first formal of a function that gives a borrower is lent; what other ones are shown doesn't overlap it
+      lent_first : (f : ℕ) → traversed_formal s (sub_of program n) ≡ Some f → gives_variable s (sub_at s n).result ≡ true → ChangesLent s facts_now formals actuals
+      lent_first f traversed borrows y has given changes m of =
+          let only : y ≡ f = first_is (sub_at s n).formals y f formals_there (second_true (gives_variable s (sub_at s n).result) (is_first y (sub_at s n).formals) (lends y has given changes)) in
           record {
             of_in = ap (λ z. (object_at s z).mode) only ∙ first_mode f traversed;
             given = given;
@@ -633,7 +633,9 @@ module _ (table : Table) (typed : TypedProgram) (effects : Effects) (input : Lis
             clear = λ fact there over. free fact there (subst (λ z. moved_or_lent z fact ≡ true) (name_there only) over);
             apart = λ b there differs met over. elim met [
               | inl back ↦ back (all_in_mode b.formal (named_has formals actuals b there))
-              | inr shown ↦ differs (only ∙ sym (ready.class.lends n f b.formal lends (there_formals b.formal (named_has formals actuals b there)) shown))
+              | inr shown ↦ ready.class.lends (flow_sub own named) (standing.in_program table typed effects input ready state top older outer named p frames of_sub at_point) main_turn.point
+                  (standing.in_sub table typed effects input ready state top older outer named p frames of_sub at_point) n actuals result e (record { formal = y; actual = m }) b of there
+                  (lends y has given changes) differs shown over
             ];
           }
         where
@@ -641,9 +643,16 @@ module _ (table : Table) (typed : TypedProgram) (effects : Effects) (input : Lis
           all_in_mode x has = followed.modes_there table typed effects input ready state top older outer named p frames of_sub at_point path n actuals result e f traversed x
               (subst (λ z. Has z x) (traversing f traversed).formals has)
 
-          lends : lends_first s f (sub_at s n) ≡ true
-          lends = ap (λ b. b && is_first f (sub_at s n).formals) borrows
-              ∙ ap (is_first f) (ap (λ (z : Signature). z.formals) (signature_is program n) ∙ (traversing f traversed).formals) ∙ eq-eqb f f refl
+          formals_there : (sub_at s n).formals ≡ f ∷ (traversing f traversed).rest
+          formals_there = ap (λ (z : Signature). z.formals) (signature_is program n) ∙ (traversing f traversed).formals
+
+          -- one that changes what it sees is the first one
+          lends : (x : ℕ) → Has formals x → is_given s x ≡ true → sees_only s x ≡ false → lends_first s x (sub_at s n) ≡ true
+          lends x there shown changed = elim (bool_cases (lends_first s x (sub_at s n))) [
+            | inl is ↦ is
+            | inr none ↦ absurd (true_false (is_exclusive s x) (exclusive_shown s x shown changed)
+                (ready.class.functions n (traversing f traversed).of (ap (λ (z : Signature). z.result) (signature_is program n) ∙ (traversing f traversed).result) x (there_formals x there) (called.formals x there) shown none))
+          ]
 
           -- the name is the first one
           name_there : y ≡ f → m.name ≡ traversed_name (made f traversed).call
@@ -669,13 +678,13 @@ module _ (table : Table) (typed : TypedProgram) (effects : Effects) (input : Lis
 
       -- a function has formals of mode `in` alone
       pub by_callee : (((x : ℕ) → Has formals x → (object_at s x).mode ≡ mode.In) × ((x : ℕ) → Has formals x → IsCopiedBack s x → ⊥)
-          × ((x : ℕ) → Has formals x → is_given s x ≡ true → sees_only s x ≡ true))
+          × ChangesLent s facts_now formals actuals)
           ⊎ AreLent s facts_now formals actuals
       by_callee = by_result (sub_of program n).result refl
         where
           AllSee : Type 0
           AllSee = ((x : ℕ) → Has formals x → (object_at s x).mode ≡ mode.In) × ((x : ℕ) → Has formals x → IsCopiedBack s x → ⊥)
-              × ((x : ℕ) → Has formals x → is_given s x ≡ true → sees_only s x ≡ true)
+              × ChangesLent s facts_now formals actuals
 
           by_result : (r : Option ℕ) → (sub_of program n).result ≡ r → AllSee ⊎ AreLent s facts_now formals actuals
           by_result (Some of) is = by_kind (bool_cases (gives_variable s (sub_at s n).result))
@@ -694,12 +703,12 @@ module _ (table : Table) (typed : TypedProgram) (effects : Effects) (input : Lis
                   inl (
                     modes,
                     (λ x has back. back (modes x has)),
-                    λ x has given.
-                        sees_shown (is_observer s x) (is_given s x) (is_exclusive s x) given
-                        (ready.class.functions n of answers x (there_formals x has) (called.formals x has) given (ap (λ b. b && is_first x (sub_at s n).formals) none)),
+                    λ x has given changes. absurd (true_false (sees_only s x)
+                        (sees_shown (is_observer s x) (is_given s x) (is_exclusive s x) given
+                        (ready.class.functions n of answers x (there_formals x has) (called.formals x has) given (ap (λ b. b && is_first x (sub_at s n).formals) none))) changes),
                   )
               by_kind (inl borrows) = elim traverses_or [
-                | inr (f, traversed) ↦ inr (lent_first f traversed borrows)
+                | inr (f, traversed) ↦ inl (modes, (λ x has back. back (modes x has)), lent_first f traversed borrows)
                 | inl none ↦ absurd (no_borrower of (sym (ap (traverses s.table) is) ∙ none) (sym (ap (gives_variable s) answers) ∙ borrows))
               ]
           by_result None is = inr (lent_there is)

@@ -73,8 +73,12 @@ use Rattle.viewed_steps.proofs.Standing as standing
 use Rattle.viewed_steps.proofs.Packages as packages
 use Rattle.viewed_steps.proofs.Innermost as innermost
 use Rattle.viewed_steps.proofs.Views.{AreAccess, AreFar, kind_given, given_type, not_elsewhere}
-use Rattle.viewed_steps.proofs.Exclusive.{AreLent, IsFrom, from_past, from_far, from_apart, from_place}
-use Rattle.viewed_steps.proofs.Opening.{opened_first, opened_rooted, Opens, all_opened, low_of, opened_from, opened_views, opened_whole, opened_lies, opened_held, opened_placed}
+use Rattle.viewed_steps.proofs.Exclusive.{ChangesLent, IsLentAs, IsSeenFrom, AreLent, IsFrom, from_past, from_far, from_apart, from_place}
+use Rattle.viewed_steps.proofs.Lending.{IsNameOf}
+use Rattle.viewed_steps.proofs.CallShows.{clear_named}
+use Rattle.viewed_soundness.proofs.Names.{sees_view}
+use Rattle.flow_paths.specs.Names.{Written}
+use Rattle.viewed_steps.proofs.Opening.{opened_first, opened_rooted, Opens, all_opened, low_of, opened_seen, opened_from, opened_views, opened_whole, opened_lies, opened_held, opened_placed}
 use Rattle.viewed_steps.proofs.Calling as calling
 use Rattle.viewed_steps.proofs.Handed.{elsewhere_excused}
 use Rattle.viewed_steps.proofs.CallShows as shows
@@ -205,7 +209,7 @@ module _ (table : Table) (typed : TypedProgram) (effects : Effects) (input : Lis
       formals_low = calling.formals_low table typed effects input ready state top below more_frames rest named p frames deep stages running awaiting of_sub at_point path views viewed_before kept scope holds placed_before above n actuals result e
 
       abbrev by_callee : (((x : ℕ) → Has formals x → (object_at s x).mode ≡ mode.In) × ((x : ℕ) → Has formals x → IsCopiedBack s x → ⊥)
-          × ((x : ℕ) → Has formals x → is_given s x ≡ true → sees_only s x ≡ true))
+          × ChangesLent s facts_now formals actuals)
           ⊎ AreLent s facts_now formals actuals
       by_callee = calling.by_callee table typed effects input ready state top below more_frames rest named p frames deep stages running awaiting of_sub at_point path views viewed_before kept scope holds placed_before above n actuals result e
 
@@ -351,11 +355,28 @@ module _ (table : Table) (typed : TypedProgram) (effects : Effects) (input : Lis
         abbrev callee_views : Views
         callee_views = opened.0
 
+        from_lent : (y : ℕ) (w : Way) → callee_views.way y ≡ Some w → ((m : Written) → IsNameOf formals actuals y m → IsLentAs s facts_now (alias.passed formals actuals) y m)
+            → IsFrom s depth views facts_now (alias.passed formals actuals) y w
+        from_lent =
+            opened_from (steps.here main_turn) ready.accepted.settled (waiting_in easy.state) state.leaks state.memory [] other facts_now views (viewed_easy plain_there.0).1
+            (viewed_easy plain_there.0).0 holds_now alone live_now in_formals index_law ready.owns ready.class.parts_named formals_low procedure formals actuals passed callee_views opened.1
+
         from_there : AreLent s facts_now formals actuals → (y : ℕ) (w : Way) → callee_views.way y ≡ Some w
             → IsFrom s depth views facts_now (alias.passed formals actuals) y w
-        from_there lent =
-            opened_from (steps.here main_turn) ready.accepted.settled (waiting_in easy.state) state.leaks state.memory [] other facts_now views (viewed_easy plain_there.0).1
-            (viewed_easy plain_there.0).0 holds_now alone live_now in_formals index_law ready.owns ready.class.parts_named formals_low procedure formals actuals passed callee_views opened.1 lent
+        from_there lent y w has = (let found = opened.1.way y w has in from_lent y w has (lent y found.1 found.0))
+
+        seen_from : (y : ℕ) (w : Way) → callee_views.way y ≡ Some w → IsSeenFrom s depth views (alias.passed formals actuals) y w
+        seen_from =
+            opened_seen (steps.here main_turn) ready.accepted.settled (waiting_in easy.state) state.leaks state.memory [] other facts_now views (viewed_easy plain_there.0).1
+            (viewed_easy plain_there.0).0 holds_now alone live_now in_formals index_law ready.owns ready.class.parts_named formals_low procedure formals actuals passed callee_views opened.1
+
+        -- what one is lent that changes what it sees
+        lent_changed : (x : ℕ) → Has formals x → is_given s x ≡ true → sees_only s x ≡ false → (m : Written) → IsNameOf formals actuals x m
+            → IsLentAs s facts_now (alias.passed formals actuals) x m
+        lent_changed x has is changes m of = elim by_callee [ inl modes ↦ modes.2 x has is changes m of | inr lent ↦ lent x has is m of ]
+
+        from_changed : (x : ℕ) (w : Way) → callee_views.way x ≡ Some w → sees_only s x ≡ false → IsFrom s depth views facts_now (alias.passed formals actuals) x w
+        from_changed x w has changes = (let found = opened.1.way x w has in from_lent x w has (lent_changed x found.1 found.0 changes))
 
         low_called : (y : ℕ) (w : Way) → callee_views.way y ≡ Some w → IsLow s depth w
         low_called =
@@ -379,22 +400,17 @@ module _ (table : Table) (typed : TypedProgram) (effects : Effects) (input : Lis
         callee_apart : (x y : ℕ) (w u : Way) → callee_views.way x ≡ Some w → callee_views.way y ≡ Some u → (y ≡ x → ⊥) → sees_only s x ≡ false
             → ways.Under w u ⊎ ways.Under u w → ⊥
         callee_apart x y w u has there differs plain meets =
-            let found = opened.1.way x w has in
-            elim by_callee [
-              | inl modes ↦ true_false (sees_only s x) (modes.2 x found.1 found.0) plain
-              | inr lent ↦ from_apart s depth views facts_now (alias.passed formals actuals) x w (from_there lent x w has) other (view_here s easy.state) (viewed_easy plain_there.0).0
-                  y u (from_there lent y u there) differs meets
-            ]
+            let to = seen_from y u there in
+            from_apart s depth views facts_now (alias.passed formals actuals) x w (from_changed x w has plain) other (view_here s easy.state) (viewed_easy plain_there.0).0
+            (sees_view s) y u to
+            (λ root_plain. (clear_named s facts_now formals actuals (calling.clear_there table typed effects input ready state top below more_frames rest named p frames deep stages running awaiting of_sub at_point path views viewed_before kept scope holds placed_before above n actuals result e)
+            (record { formal = y; actual = to.actual }) to.of to.given root_plain to.from (sym to.called)).0)
+            differs meets
 
         -- none of the frames around goes past what it changes
         callee_past : (x : ℕ) (w : Way) → callee_views.way x ≡ Some w → (ways.Named (home s (suc depth)) (callee_views.up x) → ⊥) → sees_only s x ≡ false → (k : Way) (m : ℕ)
             → KeptBy (waits_there ∷ older) k m → Past w k → ⊥
-        callee_past x w has named plain k m keeps past =
-            let found = opened.1.way x w has in
-            elim by_callee [
-              | inl modes ↦ true_false (sees_only s x) (modes.2 x found.1 found.0) plain
-              | inr lent ↦ by_frame (from_there lent x w has) keeps
-            ]
+        callee_past x w has named plain k m keeps past = by_frame (from_changed x w has plain) keeps
           where
             by_frame : IsFrom s depth views facts_now (alias.passed formals actuals) x w → KeptBy (waits_there ∷ older) k m → ⊥
             by_frame from (g, inr there, way) =
@@ -466,10 +482,7 @@ module _ (table : Table) (typed : TypedProgram) (effects : Effects) (input : Lis
               | inl far ↦ absurd (not_elsewhere (home s (suc depth)) w named_there far.0)
               | inr (at_home, shared_root) ↦ shows.shared_at table typed effects input ready state top below more_frames rest named p frames deep stages running awaiting of_sub at_point path views viewed_before kept scope holds placed_before above n actuals result e passed given
                   (record { formal = x; actual = actual.0 }) of found.0 sees.from sees.from_named actual.2 sees.lifted
-                  (λ changes. elim by_callee [
-                    | inl modes ↦ absurd (true_false (sees_only s x) (modes.2 x found.1 found.0) changes)
-                    | inr lent ↦ ap (λ (z : PlaceName). sees_only s z.root) (sym actual.2) ∙ (lent x found.1 found.0 actual.0 of).plain
-                  ])
+                  (λ changes. ap (λ (z : PlaceName). sees_only s z.root) (sym actual.2) ∙ (lent_changed x found.1 found.0 changes actual.0 of).plain)
                   w (sym found.3 ∙ sees.leads) (package_named s (suc depth) depth w shared_root named_there) shared_root
             ]
 

@@ -57,7 +57,7 @@ use Rattle.flow_paths.specs.Acts.{gives_variable}
 use Rattle.machine.specs.Owners.{is_in}
 use Rattle.viewed_steps.proofs.Seeing.{AreClear}
 use Rattle.viewed_steps.proofs.Lending.{named_has}
-use Rattle.viewed_steps.proofs.Exclusive.{IsLentAs}
+use Rattle.viewed_steps.proofs.Exclusive.{IsLentAs, exclusive_shown}
 use Rattle.viewed_steps.proofs.CallActs as acting
 use Rattle.viewed_steps.proofs.Withheld.{kept_fact, kept_root}
 use Rattle.std.specs.Prelude.{flat_map, is_some}
@@ -87,7 +87,7 @@ use Rattle.viewed_steps.proofs.Roots.{view_goes}
 
 -- ---- what is known of an actual that is shown
 
-clear_named : (s : Typing) (facts : List Fact) (formals : List ℕ) (actuals : TypedTree) → AreClear s facts formals actuals
+pub clear_named : (s : Typing) (facts : List Fact) (formals : List ℕ) (actuals : TypedTree) → AreClear s facts formals actuals
     → (b : alias.Passed) → Has (alias.passed formals actuals) b → is_given s b.formal ≡ true → sees_only s b.actual.name.root ≡ false
     → (w : Way) → ways.name_of w ≡ b.actual.name → Cleared facts w
 clear_named s facts (x ∷ formals) (More e rest) clear b has given plain w named = elim (Has-append_cases (alias.passed_as x (written e)) (alias.passed formals rest) b has) [
@@ -107,16 +107,6 @@ clear_named s facts (x ∷ formals) _ clear b has given plain w named = absurd h
 both_first : (a b : Bool) → a && b ≡ true → a ≡ true
 both_first true b e = refl
 both_first false b e = cc
-
--- a formal that is given and isn't seen only changes what it sees
-exclusive_shown : (s : Typing) (x : ℕ) → is_given s x ≡ true → sees_only s x ≡ false → is_exclusive s x ≡ true
-exclusive_shown s x given changes = by (is_observer s x) (is_given s x) (is_exclusive s x) given changes
-  where
-    by : (a b c : Bool) → b ≡ true → a || (b && not c) ≡ false → c ≡ true
-    by true b c is e = cc
-    by false true true is e = refl
-    by false true false is e = cc
-    by false false c is e = cc
 
 changes_shown : (s : Typing) (x : ℕ) → is_given s x ≡ true → is_exclusive s x ≡ true → sees_only s x ≡ false
 changes_shown s x given exclusive = by (is_observer s x) (is_given s x) (is_exclusive s x) (unobserved (object_at s x).kind) exclusive
@@ -390,7 +380,8 @@ module _ (table : Table) (typed : TypedProgram) (effects : Effects) (input : Lis
                   let given : is_given s (b.passed).formal ≡ true = b.formal in
                   let x_has = named_has formals actuals b.passed b.has in
                   elim (acting.by_callee table typed effects input ready state top below more_frames rest named p frames deep stages running awaiting of_sub at_point path views viewed_before kept scope holds placed_before above n actuals result e) [
-                    | inl modes ↦ true_false (sees_only s (b.passed).formal) (modes.2 (b.passed).formal x_has given) (changes_shown s (b.passed).formal given exclusive)
+                    | inl modes ↦ by_lent b exclusive (modes.2 (b.passed).formal x_has given (changes_shown s (b.passed).formal given exclusive) (b.passed).actual b.has)
+                        (Has-append_cases facts_called (flat_map (shown_one s) passed_all) (Lent Observed h name) seen)
                     | inr lent ↦ by_lent b exclusive (lent (b.passed).formal x_has given (b.passed).actual b.has)
                         (Has-append_cases facts_called (flat_map (shown_one s) passed_all) (Lent Observed h name) seen)
                   ])

@@ -59,9 +59,8 @@ use Rattle.owned_loans.specs.Views.{expand, Around, known_gone, Views, Viewed, A
 use Rattle.owned_loans.proofs.Ways.{under_on}
 use Rattle.owned_loans.proofs.Meeting.{stands}
 use Rattle.owned_loans.proofs.Moves.{expand_under, view_on, own_loan, reached, lends_on}
-use Rattle.owned_loans.proofs.Meeting.{stands}
 use Rattle.viewed_soundness.proofs.Names.{true_false}
-use Rattle.viewed_soundness.specs.Holds.{Holds, is_view, sees_only, is_given, IsOwners}
+use Rattle.viewed_soundness.specs.Holds.{Holds, is_view, sees_only, IsOwners}
 use Rattle.soundness.specs.Ready.{IsSupplied, Fills}
 use Rattle.viewed_steps.specs.Awaited.{AreValuesBut, temporaries_of, lasting_of, awaited, WaitsAt, AreAwaited, AreOwnless, TakesPassed, FillsTyped}
 use Rattle.viewed_steps.proofs.Waited.{late_scope, within_lasting, lasting_more, Shares}
@@ -90,7 +89,7 @@ use Rattle.viewed_steps.proofs.Views.{AreAccess, AreFar, lies_far}
 use Rattle.viewed_steps.proofs.Seeing.{AreClear}
 use Rattle.viewed_steps.proofs.Followed as followed
 use Rattle.viewed_steps.proofs.Traversing.{all_traversed}
-use Rattle.viewed_steps.proofs.Exclusive.{AreLent}
+use Rattle.viewed_steps.proofs.Exclusive.{ChangesLent, AreLent}
 use Rattle.owned_ways.proofs.Unique.{one_way}
 use Rattle.viewed_steps.proofs.Bared.{not_before}
 use Rattle.viewed_steps.proofs.CallActs as acting
@@ -272,7 +271,7 @@ module _ (table : Table) (typed : TypedProgram) (effects : Effects) (input : Lis
       formals_low = acting.formals_low table typed effects input ready state top below more_frames rest named p frames deep stages running awaiting of_sub at_point path views viewed_before kept scope holds placed_before above n actuals result e
 
       abbrev pub by_callee : (((x : ℕ) → Has formals x → (object_at s x).mode ≡ mode.In) × ((x : ℕ) → Has formals x → IsCopiedBack s x → ⊥)
-          × ((x : ℕ) → Has formals x → is_given s x ≡ true → sees_only s x ≡ true))
+          × ChangesLent s facts_now formals actuals)
           ⊎ AreLent s facts_now formals actuals
       by_callee = acting.by_callee table typed effects input ready state top below more_frames rest named p frames deep stages running awaiting of_sub at_point path views viewed_before kept scope holds placed_before above n actuals result e
 

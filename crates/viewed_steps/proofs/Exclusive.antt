@@ -14,7 +14,7 @@ use Rattle.place_names.specs.Names.{Name as PlaceName, overlaps}
 use Rattle.place_names.specs.Reports.{Report}
 use Rattle.place_names.specs.Rules.{moved_or_lent}
 use Rattle.typed_tree.specs.Trees.{TypedTree, Name, More}
-use Rattle.flow_paths.specs.Objects.{Typing, object_at, is_named_access, is_variable_access, view_of}
+use Rattle.flow_paths.specs.Objects.{Typing, object_at, is_named_access, is_variable_access, is_observer, view_of}
 use Rattle.machine.specs.Owners.{is_in}
 use Rattle.flow_paths.specs.Names.{Written, written, name_of}
 use Rattle.flow_paths.specs.Aliases.{overlap_reports}
@@ -25,8 +25,10 @@ use Rattle.soundness.specs.Seen.{home}
 use Rattle.soundness.proofs.Scalars.{acts}
 use Rattle.owned_loans.specs.Views.{Around, Views, expand, Viewed}
 use Rattle.owned_loans.proofs.Safe.{Unlent, Unborrowed}
-use Rattle.owned_loans.proofs.Ways.{Meet}
-use Rattle.viewed_soundness.specs.Holds.{sees_only, is_given, is_fixed, AllKeep}
+use Rattle.owned_loans.proofs.Ways.{Meet, flip, meets_on, Lifted, lifted_way, on_under}
+use Rattle.viewed_soundness.specs.Holds.{sees_only, is_given, is_exclusive, is_view, is_fixed, AllKeep}
+use Rattle.viewed_steps.proofs.SeenApart.{observed_apart}
+use Rattle.soundness.proofs.Contents.{bool_cases}
 use Rattle.viewed_soundness.proofs.Given.{lent_past, lent_far, lent_apart, lent_beside}
 use Rattle.viewed_steps.specs.Ready.{AreDifferent}
 use Rattle.viewed_steps.proofs.Seeing.{IsClear, AreClear}
@@ -51,6 +53,16 @@ sees_shown false true false e f = refl
 sees_shown false true true e f = cc
 sees_shown false false d e f = cc
 
+-- a formal that is given and isn't seen only changes what it sees
+pub exclusive_shown : (s : Typing) (x : ℕ) → is_given s x ≡ true → sees_only s x ≡ false → is_exclusive s x ≡ true
+exclusive_shown s x given changes = by (is_observer s x) (is_given s x) (is_exclusive s x) given changes
+  where
+    by : (a b c : Bool) → b ≡ true → a || (b && not c) ≡ false → c ≡ true
+    by true b c is e = cc
+    by false true true is e = refl
+    by false true false is e = cc
+    by false false c is e = cc
+
 -- A formal that is copied back, or is shown what its actual designates.
 abbrev pub IsMet : Typing → ℕ → Type 0
 IsMet s x = IsCopiedBack s x ⊎ (is_given s x ≡ true)
@@ -68,6 +80,12 @@ pub record IsLentAs (s : Typing) (facts : List Fact) (all : List alias.Passed) (
 abbrev pub AreLent : Typing → List Fact → List ℕ → TypedTree → Type 0
 AreLent s facts formals actuals =
     (y : ℕ) → Has formals y → is_given s y ≡ true → (m : Written) → IsNameOf formals actuals y m → IsLentAs s facts (alias.passed formals actuals) y m
+
+-- So it is for each that changes what it sees.
+abbrev pub ChangesLent : Typing → List Fact → List ℕ → TypedTree → Type 0
+ChangesLent s facts formals actuals =
+    (y : ℕ) → Has formals y → is_given s y ≡ true → sees_only s y ≡ false → (m : Written) → IsNameOf formals actuals y m
+    → IsLentAs s facts (alias.passed formals actuals) y m
 
 -- the rules on actuals say so where these formals are of named access types
 pub are_lent : (s : Typing) (facts : List Fact) (formals : List ℕ) (actuals : TypedTree) → AreDifferent formals
@@ -126,6 +144,17 @@ pub record IsFrom (s : Typing) (frame : ℕ) (v : Views) (facts : List Fact) (al
   pub called : actual.name ≡ ways.name_of from
   pub lent : IsLentAs s facts all y actual
 
+-- The way of a formal that sees, with the name of its actual.
+pub record IsSeenFrom (s : Typing) (frame : ℕ) (v : Views) (all : List alias.Passed) (y : ℕ) (w : Way) : Type 0 where
+  pub from : Way
+  pub named : Named (home s frame) from
+  pub leads : w ≡ expand v (All from)
+  pub lifted : is_view s (number_of from) ≡ true → (l : Lifted v (All from)) × (l.object ≡ number_of from)
+  pub actual : Written
+  pub of : Has all (record { formal = y; actual = actual })
+  pub called : actual.name ≡ ways.name_of from
+  pub given : is_given s y ≡ true
+
 module _ (s : Typing) (frame : ℕ) (v : Views) (facts : List Fact) (all : List alias.Passed) (y : ℕ) (w : Way) (is : IsFrom s frame v facts all y w) where
   from_plain : sees_only s (number_of is.from) ≡ false
   from_plain = ap (λ (z : PlaceName). sees_only s z.root) (sym is.called) ∙ is.lent.plain
@@ -144,21 +173,27 @@ module _ (s : Typing) (frame : ℕ) (v : Views) (facts : List Fact) (all : List 
   from_far other view viewed k n keeps past =
       lent_far s frame other v view facts viewed is.from is.named from_plain from_unlent k n keeps (subst (λ z. Past z k) is.leads past)
 
-  -- nor does another one meet it
+  -- nor does what another one sees meet it
   pub from_apart : (other : Around (home s frame)) (view : View) (viewed : Viewed (home s frame) (sees_only s) other v view facts)
-      → (z : ℕ) (u : Way) (to : IsFrom s frame v facts all z u) → (z ≡ y → ⊥) → Under w u ⊎ Under u w → ⊥
-  from_apart other view viewed z u to differ meets =
-      lent_apart s frame other v view facts viewed is.from to.from is.named to.named from_plain plain_there
-      (λ h n has over. from_unlent Borrowed h n has over) (λ h n has over. unlent_there h n has over)
-      (λ over. is.lent.apart (record { formal = z; actual = to.actual }) to.of (λ same. differ (sym same)) (inr to.lent.given)
-      (subst (λ (q : PlaceName). overlaps is.actual.name q ≡ true) (sym to.called) (subst (λ (q : PlaceName). overlaps q (ways.name_of to.from) ≡ true) (sym is.called) over)))
-      (subst (λ q. Meet q (expand v (All to.from))) is.leads (subst (Meet w) to.leads meets))
+      → ((x : ℕ) → sees_only s x ≡ true → is_view s x ≡ true)
+      → (z : ℕ) (u : Way) (to : IsSeenFrom s frame v all z u) → (sees_only s to.actual.name.root ≡ false → Unborrowed facts to.from) → (z ≡ y → ⊥) → Under w u ⊎ Under u w → ⊥
+  from_apart other view viewed views z u to free differ meets = elim (bool_cases (sees_only s (number_of to.from))) [
+    | inr plain_there ↦
+        lent_apart s frame other v view facts viewed is.from to.from is.named to.named from_plain plain_there
+        (λ h n has over. from_unlent Borrowed h n has over) (free (ap (λ (q : PlaceName). sees_only s q.root) to.called ∙ plain_there))
+        (λ over. is.lent.apart (record { formal = z; actual = to.actual }) to.of (λ same. differ (sym same)) (inr to.given)
+        (subst (λ (q : PlaceName). overlaps is.actual.name q ≡ true) (sym to.called) (subst (λ (q : PlaceName). overlaps q (ways.name_of to.from) ≡ true) (sym is.called) over)))
+        met
+    | inl sees ↦ (
+        let l = to.lifted (views (number_of to.from) sees) in
+        observed_apart s frame other v view facts viewed is.from is.named from_plain from_unlent l.0.object l.0.way l.0.has (ap (sees_only s) l.1 ∙ sees)
+        (flip l.0.way (expand v (All is.from)) (meets_on l.0.way (expand v (All to.from)) (expand v (All is.from))
+        (subst (Under l.0.way) (sym (lifted_way v (All to.from) l.0)) (on_under l.0.way l.0.rest))
+        (flip (expand v (All is.from)) (expand v (All to.from)) met))))
+  ]
     where
-      plain_there : sees_only s (number_of to.from) ≡ false
-      plain_there = ap (λ (q : PlaceName). sees_only s q.root) (sym to.called) ∙ to.lent.plain
-
-      unlent_there : Unborrowed facts to.from
-      unlent_there h n has over = to.lent.clear (Lent Borrowed h n) has (subst (λ (q : PlaceName). overlaps n q ≡ true) (sym to.called) over)
+      met : Meet (expand v (All is.from)) (expand v (All to.from))
+      met = subst (λ q. Meet q (expand v (All to.from))) is.leads (subst (Meet w) to.leads meets)
 
   -- nor a place that is copied back to
   pub from_place : (other : Around (home s frame)) (view : View) (known : List Fact) (viewed : Viewed (home s frame) (sees_only s) other v view known)

@@ -52,6 +52,7 @@ pub mod Puts
 pub mod Called
 pub mod Acted
 -- the views of what is called
+pub mod SeenApart
 pub mod Exclusive
 pub mod Opening
 -- what a call shows

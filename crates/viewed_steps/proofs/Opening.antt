@@ -40,7 +40,9 @@ use Rattle.viewed_steps.proofs.Called.{IsGiven, AreGiven}
 use Rattle.viewed_steps.proofs.Entered.{IsShownTo}
 use Rattle.flow_paths.specs.Aliases as alias
 use Rattle.viewed_steps.proofs.Seeing.{Sees, IsCalledBy, named_written}
-use Rattle.viewed_steps.proofs.Exclusive.{AreLent, IsFrom}
+use Rattle.viewed_steps.proofs.Lending.{IsNameOf}
+use Rattle.flow_paths.specs.Names.{Written}
+use Rattle.viewed_steps.proofs.Exclusive.{IsLentAs, IsFrom, IsSeenFrom}
 use Rattle.viewed_steps.proofs.Lending.{IsActualOf, actual_named}
 use Rattle.viewed_steps.proofs.Views.{AreAccess, not_elsewhere, given_type, given_formal}
 use Rattle.viewed_steps.proofs.Waited.{plain_unheld}
@@ -247,20 +249,33 @@ module _ (h : Here) (settled : IsSettled h.typing.table) (hands : List Waiting) 
         })
 
     -- with the name of its actual
-    pub opened_from : AreLent h.typing facts formals actuals → (y : ℕ) (w : Way) → t.way y ≡ Some w → IsFrom h.typing h.frame v facts (alias.passed formals actuals) y w
-    opened_from lent y w has =
+    pub opened_seen : (y : ℕ) (w : Way) → t.way y ≡ Some w → IsSeenFrom h.typing h.frame v (alias.passed formals actuals) y w
+    opened_seen y w has =
         let found = opened.way y w has in
         let sees = (found.2).1 in
         let actual = named_written h settled hands leaks m waits other facts v kept well holds alone live index_law own_law parts_named formals_low (found.2).0 sees.from sees.called in
-        let of = actual_named formals actuals y (found.2).0 actual.0 found.4 actual.1 in
         record {
           from = sees.from;
           named = sees.from_named;
           leads = sym found.3 ∙ sees.leads;
+          lifted = sees.lifted;
           actual = actual.0;
-          of = of;
+          of = actual_named formals actuals y (found.2).0 actual.0 found.4 actual.1;
           called = actual.2;
-          lent = lent y found.1 found.0 actual.0 of;
+          given = found.0;
+        }
+
+    pub opened_from : (y : ℕ) (w : Way) → t.way y ≡ Some w → ((m : Written) → IsNameOf formals actuals y m → IsLentAs h.typing facts (alias.passed formals actuals) y m)
+        → IsFrom h.typing h.frame v facts (alias.passed formals actuals) y w
+    opened_from y w has lent =
+        let seen_there = opened_seen y w has in record {
+          from = seen_there.from;
+          named = seen_there.named;
+          leads = seen_there.leads;
+          actual = seen_there.actual;
+          of = seen_there.of;
+          called = seen_there.called;
+          lent = lent seen_there.actual seen_there.of;
         }
 
     pub opened_whole : (gone : Way → Type 0) → ((z : Way) → gone z → ExcusedBy (home h.typing h.frame) v other facts z)

@@ -20,7 +20,7 @@ use Rattle.typed_tree.specs.Programs.{TypedProgram}
 use Rattle.flow_paths.specs.declared.report.Effects.{Effects}
 use Rattle.flow_paths.specs.Instructions.{Instruction, Declare, Assign, Call, EndScope, Finish}
 use Rattle.flow_paths.specs.Objects.{Typing, object_at, sub_at, is_formal, is_observer, is_named_access, view_of, is_package_object, has_scope_end, is_anonymous}
-use Rattle.flow_paths.specs.Points.{NamedPoint}
+use Rattle.flow_paths.specs.Points.{NamedPoint, FlowPoint}
 use Rattle.flow_paths.specs.Laid.{FlowSub, FlowProgram, NamedSub, flow_typing, flow_program, flow_named}
 use Rattle.flow_paths.specs.Paths.{ControlPath}
 use Rattle.flow_paths.specs.Effects.{written_by, path_points}
@@ -61,18 +61,25 @@ IsOwnless s x = ((object_at s x).mode ≡ mode.In) × (is_owning s.table (object
 abbrev pub IsKindOfFormal : Typing → ℕ → Type 0
 IsKindOfFormal s x = IsScalarObject s x ⊎ ((IsCopiedBack s x × IsNamed s.table (object_at s x).of) ⊎ (IsShown s x ⊎ IsOwnless s x))
 
+-- In each call of a function that gives a borrower, the actual of its first formal doesn't overlap what other formals see.
+abbrev pub LendsApart : FlowProgram → Type 0
+LendsApart program =
+    (sub : FlowSub) → Has program.subs sub → (p : FlowPoint) → Has sub.points p → (n : ℕ) (actuals : TypedTree) (result : Option ℕ)
+    → p.instr ≡ Call n actuals result → (a b : alias.Passed) → Has (alias.passed (sub_of program n).formals actuals) a
+    → Has (alias.passed (sub_of program n).formals actuals) b → lends_first (flow_typing program) a.formal (sub_at (flow_typing program) n) ≡ true
+    → (a.formal ≡ b.formal → ⊥) → is_given (flow_typing program) b.formal ≡ true → overlaps a.actual.name b.actual.name ≡ true → ⊥
+
 -- Anonymous access types are those of objects and results alone; formals are such, those of functions of mode
 -- `in`, and what they are shown isn't changed through them, but through the first one of a function that gives a
--- borrower, which is shown alone; those of procedures of mode `in` that own nothing are of access-to-variable
--- types; actuals are copied back to as above.
+-- borrower; those of procedures of mode `in` that own nothing are of access-to-variable
+-- types.
 pub record IsViewClass (program : FlowProgram) : Type 0 where
   pub parts_named : PartsAreNamed program.table
   pub formals : (x : ℕ) → is_formal (flow_typing program) x ≡ true → IsKindOfFormal (flow_typing program) x
   pub functions : (n t : ℕ) → (sub_at (flow_typing program) n).result ≡ Some t → (x : ℕ) → Has (sub_at (flow_typing program) n).formals x
       → is_formal (flow_typing program) x ≡ true → is_given (flow_typing program) x ≡ true → lends_first (flow_typing program) x (sub_at (flow_typing program) n) ≡ false
       → is_exclusive (flow_typing program) x ≡ false
-  pub lends : (n x y : ℕ) → lends_first (flow_typing program) x (sub_at (flow_typing program) n) ≡ true → Has (sub_at (flow_typing program) n).formals y
-      → is_given (flow_typing program) y ≡ true → y ≡ x
+  pub lends : LendsApart program
   pub modes : (n t : ℕ) → (sub_at (flow_typing program) n).result ≡ Some t → (x : ℕ) → Has (sub_at (flow_typing program) n).formals x
       → (object_at (flow_typing program) x).mode ≡ mode.In
   pub procedures : (n : ℕ) → (sub_at (flow_typing program) n).result ≡ None → (x : ℕ) → Has (sub_at (flow_typing program) n).formals x
