@@ -4,8 +4,6 @@ use Rattle.std.specs.Prelude.{codes}
 use Rattle.std.proofs.Common.{◌≡◌, ℕ, ◌+◌, ◌⊎◌, inl, inr, Bool, true, false, not, ◌&&◌, ◌||◌, List, [], ◌∷◌, refl, sym, subst, Option, Some, None, is_some, Ok, Err, true≢false}
 use Rattle.spark_base.specs.Lists.{Has}
 use Rattle.ada_lexer.specs.Tokens.{Cut, CutResult, tokens}
-use Rattle.place_names.specs.declared.act.Mode.{Mode}
-use Rattle.place_names.specs.declared.act.Mode.TheVariants as mode
 use Rattle.ada_tree.specs.declared.declaration.Item.TheVariants as item
 use Rattle.ada_tree.specs.declared.declaration.Component.TheVariants as component
 use Rattle.ada_tree.specs.declared.declaration.Indication.TheVariants as indication
@@ -26,25 +24,19 @@ use Rattle.ada_tree.specs.declared.unit.SourceUnit.{SourceUnit}
 use Rattle.ada_tree.specs.declared.unit.SourceUnit.TheVariants as unit
 use Rattle.ada_grammar.proofs.SmallSources.{IsTextOf, computes, source_of, at, id, mark, selected, expr_of, object, null_at, formals_of, package_of, package_body_of, subprogram_of}
 use Rattle.name_events.specs.Faults.{name_fault}
-use Rattle.type_definitions.specs.Types.{full, is_owning}
 use Rattle.type_definitions.specs.Whole.{type_fault}
 use Rattle.typing_steps.specs.Programs.{program_of}
-use Rattle.typed_tree.specs.declared.object.Object.{Object}
-use Rattle.typed_tree.specs.Programs.{TypedSub, text_io}
-use Rattle.flow_paths.specs.Objects.{Typing, Signature, object_at, sub_at, is_formal_kind, is_formal, is_anonymous}
 use Rattle.flow_paths.specs.Points.{FlowPoint}
 use Rattle.flow_paths.specs.Laid.{FlowSub}
 use Rattle.flow_paths.specs.Effects.{asks_for_end, path_points}
 use Rattle.flow_paths.specs.Aliases.{alias_reports}
 use Rattle.flow_paths.specs.Views.{encloses_within}
-use Rattle.viewed_soundness.specs.Taken.{GivesPlainly}
-use Rattle.soundness.specs.Sound.{calls_procedures, goes_through_none}
+use Rattle.soundness.specs.Sound.{calls_procedures}
 use Rattle.program_check.specs.Sources.{flow_of}
 use Rattle.file_positions.specs.Texts.{AreParsed}
 use Rattle.file_positions.proofs.Cuts.{cut_in_order}
-use Rattle.called_subs.specs.Called.{Calls, CodeCalls}
-use Rattle.order_laws.specs.Orderly.{typed_of, typing_in}
-use Rattle.sound_files.specs.Class.{CallsProcedures, FormalsAreAccess, LendFirst, laid_in, AreFitActuals, PassFitActuals}
+use Rattle.order_laws.specs.Orderly.{typed_of}
+use Rattle.sound_files.specs.Class.{CallsProcedures, FormalsAreAccess, LendFirst}
 use Rattle.sound_files.proofs.Owners.{takes_none, spares_none}
 use Rattle.viewed_files.proofs.Files.{parsed_called_sound}
 use Rattle.accepted_runs.proofs.Runs.{RunsAreSound}
@@ -116,25 +108,8 @@ pub lends : LendFirst (program_of files)
 unfolding computes naming typing lowering
 lends = lend_first files refl
 
--- Of three subprograms, the last one calls.
-of_three : (P : TypedSub → Type 0) (a b c : TypedSub) → P a → P b → P c → (sub : TypedSub) → Has (a ∷ (b ∷ (c ∷ []))) sub → P sub
-of_three P a b c x y z sub (inl is) = subst P is x
-of_three P a b c x y z sub (inr (inl is)) = subst P is y
-of_three P a b c x y z sub (inr (inr (inl is))) = subst P is z
-of_three P a b c x y z sub (inr (inr (inr none))) = absurd none
-
-abbrev laid : Typing
-laid = laid_in (program_of files)
-
-pub passed : PassFitActuals (program_of files)
-unfolding computes naming typing lowering Calls CodeCalls goes_through_none
-passed =
-    of_three (λ sub. CodeCalls (λ n actuals. AreFitActuals laid (sub_at laid n).formals actuals) sub.body) _ _ _ tt (tt, tt)
-    (tt, ((((λ is. tt), tt), (tt, tt)),
-    ((((λ is. tt), tt), ((tt, tt), tt)), tt)))
-
 pub class : AreInSecondViewClass files
-class = record { main = 2; is_main = is_main; calls = record { formals = formals; passed = passed; lends = inl lends; borrowed = takes_none (program_of files) (inl calls); spared = spares_none (program_of files) (inl calls) } }
+class = record { main = 2; is_main = is_main; calls = record { formals = formals; lends = inl lends; borrowed = takes_none (program_of files) (inl calls); spared = spares_none (program_of files) (inl calls) } }
 
 -- ---- nothing is reported of it
 

@@ -2,7 +2,6 @@
 -- with borrowers and observers, and that law of it.
 use Rattle.std.specs.Prelude.{codes}
 use Rattle.ada_tree.specs.declared.expression.Primary.TheVariants as primary
-use Rattle.machine.specs.Owners.{is_in}
 use Rattle.std.proofs.Common.{◌≡◌, ℕ, ◌+◌, inl, inr, Bool, true, false, not, ◌&&◌, ◌||◌, List, [], ◌∷◌, refl, sym, subst, Option, Some, None, is_some, Ok, Err, true≢false}
 use Rattle.spark_base.specs.Lists.{Has}
 use Rattle.ada_lexer.specs.Tokens.{Cut, CutResult, tokens}
@@ -22,12 +21,8 @@ use Rattle.ada_tree.specs.declared.unit.SourceUnit.{SourceUnit}
 use Rattle.ada_tree.specs.declared.unit.SourceUnit.TheVariants as unit
 use Rattle.ada_grammar.proofs.SmallSources.{IsTextOf, computes, source_of, at, id, mark, selected, expr_of, object, sole, formals_of, package_of, package_body_of, subprogram_of}
 use Rattle.name_events.specs.Faults.{name_fault}
-use Rattle.type_definitions.specs.Types.{is_owning, full}
 use Rattle.type_definitions.specs.Whole.{type_fault}
 use Rattle.typing_steps.specs.Programs.{program_of}
-use Rattle.typed_tree.specs.declared.object.Object.{Object}
-use Rattle.typed_tree.specs.Programs.{TypedSub, text_io}
-use Rattle.flow_paths.specs.Objects.{is_named_access, is_anonymous, view_of, Typing, Signature, object_at, sub_at, is_formal_kind, is_formal, is_package_object}
 use Rattle.flow_paths.specs.Points.{FlowPoint}
 use Rattle.flow_paths.specs.Laid.{FlowSub}
 use Rattle.flow_paths.specs.Effects.{asks_for_end, path_points}
@@ -37,9 +32,8 @@ use Rattle.soundness.specs.Sound.{calls_procedures}
 use Rattle.program_check.specs.Sources.{flow_of}
 use Rattle.file_positions.specs.Texts.{AreParsed}
 use Rattle.file_positions.proofs.Cuts.{cut_in_order}
-use Rattle.called_subs.specs.Called.{Calls, CodeCalls}
-use Rattle.order_laws.specs.Orderly.{typed_of, typing_in}
-use Rattle.sound_files.specs.Class.{CallsProcedures, FormalsAreAccess, LendFirst, laid_in, AreFitActuals, PassFitActuals}
+use Rattle.order_laws.specs.Orderly.{typed_of}
+use Rattle.sound_files.specs.Class.{CallsProcedures, FormalsAreAccess, LendFirst}
 use Rattle.sound_files.proofs.Owners.{takes_none, spares_none}
 use Rattle.viewed_files.proofs.Files.{parsed_called_sound}
 use Rattle.accepted_runs.proofs.Runs.{RunsAreSound}
@@ -101,9 +95,6 @@ calls = λ sub has p there.
     each (λ (p : FlowPoint). calls_procedures p.instr) sub.points
     (each (λ (s : FlowSub). all_pass (λ (p : FlowPoint). calls_procedures p.instr) s.points) (flow_of files).subs refl sub has) p there
 
-abbrev laid : Typing
-laid = laid_in (program_of files)
-
 pub formals : FormalsAreAccess (program_of files)
 unfolding computes naming typing lowering
 formals = formals_access files refl
@@ -112,21 +103,8 @@ pub lends : LendFirst (program_of files)
 unfolding computes naming typing lowering
 lends = lend_first files refl
 
--- Of three subprograms, the last one calls.
-of_three : (P : TypedSub → Type 0) (a b c : TypedSub) → P a → P b → P c → (sub : TypedSub) → Has (a ∷ (b ∷ (c ∷ []))) sub → P sub
-of_three P a b c x y z sub (inl is) = subst P is x
-of_three P a b c x y z sub (inr (inl is)) = subst P is y
-of_three P a b c x y z sub (inr (inr (inl is))) = subst P is z
-of_three P a b c x y z sub (inr (inr (inr none))) = absurd none
-
-pub passed : PassFitActuals (program_of files)
-unfolding computes naming typing lowering Calls CodeCalls
-passed =
-    of_three (λ sub. CodeCalls (λ n actuals. AreFitActuals laid (sub_at laid n).formals actuals) sub.body) _ _ _ tt ((tt, tt), tt)
-    (tt, ((((λ is. tt), tt), (tt, tt)), tt))
-
 pub class : AreInSecondViewClass files
-class = record { main = 2; is_main = is_main; calls = record { formals = formals; passed = passed; lends = inl lends; borrowed = takes_none (program_of files) (inl calls); spared = spares_none (program_of files) (inl calls) } }
+class = record { main = 2; is_main = is_main; calls = record { formals = formals; lends = inl lends; borrowed = takes_none (program_of files) (inl calls); spared = spares_none (program_of files) (inl calls) } }
 
 -- ---- nothing is reported of it
 

@@ -70,7 +70,6 @@ use Rattle.viewed_steps.proofs.Innermost as innermost
 use Rattle.viewed_steps.proofs.Views.{AreAccess, AreFar}
 use Rattle.viewed_steps.proofs.Shown.{same_cells}
 use Rattle.viewed_steps.proofs.Exclusive.{ChangesLent, AreLent}
-use Rattle.viewed_steps.proofs.CallShows.{clear_named}
 use Rattle.viewed_steps.proofs.CallTakes as call_takes
 use Rattle.viewed_steps.proofs.Calling as calling
 use Rattle.viewed_steps.proofs.Bared.{taken_bare}

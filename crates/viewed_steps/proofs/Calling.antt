@@ -57,8 +57,8 @@ use Rattle.soundness.proofs.Eased.{eased}
 use Rattle.soundness.proofs.Scoped.{Inside}
 use Rattle.owned_loans.specs.Views.{expand, Around, known_gone, Views, Viewed, AreViews, AreClear as FactsAreClear, ViewedAlone}
 use Rattle.owned_loans.proofs.Ways.{under_on}
-use Rattle.owned_loans.proofs.Meeting.{stands}
 use Rattle.owned_loans.proofs.Moves.{expand_under, view_on, own_loan, reached, lends_on}
+use Rattle.owned_loans.proofs.Meeting.{stands}
 use Rattle.viewed_soundness.proofs.Names.{true_false}
 use Rattle.viewed_soundness.specs.Holds.{Holds, is_view, sees_only, IsOwners}
 use Rattle.soundness.specs.Ready.{IsSupplied, Fills}
