@@ -26,6 +26,7 @@ use Rattle.machine.specs.States.{no_sub, sub_of}
 use Rattle.machine.specs.Run.{no_point}
 use Rattle.soundness.specs.Seen.{is_view_formal}
 use Rattle.soundness.specs.Ready.{root_of}
+use Rattle.soundness.specs.Sound.{goes_through_none}
 use Rattle.soundness.proofs.Points.{frame_in, flow_at}
 use Rattle.soundness.proofs.Passing.{signature_is}
 use Rattle.soundness.proofs.Typings.{flow_agrees, formal_same}
@@ -34,6 +35,7 @@ use Rattle.viewed_soundness.specs.Holds.{is_given, sees_only, is_fixed, AllKeep,
 use Rattle.viewed_soundness.proofs.Evaluated.{keep_both}
 use Rattle.viewed_steps.specs.Ready.{IsReady, IsActualTo, AreActualsTo}
 use Rattle.viewed_steps.proofs.Standing as standing
+use Rattle.viewed_steps.proofs.Views.{AreAccess}
 use Rattle.recycled_runs.proofs.Walks.{GoesThrough}
 use Rattle.recycled_runs.proofs.Targets.{IsOwnName, IsNameOf, IsOwnActual, AreOwnActuals}
 use Rattle.recycled_runs.proofs.Checks.{IsOwnIn, OwnsNames}
@@ -67,6 +69,9 @@ no_end false true true e given end = cc
 no_end false true false e given end = cc
 no_end false false n e given end = cc
 
+opposed : (b : Bool) → b ≡ true → b ≡ false → ⊥
+opposed b e f = (let no : true ≡ false = sym e ∙ f in cc)
+
 given_first : (a b : Bool) → a ≡ true → a || b ≡ true
 given_first true b e = refl
 given_first false b e = cc
@@ -82,18 +87,41 @@ acts_on : (a b : List Placed) → acts (a ++ b) ≡ acts a ++ acts b
 acts_on [] b = refl
 acts_on (x ∷ a) b = ap (λ rest. x.act ∷ rest) (acts_on a b)
 
+-- ---- paths
+
+-- What goes through an access value begins so, in an object of an access type.
+begins_through : (s : Typing) (y u : ℕ) (path : TypedTree) → IsAccess s y → Leads s (object_at s y).of path u → (path ≡ NoMore → ⊥) → GoesThrough path
+unfolding Leads
+begins_through s y u (Designated rest) access leads more = tt
+begins_through s y u (IntoComponent i rest) access leads more = let less = leads.0 in let none = ap (λ z. length (components_of z)) access.3 in absurd (omega (arith, less, none))
+begins_through s y u (Element index low high rest) access leads more = absurd (no access.0 access.1 access.2 leads.0 low high (sym access.3 ∙ leads.1))
+  where
+    no : (d : ℕ) (c n : Bool) (e : ℕ) (low high : _) → shape.Access d c n ≡ shape.Elements low high e → ⊥
+    no d c n e low high same = cc
+begins_through s y u NoMore access leads more = absurd (more refl)
+begins_through s y u path access leads more = absurd leads
+
 -- ---- actuals
 
-module _ (s : Typing) where
-  out_own : (e : TypedTree) (t : ℕ) → IsPlace s e t → (is_scalar (full s.table t) ≡ true) ⊎ ((y : ℕ) → Has (root_of e) y → is_view_formal s y ≡ false) → (owning access : Bool) → IsOwnActual s (passing_by mode.Out owning access) e
+module _ (s : Typing) (formals_are : AreAccess s) where
+  -- What goes through none is rooted in an owner.
+  abbrev IsOwnEnd : TypedTree → Type 0
+  IsOwnEnd e = goes_through_none e ≡ true → (y : ℕ) → Has (root_of e) y → is_view_formal s y ≡ false
+
+  out_own : (e : TypedTree) (t : ℕ) → IsPlace s e t → (is_scalar (full s.table t) ≡ true) ⊎ IsOwnEnd e → (owning access : Bool) → IsOwnActual s (passing_by mode.Out owning access) e
+  unfolding goes_through_none selectors
   out_own (Name p y path u) t place (inl scalar) owning access = inr (subst (λ k. is_scalar (full s.table k) ≡ true) (sym place.1) scalar)
-  out_own (Name p y path u) t place (inr own) owning access = inl (place.0, inl (own y (inl refl)))
+  out_own (Name p y path u) t place (inr own) owning access = inl (place.0, by (is_view_formal s y) refl)
+    where
+      by : (b : Bool) → is_view_formal s y ≡ b → (is_view_formal s y ≡ false) ⊎ GoesThrough path
+      by false plain = inl plain
+      by true view = inr (begins_through s y u path (formals_are y view).0 place.0 (λ same. opposed (is_view_formal s y) view (own (ap goes_through_none same) y (inl refl))))
   out_own _ t place own owning access = absurd place
 
   actual_own : (x : ℕ) (m : Mode) (owning access : Bool) (e : TypedTree) → IsActualTo s x m e → IsOwnActual s (passing_by m owning access) e
   actual_own x mode.In true access e is = tt
   actual_own x mode.In false access e is = tt
-  actual_own x mode.Out owning access e is = out_own e is.0 is.1 is.3 owning access
+  actual_own x mode.Out owning access e is = out_own e is.0 is.1 (elim is.3 [ | inl scalar ↦ inl scalar | inr own ↦ inr (λ none. own) ]) owning access
   actual_own x mode.InOut owning access e is = tt
 
   actuals_own : (procedure : Bool) (formals : List ℕ) (e : TypedTree) → AreActualsTo s formals e → AreOwnActuals s (map (passing s procedure) formals) e
@@ -126,21 +154,15 @@ module _ (table : Table) (typed : TypedProgram) (effects : Effects) (ready : IsR
   abbrev own : Typing
   own = typing_of table typed
 
+  formals_are : AreAccess s
+  formals_are = standing.in_formals table typed effects [] ready
+
   -- a formal that owns nothing isn't written itself
   through : (y u : ℕ) (path : TypedTree) → is_view_formal s y ≡ true → is_fixed s (name_of y path) ≡ false → Leads s (object_at s y).of path u → GoesThrough path
-  unfolding Leads selectors
+  unfolding selectors
   through y u path view free leads =
-      let access = (standing.in_formals table typed effects [] ready y view).0 in by path access leads (λ end. no_end (sees_only s y) (is_given s y) _ free (given_first (is_view_formal s y) _ view) end)
-    where
-      by : (path : TypedTree) → IsAccess s y → Leads s (object_at s y).of path u → (is_nil (name_of y path).sels ≡ true → ⊥) → GoesThrough path
-      by (Designated rest) access leads end = tt
-      by (IntoComponent i rest) access leads end = let less = leads.0 in let none = ap (λ z. length (components_of z)) access.3 in absurd (omega (arith, less, none))
-      by (Element index low high rest) access leads end = absurd (no access.0 access.1 access.2 leads.0 low high (sym access.3 ∙ leads.1))
-        where
-          no : (d : ℕ) (c n : Bool) (e : ℕ) (low high : _) → shape.Access d c n ≡ shape.Elements low high e → ⊥
-          no d c n e low high same = cc
-      by NoMore access leads end = absurd (end refl)
-      by path access leads end = absurd leads
+      begins_through s y u path (formals_are y view).0 leads
+      (λ same. no_end (sees_only s y) (is_given s y) _ free (given_first (is_view_formal s y) _ view) (ap (λ p. is_nil (name_of y p).sels) same))
 
   written_free : (target e : TypedTree) (p : Pos) (y u : ℕ) (path : TypedTree) → target ≡ Name p y path u → AllKeep (is_fixed s) (acts (stored_acts own target e)) → is_fixed s (name_of y path) ≡ false
   written_free target e p y u path is keep =
@@ -199,7 +221,7 @@ module _ (table : Table) (typed : TypedProgram) (effects : Effects) (ready : IsR
       target_own p.pos target e fine.0 fine.1 (subst (λ i. AllKeep (is_fixed s) (acts (acts_of (frame_in own named) p.pos i))) here keep)
   point_own sub in_program q in_sub named in_named p in_points is (Call n e result) instr =
       let called = ready.called sub in_program q in_sub n e result instr in
-      all_own s (sub_at s n) e (subst (λ (z : Signature). AreActualsTo s z.formals e) (sym (signature_is program n)) called.actuals_stay)
+      all_own s formals_are (sub_at s n) e (subst (λ (z : Signature). AreActualsTo s z.formals e) (sym (signature_is program n)) called.actuals_stay)
   point_own sub in_program q in_sub named in_named p in_points is (Release e) instr =
       let fine = subst (IsFine s sub.result) instr (ready.accepted.fine sub in_program q in_sub) in name_is e fine.0 fine.2
   point_own sub in_program q in_sub named in_named p in_points is (EndScope x) instr =
