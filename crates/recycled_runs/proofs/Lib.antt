@@ -40,3 +40,7 @@ pub mod Checks
 pub mod Owns
 -- the law for these
 pub mod Ready
+-- the machine's greatest counts while a point is evaluated
+pub mod Tops
+-- and after a step
+pub mod TopSteps
