@@ -44,3 +44,5 @@ pub mod Ready
 pub mod Tops
 -- and after a step
 pub mod TopSteps
+-- where it stores
+pub mod TopStores
