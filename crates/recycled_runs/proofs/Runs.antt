@@ -46,6 +46,7 @@ use Rattle.handled_kinds.specs.Turns.{LeaksThere}
 use Rattle.handled_kinds.proofs.Runs.{state_looks}
 use Rattle.recycled_runs.proofs.Subs.{step_stacked}
 use Rattle.recycled_runs.proofs.Nulls.{clears}
+use Rattle.recycled_runs.proofs.Keeps.{IsNull, null_cleared, null_empty}
 use Rattle.recycled_runs.proofs.Clear.{NoneGone, cleared_kept, clear_start}
 use Rattle.recycled_runs.proofs.Starts.{start_only, start_words, start_seen, start_none, starts_stacked}
 
@@ -74,10 +75,11 @@ GivesSame x r = (given r ≡ Some (ran_of x)) ⊎ (r ≡ handled.Wants)
 
 -- ---- runs of states of which steps keep what is known
 
--- What leak checks of steps from sound states tell of is there.
+-- What leak checks of steps from sound states tell of is there. Nothing is gone as a step begins.
 abbrev pub LeaksLive : FlowProgram → Program → List ℕ → (machine.State → Type 0) → Type 0
 LeaksLive program p input sound =
-    (s t : machine.State) (g : State) → sound s → OnlyOwners (flow_typing program) s.memory → SameState s t → StateStands program t g → (f : Frame) (outer : List Frame) (q : Point) → g.frames ≡ f ∷ outer
+    (s t : machine.State) (g : State) → sound s → SameState s t → IsNull (flow_typing program) t.memory → StateStands program t g
+    → (here : List Kind) → IsStacked (flow_typing program).table p (subs_of t) g.frames here → NoneGone here g.memory → length here ≡ length g.memory.stack → (f : Frame) (outer : List Frame) (q : Point) → g.frames ≡ f ∷ outer
     → slice_get p.points f.next ≡ Some q → points.are_taken (turn_of (flow_typing program).table p input g f outer q) ≡ true
     → LeaksThere (turn_of (flow_typing program).table p input g f outer q) q.does
 
@@ -94,6 +96,7 @@ module _ (program : FlowProgram) (p : Program) (input : List ℕ) (has : HasType
     pub good : sound s
     pub only : OnlyOwners (flow_typing program) s.memory
     pub agrees : SameState s t
+    pub null : IsNull (flow_typing program) t.memory
     pub stands : StateStands program t g
     pub stacked : IsStacked table p (subs_of t) g.frames here
     pub none : NoneGone here g.memory
@@ -134,6 +137,7 @@ module _ (program : FlowProgram) (p : Program) (input : List ℕ) (has : HasType
           good = good;
           only = same_by.1;
           agrees = ((ap cleared_state same_by.0.0), agrees_right s1.memory t1.memory same_by.0.1);
+          null = null_cleared (flow_typing program) t1.memory;
           stands = clears program p lowered.subs has.laws settled s1 t1 g1 now same_by.1 same_by.0 stands stacked alike.memory.known;
           stacked = stacked;
           none = cleared_kept now g1.memory;
@@ -174,7 +178,7 @@ module _ (program : FlowProgram) (p : Program) (input : List ℕ) (has : HasType
     looks : LooksStep table p input g here g.frames
     looks =
         state_looks program p lowered has.laws has.truth input t g here in_step.stands in_step.stacked
-        (λ f outer q is next. (starts_clear t.frames g.frames in_step.stands.frames f outer q is, live s t g in_step.good in_step.only in_step.agrees in_step.stands f outer q is next))
+        (λ f outer q is next. (starts_clear t.frames g.frames in_step.stands.frames f outer q is, live s t g in_step.good in_step.agrees in_step.null in_step.stands here in_step.stacked in_step.none before f outer q is next))
 
     step_same : SameStepBy (flow_typing program) (machine_run.step program input s) (machine_run.step program input t)
     step_same =
@@ -235,6 +239,7 @@ module _ (program : FlowProgram) (p : Program) (input : List ℕ) (has : HasType
             good = begins;
             only = start_only program;
             agrees = (refl, itself empty_memory);
+            null = null_empty (flow_typing program) empty_memory refl refl;
             stands = starts_alike program p has lowered frames main is fits;
             stacked = starts_stacked program p lowered.main;
             none = start_none all p declares;
