@@ -32,6 +32,14 @@ pub mod Found
 pub mod Targets
 -- before the first step
 pub mod Starts
+-- the machine's greatest counts while a point is evaluated
+pub mod Tops
+-- and after a step
+pub mod TopSteps
+-- where it stores
+pub mod TopStores
+-- and that over slots the counts are the same
+pub mod Rising
 -- whole runs
 pub mod Runs
 -- what leak checks tell of
@@ -40,9 +48,3 @@ pub mod Checks
 pub mod Owns
 -- the law for these
 pub mod Ready
--- the machine's greatest counts while a point is evaluated
-pub mod Tops
--- and after a step
-pub mod TopSteps
--- where it stores
-pub mod TopStores

@@ -4,9 +4,9 @@ use Rattle.std.specs.Prelude.{int_le}
 use Rattle.std.proofs.Math.Seq.{drop-length}
 use Rattle.std.proofs.lemmas.List.{length-map}
 use Rattle.type_definitions.specs.Types.{Table, full}
-use Rattle.typed_tree.specs.Trees.{TypedTree, Text, Image, Parens, Binary, NoMore, More}
+use Rattle.typed_tree.specs.Trees.{TypedTree, Text, Image, Parens, Binary, More}
 use Rattle.flow_paths.specs.Instructions.{Instruction, Skip, Declare, Assign, Call, Output, Input, Release, Test, Choose, Start, Next, Evaluate, LeaveLoop, Hold, EndScope, Finish, Fall}
-use Rattle.flow_paths.specs.Objects.{Typing, object_at, sub_at, designated, passings, is_anonymous}
+use Rattle.flow_paths.specs.Objects.{object_at, sub_at, designated, passings, is_anonymous}
 use Rattle.flow_paths.specs.Names.{written, first}
 use Rattle.run_values.specs.declared.items.Item.{Item}
 use Rattle.run_values.specs.declared.items.Item.TheVariants as item
@@ -14,19 +14,19 @@ use Rattle.run_values.specs.Items.{next_item}
 use Rattle.machine.specs.Words.{Word, Int, Null, Cell, fits_type}
 use Rattle.machine.specs.Typed.{sorts}
 use Rattle.machine.specs.Memory.{Memory, HeapCell, Place, Base, OfVariable, OfCell, cell, cell_words, words_of, stored, moved_out, declared, undeclared, without_frame, freed, at_number, as_freed, slots_at, fresh, given_up}
-use Rattle.machine.specs.Evaluate.{ConstraintError, StorageError, DataError, EndError, ProgramError, Twice, Touched, Now, Evaluated, Done, Raises, Traps, Here, Exception, Trap, AsValue, AsView, followed_by, value, viewed, initial, evaluate, checked, place_of, text_of, image_of, cell_place, variable_place, is_true, decides}
+use Rattle.machine.specs.Evaluate.{ConstraintError, StorageError, DataError, EndError, ProgramError, Twice, Touched, Now, Evaluated, Done, Raises, Traps, Exception, Trap, AsValue, AsView, followed_by, value, viewed, evaluate, checked, place_of, text_of, image_of, cell_place, variable_place, is_true, decides}
 use Rattle.machine.specs.Calls.{Passed, checks_at, written_pos, out_checks, with_formal, with_formals, returns_of, all_passed}
 use Rattle.machine.specs.Calls as calls
 use Rattle.machine.specs.States.{Waiting, Loop, Frame, Leak, Return, State, Outcome, Goes, Ends, frame_words, stack_words, frame_at_start}
 use Rattle.machine.specs.States as machine
-use Rattle.machine.specs.Step.{Turn, typing, here, start, waiting, raised, trapped, counted, evaluated, behind, goes, Stored, first_value, taken_by, type_named, leaking_goes, target_pos, copied_back, bounds, Bounds, number, choice, chosen, truth_waiting, with_loop, without_loop, loop_of, turned, turned_to, next_value, test, turn}
+use Rattle.machine.specs.Step.{Turn, typing, here, start, waiting, raised, trapped, counted, evaluated, behind, goes, Stored, first_value, taken_by, type_named, leaking_goes, target_pos, copied_back, bounds, Bounds, number, choice, chosen, truth_waiting, with_loop, loop_of, turned_to, next_value, test, turn}
 use Rattle.numbered_cells.specs.Peaks.{peak_of}
 use Rattle.slot_heap.specs.Heaps.{slot_count}
 use Rattle.run_points.proofs.Flags.{Anywhere}
 use Rattle.run_points.proofs.Keeping.{Keeps, KeepsPlace, keeps_on, place_on, evaluate_keeps, checked_keeps, place_keeps, initial_keeps}
 use Rattle.run_points.proofs.Actuals.{all_keep}
 use Rattle.handled_steps.specs.Rises.{top}
-use Rattle.recycled_runs.proofs.Tops.{marks, typed_mark, typed_marks, count, count_on, AreTyped, Rises, Risen, EndsRisen, same_risen, given_up_risen, keeps_risen, moved_marks, moved_peaks, stored_peaks, typed_put, top_same}
+use Rattle.recycled_runs.proofs.Tops.{marks, typed_mark, typed_marks, count, AreTyped, Rises, Risen, EndsRisen, same_risen, given_up_risen, keeps_risen, moved_marks, moved_peaks, stored_peaks, typed_put, top_same}
 
 -- ---- cells that are freed
 

@@ -1,5 +1,5 @@
 -- Where the machine stores: what was made until then has the sizes of its types.
-use Rattle.std.proofs.Common.{◌≡◌, refl, sym, ap, ◌∙◌, subst, ℕ, zero, suc, ◌+◌, ◌≤◌, arith, Bool, true, false, List, [], ◌∷◌, Option, Some, None, ℤ, pos, negsuc, if◌then◌else◌}
+use Rattle.std.proofs.Common.{◌≡◌, refl, sym, ap, ◌∙◌, subst, ℕ, zero, ◌+◌, ◌≤◌, arith, List, Option, Some, None, ℤ, pos, if◌then◌else◌}
 use Rattle.std.specs.Prelude.{option_and_then}
 use Rattle.spark_base.specs.declared.position.Pos.{Pos}
 use Rattle.type_definitions.specs.declared.table.Shape.{Shape}
@@ -21,11 +21,11 @@ use Rattle.run_codes.specs.Flat as flat
 use Rattle.run_codes.specs.Lowered.{Placed, place, value}
 use Rattle.run_codes.specs.Programs.{going, on_going, use_for, name_pos, put_at, stored_at, input_to, release_at, does}
 use Rattle.run_codes.specs.Points.{Turn, Outcome, Wants, start, on_made, done}
-use Rattle.run_codes.specs.Related.{types, now, SpotSame, Stopped, IsValue}
+use Rattle.run_codes.specs.Related.{now, SpotSame, Stopped}
 use Rattle.run_codes.proofs.Expressions.{and_then_some}
 use Rattle.run_codes.proofs.Places.{some_same}
 use Rattle.run_codes.proofs.Spots.{place_same}
-use Rattle.run_fills.specs.Filled.{at, Later, Filled}
+use Rattle.run_fills.specs.Filled.{at, Filled}
 use Rattle.run_points.specs.States.{Laid}
 use Rattle.run_points.specs.Turns.{Turns, turn, flat_turn, around, seen, TurnStands}
 use Rattle.run_points.proofs.Ends.{start_is}
