@@ -121,7 +121,7 @@ module _ (s : Typing) (formals_are : AreAccess s) where
   actual_own : (x : ℕ) (m : Mode) (owning access : Bool) (e : TypedTree) → IsActualTo s x m e → IsOwnActual s (passing_by m owning access) e
   actual_own x mode.In true access e is = tt
   actual_own x mode.In false access e is = tt
-  actual_own x mode.Out owning access e is = out_own e is.0 is.1 (elim is.3 [ inl scalar ↦ inl scalar | inr own ↦ inr (λ none. own) ]) owning access
+  actual_own x mode.Out owning access e is = out_own e is.0 is.1 is.3 owning access
   actual_own x mode.InOut owning access e is = tt
 
   actuals_own : (procedure : Bool) (formals : List ℕ) (e : TypedTree) → AreActualsTo s formals e → AreOwnActuals s (map (passing s procedure) formals) e
