@@ -3,6 +3,7 @@ mod Typing
 mod Lowering
 mod Quiet
 mod Unreported
+mod Affected
 mod Classed
 pub mod Small
 pub mod Sound
@@ -12,3 +13,4 @@ pub mod Handed
 pub mod Copied
 pub mod Shown
 pub mod Traversed
+pub mod Shared

@@ -24,7 +24,7 @@ use Rattle.flow_paths.specs.Laid.{FlowSub, FlowProgram, flow_typing}
 use Rattle.flow_paths.specs.Paths.{PathPoint, PathReport, ControlPath, begins, goes_on, path_point, acts_at, acts_along}
 use Rattle.flow_paths.specs.Views.{is_in_mode, ViewReport, changed, lent, given, called, text_io, shorter, elsewhere, other_root, ConstantView, of_observer, of_formal, in_function, of_borrower, is_function, has_selector, is_assignment, encloses, scope_of, changes, lends, traversed_formal, sub_acts, IsOnlyRoot, Roots, itself as root_itself, borrows as root_borrows, observes as root_observes}
 use Rattle.flow_paths.specs.Aliases.{alias_reports}
-use Rattle.flow_paths.specs.Effects.{AreEffects, Reads, Writes, Ascends, path_points, point_reads, point_writes, is_global, reads_text, writes_text, flow_sub_at, act_reads, act_writes}
+use Rattle.flow_paths.specs.Effects.{AreEffects, Reads, Writes, Ascends, path_points, point_reads, point_writes, is_global, reads_text, writes_text, flow_sub_at, act_reads, act_writes, written_by}
 use Rattle.flow_paths.specs.Reports.{AreReports, ProgramReport, on_actuals, on_views, on_paths}
 use Rattle.accepted_examples.proofs.Quiet.{all_pass, empty, left_of, right_of, isnt, each, any_none, at_any, empty_at, many}
 
@@ -107,7 +107,7 @@ keeps_views s scopes i (act.Observe h m from_observer) = not (is_assignment i) |
 keeps_views s scopes i (act.Reborrow b m) = m.root == b
 keeps_views s scopes i a = true
 
--- What it names is no package object, either.
+-- What it names is no package object.
 abbrev is_local : Typing → Act → Bool
 is_local s (act.Read m) = not (is_global s m.root)
 is_local s (act.Look m) = not (is_global s m.root)
@@ -122,10 +122,13 @@ is_local s a = true
 
 abbrev act_passes : Typing → List ℕ → Instruction → Act → Bool
 act_passes s scopes i a =
-    (not (is_constant s (changes a)) && not (is_constant s (designated_name (lends a)))) && (keeps_views s scopes i a && is_local s a)
+    (not (is_constant s (changes a)) && not (is_constant s (designated_name (lends a)))) && keeps_views s scopes i a
 
 abbrev point_passes : Typing → List ℕ → FlowPoint → Bool
-point_passes s scopes p = all_pass (λ (a : Placed). act_passes s scopes p.instr a.act) p.acts && (not (reads_text p.instr) && not (writes_text p.instr))
+point_passes s scopes p = all_pass (λ (a : Placed). act_passes s scopes p.instr a.act) p.acts
+
+abbrev point_is_local : Typing → FlowPoint → Bool
+point_is_local s p = all_pass (λ (a : Placed). is_local s a.act) p.acts && (not (reads_text p.instr) && not (writes_text p.instr))
 
 abbrev is_first_of : Option ℕ → ℕ → Bool
 is_first_of None x = false
@@ -147,8 +150,12 @@ act_fits s sub a = (not (is_function sub) || is_still a) && is_rooted s sub a
 abbrev acts_fit : Typing → FlowSub → FlowPoint → Bool
 acts_fit s sub p = all_pass (λ (a : Placed). act_fits s sub a.act) p.acts
 
+abbrev pub keeps_rules : FlowProgram → FlowSub → Bool
+keeps_rules program sub = all_pass (acts_fit (flow_typing program) sub) sub.points && all_pass (point_passes (flow_typing program) program.scopes) sub.points
+
+-- It touches no package object, either.
 abbrev pub sub_passes : FlowProgram → FlowSub → Bool
-sub_passes program sub = all_pass (acts_fit (flow_typing program) sub) sub.points && all_pass (point_passes (flow_typing program) program.scopes) sub.points
+sub_passes program sub = keeps_rules program sub && all_pass (point_is_local (flow_typing program)) sub.points
 
 or_right : (a b : Bool) → b ≡ true → a || b ≡ true
 or_right true b e = refl
@@ -200,17 +207,15 @@ local_write s g a here shared = by a here
     by (act.Actual m how owning access) h = both (m.root == g) _ (other m (m.root == g) h refl)
     by a h = refl
 
-module _ (program : FlowProgram) (passes : all_pass (sub_passes program) program.subs ≡ true) where
+module _ (program : FlowProgram) (effects : Effects) (passes : all_pass (keeps_rules program) program.subs ≡ true)
+    (silent : (sub : FlowSub) → Has program.subs sub → is_function sub ≡ true → (callee g : ℕ) → Has (written_by effects callee) g → ⊥) where
   abbrev s : Typing
   s = flow_typing program
-
-  abbrev pub nothing : Effects
-  nothing = record { read = map (λ (sub : FlowSub). empty) program.subs; written = map (λ (sub : FlowSub). empty) program.subs }
 
   fits_there : (sub : FlowSub) → Has program.subs sub → (p : FlowPoint) (a : Placed) → Has sub.points p × Has p.acts a → act_fits s sub a.act ≡ true
   fits_there sub has p a at =
       each (λ (z : Placed). act_fits s sub z.act) p.acts
-      (each (acts_fit s sub) sub.points (left_of (all_pass (acts_fit s sub) sub.points) (all_pass (point_passes s program.scopes) sub.points) (each (sub_passes program) program.subs passes sub has))
+      (each (acts_fit s sub) sub.points (left_of (all_pass (acts_fit s sub) sub.points) (all_pass (point_passes s program.scopes) sub.points) (each (keeps_rules program) program.subs passes sub has))
       p at.0) a at.1
 
   -- a function changes and lends nothing
@@ -235,24 +240,16 @@ module _ (program : FlowProgram) (passes : all_pass (sub_passes program) program
   point_is : (sub : FlowSub) → Has program.subs sub → (p : FlowPoint) → Has sub.points p → point_passes s program.scopes p ≡ true
   point_is sub has =
       each (point_passes s program.scopes) sub.points
-      (right_of (all_pass (acts_fit s sub) sub.points) (all_pass (point_passes s program.scopes) sub.points) (each (sub_passes program) program.subs passes sub has))
-
-  acts_here : (p : FlowPoint) → point_passes s program.scopes p ≡ true → all_pass (λ (a : Placed). act_passes s program.scopes p.instr a.act) p.acts ≡ true
-  acts_here p e = left_of (all_pass (λ (a : Placed). act_passes s program.scopes p.instr a.act) p.acts) (not (reads_text p.instr) && not (writes_text p.instr)) e
+      (right_of (all_pass (acts_fit s sub) sub.points) (all_pass (point_passes s program.scopes) sub.points) (each (keeps_rules program) program.subs passes sub has))
 
   act_is : (sub : FlowSub) → Has program.subs sub → (p : FlowPoint) (a : Placed) → Has sub.points p × Has p.acts a → act_passes s program.scopes p.instr a.act ≡ true
-  act_is sub has p a at = each (λ (b : Placed). act_passes s program.scopes p.instr b.act) p.acts (acts_here p (point_is sub has p at.0)) a at.1
+  act_is sub has p a at = each (λ (b : Placed). act_passes s program.scopes p.instr b.act) p.acts (point_is sub has p at.0) a at.1
 
   constants : (i : Instruction) (a : Act) → act_passes s program.scopes i a ≡ true → not (is_constant s (changes a)) && not (is_constant s (designated_name (lends a))) ≡ true
-  constants i a e = left_of (not (is_constant s (changes a)) && not (is_constant s (designated_name (lends a)))) (keeps_views s program.scopes i a && is_local s a) e
+  constants i a e = left_of (not (is_constant s (changes a)) && not (is_constant s (designated_name (lends a)))) (keeps_views s program.scopes i a) e
 
-  keeps : (i : Instruction) (a : Act) → act_passes s program.scopes i a ≡ true → keeps_views s program.scopes i a && is_local s a ≡ true
-  keeps i a e = right_of (not (is_constant s (changes a)) && not (is_constant s (designated_name (lends a)))) (keeps_views s program.scopes i a && is_local s a) e
-
-  local_acts : (p : FlowPoint) → point_passes s program.scopes p ≡ true → (a : Placed) → Has p.acts a → is_local s a.act ≡ true
-  local_acts p e a has =
-      right_of (keeps_views s program.scopes p.instr a.act) (is_local s a.act)
-      (keeps p.instr a.act (each (λ (b : Placed). act_passes s program.scopes p.instr b.act) p.acts (acts_here p e) a has))
+  keeps : (i : Instruction) (a : Act) → act_passes s program.scopes i a ≡ true → keeps_views s program.scopes i a ≡ true
+  keeps i a e = right_of (not (is_constant s (changes a)) && not (is_constant s (designated_name (lends a)))) (keeps_views s program.scopes i a) e
 
   and_first : (a b : Bool) → IsTrue (a && b) → a ≡ true
   and_first true b e = refl
@@ -310,7 +307,7 @@ module _ (program : FlowProgram) (passes : all_pass (sub_passes program) program
   first_is None x e = absurd (true≢false (sym e))
   first_is (Some f) x e = (f, refl, sym (eqb-true f x e))
 
-  no_view : (sub : FlowSub) → Has program.subs sub → (r : Report) → ViewReport program nothing sub r → ⊥
+  no_view : (sub : FlowSub) → Has program.subs sub → (r : Report) → ViewReport program effects sub r → ⊥
   no_view sub has _ (changed p a m at e view) =
       no (is_constant s (changes a.act)) (ap (is_constant s) e ∙ view_constant sub (changes_none sub has p a at m e) m view)
       (left_of (not (is_constant s (changes a.act))) (not (is_constant s (designated_name (lends a.act)))) (constants p.instr a.act (act_is sub has p a at)))
@@ -320,14 +317,13 @@ module _ (program : FlowProgram) (passes : all_pass (sub_passes program) program
   no_view sub has _ (given p at m there is) =
       true≢false (sym (and_first (is_variable (object_at s m.root).kind) (is_observing (view_of s m.root)) is)
       ∙ no_variable (object_at s m.root).kind (left_of (is_formal s m.root) (is_first_of (traversed_formal s sub) m.root) (rooted_there sub has p (record { pos = at; act = act.Give m true }) there)))
-  no_view sub has _ (called p g callee is there calls writes) = subst (λ xs. Has xs g) (empty_at program.subs callee) writes
+  no_view sub has _ (called p g callee is there calls writes) = silent sub has is callee g writes
   no_view sub has _ (text_io p is there writes) =
       no (writes_text p.instr) writes
       (right_of (not (reads_text p.instr)) (not (writes_text p.instr))
       (right_of (all_pass (λ (a : Placed). act_passes s program.scopes p.instr a.act) p.acts) (not (reads_text p.instr) && not (writes_text p.instr)) (point_is sub has p there)))
   no_view sub has _ (shorter p at h m from there assigns outer) =
-      let kept = left_of (keeps_views s program.scopes p.instr (act.Observe h m from)) (is_local s (act.Observe h m from))
-      (keeps p.instr (act.Observe h m from) (act_is sub has p (record { pos = at; act = act.Observe h m from }) there)) in
+      let kept = keeps p.instr (act.Observe h m from) (act_is sub has p (record { pos = at; act = act.Observe h m from }) there) in
       by (is_assignment p.instr) (encloses program.scopes (scope_of s m.root) (scope_of s h)) assigns outer kept
     where
       by : (a b : Bool) → a ≡ true → not b ≡ true → not a || b ≡ true → ⊥
@@ -340,36 +336,68 @@ module _ (program : FlowProgram) (passes : all_pass (sub_passes program) program
       let first = first_is (traversed_formal s sub) m.root (right_of (is_formal s m.root) (is_first_of (traversed_formal s sub) m.root) rooted) in
       not_root first.0 first.1 (subst (IsOnlyRoot s (sub_acts sub) m.root) first.2 (formal_root sub has m.root formal))
   no_view sub has _ (other_root p at b m there other) =
-      no (m.root == b) (left_of (m.root == b) true (keeps p.instr (act.Reborrow b m) (act_is sub has p (record { pos = at; act = act.Reborrow b m }) there))) other
+      no (m.root == b) (keeps p.instr (act.Reborrow b m) (act_is sub has p (record { pos = at; act = act.Reborrow b m }) there)) other
 
   -- There are no reports where no call reports, and none is found along paths.
-  pub no_reports : alias_reports program nothing ≡ [] → (n : ℕ)
-      → ((sub : FlowSub) → Has program.subs sub → path_passes n (path_points program nothing sub) [] 0 ≡ true) → AreReports program nothing []
-  no_reports aliases n paths = record { ascending = tt; sound = λ r has. absurd has; complete = none }
+  pub reports_none : alias_reports program effects ≡ [] → (n : ℕ)
+      → ((sub : FlowSub) → Has program.subs sub → path_passes n (path_points program effects sub) [] 0 ≡ true) → AreReports program effects []
+  reports_none aliases n paths = record { ascending = tt; sound = λ r has. absurd has; complete = none }
     where
-      none : (r : Report) → ProgramReport program nothing r → ⊥
+      none : (r : Report) → ProgramReport program effects r → ⊥
       none r (on_actuals has) = subst (λ xs. Has xs r) aliases has
       none r (on_views sub has view) = no_view sub has r view
-      none r (on_paths sub has path) = unreported (path_points program nothing sub) n (paths sub has) r path
+      none r (on_paths sub has path) = unreported (path_points program effects sub) n (paths sub has) r path
 
-  no_reads : (g : ℕ) (p : FlowPoint) → is_global s g ≡ true → point_passes s program.scopes p ≡ true → point_reads g p ≡ false
+-- ---- what touches no package object
+
+all_left : {A : Type 0} (f g : A → Bool) (xs : List A) → all_pass (λ x. f x && g x) xs ≡ true → all_pass f xs ≡ true
+all_left f g [] e = refl
+all_left f g (x ∷ rest) e =
+    both (f x) (all_pass f rest) (left_of (f x) (g x) (left_of (f x && g x) (all_pass (λ x. f x && g x) rest) e))
+    (all_left f g rest (right_of (f x && g x) (all_pass (λ x. f x && g x) rest) e))
+  where
+    both : (a b : Bool) → a ≡ true → b ≡ true → a && b ≡ true
+    both true b e h = h
+    both false b e h = e
+
+module _ (program : FlowProgram) (passes : all_pass (sub_passes program) program.subs ≡ true) where
+  abbrev typing : Typing
+  typing = flow_typing program
+
+  abbrev pub nothing : Effects
+  nothing = record { read = map (λ (sub : FlowSub). empty) program.subs; written = map (λ (sub : FlowSub). empty) program.subs }
+
+  pub no_reports : alias_reports program nothing ≡ [] → (n : ℕ)
+      → ((sub : FlowSub) → Has program.subs sub → path_passes n (path_points program nothing sub) [] 0 ≡ true) → AreReports program nothing []
+  no_reports aliases n paths =
+      reports_none program nothing (all_left (keeps_rules program) (λ sub. all_pass (point_is_local typing) sub.points) program.subs passes)
+      (λ sub has function callee g writes. subst (λ xs. Has xs g) (empty_at program.subs callee) writes) aliases n paths
+
+  local_is : (sub : FlowSub) → Has program.subs sub → (p : FlowPoint) → Has sub.points p → point_is_local typing p ≡ true
+  local_is sub has = each (point_is_local typing) sub.points (right_of (keeps_rules program sub) (all_pass (point_is_local typing) sub.points) (each (sub_passes program) program.subs passes sub has))
+
+  local_acts : (p : FlowPoint) → point_is_local typing p ≡ true → (a : Placed) → Has p.acts a → is_local typing a.act ≡ true
+  local_acts p e a has =
+      each (λ (b : Placed). is_local typing b.act) p.acts (left_of (all_pass (λ (b : Placed). is_local typing b.act) p.acts) (not (reads_text p.instr) && not (writes_text p.instr)) e) a has
+
+  no_reads : (g : ℕ) (p : FlowPoint) → is_global typing g ≡ true → point_is_local typing p ≡ true → point_reads g p ≡ false
   no_reads g p shared e =
       dead (g == 0) (reads_text p.instr) (list_any (λ (a : Placed). act_reads g a.act) p.acts)
       (isnt (reads_text p.instr) (left_of (not (reads_text p.instr)) (not (writes_text p.instr))
-      (right_of (all_pass (λ (a : Placed). act_passes s program.scopes p.instr a.act) p.acts) (not (reads_text p.instr) && not (writes_text p.instr)) e)))
-      (any_none (λ (a : Placed). act_reads g a.act) p.acts (λ a has. local_read s g a.act (local_acts p e a has) shared))
+      (right_of (all_pass (λ (a : Placed). is_local typing a.act) p.acts) (not (reads_text p.instr) && not (writes_text p.instr)) e)))
+      (any_none (λ (a : Placed). act_reads g a.act) p.acts (λ a has. local_read typing g a.act (local_acts p e a has) shared))
     where
       dead : (c r d : Bool) → r ≡ false → d ≡ false → (c && r) || d ≡ false
       dead true true d wrong f = absurd (true≢false wrong)
       dead true false d wrong f = f
       dead false r d wrong f = f
 
-  no_writes : (g : ℕ) (p : FlowPoint) → is_global s g ≡ true → point_passes s program.scopes p ≡ true → point_writes g p ≡ false
+  no_writes : (g : ℕ) (p : FlowPoint) → is_global typing g ≡ true → point_is_local typing p ≡ true → point_writes g p ≡ false
   no_writes g p shared e =
       dead (g == 0) (writes_text p.instr) (list_any (λ (a : Placed). act_writes g a.act) p.acts)
       (isnt (writes_text p.instr) (right_of (not (reads_text p.instr)) (not (writes_text p.instr))
-      (right_of (all_pass (λ (a : Placed). act_passes s program.scopes p.instr a.act) p.acts) (not (reads_text p.instr) && not (writes_text p.instr)) e)))
-      (any_none (λ (a : Placed). act_writes g a.act) p.acts (λ a has. local_write s g a.act (local_acts p e a has) shared))
+      (right_of (all_pass (λ (a : Placed). is_local typing a.act) p.acts) (not (reads_text p.instr) && not (writes_text p.instr)) e)))
+      (any_none (λ (a : Placed). act_writes g a.act) p.acts (λ a has. local_write typing g a.act (local_acts p e a has) shared))
     where
       dead : (c r d : Bool) → r ≡ false → d ≡ false → (c && r) || d ≡ false
       dead true true d wrong f = absurd (true≢false wrong)
@@ -377,26 +405,26 @@ module _ (program : FlowProgram) (passes : all_pass (sub_passes program) program
       dead false r d wrong f = f
 
   never_reads : (p g : ℕ) → Reads program p g → ⊥
-  never_reads p g reads = by (is_global s g) refl reads.own
+  never_reads p g reads = by (is_global typing g) refl reads.own
     where
-      by : (b : Bool) → is_global s g ≡ b → IsTrue (b && list_any (point_reads g) (flow_sub_at program reads.last).points) → ⊥
+      by : (b : Bool) → is_global typing g ≡ b → IsTrue (b && list_any (point_reads g) (flow_sub_at program reads.last).points) → ⊥
       by false e own = true≢false (sym own)
       by true e own =
           true≢false (sym own
           ∙ at_any (λ (sub : FlowSub). list_any (point_reads g) sub.points ≡ false) program.subs
           (record { pos = record { file = 0; line = 1; column = 1 }; words = 1; formals = []; result = None; points = []; facts = [] }) refl
-          (λ sub has. any_none (point_reads g) sub.points (λ q there. no_reads g q e (point_is sub has q there))) reads.last)
+          (λ sub has. any_none (point_reads g) sub.points (λ q there. no_reads g q e (local_is sub has q there))) reads.last)
 
   never_writes : (p g : ℕ) → Writes program p g → ⊥
-  never_writes p g writes = by (is_global s g) refl writes.own
+  never_writes p g writes = by (is_global typing g) refl writes.own
     where
-      by : (b : Bool) → is_global s g ≡ b → IsTrue (b && list_any (point_writes g) (flow_sub_at program writes.last).points) → ⊥
+      by : (b : Bool) → is_global typing g ≡ b → IsTrue (b && list_any (point_writes g) (flow_sub_at program writes.last).points) → ⊥
       by false e own = true≢false (sym own)
       by true e own =
           true≢false (sym own
           ∙ at_any (λ (sub : FlowSub). list_any (point_writes g) sub.points ≡ false) program.subs
           (record { pos = record { file = 0; line = 1; column = 1 }; words = 1; formals = []; result = None; points = []; facts = [] }) refl
-          (λ sub has. any_none (point_writes g) sub.points (λ q there. no_writes g q e (point_is sub has q there))) writes.last)
+          (λ sub has. any_none (point_writes g) sub.points (λ q there. no_writes g q e (local_is sub has q there))) writes.last)
 
   pub no_effects : AreEffects program nothing
   no_effects = record {
