@@ -2,7 +2,7 @@
 -- the class of the law on runs with borrowers and observers, and that law of it.
 use Rattle.std.specs.Prelude.{codes}
 use Rattle.ada_tree.specs.declared.expression.Primary.TheVariants as primary
-use Rattle.std.proofs.Common.{◌≡◌, ℕ, ◌+◌, inl, true, List, [], ◌∷◌, refl, Some, None, Ok, Err, ◌∙◌}
+use Rattle.std.proofs.Common.{◌≡◌, ℕ, ◌+◌, inl, true, List, [], ◌∷◌, refl, Some, None, Ok, Err, ◌∙◌, not, true≢false, sym, false}
 use Rattle.ada_lexer.specs.Tokens.{Cut, CutResult, tokens}
 use Rattle.ada_tree.specs.declared.declaration.Item.TheVariants as item
 use Rattle.ada_tree.specs.declared.declaration.Indication.TheVariants as indication
@@ -44,6 +44,7 @@ use Rattle.accepted_examples.proofs.Quiet.{all_pass, each, isnt}
 use Rattle.accepted_examples.proofs.Classed.{formals_access, lend_first}
 use Rattle.accepted_examples.proofs.Unreported.{path_passes, keeps_rules, reports_none}
 use Rattle.accepted_examples.proofs.Affected.{affected, effects_are}
+use Rattle.spark_base.specs.Lists.{Has}
 
 -- "procedure Q (X : in T)", from its column on
 abbrev front : ℕ → Subspec
@@ -155,6 +156,7 @@ parsed = (cut_in_order 0 text 1000 cuts is_cut, spelled, tt)
 pub shared_sound : RunsAreSound files
 shared_sound input =
     parsed_called_sound files (cuts ∷ []) parsed named typed class.main class.is_main (affected (flow_of files)) effects
-    (reports_none (flow_of files) (affected (flow_of files)) passes (λ sub has function. absurd (true≢false (sym function ∙ no_function sub has))) no_aliases 9
+    (reports_none (flow_of files) (affected (flow_of files)) passes (λ sub has function. absurd (true≢false (sym function ∙ no_function sub has)))
+    (λ sub has function. absurd (true≢false (sym function ∙ no_function sub has))) no_aliases 9
     (each (λ (sub : FlowSub). path_passes 9 (path_points (flow_of files) (affected (flow_of files)) sub) [] 0) (flow_of files).subs paths))
     class.calls input

@@ -208,7 +208,8 @@ local_write s g a here shared = by a here
     by a h = refl
 
 module _ (program : FlowProgram) (effects : Effects) (passes : all_pass (keeps_rules program) program.subs ≡ true)
-    (silent : (sub : FlowSub) → Has program.subs sub → is_function sub ≡ true → (callee g : ℕ) → Has (written_by effects callee) g → ⊥) where
+    (silent : (sub : FlowSub) → Has program.subs sub → is_function sub ≡ true → (callee g : ℕ) → Has (written_by effects callee) g → ⊥)
+    (mute : (sub : FlowSub) → Has program.subs sub → is_function sub ≡ true → (p : FlowPoint) → Has sub.points p → writes_text p.instr ≡ true → ⊥) where
   abbrev s : Typing
   s = flow_typing program
 
@@ -318,10 +319,7 @@ module _ (program : FlowProgram) (effects : Effects) (passes : all_pass (keeps_r
       true≢false (sym (and_first (is_variable (object_at s m.root).kind) (is_observing (view_of s m.root)) is)
       ∙ no_variable (object_at s m.root).kind (left_of (is_formal s m.root) (is_first_of (traversed_formal s sub) m.root) (rooted_there sub has p (record { pos = at; act = act.Give m true }) there)))
   no_view sub has _ (called p g callee is there calls writes) = silent sub has is callee g writes
-  no_view sub has _ (text_io p is there writes) =
-      no (writes_text p.instr) writes
-      (right_of (not (reads_text p.instr)) (not (writes_text p.instr))
-      (right_of (all_pass (λ (a : Placed). act_passes s program.scopes p.instr a.act) p.acts) (not (reads_text p.instr) && not (writes_text p.instr)) (point_is sub has p there)))
+  no_view sub has _ (text_io p is there writes) = mute sub has is p there writes
   no_view sub has _ (shorter p at h m from there assigns outer) =
       let kept = keeps p.instr (act.Observe h m from) (act_is sub has p (record { pos = at; act = act.Observe h m from }) there) in
       by (is_assignment p.instr) (encloses program.scopes (scope_of s m.root) (scope_of s h)) assigns outer kept
@@ -367,14 +365,17 @@ module _ (program : FlowProgram) (passes : all_pass (sub_passes program) program
   abbrev pub nothing : Effects
   nothing = record { read = map (λ (sub : FlowSub). empty) program.subs; written = map (λ (sub : FlowSub). empty) program.subs }
 
+  local_is : (sub : FlowSub) → Has program.subs sub → (p : FlowPoint) → Has sub.points p → point_is_local typing p ≡ true
+  local_is sub has = each (point_is_local typing) sub.points (right_of (keeps_rules program sub) (all_pass (point_is_local typing) sub.points) (each (sub_passes program) program.subs passes sub has))
+
   pub no_reports : alias_reports program nothing ≡ [] → (n : ℕ)
       → ((sub : FlowSub) → Has program.subs sub → path_passes n (path_points program nothing sub) [] 0 ≡ true) → AreReports program nothing []
   no_reports aliases n paths =
       reports_none program nothing (all_left (keeps_rules program) (λ sub. all_pass (point_is_local typing) sub.points) program.subs passes)
-      (λ sub has function callee g writes. subst (λ xs. Has xs g) (empty_at program.subs callee) writes) aliases n paths
-
-  local_is : (sub : FlowSub) → Has program.subs sub → (p : FlowPoint) → Has sub.points p → point_is_local typing p ≡ true
-  local_is sub has = each (point_is_local typing) sub.points (right_of (keeps_rules program sub) (all_pass (point_is_local typing) sub.points) (each (sub_passes program) program.subs passes sub has))
+      (λ sub has function callee g writes. subst (λ xs. Has xs g) (empty_at program.subs callee) writes)
+      (λ sub has function p there writes. no (writes_text p.instr) writes
+      (right_of (not (reads_text p.instr)) (not (writes_text p.instr))
+      (right_of (all_pass (λ (b : Placed). is_local typing b.act) p.acts) (not (reads_text p.instr) && not (writes_text p.instr)) (local_is sub has p there)))) aliases n paths
 
   local_acts : (p : FlowPoint) → point_is_local typing p ≡ true → (a : Placed) → Has p.acts a → is_local typing a.act ≡ true
   local_acts p e a has =
