@@ -1,5 +1,5 @@
 -- The actuals of typed calls of the class with formals that own are as they are asked for.
-use Rattle.std.proofs.Common.{◌≡◌, refl, sym, ap, subst, ◌⊎◌, inl, inr, ℕ, Bool, true, false, List, [], ◌∷◌, Option, ◌||◌, Some, None}
+use Rattle.std.proofs.Common.{◌≡◌, refl, sym, ap, subst, ◌⊎◌, inl, inr, ℕ, Bool, true, false, List, [], ◌∷◌, ◌||◌, Some, None}
 use Rattle.spark_base.specs.Lists.{Has as Holds}
 use Rattle.place_names.specs.declared.act.Mode.{Mode}
 use Rattle.place_names.specs.declared.act.Mode.TheVariants as mode
@@ -10,14 +10,11 @@ use Rattle.type_definitions.specs.Types as types
 use Rattle.type_definitions.specs.Entries.{integer, boolean}
 use Rattle.typed_tree.specs.Trees.{TypedTree, Name, More}
 use Rattle.typed_tree.specs.Trees as typed
-use Rattle.flow_paths.specs.Objects.{Typing, Signature, object_at, sub_at, is_formal, is_anonymous, view_of, traverses}
-use Rattle.flow_paths.specs.Instructions.{Call}
+use Rattle.flow_paths.specs.Objects.{Typing, Signature, object_at, sub_at, is_anonymous, view_of, traverses}
 use Rattle.flow_paths.specs.Points.{FlowPoint}
 use Rattle.flow_paths.specs.Laid.{FlowSub, FlowProgram, flow_typing}
 use Rattle.machine.specs.States.{sub_of}
-use Rattle.machine.specs.Owners.{is_in}
 use Rattle.soundness.specs.Typed.{OwnsByShape}
-use Rattle.soundness.specs.Sound.{goes_through_none}
 use Rattle.typed_laws.specs.Fine.{Has, Agree, counts, lists}
 use Rattle.typed_laws.specs.Needed.{Matches, Gives, IsPlace}
 use Rattle.typed_laws.proofs.Sound.{matches, leads, gives}
@@ -26,7 +23,7 @@ use Rattle.typed_runs.specs.Code.{IsNamedOwner, NamesOwner, NamesOwners, IsName,
 use Rattle.soundness.proofs.Contents.{bool_cases}
 use Rattle.soundness.proofs.Passing.{signature_there}
 use Rattle.viewed_soundness.specs.Holds.{IsNamed}
-use Rattle.ready_laws.proofs.Actuals.{taken_stays, scalar_back}
+use Rattle.ready_laws.proofs.Actuals.{taken_stays}
 use Rattle.scope_laws.specs.Code.{Once}
 use Rattle.flow_paths.specs.Views.{traversed_of}
 use Rattle.viewed_steps.specs.Ready.{IsSeen, IsValueTo, is_shown_type}
