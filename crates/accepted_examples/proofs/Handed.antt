@@ -39,9 +39,9 @@ use Rattle.accepted_runs.proofs.Runs.{RunsAreSound}
 use Rattle.accepted_runs.specs.Classes.{AreInSecondViewClass}
 use Rattle.accepted_examples.proofs.Naming.{naming}
 use Rattle.accepted_examples.proofs.Typing.{typing}
+use Rattle.accepted_examples.proofs.Classed.{classed}
 use Rattle.accepted_examples.proofs.Lowering.{lowering}
 use Rattle.accepted_examples.proofs.Quiet.{all_pass, each}
-use Rattle.accepted_examples.proofs.Classed.{formals_access, lend_first}
 use Rattle.accepted_examples.proofs.Unreported.{path_passes, sub_passes, nothing, no_reports, no_effects}
 
 -- "procedure Q (X : in out T)", from its column on
@@ -86,22 +86,9 @@ pub is_main : (typed_of (program_of files)).main ≡ Some 2
 unfolding computes naming typing lowering
 is_main = refl
 
-pub calls : CallsProcedures (flow_of files)
-unfolding computes naming typing lowering
-calls = λ sub has p there.
-    each (λ (p : FlowPoint). calls_procedures p.instr) sub.points
-    (each (λ (s : FlowSub). all_pass (λ (p : FlowPoint). calls_procedures p.instr) s.points) (flow_of files).subs refl sub has) p there
-
-pub formals : FormalsAreAccess (program_of files)
-unfolding computes naming typing lowering
-formals = formals_access files refl
-
-pub lends : LendFirst (program_of files)
-unfolding computes naming typing lowering
-lends = lend_first files refl
-
 pub class : AreInSecondViewClass files
-class = record { main = 2; is_main = is_main; calls = record { formals = formals; lends = inl lends; borrowed = takes_none (program_of files) (inl calls); spared = spares_none (program_of files) (inl calls) } }
+unfolding computes naming typing lowering
+class = record { main = 2; is_main = is_main; calls = classed files refl refl }
 
 -- ---- nothing is reported of it
 

@@ -46,6 +46,7 @@ use Rattle.accepted_runs.proofs.Runs.{RunsAreSound}
 use Rattle.accepted_runs.specs.Classes.{AreInSecondViewClass}
 use Rattle.accepted_examples.proofs.Naming.{naming}
 use Rattle.accepted_examples.proofs.Typing.{typing}
+use Rattle.accepted_examples.proofs.Classed.{classed}
 use Rattle.accepted_examples.proofs.Lowering.{lowering}
 use Rattle.accepted_examples.proofs.Quiet.{all_pass, each, at_any, left_of, right_of}
 use Rattle.accepted_examples.proofs.Unreported.{path_passes, sub_passes, nothing, no_reports, no_effects}
@@ -86,56 +87,13 @@ typed = refl
 
 -- ---- it is of the class
 
-implied : (a b : Bool) → not a || b ≡ true → a ≡ true → b ≡ true
-implied true b e is = e
-implied false b e is = absurd (true≢false (sym is))
-
 pub is_main : (typed_of (program_of files)).main ≡ Some 2
 unfolding computes naming typing lowering
 is_main = refl
 
-pub calls : CallsProcedures (flow_of files)
-unfolding computes naming typing lowering
-calls = λ sub has p there.
-    each (λ (p : FlowPoint). calls_procedures p.instr) sub.points
-    (each (λ (s : FlowSub). all_pass (λ (p : FlowPoint). calls_procedures p.instr) s.points) (flow_of files).subs refl sub has) p there
-
-abbrev own : Typing
-own = typing_in (program_of files)
-
-abbrev scalar_if_formal : Object → Bool
-scalar_if_formal o = not (is_formal_kind o.kind) || is_scalar (full own.table o.of)
-
-scalars : all_pass scalar_if_formal own.objects ≡ true
-unfolding computes naming typing lowering
-scalars = refl
-
-pub formals : FormalsAreScalar (program_of files)
-formals x is =
-    implied (is_formal own x) (is_scalar (full own.table (object_at own x).of))
-    (at_any (λ (o : Object). scalar_if_formal o ≡ true) own.objects text_io refl (each scalar_if_formal own.objects scalars) x) is
-
-abbrev in_alone : List ℕ → Bool
-in_alone xs = all_pass (λ x. is_in (object_at own x).mode) xs
-
-ins : all_pass (λ (z : Signature). in_alone z.formals) own.subs ≡ true
-unfolding computes naming typing lowering
-ins = refl
-
-copied_in : (xs : List ℕ) (actuals : TypedTree) → in_alone xs ≡ true → AreCopied own xs actuals
-copied_in [] actuals e = tt
-copied_in (x ∷ xs) (More a rest) e =
-    (λ out. absurd (true≢false (sym (left_of (is_in (object_at own x).mode) (in_alone xs) e) ∙ out)), copied_in xs rest (right_of (is_in (object_at own x).mode) (in_alone xs) e))
-copied_in (x ∷ xs) actuals e = tt
-
--- No formal is copied back to.
-pub copied : CopyToVariables (program_of files)
-copied = called_alike (program_of files) (λ n actuals.
-    copied_in (sub_at own n).formals actuals
-    (at_any (λ (z : Signature). in_alone z.formals ≡ true) own.subs (record { formals = []; result = None }) refl (each (λ (z : Signature). in_alone z.formals) own.subs ins) n))
-
 pub class : AreInSecondViewClass files
-class = record { main = 2; is_main = is_main; calls = calls_functions (program_of files) (record { results = inl calls; formals = formals; copied = copied }) }
+unfolding computes naming typing lowering
+class = record { main = 2; is_main = is_main; calls = classed files refl refl }
 
 -- ---- nothing is reported of it
 

@@ -23,9 +23,9 @@ use Rattle.meant_files.specs.Formless.{IsFormless}
 use Rattle.viewed_files.proofs.Files.{parsed_called_sound}
 use Rattle.accepted_runs.proofs.Runs.{RunsAreSound}
 use Rattle.accepted_runs.specs.Classes.{AreInSecondViewClass}
-use Rattle.accepted_runs.proofs.Views.{AreInViewClass, first_second}
 use Rattle.accepted_examples.proofs.Naming.{naming}
 use Rattle.accepted_examples.proofs.Typing.{typing}
+use Rattle.accepted_examples.proofs.Classed.{classed}
 use Rattle.accepted_examples.proofs.Lowering.{lowering}
 use Rattle.accepted_examples.proofs.Quiet.{all_pass, each}
 use Rattle.accepted_examples.proofs.Unreported.{path_passes, sub_passes, nothing, no_reports, no_effects}
@@ -53,23 +53,10 @@ pub typed : type_fault (program_of files) ≡ None
 unfolding computes naming typing lowering
 typed = refl
 
-one : {A : Type 0} (P : A → Type 0) (y x : A) → P y → Has (y ∷ []) x → P x
-one P y x h (inl is) = subst P is h
-one P y x h (inr none) = absurd none
-
 -- The text is of the class.
-pub class : AreInViewClass files
-unfolding computes naming typing lowering IsFormless
-class = record {
-  text = record {
-    formless = λ u has. one IsFormless _ u (refl, (tt, (tt, (tt, tt))), (tt, tt)) has;
-    main = 1;
-    is_main = refl;
-  };
-  calls = λ sub has p there.
-      each (λ (p : FlowPoint). calls_nothing p.instr) sub.points
-      (each (λ (s : FlowSub). all_pass (λ (p : FlowPoint). calls_nothing p.instr) s.points) (flow_of files).subs refl sub has) p there;
-}
+pub class : AreInSecondViewClass files
+unfolding computes naming typing lowering
+class = record { main = 1; is_main = refl; calls = classed files refl refl }
 
 -- ---- nothing is reported of it
 
@@ -105,12 +92,9 @@ parsed : AreParsed 0 (cuts ∷ []) files
 unfolding computes
 parsed = (cut_in_order 0 text 1000 cuts is_cut, spelled, tt)
 
-second : AreInSecondViewClass files
-second = first_second files class
-
 pub observed_sound : RunsAreSound files
 observed_sound input =
-    parsed_called_sound files (cuts ∷ []) parsed named typed second.main second.is_main (nothing (flow_of files) passes) (no_effects (flow_of files) passes)
+    parsed_called_sound files (cuts ∷ []) parsed named typed class.main class.is_main (nothing (flow_of files) passes) (no_effects (flow_of files) passes)
     (no_reports (flow_of files) passes no_aliases 9
     (each (λ (sub : FlowSub). path_passes 9 (path_points (flow_of files) (nothing (flow_of files) passes) sub) [] 0) (flow_of files).subs paths))
-    second.calls input
+    class.calls input

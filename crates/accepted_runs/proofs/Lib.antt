@@ -6,8 +6,5 @@ pub mod Runs
 pub mod Views
 pub mod ViewFacts
 pub mod ViewNulls
--- parts of this class, the widest one first
-pub mod Functions
-pub mod Main
 -- what is said of `run`
 pub mod Headline

@@ -27,8 +27,6 @@ use Rattle.accepted_runs.proofs.Parsed.{are_parsed}
 use Rattle.accepted_runs.proofs.Runs.{RunsAreSound}
 use Rattle.accepted_runs.specs.Classes.{AreInThirdClass, AreInSecondViewClass}
 
--- ---- with calls
-
 -- Such a program is ready, as the laws on its steps ask.
 pub passed_called_ready : (texts : List (List ℕ)) (trees : List (List SourceUnit)) (effects : Effects) → Passes texts trees effects → AreInSecondViewClass trees
     → IsReady (known_of (program_of trees)).table (typed_of (program_of trees)) effects
@@ -48,33 +46,3 @@ pub accepted_called_sound : (stored : List (List ℕ × List ℕ)) (input : List
 accepted_called_sound stored input words names answer command product zero =
     let is : Passed (sources stored 0 SOURCE_BYTES names) = product_passed stored input words names answer command product zero in
     (is, passed_called_sound is.texts is.trees is.effects is.passes)
-
--- ---- parts of it
-
--- Programs without anonymous access types that call as above are of this class.
-pub third_second : (trees : List (List SourceUnit)) → AreInThirdClass trees → AreInSecondViewClass trees
-third_second trees class = record { main = class.text.main; is_main = class.text.is_main; calls = calls_functions (program_of trees) class.calls }
-
--- No subprogram has formals, and none is called. Anonymous access types are allowed.
-pub record AreInViewClass (trees : List (List SourceUnit)) : Type 0 where
-  pub text : IsFormlessText (program_of trees)
-  pub calls : CallsNothing (flow_of trees)
-
-pub first_second : (trees : List (List SourceUnit)) → AreInViewClass trees → AreInSecondViewClass trees
-first_second trees class = record {
-  main = class.text.main;
-  is_main = class.text.is_main;
-  calls = calls_functions (program_of trees) (record {
-    results = inl (λ sub has p there. nothing_procedures p.instr (class.calls sub has p there));
-    formals = formless_formals (program_of trees) class.text.formless;
-    copied = formless_copied (program_of trees) class.text.formless;
-  });
-}
-
--- So in this class they are, too.
-pub accepted_views_sound : (stored : List (List ℕ × List ℕ)) (input : List ℕ) (words names : List (List ℕ)) (answer : Answer)
-    → command_of words ≡ Some (Check names) → Product stored input words answer → answer.status ≡ 0
-    → (is : Passed (sources stored 0 SOURCE_BYTES names)) × (AreInViewClass is.trees → RunsAreSound is.trees)
-accepted_views_sound stored input words names answer command product zero =
-    let found = accepted_called_sound stored input words names answer command product zero in
-    (found.0, λ class. found.1 (first_second found.0.trees class))
