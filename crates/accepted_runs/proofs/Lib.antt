@@ -2,7 +2,7 @@ pub mod Passing
 pub mod Parsed
 -- what holds of runs
 pub mod Runs
--- with borrowers and observers
+-- of the class
 pub mod Views
 pub mod ViewFacts
 pub mod ViewNulls

@@ -1,18 +1,11 @@
--- The runs of programs with borrowers and observers that `check` accepts are sound: where results are of scalar types or
--- stand alone, and formals are of scalar types or of mode `in out`; and so without formals and calls.
-use Rattle.std.proofs.Common.{◌≡◌, inl, ℕ, List, Some}
+-- The runs of programs of the class that `check` accepts are sound.
+use Rattle.std.proofs.Common.{◌≡◌, ℕ, List, Some}
 use Rattle.spark_base.specs.declared.limits.TheConstants.{TOKENS, SOURCE_BYTES}
 use Rattle.ada_tree.specs.declared.unit.SourceUnit.{SourceUnit}
 use Rattle.type_definitions.specs.Whole.{known_of}
 use Rattle.typing_steps.specs.Programs.{program_of}
 use Rattle.flow_paths.specs.declared.report.Effects.{Effects}
-use Rattle.soundness.proofs.Successors.{nothing_procedures}
-use Rattle.program_check.specs.Sources.{flow_of}
 use Rattle.order_laws.specs.Orderly.{typed_of}
-use Rattle.sound_files.specs.Class.{CallsNothing, CallsWithOwners}
-use Rattle.sound_files.proofs.Classes.{formless_formals, formless_copied}
-use Rattle.sound_files.proofs.Owners.{calls_functions}
-use Rattle.viewed_files.specs.Class.{IsFormlessText}
 use Rattle.viewed_steps.specs.Ready.{IsReady}
 use Rattle.viewed_steps.proofs.Main.{ready_sound}
 use Rattle.viewed_files.proofs.Files.{parsed_called_ready}
@@ -25,7 +18,7 @@ use Rattle.accepted_runs.specs.Passed.{Passes}
 use Rattle.accepted_runs.proofs.Passing.{Passed, product_passed}
 use Rattle.accepted_runs.proofs.Parsed.{are_parsed}
 use Rattle.accepted_runs.proofs.Runs.{RunsAreSound}
-use Rattle.accepted_runs.specs.Classes.{AreInThirdClass, AreInSecondViewClass}
+use Rattle.accepted_runs.specs.Classes.{AreInSecondViewClass}
 
 -- Such a program is ready, as the laws on its steps ask.
 pub passed_called_ready : (texts : List (List ℕ)) (trees : List (List SourceUnit)) (effects : Effects) → Passes texts trees effects → AreInSecondViewClass trees
