@@ -1,7 +1,6 @@
 -- A text with an observer of the class of the law on runs with borrowers and observers, and that law of it.
-use Rattle.std.proofs.Common.{◌≡◌, ℕ, inl, inr, true, List, [], ◌∷◌, refl, subst, Some, None, Ok, Err}
+use Rattle.std.proofs.Common.{◌≡◌, ℕ, true, List, [], ◌∷◌, refl, Some, None, Ok, Err}
 use Rattle.std.specs.Prelude.{codes}
-use Rattle.spark_base.specs.Lists.{Has}
 use Rattle.ada_lexer.specs.Tokens.{Cut, CutResult, tokens}
 use Rattle.ada_tree.specs.declared.declaration.Item.TheVariants as item
 use Rattle.ada_tree.specs.declared.declaration.Indication.TheVariants as indication
@@ -10,16 +9,13 @@ use Rattle.ada_grammar.proofs.SmallSources.{IsTextOf, computes, source_of, at, i
 use Rattle.name_events.specs.Faults.{name_fault}
 use Rattle.type_definitions.specs.Whole.{type_fault}
 use Rattle.typing_steps.specs.Programs.{program_of}
-use Rattle.flow_paths.specs.Points.{FlowPoint}
 use Rattle.flow_paths.specs.Laid.{FlowSub}
 use Rattle.flow_paths.specs.Effects.{asks_for_end, path_points}
 use Rattle.flow_paths.specs.Aliases.{alias_reports}
 use Rattle.flow_paths.specs.Views.{encloses_within}
-use Rattle.soundness.specs.Sound.{calls_nothing}
 use Rattle.program_check.specs.Sources.{flow_of}
 use Rattle.file_positions.specs.Texts.{AreParsed}
 use Rattle.file_positions.proofs.Cuts.{cut_in_order}
-use Rattle.meant_files.specs.Formless.{IsFormless}
 use Rattle.viewed_files.proofs.Files.{parsed_called_sound}
 use Rattle.accepted_runs.proofs.Runs.{RunsAreSound}
 use Rattle.accepted_runs.specs.Classes.{AreInSecondViewClass}

@@ -1,9 +1,12 @@
--- A program of procedures that touch no package object has no reports, if none is found along its paths: those of
--- loops would have no end.
-use Rattle.std.specs.Prelude.{IsTrue, is_none}
+-- A program whose subprograms touch no package object, and whose functions change and lend nothing, has no reports, if none is
+-- found along its paths: those of loops would have no end.
+use Rattle.std.specs.Prelude.{IsTrue, is_none, flat_map}
 use Rattle.std.specs.List.{list_any}
-use Rattle.std.proofs.Common.{◌≡◌, ℕ, zero, suc, Bool, true, false, not, ◌&&◌, ◌||◌, ◌==◌, eqb-true, List, [], ◌∷◌, ◌++◌, append_assoc, map, refl, sym, ap, ◌∙◌, subst, Option, Some, None, true≢false}
+use Rattle.std.proofs.Common.{◌≡◌, ℕ, zero, suc, inl, inr, Bool, true, false, not, ◌&&◌, ◌||◌, ◌==◌, eqb-true, List, [], ◌∷◌, ◌++◌, append_assoc, map, refl, sym, ap, ◌∙◌, subst, Option, Some, None, true≢false}
 use Rattle.spark_base.specs.Lists.{Has}
+use Rattle.spark_base.proofs.Lists.{Has-append_cases, Has-map_from}
+use Rattle.typed_tree.specs.declared.object.ObjectKind.{ObjectKind}
+use Rattle.typed_tree.specs.declared.object.ObjectKind.TheVariants as object_kind
 use Rattle.place_names.specs.Names.{Name, extend}
 use Rattle.place_names.specs.declared.selector.Sel.TheVariants as sel
 use Rattle.place_names.specs.declared.act.Act.{Act}
@@ -15,11 +18,11 @@ use Rattle.place_names.specs.Rules.{Forbidden, forbids}
 use Rattle.place_names.specs.Reports.{Report}
 use Rattle.flow_paths.specs.declared.report.Effects.{Effects}
 use Rattle.flow_paths.specs.Instructions.{Instruction}
-use Rattle.flow_paths.specs.Objects.{Typing, object_at, view_of, is_observer, is_formal, is_named_access}
+use Rattle.flow_paths.specs.Objects.{Typing, object_at, view_of, is_observer, is_borrowing, is_observing, is_variable, is_formal, is_formal_kind, is_named_access}
 use Rattle.flow_paths.specs.Points.{FlowPoint}
 use Rattle.flow_paths.specs.Laid.{FlowSub, FlowProgram, flow_typing}
 use Rattle.flow_paths.specs.Paths.{PathPoint, PathReport, ControlPath, begins, goes_on, path_point, acts_at, acts_along}
-use Rattle.flow_paths.specs.Views.{is_in_mode, ViewReport, changed, lent, given, called, text_io, shorter, elsewhere, other_root, ConstantView, of_observer, of_formal, in_function, of_borrower, is_function, has_selector, is_assignment, encloses, scope_of, changes, lends}
+use Rattle.flow_paths.specs.Views.{is_in_mode, ViewReport, changed, lent, given, called, text_io, shorter, elsewhere, other_root, ConstantView, of_observer, of_formal, in_function, of_borrower, is_function, has_selector, is_assignment, encloses, scope_of, changes, lends, traversed_formal, sub_acts, IsOnlyRoot, Roots, itself as root_itself, borrows as root_borrows, observes as root_observes}
 use Rattle.flow_paths.specs.Aliases.{alias_reports}
 use Rattle.flow_paths.specs.Effects.{AreEffects, Reads, Writes, Ascends, path_points, point_reads, point_writes, is_global, reads_text, writes_text, flow_sub_at, act_reads, act_writes}
 use Rattle.flow_paths.specs.Reports.{AreReports, ProgramReport, on_actuals, on_views, on_paths}
@@ -88,7 +91,6 @@ module _ (points : List PathPoint) where
 
 -- ---- what is found of views
 
--- In a procedure.
 abbrev is_constant : Typing → Option Name → Bool
 is_constant s None = false
 is_constant s (Some m) =
@@ -100,7 +102,7 @@ designated_name None = None
 designated_name (Some m) = Some (extend m (sel.Deref ∷ []))
 
 abbrev keeps_views : Typing → List ℕ → Instruction → Act → Bool
-keeps_views s scopes i (act.Give m borrows) = false
+keeps_views s scopes i (act.Give m borrows) = true
 keeps_views s scopes i (act.Observe h m from_observer) = not (is_assignment i) || encloses scopes (scope_of s m.root) (scope_of s h)
 keeps_views s scopes i (act.Reborrow b m) = m.root == b
 keeps_views s scopes i a = true
@@ -125,8 +127,28 @@ act_passes s scopes i a =
 abbrev point_passes : Typing → List ℕ → FlowPoint → Bool
 point_passes s scopes p = all_pass (λ (a : Placed). act_passes s scopes p.instr a.act) p.acts && (not (reads_text p.instr) && not (writes_text p.instr))
 
+abbrev is_first_of : Option ℕ → ℕ → Bool
+is_first_of None x = false
+is_first_of (Some f) x = f == x
+
+-- What is given is named by the first formal of a traversal function. No formal borrows or observes.
+abbrev is_rooted : Typing → FlowSub → Act → Bool
+is_rooted s sub (act.Give m borrows) = is_formal s m.root && is_first_of (traversed_formal s sub) m.root
+is_rooted s sub (act.Observe h m from_observer) = not (is_formal s h)
+is_rooted s sub (act.Borrow h m) = not (is_formal s h)
+is_rooted s sub a = true
+
+abbrev is_still : Act → Bool
+is_still a = is_none (changes a) && is_none (lends a)
+
+abbrev act_fits : Typing → FlowSub → Act → Bool
+act_fits s sub a = (not (is_function sub) || is_still a) && is_rooted s sub a
+
+abbrev acts_fit : Typing → FlowSub → FlowPoint → Bool
+acts_fit s sub p = all_pass (λ (a : Placed). act_fits s sub a.act) p.acts
+
 abbrev pub sub_passes : FlowProgram → FlowSub → Bool
-sub_passes program sub = not (is_function sub) && all_pass (point_passes (flow_typing program) program.scopes) sub.points
+sub_passes program sub = all_pass (acts_fit (flow_typing program) sub) sub.points && all_pass (point_passes (flow_typing program) program.scopes) sub.points
 
 or_right : (a b : Bool) → b ≡ true → a || b ≡ true
 or_right true b e = refl
@@ -185,12 +207,35 @@ module _ (program : FlowProgram) (passes : all_pass (sub_passes program) program
   abbrev pub nothing : Effects
   nothing = record { read = map (λ (sub : FlowSub). empty) program.subs; written = map (λ (sub : FlowSub). empty) program.subs }
 
-  no_function : (sub : FlowSub) → Has program.subs sub → is_function sub ≡ false
-  no_function sub has = isnt (is_function sub) (left_of (not (is_function sub)) (all_pass (point_passes s program.scopes) sub.points) (each (sub_passes program) program.subs passes sub has))
+  fits_there : (sub : FlowSub) → Has program.subs sub → (p : FlowPoint) (a : Placed) → Has sub.points p × Has p.acts a → act_fits s sub a.act ≡ true
+  fits_there sub has p a at =
+      each (λ (z : Placed). act_fits s sub z.act) p.acts
+      (each (acts_fit s sub) sub.points (left_of (all_pass (acts_fit s sub) sub.points) (all_pass (point_passes s program.scopes) sub.points) (each (sub_passes program) program.subs passes sub has))
+      p at.0) a at.1
+
+  -- a function changes and lends nothing
+  still_there : (sub : FlowSub) → Has program.subs sub → (p : FlowPoint) (a : Placed) → Has sub.points p × Has p.acts a → is_function sub ≡ true → is_still a.act ≡ true
+  still_there sub has p a at function = by (is_function sub) function (left_of (not (is_function sub) || is_still a.act) (is_rooted s sub a.act) (fits_there sub has p a at))
+    where
+      by : (b : Bool) → b ≡ true → not b || is_still a.act ≡ true → is_still a.act ≡ true
+      by true e h = h
+      by false e h = absurd (true≢false (sym e))
+
+  rooted_there : (sub : FlowSub) → Has program.subs sub → (p : FlowPoint) (a : Placed) → Has sub.points p × Has p.acts a → is_rooted s sub a.act ≡ true
+  rooted_there sub has p a at = right_of (not (is_function sub) || is_still a.act) (is_rooted s sub a.act) (fits_there sub has p a at)
+
+  changes_none : (sub : FlowSub) → Has program.subs sub → (p : FlowPoint) (a : Placed) → Has sub.points p × Has p.acts a → (m : Name) → changes a.act ≡ Some m → is_function sub ≡ true → ⊥
+  changes_none sub has p a at m e function =
+      true≢false (sym (left_of (is_none (changes a.act)) (is_none (lends a.act)) (still_there sub has p a at function)) ∙ ap is_none e)
+
+  lends_none : (sub : FlowSub) → Has program.subs sub → (p : FlowPoint) (a : Placed) → Has sub.points p × Has p.acts a → (m : Name) → lends a.act ≡ Some m → is_function sub ≡ true → ⊥
+  lends_none sub has p a at m e function =
+      true≢false (sym (right_of (is_none (changes a.act)) (is_none (lends a.act)) (still_there sub has p a at function)) ∙ ap is_none e)
 
   point_is : (sub : FlowSub) → Has program.subs sub → (p : FlowPoint) → Has sub.points p → point_passes s program.scopes p ≡ true
   point_is sub has =
-      each (point_passes s program.scopes) sub.points (right_of (not (is_function sub)) (all_pass (point_passes s program.scopes) sub.points) (each (sub_passes program) program.subs passes sub has))
+      each (point_passes s program.scopes) sub.points
+      (right_of (all_pass (acts_fit s sub) sub.points) (all_pass (point_passes s program.scopes) sub.points) (each (sub_passes program) program.subs passes sub has))
 
   acts_here : (p : FlowPoint) → point_passes s program.scopes p ≡ true → all_pass (λ (a : Placed). act_passes s program.scopes p.instr a.act) p.acts ≡ true
   acts_here p e = left_of (all_pass (λ (a : Placed). act_passes s program.scopes p.instr a.act) p.acts) (not (reads_text p.instr) && not (writes_text p.instr)) e
@@ -217,28 +262,69 @@ module _ (program : FlowProgram) (passes : all_pass (sub_passes program) program
   and_second true b e = e
   and_second false b e = absurd (true≢false (sym e))
 
-  view_constant : (sub : FlowSub) → Has program.subs sub → (m : Name) → ConstantView s sub m → is_constant s (Some m) ≡ true
-  view_constant sub has m (of_observer is) =
+  view_constant : (sub : FlowSub) → (is_function sub ≡ true → ⊥) → (m : Name) → ConstantView s sub m → is_constant s (Some m) ≡ true
+  view_constant sub none m (of_observer is) =
       or_left (is_observer s m.root && has_selector m)
       (is_formal s m.root && (is_in_mode (object_at s m.root).mode && (not (is_named_access (view_of s m.root)) || not (has_selector m)))) is
-  view_constant sub has m (of_formal is) =
+  view_constant sub none m (of_formal is) =
       or_right (is_observer s m.root && has_selector m)
       (is_formal s m.root && (is_in_mode (object_at s m.root).mode && (not (is_named_access (view_of s m.root)) || not (has_selector m))))
       (and_second (not (is_function sub)) _ is)
-  view_constant sub has m (in_function is) = absurd (true≢false (sym (and_first (is_function sub) _ is) ∙ no_function sub has))
-  view_constant sub has m (of_borrower r is roots outer) = absurd (true≢false (sym (and_first (is_function sub) _ is) ∙ no_function sub has))
+  view_constant sub none m (in_function is) = absurd (none (and_first (is_function sub) _ is))
+  view_constant sub none m (of_borrower r is roots outer) = absurd (none (and_first (is_function sub) _ is))
+
+  -- a formal has no other root than itself
+  no_variable : (k : ObjectKind) → is_formal_kind k ≡ true → is_variable k ≡ false
+  no_variable object_kind.Formal e = refl
+  no_variable k e = cc
+
+  flat_from : (ps : List FlowPoint) (a : Act) → Has (flat_map (λ (p : FlowPoint). map (λ (z : Placed). z.act) p.acts) ps) a
+      → (p : FlowPoint) × Has ps p × ((z : Placed) × Has p.acts z × (z.act ≡ a))
+  flat_from [] a has = absurd has
+  flat_from (p ∷ ps) a has = elim (Has-append_cases (map (λ (z : Placed). z.act) p.acts) (flat_map (λ (q : FlowPoint). map (λ (z : Placed). z.act) q.acts) ps) a has) [
+    | inl here ↦ (let found = Has-map_from (λ (z : Placed). z.act) p.acts a here in (p, inl refl, (found.0, found.1, found.2)))
+    | inr more ↦ (let found = flat_from ps a more in (found.0, inr found.1, found.2))
+  ]
+
+  rooted_act : (sub : FlowSub) → Has program.subs sub → (a : Act) → Has (sub_acts sub) a → is_rooted s sub a ≡ true
+  rooted_act sub has a there =
+      let found = flat_from sub.points a there in
+      subst (λ z. is_rooted s sub z ≡ true) found.2.2 (rooted_there sub has found.0 found.2.0 (found.1, found.2.1))
+
+  only_itself : (sub : FlowSub) → Has program.subs sub → (x r : ℕ) → is_formal s x ≡ true → Roots s (sub_acts sub) x r → r ≡ x
+  only_itself sub has _ _ formal (root_itself x is) = refl
+  only_itself sub has _ _ formal (root_borrows h r m there more) = absurd (no (is_formal s h) formal (rooted_act sub has (act.Borrow h m) there))
+  only_itself sub has _ _ formal (root_observes h r m from there more) = absurd (no (is_formal s h) formal (rooted_act sub has (act.Observe h m from) there))
+
+  holds_none : (v b o : Bool) → v ≡ false → not ((v && b) || (v && o)) ≡ true
+  holds_none true b o e = absurd (true≢false e)
+  holds_none false b o e = refl
+
+  formal_root : (sub : FlowSub) → Has program.subs sub → (x : ℕ) → is_formal s x ≡ true → IsOnlyRoot s (sub_acts sub) x x
+  formal_root sub has x formal = (
+    root_itself x (holds_none (is_variable (object_at s x).kind) (is_borrowing (view_of s x)) (is_observing (view_of s x)) (no_variable (object_at s x).kind formal)),
+    λ r roots. only_itself sub has x r formal roots,
+  )
+
+  first_is : (o : Option ℕ) (x : ℕ) → is_first_of o x ≡ true → (f : ℕ) × (o ≡ Some f) × (x ≡ f)
+  first_is None x e = absurd (true≢false (sym e))
+  first_is (Some f) x e = (f, refl, sym (eqb-true f x e))
 
   no_view : (sub : FlowSub) → Has program.subs sub → (r : Report) → ViewReport program nothing sub r → ⊥
   no_view sub has _ (changed p a m at e view) =
-      no (is_constant s (changes a.act)) (ap (is_constant s) e ∙ view_constant sub has m view)
+      no (is_constant s (changes a.act)) (ap (is_constant s) e ∙ view_constant sub (changes_none sub has p a at m e) m view)
       (left_of (not (is_constant s (changes a.act))) (not (is_constant s (designated_name (lends a.act)))) (constants p.instr a.act (act_is sub has p a at)))
   no_view sub has _ (lent p a m at e view may) =
-      no (is_constant s (designated_name (lends a.act))) (ap (λ z. is_constant s (designated_name z)) e ∙ view_constant sub has (extend m (sel.Deref ∷ [])) view)
+      no (is_constant s (designated_name (lends a.act))) (ap (λ z. is_constant s (designated_name z)) e ∙ view_constant sub (lends_none sub has p a at m e) (extend m (sel.Deref ∷ [])) view)
       (right_of (not (is_constant s (changes a.act))) (not (is_constant s (designated_name (lends a.act)))) (constants p.instr a.act (act_is sub has p a at)))
   no_view sub has _ (given p at m there is) =
-      true≢false (sym (left_of false (is_local s (act.Give m true)) (keeps p.instr (act.Give m true) (act_is sub has p (record { pos = at; act = act.Give m true }) there))))
-  no_view sub has _ (called p g callee is there calls writes) = true≢false (sym is ∙ no_function sub has)
-  no_view sub has _ (text_io p is there writes) = true≢false (sym is ∙ no_function sub has)
+      true≢false (sym (and_first (is_variable (object_at s m.root).kind) (is_observing (view_of s m.root)) is)
+      ∙ no_variable (object_at s m.root).kind (left_of (is_formal s m.root) (is_first_of (traversed_formal s sub) m.root) (rooted_there sub has p (record { pos = at; act = act.Give m true }) there)))
+  no_view sub has _ (called p g callee is there calls writes) = subst (λ xs. Has xs g) (empty_at program.subs callee) writes
+  no_view sub has _ (text_io p is there writes) =
+      no (writes_text p.instr) writes
+      (right_of (not (reads_text p.instr)) (not (writes_text p.instr))
+      (right_of (all_pass (λ (a : Placed). act_passes s program.scopes p.instr a.act) p.acts) (not (reads_text p.instr) && not (writes_text p.instr)) (point_is sub has p there)))
   no_view sub has _ (shorter p at h m from there assigns outer) =
       let kept = left_of (keeps_views s program.scopes p.instr (act.Observe h m from)) (is_local s (act.Observe h m from))
       (keeps p.instr (act.Observe h m from) (act_is sub has p (record { pos = at; act = act.Observe h m from }) there)) in
@@ -249,7 +335,10 @@ module _ (program : FlowProgram) (passes : all_pass (sub_passes program) program
       by true false e f g = true≢false (sym g)
       by false b e f g = true≢false (sym e)
   no_view sub has _ (elsewhere p at m borrows there not_root) =
-      true≢false (sym (left_of false (is_local s (act.Give m borrows)) (keeps p.instr (act.Give m borrows) (act_is sub has p (record { pos = at; act = act.Give m borrows }) there))))
+      let rooted = rooted_there sub has p (record { pos = at; act = act.Give m borrows }) there in
+      let formal = left_of (is_formal s m.root) (is_first_of (traversed_formal s sub) m.root) rooted in
+      let first = first_is (traversed_formal s sub) m.root (right_of (is_formal s m.root) (is_first_of (traversed_formal s sub) m.root) rooted) in
+      not_root first.0 first.1 (subst (IsOnlyRoot s (sub_acts sub) m.root) first.2 (formal_root sub has m.root formal))
   no_view sub has _ (other_root p at b m there other) =
       no (m.root == b) (left_of (m.root == b) true (keeps p.instr (act.Reborrow b m) (act_is sub has p (record { pos = at; act = act.Reborrow b m }) there))) other
 

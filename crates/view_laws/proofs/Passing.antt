@@ -1,29 +1,23 @@
 -- Of a program whose subprograms are in order: formals differ, belong to no package, and are in scope at
 -- first; what is passed is in scope; and where a subprogram ends, formals of its own alone are.
-use Rattle.std.proofs.Common.{◌≡◌, refl, sym, ap, ◌∙◌, subst, inl, inr, ℕ, suc, true, false, ◌||◌, List, [], ◌∷◌, drop, Option, is_some}
+use Rattle.std.proofs.Common.{◌≡◌, refl, sym, ap, ◌∙◌, subst, inl, inr, ℕ, suc, true, ◌||◌, List, ◌∷◌, drop, Option, is_some}
 use Rattle.std.specs.Prelude.{reverse}
 use Rattle.spark_base.specs.Lists.{Has}
 use Rattle.spark_base.proofs.Lists.{Has-append_left, Has-append_right}
-use Rattle.place_names.specs.declared.act.Mode.{Mode}
-use Rattle.place_names.specs.declared.act.Mode.TheVariants as mode
-use Rattle.type_definitions.specs.Types.{Table, full, is_scalar, is_owning}
-use Rattle.typed_tree.specs.Trees.{TypedTree, More}
+use Rattle.type_definitions.specs.Types.{Table, full, is_owning}
+use Rattle.typed_tree.specs.Trees.{TypedTree}
 use Rattle.typed_tree.specs.Programs.{TypedSub, TypedProgram}
 use Rattle.flow_paths.specs.declared.report.Effects.{Effects}
 use Rattle.flow_paths.specs.Instructions.{Instruction, Declare, Call, Finish}
-use Rattle.flow_paths.specs.Objects.{Typing, Signature, object_at, sub_at, is_formal, is_anonymous, is_package_object, has_scope_end, view_of}
+use Rattle.flow_paths.specs.Objects.{Typing, is_formal, is_anonymous, is_package_object, has_scope_end}
 use Rattle.flow_paths.specs.Points.{FlowPoint}
 use Rattle.flow_paths.specs.Laid.{FlowSub, FlowProgram, NamedSub, all_named, named_sub, sub_temporaries, declared_within, typing_of, flow_typing, flow_program, flow_named}
 use Rattle.flow_paths.specs.Scopes.{taken, is_within}
 use Rattle.machine.specs.States.{sub_of}
-use Rattle.typed_laws.specs.Needed.{Matches}
 use Rattle.soundness.specs.Typed.{OwnsByShape}
 use Rattle.soundness.specs.Sound.{Accepted, IsNamedSub, IsRunnable}
-use Rattle.soundness.specs.Ready.{IsActualBy, AreActuals}
-use Rattle.soundness.proofs.Fixed.{matches_scalar}
 use Rattle.soundness.proofs.Points.{sub_there}
-use Rattle.soundness.proofs.Passing.{plain_type, signature_is}
-use Rattle.soundness.proofs.Typings.{Agree, flow_agrees, package_same, formal_same, formal_object}
+use Rattle.soundness.proofs.Typings.{Agree, flow_agrees, package_same, formal_object}
 use Rattle.scope_laws.specs.Code.{objects_of}
 use Rattle.scope_laws.specs.Order.{named_in}
 use Rattle.scope_laws.proofs.Lists.{has_reverse, within_has, once_left}
@@ -32,42 +26,11 @@ use Rattle.ready_laws.specs.InOrder as in_order
 use Rattle.ready_laws.proofs.Subs.{setting_from, body_at, one_named}
 use Rattle.ready_laws.proofs.Ready as ordered
 use Rattle.ready_laws.proofs.Ready.{seen_has}
-use Rattle.viewed_steps.specs.Sound.{IsScalarObject}
 use Rattle.viewed_steps.specs.Ready.{is_shown_type, AreDifferent, ArePassed, AreActualsTo, IsCalled, AreCalled}
-use Rattle.viewed_soundness.proofs.Names.{both_no}
 use Rattle.viewed_steps.proofs.Placed.{within_on}
-use Rattle.viewed_steps.proofs.Views.{scalar_unseen}
-use Rattle.view_laws.specs.Program.{IsPassedTo, ArePassedTo, PassActuals}
 use Rattle.view_laws.proofs.Formals.{first_scope, has_within, has_reversed, once_different, passed_named}
 
--- ---- actuals of scalar types
-
-module _ (s : Typing) where
-  scalar_back : (t u : ℕ) → Matches s.table t u → is_scalar (full s.table u) ≡ true → is_scalar (full s.table t) ≡ true
-  scalar_back t u (inl e) plain = matches_scalar s u t (inl (sym e)) plain
-  scalar_back t u (inr both) plain = both.0
-
-  plain_place : (x : ℕ) (e : TypedTree) → IsScalarObject s x → IsPassedTo s x mode.InOut e → IsActualBy s mode.InOut e
-  plain_place x e plain (t, place, fits) = (t, place, scalar_back t (object_at s x).of fits plain)
-
-  plain_actual : OwnsByShape s.table → (x : ℕ) (m : Mode) (e : TypedTree) → IsScalarObject s x → IsPassedTo s x m e → IsActualBy s m e
-  plain_actual owns x mode.In e plain actual = elim (actual.0 (both_no (is_owning s.table (object_at s x).of) (is_anonymous (view_of s x)) (plain_type s owns (object_at s x).of plain) (scalar_unseen s x plain))).1 [ inl value ↦ value.1 | inr (many, named) ↦ absurd (let no : true ≡ false = sym plain ∙ many in cc) ]
-  plain_actual owns x mode.Out e plain actual = plain_place x e plain actual
-  plain_actual owns x mode.InOut e plain actual = plain_place x e plain actual
-
-  pub plain_actuals : OwnsByShape s.table → (formals : List ℕ) (actuals : TypedTree) → ((x : ℕ) → Has formals x → IsScalarObject s x) → ArePassedTo s formals actuals
-      → AreActuals s formals actuals
-  plain_actuals owns [] actuals plain are = tt
-  plain_actuals owns (x ∷ formals) (More e rest) plain are =
-      (plain_actual owns x (object_at s x).mode e (plain x (inl refl)) are.0, plain_actuals owns formals rest (λ y has. plain y (inr has)) are.1)
-  plain_actuals owns (x ∷ formals) actuals plain are = tt
-
 -- ---- the program
-
--- where formals are of scalar types, actuals are such as they are asked for there
-pub weakly_passed : (program : FlowProgram) → OwnsByShape program.table → PassActuals program → in_order.ArePassed program
-weakly_passed program owns passes sub has p there n actuals result is known plain =
-    plain_actuals (flow_typing program) owns (sub_of program n).formals actuals plain (passes sub has p there n actuals result is known)
 
 sub_in : (subs : List TypedSub) (k : ℕ) (sub : TypedSub) → IsSub subs k sub → Has subs sub
 sub_in subs k sub (front, rest, is, long) = subst (λ z. Has z sub) (sym is) (Has-append_right front (sub ∷ rest) sub (inl refl))
@@ -148,13 +111,6 @@ module _ (table : Table) (typed : TypedProgram) (effects : Effects) (accepted : 
         (first_scope (setting_from own laid_out.0 callee) callee (order.bodies callee (ordered.in_subs table typed effects accepted owns order answered passed still callee in_rest)).settled
         runs.point runs.points (sym (ap (λ (z : NamedSub). z.points) same) ∙ runs.begins)) ends
         (has_within x (reverse callee.formals) (has_reversed callee.formals x has))
-
-  -- the formals of the main procedure are known as such
-  pub main_formals : (x : ℕ) → Has (sub_at s (suc order.number)).formals x → is_formal s x ≡ true
-  main_formals x has =
-      formal_same s own alike x
-      ∙ (order.local order.main (in_rest order.number order.main order.stands)).formals x
-      (subst (λ z. Has z x) (ap (λ (z : Signature). z.formals) (signature_is program (suc order.number)) ∙ formals_are order.number order.main order.stands) has)
 
   -- the formals of what is called differ
   pub differ_there : (sub : FlowSub) → Has program.subs sub → (p : FlowPoint) → Has sub.points p → (n : ℕ) (actuals : TypedTree) (result : Option ℕ)

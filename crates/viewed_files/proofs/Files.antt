@@ -145,15 +145,6 @@ and_false : (b : Bool) → b && false ≡ false
 and_false true = refl
 and_false false = refl
 
-access_plain : (w : View) → flow.is_named_access w ≡ true → flow.is_anonymous w ≡ false
-access_plain (view.Access d k true) e = named_access k
-  where
-    named_access : (k : Bool) → flow.is_anonymous (view.Access d k true) ≡ false
-    named_access true = refl
-    named_access false = refl
-access_plain (view.Access d k false) e = cc
-access_plain w e = cc
-
 access_shape : (z : Shape) → flow.is_named_access (view_of z) ≡ true → (d : ℕ) × (c : Bool) × (n : Bool) × (z ≡ shape.Access d c n)
 access_shape (shape.Access d c n) e = (d, c, n, refl)
 access_shape z e = cc

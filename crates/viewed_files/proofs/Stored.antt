@@ -71,10 +71,6 @@ outer true true c h = h
 outer true false c h = (let no : false ≡ true = h in cc)
 outer false b c h = h
 
-access_none : (named constant : Bool) → (not named && not constant) || (not named && constant) ≡ true → named && not constant ≡ false
-access_none false constant e = refl
-access_none true constant e = cc
-
 module _ (table : Table) (typed : TypedProgram) (effects : Effects) (accepted : Accepted table typed effects) (order : IsInOrder table typed)
     (declared : (sub : TypedSub) → Has typed.subs sub → (x : ℕ) → Has (declared_within sub.body) x → is_formal (typing_of table typed) x ≡ false)
     (plain : (x : ℕ) → is_anonymous (view_of (flow_typing (flow_program table typed)) x) ≡ true → is_named_access (view_of (flow_typing (flow_program table typed)) x) ≡ false)
