@@ -11,3 +11,4 @@ pub mod Lent
 pub mod Handed
 pub mod Copied
 pub mod Shown
+pub mod Behind
