@@ -37,14 +37,6 @@ left_ascends (x ∷ ps) (q ∷ qs) (inl (e, a)) up =
     ((λ p is. subst (λ from. Precedes from p) e (up.0 p (left_has ps qs a p is))), left_ascends ps qs a up.1)
 left_ascends (x ∷ ps) (q ∷ qs) (inr a) up = left_ascends (x ∷ ps) qs a up.1
 
-pub left_trans : (ps qs rs : List Pos) → IsLeftOf ps qs → IsLeftOf qs rs → IsLeftOf ps rs
-left_trans [] qs rs a b = tt
-left_trans (p ∷ ps) [] rs a b = absurd a
-left_trans (p ∷ ps) (q ∷ qs) [] a b = absurd b
-left_trans (p ∷ ps) (q ∷ qs) (r ∷ rs) (inl (e, a)) (inl (f, b)) = inl (f ∙ e, left_trans ps qs rs a b)
-left_trans (p ∷ ps) (q ∷ qs) (r ∷ rs) (inr a) (inl (f, b)) = inr (left_trans (p ∷ ps) qs rs a b)
-left_trans (p ∷ ps) (q ∷ qs) (r ∷ rs) a (inr b) = inr (left_trans (p ∷ ps) (q ∷ qs) rs a b)
-
 ascends_both : (ps qs : List Pos) → Ascends ps → Ascends qs → ((p q : Pos) → Has ps p → Has qs q → Precedes p q) → Ascends (ps ++ qs)
 ascends_both [] qs a b across = b
 ascends_both (x ∷ ps) qs a b across = (

@@ -1,15 +1,14 @@
 -- The types with names that code declares stand before its end; code without anonymous access types has none.
-use Rattle.std.proofs.Common.{◌≡◌, ◌⊎◌, inl, inr, ℕ, true, List, [], ◌∷◌, ◌++◌, flat_map, refl}
+use Rattle.std.proofs.Common.{◌≡◌, ◌⊎◌, inl, inr, ℕ, true, List, [], ◌∷◌, ◌++◌, flat_map}
 use Rattle.spark_base.specs.Lists.{Has}
 use Rattle.spark_base.proofs.Lists.{Has-append_cases, Has-append_left, Has-append_right}
 use Rattle.resolved_tree.specs.Trees.{More, Code, Anonymous, Incomplete, Private, TypeDecl, Subtype, ConstrainedSubtype, Objects, Formals, Front, SubDecl, SubBody, Package, PackageBody, If, Branch, Case, When, Loop, While, For, Block, code_items}
-use Rattle.type_definitions.specs.Types.{Table}
 use Rattle.type_definitions.specs.Gathered.{declared_number}
 use Rattle.settled_types.specs.Orderly.{Past, within, past_after, past_units}
 use Rattle.settled_types.specs.Stamped.{IsType}
 use Rattle.gathered_laws.specs.Made.{indicated_numbers, all_numbers, group_numbers, result_numbers, front_numbers, type_numbers}
-use Rattle.gathered_laws.specs.Views.{named_numbers, view_numbers, formal_numbers, own_numbers, front_result, body_results, AreViewsApart, AreViews}
-use Rattle.gathered_laws.specs.Named.{IsPlain, IsPlainGroup, ArePlainGroups, IsPlainResult, IsPlainFront, IsNamed}
+use Rattle.gathered_laws.specs.Views.{named_numbers, view_numbers, formal_numbers, own_numbers, front_result, body_results}
+use Rattle.gathered_laws.specs.Named.{IsPlain, IsPlainGroup, ArePlainGroups, IsPlainResult, IsPlainFront}
 
 -- what is declared before stays
 grows : (code : Code) (p : Past) (t : ℕ) → IsType p t → IsType (past_after code p) t
@@ -189,9 +188,6 @@ units_own_viewed (u ∷ rest) t has = elim (Has-append_cases (own_numbers u) (fl
   | inr more ↦ Has-append_right (view_numbers u) (flat_map view_numbers rest) t (units_own_viewed rest t more)
 ]
 
-none_two : (x y : Code) (t : ℕ) → Has (view_numbers x ++ view_numbers y) t → (Has (view_numbers x) t → ⊥) → (Has (view_numbers y) t → ⊥) → ⊥
-none_two x y t has first second = elim (Has-append_cases (view_numbers x) (view_numbers y) t has) [ inl here ↦ first here | inr more ↦ second more ]
-
 declares : (code : Code) (p : Past) (t : ℕ) → Has (named_numbers code) t → IsType (past_after code p) t
 unfolding past_after named_numbers
 declares (Incomplete d) p t has = inr (inl (inl (first_of (declared_number d) t has)))
@@ -241,71 +237,5 @@ units_declare (u ∷ rest) p t has = elim (Has-append_cases (named_numbers u) (f
 
 -- ---- code without anonymous access types
 
-none_viewed : (code : Code) (t : ℕ) → IsNamed code → Has (view_numbers code) t → ⊥
-unfolding view_numbers IsNamed
-none_viewed (Objects ids constant i v) t named has = none_indicated i (all_numbers ids) t named has
-none_viewed (SubDecl front) t named has = none_front front t named has
-none_viewed (SubBody front items stmts end) t named has = elim (Has-append_cases (front_numbers front) (view_numbers items ++ view_numbers stmts) t has) [
-  | inl here ↦ none_front front t named.0 here
-  | inr more ↦ none_two items stmts t more (none_viewed items t named.1) (none_viewed stmts t named.2)
-]
-none_viewed (Package d visible hidden) t named has = none_two visible hidden t has (none_viewed visible t named.0) (none_viewed hidden t named.1)
-none_viewed (PackageBody d parts) t named has = none_viewed parts t named has
-none_viewed (If at x y) t named has = none_two x y t has (none_viewed x t named.0) (none_viewed y t named.1)
-none_viewed (Branch at e x) t named has = none_viewed x t named has
-none_viewed (Case at e x) t named has = none_viewed x t named has
-none_viewed (When choices x) t named has = none_viewed x t named has
-none_viewed (Loop at x) t named has = none_viewed x t named has
-none_viewed (While at e x) t named has = none_viewed x t named has
-none_viewed (For at d reversed range x) t named has = none_viewed x t named has
-none_viewed (Block at x y end) t named has = none_two x y t has (none_viewed x t named.0) (none_viewed y t named.1)
-none_viewed (More x y) t named has = none_two x y t has (none_viewed x t named.0) (none_viewed y t named.1)
-none_viewed code t named has = has
-
-units_viewed : (units : List Code) (t : ℕ) → ((u : Code) → Has units u → IsNamed u) → Has (flat_map view_numbers units) t → ⊥
-units_viewed [] t named has = has
-units_viewed (u ∷ rest) t named has = elim (Has-append_cases (view_numbers u) (flat_map view_numbers rest) t has) [
-  | inl here ↦ none_viewed u t (named u (inl refl)) here
-  | inr more ↦ units_viewed rest t (λ v is. named v (inr is)) more
-]
-
--- So nothing is asked of its numbers.
-pub named_apart : (units : List Code) → ((u : Code) → Has units u → IsNamed u) → AreViewsApart units
-named_apart units named d view has = units_viewed units d named view
-
-none_front_result : (front : Code) (t : ℕ) → IsPlainFront front → Has (front_result front) t → ⊥
-none_front_result (Front d formals result) t plain has = none_given (declared_number d) result t plain.1 has
-none_front_result front t plain has = has
-
 no_results : (x y : Code) (t : ℕ) → Has (body_results x ++ body_results y) t → (Has (body_results x) t → ⊥) → (Has (body_results y) t → ⊥) → ⊥
 no_results x y t has first second = elim (Has-append_cases (body_results x) (body_results y) t has) [ inl here ↦ first here | inr more ↦ second more ]
-
-results_viewed : (code : Code) (t : ℕ) → IsNamed code → Has (body_results code) t → ⊥
-unfolding body_results IsNamed
-results_viewed (SubBody front items stmts end) t named has = elim (Has-append_cases (front_result front) (body_results items ++ body_results stmts) t has) [
-  | inl here ↦ none_front_result front t named.0 here
-  | inr more ↦ no_results items stmts t more (results_viewed items t named.1) (results_viewed stmts t named.2)
-]
-results_viewed (Package d visible hidden) t named has = no_results visible hidden t has (results_viewed visible t named.0) (results_viewed hidden t named.1)
-results_viewed (PackageBody d parts) t named has = results_viewed parts t named has
-results_viewed (If at x y) t named has = no_results x y t has (results_viewed x t named.0) (results_viewed y t named.1)
-results_viewed (Branch at e x) t named has = results_viewed x t named has
-results_viewed (Case at e x) t named has = results_viewed x t named has
-results_viewed (When choices x) t named has = results_viewed x t named has
-results_viewed (Loop at x) t named has = results_viewed x t named has
-results_viewed (While at e x) t named has = results_viewed x t named has
-results_viewed (For at d reversed range x) t named has = results_viewed x t named has
-results_viewed (Block at x y end) t named has = no_results x y t has (results_viewed x t named.0) (results_viewed y t named.1)
-results_viewed (More x y) t named has = no_results x y t has (results_viewed x t named.0) (results_viewed y t named.1)
-results_viewed code t named has = has
-
-units_results : (units : List Code) (t : ℕ) → ((u : Code) → Has units u → IsNamed u) → Has (flat_map body_results units) t → ⊥
-units_results [] t named has = has
-units_results (u ∷ rest) t named has = elim (Has-append_cases (body_results u) (flat_map body_results rest) t has) [
-  | inl here ↦ results_viewed u t (named u (inl refl)) here
-  | inr more ↦ units_results rest t (λ v is. named v (inr is)) more
-]
-
--- So nothing is asked of a text without anonymous access types.
-pub named_views : (units : List Code) (table : Table) → ((u : Code) → Has units u → IsNamed u) → AreViews units table
-named_views units table named = record { apart = named_apart units named; results = λ t has. absurd (units_results units t named has) }

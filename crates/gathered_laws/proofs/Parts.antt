@@ -1,5 +1,5 @@
 -- Types are made of types with names: no component, no element and nothing designated is of an anonymous access type.
-use Rattle.std.proofs.Common.{◌≡◌, inl, inr, refl, sym, ap, ◌∙◌, subst, ℕ, ◌+◌, ◌-◌, ◌<◌, Bool, true, false, not, ◌||◌, List, [], ◌∷◌, ◌++◌, flat_map, get_or, arith, zero, suc, replicate, ℤ, Option, Some, None, true≢false, if◌then◌else◌, IsTrue}
+use Rattle.std.proofs.Common.{◌≡◌, inl, refl, sym, ap, ◌∙◌, subst, ℕ, ◌+◌, ◌-◌, ◌<◌, Bool, true, false, not, ◌||◌, List, [], ◌∷◌, ◌++◌, flat_map, get_or, arith, zero, suc, replicate, ℤ, Option, Some, None, true≢false, if◌then◌else◌, IsTrue}
 use Rattle.std.specs.Prelude.{slice_get}
 use Rattle.std.specs.List.{AllByRecursion}
 use Rattle.spark_base.specs.Lists.{Has}

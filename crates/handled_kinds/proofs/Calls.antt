@@ -1,5 +1,5 @@
 -- Calls that are lowered: actuals and formals are of the kinds of their types.
-use Rattle.std.proofs.Common.{◌≡◌, refl, sym, ap, ◌∙◌, subst, ℕ, zero, suc, ◌+◌, ◌≤◌, arith, Bool, true, false, List, [], ◌∷◌, ◌++◌, append_assoc, length-append, map, drop, length, get_or, Option, Some, None, if◌then◌else◌}
+use Rattle.std.proofs.Common.{◌≡◌, refl, sym, ap, ◌∙◌, subst, ℕ, zero, suc, ◌+◌, arith, Bool, true, false, List, [], ◌∷◌, ◌++◌, append_assoc, length-append, map, length, get_or, Option, Some, None, if◌then◌else◌}
 use Rattle.std.specs.Prelude.{flat_map, option_and_then}
 use Rattle.std.proofs.lemmas.Grind.{flat_map-append}
 use Rattle.spark_base.specs.declared.position.Pos.{Pos}
@@ -23,21 +23,20 @@ use Rattle.run_codes.specs.Codes.{Actual, From, To, Room, Object, Counter}
 use Rattle.run_codes.specs.Codes as codes
 use Rattle.run_codes.specs.Flat.{kind_of, kinds}
 use Rattle.run_codes.specs.Lowered.{Kept, Site, Placed, option_map, one_type, place, value}
-use Rattle.run_codes.specs.Programs.{Program, kept, has_room, with_room, room_of, rooms_of, objects_of, rooms, sub_rows, use_for, is_scalar_shape, name_pos, actual, actuals, with_first}
+use Rattle.run_codes.specs.Programs.{Program, kept, has_room, with_room, room_of, rooms_of, rooms, sub_rows, use_for, is_scalar_shape, name_pos, actual, actuals, with_first}
 use Rattle.run_codes.specs.Points.{no_sub, sub_at}
 use Rattle.run_codes.specs.Related.{IsTable}
 use Rattle.run_codes.proofs.Expressions.{and_then_some, map_some}
 use Rattle.run_codes.proofs.Places.{impossible, if_some, if_none, some_same}
 use Rattle.handled_runs.specs.Looks.{IsFront}
-use Rattle.handled_runs.specs.Alike.{LooksThere}
-use Rattle.handled_steps.specs.Alike.{room_kinds, frame_kinds}
+use Rattle.handled_steps.specs.Alike.{room_kinds}
 use Rattle.handled_steps.specs.Backs.{FitsOf}
 use Rattle.handled_steps.specs.Looks.{LooksActual, LooksActuals, LooksFormals}
 use Rattle.handled_kinds.specs.Kinds.{HasKinds, HaveFormals}
 use Rattle.handled_kinds.specs.Stacks.{HasRows}
 use Rattle.handled_kinds.proofs.Places.{looks_there}
 use Rattle.handled_kinds.proofs.Filled.{AtPlace, one_kinds, named_at, value_fine}
-use Rattle.handled_kinds.proofs.Stacks.{front_before, drop_after, frame_is}
+use Rattle.handled_kinds.proofs.Stacks.{drop_after, frame_is}
 
 -- ---- formals
 

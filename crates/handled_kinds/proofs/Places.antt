@@ -1,13 +1,9 @@
 -- Places that are lowered lead to spots with the kinds of their types.
-use Rattle.std.proofs.Common.{◌≡◌, refl, sym, ap, ◌∙◌, subst, ℕ, zero, suc, ◌+◌, ◌≤◌, arith, Bool, true, false, not, ◌&&◌, nat_le, nat_lt, List, [], ◌∷◌, ◌++◌, take, drop, length, slice_get, ℤ, pos, if◌then◌else◌}
+use Rattle.std.proofs.Common.{◌≡◌, refl, sym, ap, ◌∙◌, subst, ℕ, zero, suc, ◌+◌, ◌≤◌, arith, Bool, true, false, ◌&&◌, nat_le, nat_lt, List, drop, length, slice_get, if◌then◌else◌}
 use Rattle.std.specs.Prelude.{unsigned_abs}
 use Rattle.std.proofs.lemmas.Bool.Decides.{nat_tests}
 use Rattle.type_definitions.specs.Types.{Table}
-use Rattle.run_values.specs.declared.value.Value.{Value}
 use Rattle.run_values.specs.declared.value.Kind.{Kind}
-use Rattle.run_values.specs.declared.value.Kind.TheVariants as sort
-use Rattle.machine.specs.Words.{access_offsets}
-use Rattle.machine.specs.Evaluate.{StorageError, heap_words}
 use Rattle.reuse_heap.specs.Cells.{Cell}
 use Rattle.run_codes.specs.Codes.{Place, InFrame, InPackages, Behind}
 use Rattle.run_codes.specs.Flat.{Flat, Given, Broken, and_then, most_cells, most_offsets, touched, kinds, word, Spot, InStack, InCell, spot, stack_spot, cell_spot}

@@ -1,5 +1,5 @@
 -- What points that only read look at has the kinds of its types: conditions, texts, and the places of input and releases.
-use Rattle.std.proofs.Common.{◌≡◌, refl, sym, ap, subst, ℕ, ◌+◌, Bool, List, [], ◌∷◌, ◌++◌, map, Option, Some, None, ℤ}
+use Rattle.std.proofs.Common.{◌≡◌, refl, ap, subst, ℕ, ◌+◌, Bool, List, [], ◌∷◌, ◌++◌, map, Option, Some, None, ℤ}
 use Rattle.std.specs.Prelude.{option_and_then}
 use Rattle.typed_tree.specs.Trees.{TypedTree, Parens, Text, Image, Binary}
 use Rattle.flow_paths.specs.Names.{waiting}

@@ -1,5 +1,5 @@
 -- Points that store a value look at words of the kinds of its type.
-use Rattle.std.proofs.Common.{◌≡◌, refl, sym, ap, ◌∙◌, subst, ℕ, zero, suc, ◌+◌, arith, Bool, true, false, ◌&&◌, ◌==◌, List, [], ◌∷◌, map, drop, slice_get, Option, Some, None, ℤ, pos, if◌then◌else◌}
+use Rattle.std.proofs.Common.{◌≡◌, refl, sym, ap, subst, ℕ, zero, suc, ◌+◌, arith, Bool, true, false, ◌&&◌, ◌==◌, List, [], ◌∷◌, map, drop, slice_get, Option, Some, None, ℤ, pos, if◌then◌else◌}
 use Rattle.std.specs.Prelude.{option_and_then}
 use Rattle.spark_base.specs.declared.position.Pos.{Pos}
 use Rattle.typed_tree.specs.Trees.{TypedTree, Name, Call, Parens, Aggregate, Alike, New, NoMore, More}
@@ -16,7 +16,7 @@ use Rattle.machine.specs.Evaluate.{Use, AsValue, part_type}
 use Rattle.machine.specs.Typed.{Whole, Position, sorts, is_pointer, points_to, field_count, is_array, tree_count}
 use Rattle.run_codes.specs.Codes.{Code, Number, Waiting, Place, InFrame, InPackages, Behind, Fill, Checked, Pointer as LookedAt, MovedPointer, Copied, Moved, Waited, Default, Repeated, Both, Empty, Does, Put, Store, Assign, Point}
 use Rattle.run_codes.specs.Codes as codes
-use Rattle.run_codes.specs.Flat.{Flat, Done, kind_of, kinds, word, filled}
+use Rattle.run_codes.specs.Flat.{Flat, kind_of, kinds, word}
 use Rattle.run_codes.specs.Lowered.{Site, words_before_value, Placed, Lowered, option_map, load, is_taken, lowered, place, Scalar, scalar_of, same_scalar, scalar, one_type, is_access, place_value, waited_value, are_composite, value, parts, first_value}
 use Rattle.run_codes.specs.Programs.{Program, kind_at, put_at, stored_at}
 use Rattle.run_codes.specs.Points.{Frame}

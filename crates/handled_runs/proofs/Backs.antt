@@ -3,15 +3,13 @@ use Rattle.std.proofs.Common.{◌≡◌, refl, sym, ap, ◌∙◌, subst, ℕ, z
 use Rattle.run_values.specs.declared.value.Kind.{Kind}
 use Rattle.machine.specs.Evaluate.{Touched}
 use Rattle.reuse_heap.specs.Cells.{Cell}
-use Rattle.run_codes.specs.Flat.{Flat, Got, Given, Stops, Broken, Stop, Traps, and_then, all_fresh, all_gone, are_words, are_in, touched, with_stack, with_words, values, spliced, Spot, InStack, InCell, moved_out, stored, held}
-use Rattle.run_codes.specs.Flat as flat
+use Rattle.run_codes.specs.Flat.{Flat, Got, Given, Stops, Broken, Stop, Traps, and_then, all_fresh, all_gone, are_words, are_in, touched, with_words, values, spliced, Spot, InStack, InCell, moved_out, stored, held}
 use Rattle.run_codes.proofs.Places.{given_on}
 use Rattle.handled_runs.specs.Slots.{Slots}
 use Rattle.handled_runs.specs.Slots as slots
 use Rattle.handled_runs.specs.Changes as changes
-use Rattle.handled_runs.specs.Beside.{IsSilent, GotsAlike, all_renamed, spot_renamed, Beside}
-use Rattle.handled_runs.specs.Looks.{IsFront, AreKept}
-use Rattle.handled_runs.specs.Alike.{StandAt}
+use Rattle.handled_runs.specs.Beside.{IsSilent, GotsAlike, spot_renamed, Beside}
+use Rattle.handled_runs.specs.Looks.{AreKept}
 use Rattle.handled_runs.specs.Marks.{Stands}
 use Rattle.handled_runs.proofs.Gots.{given_both}
 use Rattle.handled_runs.proofs.Lists.{replaced, spliced_is, replaced_long, front_within}

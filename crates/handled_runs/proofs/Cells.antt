@@ -1,7 +1,7 @@
 -- Cells that are made, written and freed are so over both heaps.
 use Rattle.std.proofs.Common.{◌≡◌, refl, sym, ap, ◌∙◌, subst, ℕ, zero, suc, ◌+◌, ◌-◌, ◌≤◌, arith, Bool, true, false, true≢false, not, ◌&&◌, nat_lt, nat_le, List, [], ◌∷◌, ◌++◌, map, drop, length, get_or, slice_get, slice_set, length-append, Some, None, ℤ, pos, negsuc, if◌then◌else◌}
 use Rattle.std.proofs.lemmas.Bool.Decides.{nat_tests}
-use Rattle.std.proofs.lemmas.List.{get_or_append_left}
+use Rattle.std.proofs.lemmas.List.{get_or_append_left, length-map}
 use Rattle.run_values.specs.declared.value.Value.{Value}
 use Rattle.run_values.specs.declared.value.Value.TheVariants as value
 use Rattle.run_values.specs.declared.value.Kind.{Kind}
@@ -17,9 +17,10 @@ use Rattle.numbered_cells.proofs.Numbering.{follows-freed, follows-allocated, fo
 use Rattle.handled_runs.specs.Slots.{Slots}
 use Rattle.handled_runs.specs.Changes.{slot_value, slot_values, written_all, cell_stored, stored, row_with, with_heap}
 use Rattle.handled_runs.specs.Changes as changes
-use Rattle.handled_runs.specs.Beside.{renamed, all_renamed, NamesWord, NameWords, Numbers, Beside}
+use Rattle.handled_runs.specs.Beside.{renamed, all_renamed, NamesWord, NameWords, Numbers, sizes_of, Beside}
 use Rattle.handled_runs.proofs.Named.{long_renamed}
 use Rattle.handled_runs.proofs.Lists.{replaced, spliced_is}
+use Rattle.handled_runs.proofs.Sizes.{sizes_changed, sizes_freed, sizes_next, spliced_long}
 use Rattle.handled_runs.proofs.Rows.{numbers_kept, changed_were, freed_were, row_kept}
 
 -- ---- values
@@ -183,7 +184,7 @@ module _ (handles : List ℕ) (kinds taken : List Kind) (m : Flat) (s : Slots) (
     waits = beside.waits;
     base = beside.base;
     live = ap (λ l. l - size) beside.live;
-    made = beside.made ∙ sym (long_changed (λ (c : Cell). record c { freed = true }) m.cells n);
+    made = (beside.made.0 ∙ sym (long_changed (λ (c : Cell). record c { freed = true }) m.cells n), beside.made.1 ∙ sym (sizes_freed m.cells n));
     freed = ap suc beside.freed;
     rest = beside.rest;
     cells = follows-freed handles m.cells s.heap n ws there beside.cells;
@@ -202,12 +203,17 @@ module _ (handles : List ℕ) (kinds taken : List Kind) (m : Flat) (s : Slots) (
         waits = beside.waits ∙ words_on handles (h ∷ []) taken m.waits beside.waiting_names;
         base = beside.base;
         live = ap (λ l. l + length (all_renamed handles ks zs)) beside.live ∙ ap (λ l. m.live + l) (long_renamed handles ks zs long ∙ sym (values_long ks zs long));
-        made = ap suc beside.made ∙ sym (one_longer m.cells (record { words = values ks zs; freed = false }));
+        made = (
+          ap suc beside.made.0 ∙ sym (one_longer m.cells (record { words = values ks zs; freed = false })),
+          ap (λ all. all ++ length (slot_values ks (all_renamed handles ks zs)) ∷ []) beside.made.1
+              ∙ (ap (λ k. sizes_of m.cells ++ k ∷ []) (ap length (values_handled handles ks zs are) ∙ length-map (values ks zs) (handled handles))
+              ∙ sym (sizes_next m.cells (record { words = values ks zs; freed = false }))),
+        );
         freed = beside.freed;
         rest = beside.rest;
         cells = subst (λ vs. Follows (handles ++ h ∷ []) (numbered.allocated m.cells (values ks zs)) (allocated s.heap h vs)) (sym (values_handled handles ks zs are))
             (follows-allocated handles m.cells s.heap h (values ks zs) new (values_name (length handles) ks zs names) beside.cells);
-        numbered = subst (λ n. Numbers (row_with s.numbers h (suc n)) (handles ++ h ∷ []) (numbered.allocated m.cells (values ks zs))) (sym beside.made)
+        numbered = subst (λ n. Numbers (row_with s.numbers h (suc n)) (handles ++ h ∷ []) (numbered.allocated m.cells (values ks zs))) (sym beside.made.0)
             (row_kept s.numbers handles m.cells s.heap h (values ks zs) beside.cells new beside.numbered);
         names = names_on handles (h ∷ []) kinds m.stack beside.names;
         waiting_names = names_on handles (h ∷ []) taken m.waits beside.waiting_names;
@@ -269,7 +275,10 @@ module _ (handles : List ℕ) (kinds taken : List Kind) (m : Flat) (s : Slots) (
               waits = beside.waits;
               base = beside.base;
               live = beside.live;
-              made = beside.made ∙ sym (long_changed (λ (d : Cell). record d { words = spliced o (values ks zs) d.words }) m.cells n);
+              made = (
+                beside.made.0 ∙ sym (long_changed (λ (d : Cell). record d { words = spliced o (values ks zs) d.words }) m.cells n),
+                beside.made.1 ∙ sym (sizes_changed (λ (d : Cell). record d { words = spliced o (values ks zs) d.words }) m.cells n c there (spliced_long o (values ks zs) ws within)),
+              );
               freed = beside.freed;
               rest = beside.rest;
               cells = subst (λ x. Follows handles x (written_all s.heap h o (map (handled handles) (values ks zs)))) (sym cells)

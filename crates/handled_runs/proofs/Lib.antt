@@ -15,6 +15,8 @@ pub mod Unmarked
 pub mod Lists
 -- what changes in the stack
 pub mod Stacks
+-- the sizes of cells
+pub mod Sizes
 -- what changes in cells, and the row of their numbers
 pub mod Rows
 pub mod Cells

@@ -1,5 +1,5 @@
 -- What a point moves is marked over numbers, and noted over a heap that uses its slots again.
-use Rattle.std.proofs.Common.{◌≡◌, refl, sym, ap, ◌∙◌, subst, ℕ, zero, suc, ◌+◌, ◌-◌, ◌≤◌, ◌<◌, arith, Bool, true, false, true≢false, ◌&&◌, nat_le, nat_lt, List, [], ◌∷◌, ◌++◌, append-nil, map, take, drop, length, length-append, get_or, slice_get, Option, Some, None, ℤ, pos, negsuc, if◌then◌else◌}
+use Rattle.std.proofs.Common.{◌≡◌, refl, sym, ap, ◌∙◌, subst, ℕ, zero, suc, ◌+◌, ◌-◌, ◌≤◌, arith, Bool, true, false, ◌&&◌, nat_le, nat_lt, List, [], ◌∷◌, ◌++◌, map, take, drop, length, length-append, slice_get, Some, None, ℤ, pos, negsuc, if◌then◌else◌}
 use Rattle.std.specs.Prelude.{unsigned_abs, neg_ℤ}
 use Rattle.std.proofs.lemmas.Bool.Decides.{nat_tests}
 use Rattle.std.proofs.lemmas.List.{map-append, get_or_append_left}
@@ -9,7 +9,6 @@ use Rattle.run_values.specs.declared.value.Kind.{Kind}
 use Rattle.run_values.specs.declared.value.Kind.TheVariants as sort
 use Rattle.run_values.specs.Values.{kind}
 use Rattle.machine.specs.Memory.{at_number}
-use Rattle.machine.specs.Evaluate.{Touched}
 use Rattle.reuse_heap.specs.Cells as numbered
 use Rattle.reuse_heap.specs.Cells.{Cell}
 use Rattle.slot_heap.specs.Heaps.{words_at as handle_words}

@@ -19,6 +19,7 @@ use Rattle.handled_runs.specs.Beside.{Beside}
 use Rattle.handled_runs.specs.Looks.{IsFront}
 use Rattle.handled_runs.proofs.Standing.{drop_map, kinds_front}
 use Rattle.handled_runs.proofs.Lists.{replaced, spliced_is}
+use Rattle.handled_runs.proofs.Sizes.{sizes_changed, spliced_long}
 use Rattle.handled_runs.proofs.Rows.{numbers_kept, changed_were}
 use Rattle.handled_runs.proofs.Cells.{never_below, changed_at, changed_there, kinds_long, drop_long, long_changed}
 
@@ -253,7 +254,10 @@ module _ (handles : List ℕ) (kinds taken : List Kind) (m : Flat) (s : Slots) (
               waits = beside.waits;
               base = beside.base;
               live = beside.live;
-              made = beside.made ∙ sym (long_changed (λ (d : Cell). record d { words = spliced o (values_gone gone vs) d.words }) m.cells n);
+              made = (
+                beside.made.0 ∙ sym (long_changed (λ (d : Cell). record d { words = spliced o (values_gone gone vs) d.words }) m.cells n),
+                beside.made.1 ∙ sym (sizes_changed (λ (d : Cell). record d { words = spliced o (values_gone gone vs) d.words }) m.cells n c there (spliced_long o (values_gone gone vs) ws (omega (arith, count, within)))),
+              );
               freed = beside.freed;
               rest = beside.rest;
               cells = subst (λ x. Follows handles x (nulled s.heap (get_or handles n 0) o gone)) (sym cells) (all_null handles n o gone ws m.cells s.heap there access beside.cells);

@@ -151,7 +151,7 @@ module _ (handles : List ℕ) (here taken : List Kind) (m : Flat) (s : Slots) (i
       tests = ap (λ l. nat_le (l + length (all_renamed handles ks zs)) heap_words) (is.beside.live ∙ is.unmarked.live) ∙ ap (λ l. nat_le (m.live + l) heap_words) (long_renamed handles ks zs known)
 
       numbers : nat_lt s.made most_cells ≡ nat_lt (length m.cells) most_cells
-      numbers = ap (λ n. nat_lt n most_cells) (is.beside.made ∙ unmarked_long is.whole.cells m.cells is.unmarked.cells)
+      numbers = ap (λ n. nat_lt n most_cells) (is.beside.made.0 ∙ unmarked_long is.whole.cells m.cells is.unmarked.cells)
 
       by : (a b c : Bool) (r : Outcome) → are_words ks zs ≡ a → nat_lt (length m.cells) most_cells ≡ c → MakesCell b s ks (all_renamed handles ks zs) r
           → AreAlike handles here taken (sort.Access ∷ [])

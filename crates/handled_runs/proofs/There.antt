@@ -1,5 +1,5 @@
 -- What is held at a spot, stored there and moved from there is alike over both heaps.
-use Rattle.std.proofs.Common.{◌≡◌, refl, sym, ap, ◌∙◌, subst, ℕ, zero, suc, ◌+◌, ◌≤◌, arith, Option, Some, None, get_or, ◌++◌, Bool, true, false, ◌&&◌, nat_le, nat_lt, List, [], ◌∷◌, append-nil, take, drop, length, slice_get, ℤ, if◌then◌else◌}
+use Rattle.std.proofs.Common.{◌≡◌, refl, sym, ap, ◌∙◌, subst, ℕ, zero, suc, ◌+◌, ◌≤◌, arith, Option, Some, None, get_or, ◌++◌, Bool, true, false, ◌&&◌, nat_le, nat_lt, List, [], ◌∷◌, take, drop, length, slice_get, ℤ, if◌then◌else◌}
 use Rattle.run_values.specs.declared.value.Value.{Value}
 use Rattle.run_values.specs.declared.value.Kind.{Kind}
 use Rattle.machine.specs.Evaluate.{Touched}

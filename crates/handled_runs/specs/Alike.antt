@@ -4,7 +4,7 @@ use Rattle.type_definitions.specs.Types.{Table}
 use Rattle.run_values.specs.declared.value.Kind.{Kind}
 use Rattle.run_values.specs.declared.value.Kind.TheVariants as sort
 use Rattle.run_codes.specs.Codes.{Place, Fill, Checked, Pointer, MovedPointer, Copied, Moved, Waited, New, Default, Repeated, Both, Empty}
-use Rattle.run_codes.specs.Flat.{Flat, Made, Done, Halted, Failed, Given, Stop, Memory, Spot, InStack, InCell, word, spot, words_at, filled, kinds, default_words}
+use Rattle.run_codes.specs.Flat.{Flat, Made, Done, Halted, Failed, Given, Stop, Memory, Spot, InStack, InCell, spot, kinds, default_words}
 use Rattle.handled_runs.specs.Slots.{Slots}
 use Rattle.handled_runs.specs.Values.{Outcome, Gives, Ends, Fails}
 use Rattle.handled_runs.specs.Beside.{IsSilent, all_renamed, NameWords}

@@ -1,5 +1,5 @@
 -- How words over a heap that uses its slots again follow those over numbers that are never used again.
-use Rattle.std.specs.Prelude.{◌≡◌, ◌<◌, ℕ, zero, suc, List, [], ◌∷◌, length, get_or, ℤ, pos, negsuc}
+use Rattle.std.specs.Prelude.{◌≡◌, ◌<◌, ℕ, zero, suc, List, [], ◌∷◌, map, length, get_or, ℤ, pos, negsuc}
 use Rattle.run_values.specs.declared.value.Value.{Value}
 use Rattle.run_values.specs.declared.value.Kind.{Kind}
 use Rattle.run_values.specs.declared.value.Kind.TheVariants as sort
@@ -72,6 +72,13 @@ mapped f Broken = Broken
 abbrev pub Numbers : (ℕ → ℕ) → List ℕ → List Cell → Type 0
 Numbers numbers handles cells = (n : ℕ) (ws : List Value) → IsThere cells n ws → numbers (get_or handles n 0) ≡ suc n
 
+abbrev pub sizes_of : List Cell → List ℕ
+sizes_of cells = map (λ (c : Cell). length c.words) cells
+
+-- As many cells were made, of the same sizes.
+abbrev pub AreMade : Slots → Flat → Type 0
+AreMade s m = (s.made ≡ length m.cells) × (s.sizes ≡ sizes_of m.cells)
+
 -- Words of the stack and of what waits are of these kinds, which no run keeps.
 pub record Beside (handles : List ℕ) (kinds taken : List Kind) (m : Flat) (s : Slots) : Type 0 where
   pub stack : s.stack ≡ all_renamed handles kinds m.stack
@@ -79,7 +86,7 @@ pub record Beside (handles : List ℕ) (kinds taken : List Kind) (m : Flat) (s :
   pub waits : s.waits ≡ all_renamed handles taken m.waits
   pub base : s.base ≡ m.base
   pub live : s.live ≡ m.live
-  pub made : s.made ≡ length m.cells
+  pub made : AreMade s m
   pub freed : s.freed ≡ m.freed
   pub rest : s.rest ≡ m.rest
   pub cells : Follows handles m.cells s.heap

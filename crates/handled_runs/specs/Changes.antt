@@ -93,6 +93,7 @@ made s h ks zs =
       live = s.live + length zs;
       made = suc s.made;
       peaks = with_peak heap (slot_values ks zs) s.peaks;
+      sizes = s.sizes ++ length (slot_values ks zs) ∷ [];
     }
 
 abbrev pub without_cell : Slots → ℕ → ℕ → Slots

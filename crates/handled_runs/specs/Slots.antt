@@ -21,8 +21,9 @@ pub record Move : Type 0 where
   pub offsets : List ℕ
 
 -- The words of all frames, and where the one that runs begins; the heap, which number the cell of a handle has, and how
--- many words all cells have; how many were made and freed, and the greatest counts by size; the words of the values
--- that the point takes; the rest of the input; and what the point moves, the first one first.
+-- many words all cells have; how many were made and freed, the greatest counts by size, and the sizes of all that were
+-- made, the first one first; the words of the values that the point takes; the rest of the input; and what the point
+-- moves, the first one first.
 pub record Slots : Type 0 where
   pub stack : List ℤ
   pub base : ℕ
@@ -32,6 +33,7 @@ pub record Slots : Type 0 where
   pub made : ℕ
   pub freed : ℕ
   pub peaks : List Peak
+  pub sizes : List ℕ
   pub waits : List ℤ
   pub rest : List ℕ
   pub moves : List Move

@@ -1,5 +1,5 @@
 -- Over a heap that uses its slots again nothing changes where null stands for what is gone.
-use Rattle.std.proofs.Common.{◌≡◌, refl, sym, ap, ◌∙◌, subst, ℕ, zero, suc, ◌+◌, Bool, true, false, ◌==◌, nat_lt, List, [], ◌∷◌, map, length, get_or, slice_get, Some, ℤ, pos, negsuc, if◌then◌else◌}
+use Rattle.std.proofs.Common.{◌≡◌, refl, sym, ap, ◌∙◌, subst, ℕ, zero, suc, ◌+◌, Bool, true, false, ◌==◌, nat_lt, List, [], ◌∷◌, map, length, get_or, Some, ℤ, pos, negsuc, if◌then◌else◌}
 use Rattle.std.proofs.lemmas.List.{length-map}
 use Rattle.type_definitions.specs.Types.{Table}
 use Rattle.run_values.specs.declared.value.Value.{Value}
@@ -7,12 +7,12 @@ use Rattle.run_values.specs.declared.value.Value.TheVariants as value
 use Rattle.run_values.specs.declared.value.Kind.{Kind}
 use Rattle.run_values.specs.declared.value.Kind.TheVariants as sort
 use Rattle.reuse_heap.specs.Cells.{Cell}
-use Rattle.slot_heap.specs.Heaps.{Heap, words_at}
-use Rattle.numbered_cells.specs.Follows.{handled, IsThere, Names, AllName, one_there, there_count, Back, Follows}
+use Rattle.slot_heap.specs.Heaps.{Heap}
+use Rattle.numbered_cells.specs.Follows.{handled, IsThere, Names, AllName, one_there, there_count, Follows}
 use Rattle.run_codes.specs.Flat.{Flat, gone_from}
 use Rattle.run_codes.specs.Points as points
 use Rattle.handled_runs.specs.Slots.{Slots}
-use Rattle.handled_runs.specs.Beside.{renamed, all_renamed, NamesWord, NameWords, Beside}
+use Rattle.handled_runs.specs.Beside.{renamed, all_renamed, NamesWord, NameWords, sizes_of, Beside}
 use Rattle.handled_steps.specs.States.{State}
 use Rattle.handled_steps.specs.Alike.{StatesAlike}
 use Rattle.handled_steps.specs.Clear.{cleared_word, cleared_words, cleared_value, cleared_cell, cleared_flat, cleared}
@@ -111,6 +111,10 @@ follows_cleared handles cells m f = record {
   counts = λ n. f.counts n ∙ same_count n cells;
 }
 
+sizes_cleared : (cells : List Cell) → sizes_of (map cleared_cell cells) ≡ sizes_of cells
+sizes_cleared [] = refl
+sizes_cleared (c ∷ cells) = (λ j. length-map c.words cleared_value j ∷ sizes_cleared cells j)
+
 -- ---- the laws
 
 pub cleared_beside : (handles : List ℕ) (here taken : List Kind) (m : Flat) (s : Slots) → Beside handles here taken m s → Beside handles here taken (cleared_flat here m) s
@@ -120,7 +124,7 @@ cleared_beside handles here taken m s is = record {
   waits = is.waits;
   base = is.base;
   live = is.live;
-  made = is.made ∙ sym (length-map m.cells cleared_cell);
+  made = (is.made.0 ∙ sym (length-map m.cells cleared_cell), is.made.1 ∙ sym (sizes_cleared m.cells));
   freed = is.freed;
   rest = is.rest;
   cells = follows_cleared handles m.cells s.heap is.cells;

@@ -11,7 +11,7 @@ use Rattle.run_codes.specs.Points as points
 use Rattle.handled_runs.specs.Slots.{Slots}
 use Rattle.handled_runs.specs.Slots as slots
 use Rattle.handled_runs.specs.Changes.{with_stack, stored}
-use Rattle.handled_runs.specs.Beside.{GotsAlike, spot_renamed, Beside}
+use Rattle.handled_runs.specs.Beside.{GotsAlike, spot_renamed, sizes_of, Beside}
 use Rattle.handled_steps.specs.States.{Outcome, Turn, start, counted, halted, on_got}
 use Rattle.handled_steps.specs.Steps.{in_stack, copied_back, returned, finish}
 use Rattle.handled_steps.specs.Alike.{Paired, ReturnAlike, FrameAlike, StatesAlike, OutcomesAlike}
@@ -68,7 +68,7 @@ module _ (table : Table) (handles : List ℕ) (here taken : List Kind) (base : �
   back_made : IsMade handles m s
   back_made =
       let cells : back.0.cells ≡ m.cells = ap (λ (y : Flat). y.cells) back.1.same in
-      (back.2.made ∙ ap length cells, back.2.cells.len ∙ ap length cells)
+      ((back.2.made.0 ∙ ap length cells, back.2.made.1 ∙ ap sizes_of cells), back.2.cells.len ∙ ap length cells)
 
 module _ (handles : List ℕ) (here : List Kind) (z : Both handles here) where
   abbrev t : points.Turn

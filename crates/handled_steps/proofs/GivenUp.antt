@@ -1,6 +1,6 @@
 -- What a step that stops leaves is alike over both heaps.
 use Rattle.std.proofs.Common.{◌≡◌, refl, sym, ap, ◌∙◌, ℕ, zero, suc, ◌+◌, ◌-◌, ◌<◌, ◌≤◌, arith, Bool, true, false, true≢false, nat_lt, List, [], ◌∷◌, ◌++◌, map, drop, length, length-append, get_or, Some, if◌then◌else◌}
-use Rattle.std.proofs.lemmas.List.{get_or_append_left, length-map}
+use Rattle.std.proofs.lemmas.List.{get_or_append_left, length-map, map-append}
 use Rattle.run_values.specs.declared.value.Value.{Value}
 use Rattle.run_values.specs.declared.value.Value.TheVariants as value
 use Rattle.run_values.specs.declared.value.Kind.{Kind}
@@ -13,7 +13,9 @@ use Rattle.numbered_cells.specs.Follows.{handled, IsThere, Names, AllName, there
 use Rattle.handled_runs.specs.Slots.{Slots}
 use Rattle.handled_runs.specs.Marks.{During}
 use Rattle.handled_runs.proofs.Copies.{unmarked_long}
-use Rattle.handled_runs.specs.Beside.{Numbers, Beside}
+use Rattle.handled_runs.specs.Beside.{Numbers, sizes_of, AreMade, Beside}
+use Rattle.handled_runs.proofs.Sizes.{sizes_unmarked}
+use Rattle.handled_runs.proofs.Standing.{drop_map}
 use Rattle.handled_runs.proofs.Cells.{words_on, names_on}
 use Rattle.handled_steps.specs.States.{given_up}
 
@@ -125,7 +127,7 @@ module _ (handles added : List ℕ) (cells gone : List Cell) (m : Heap) (slots :
 
 -- As many cells were made over both, and each has a handle.
 abbrev pub IsMade : List ℕ → Flat → Slots → Type 0
-IsMade hs m s = (s.made ≡ length m.cells) × (length hs ≡ length m.cells)
+IsMade hs m s = AreMade s m × (length hs ≡ length m.cells)
 
 pub beside_made : (hs : List ℕ) (here taken : List Kind) (m : Flat) (s : Slots) → Beside hs here taken m s → IsMade hs m s
 beside_made hs here taken m s is = (is.made, is.cells.len)
@@ -133,12 +135,16 @@ beside_made hs here taken m s is = (is.made, is.cells.len)
 pub during_made : (hs : List ℕ) (here taken : List Kind) (m : Flat) (s : Slots) → During hs here taken m s → IsMade hs m s
 during_made hs here taken m s is =
     let long = unmarked_long is.whole.cells m.cells is.unmarked.cells in
-    (is.beside.made ∙ long, is.beside.cells.len ∙ long)
+    ((is.beside.made.0 ∙ long, is.beside.made.1 ∙ sizes_unmarked is.whole.cells m.cells is.unmarked.cells), is.beside.cells.len ∙ long)
 
 long_drop : {A : Type 0} (n : ℕ) (xs : List A) → n ≤ length xs → n + length (drop n xs) ≡ length xs
 long_drop zero xs less = omega arith
 long_drop (suc n) [] less = absurd (omega (arith, less))
 long_drop (suc n) (x ∷ xs) less = let same = long_drop n xs (omega (arith, less)) in omega (arith, same)
+
+freed_sizes : (cells : List Cell) → sizes_of cells ≡ sizes_of (map as_freed cells)
+freed_sizes [] = refl
+freed_sizes (c ∷ cells) = ap (λ rest. length c.words ∷ rest) (freed_sizes cells)
 
 module _ (handles more : List ℕ) (here taken : List Kind) (before : Flat) (old : Slots) (beside : Beside handles here taken before old)
     (m : Flat) (s : Slots) (after : IsMade (handles ++ more) m s) where
@@ -161,6 +167,13 @@ module _ (handles more : List ℕ) (here taken : List Kind) (before : Flat) (old
       let was = were_there before.cells gone n ws there in
       ap old.numbers (same_handle handles more before.cells gone old.heap [] beside.cells n ws was) ∙ beside.numbered n ws was
 
+  sizes : old.sizes ++ drop (length old.sizes) s.sizes ≡ sizes_of (before.cells ++ map as_freed gone)
+  sizes =
+      (λ j. beside.made.1 j ++ drop (length (beside.made.1 j)) (after.0.1 j))
+      ∙ (ap (λ n. sizes_of before.cells ++ drop n (sizes_of m.cells)) (length-map before.cells (λ (c : Cell). length c.words))
+      ∙ (ap (λ rest. sizes_of before.cells ++ rest) (drop_map (λ (c : Cell). length c.words) (length before.cells) m.cells ∙ freed_sizes gone)
+      ∙ sym (map-append (λ (c : Cell). length c.words) before.cells (map as_freed gone))))
+
   pub given_beside : Beside (handles ++ more) here taken (points.given_up before m) (given_up old s)
   given_beside = record {
     stack = beside.stack ∙ words_on handles more here before.stack beside.names;
@@ -168,8 +181,8 @@ module _ (handles more : List ℕ) (here taken : List Kind) (before : Flat) (old
     waits = beside.waits ∙ words_on handles more taken before.waits beside.waiting_names;
     base = beside.base;
     live = beside.live;
-    made = after.0 ∙ sym all_long;
-    freed = ap (λ n. n + (s.made - old.made)) beside.freed ∙ (ap (λ n. before.freed + (n - old.made)) after.0 ∙ ap (λ n. before.freed + (length m.cells - n)) beside.made);
+    made = (after.0.0 ∙ sym all_long, sizes);
+    freed = ap (λ n. n + (s.made - old.made)) beside.freed ∙ (ap (λ n. before.freed + (n - old.made)) after.0.0 ∙ ap (λ n. before.freed + (length m.cells - n)) beside.made.0);
     rest = beside.rest;
     cells = given_follows handles more before.cells gone old.heap s.heap.slots beside.cells (after.1 ∙ sym all_long);
     numbered = row;

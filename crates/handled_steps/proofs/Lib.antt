@@ -26,6 +26,8 @@ pub mod Cleared
 -- steps and runs
 pub mod Steps
 pub mod Runs
--- slots and greatest counts
-pub mod Greatest
+-- counts of cells and slots
+pub mod Keeping
+pub mod KeepSteps
 pub mod PeakSteps
+pub mod Rises

@@ -1,18 +1,15 @@
 -- The laws: whole runs are alike over both heaps, and what they give is the same.
-use Rattle.std.proofs.Common.{◌≡◌, refl, sym, ap, ◌∙◌, subst, ℕ, ◌+◌, Bool, true, false, nat_le, List, [], ◌∷◌, ◌++◌, length, Option, Some, None, option_and_then, if◌then◌else◌}
+use Rattle.std.proofs.Common.{◌≡◌, refl, sym, ap, ◌∙◌, subst, ℕ, ◌+◌, Bool, true, false, nat_le, List, [], ◌∷◌, ◌++◌, length, Option, Some, None, if◌then◌else◌}
 use mathlib.Core.Logic.{◌⊎◌, inl, inr}
 use Rattle.spark_base.specs.declared.position.Pos.{Pos}
 use Rattle.type_definitions.specs.Types.{Table}
 use Rattle.run_values.specs.declared.value.Kind.{Kind}
 use Rattle.machine.specs.Evaluate.{StorageError}
-use Rattle.flow_paths.specs.Laid.{FlowProgram}
 use Rattle.machine.specs.States.{Ending, Normal, Raised, Spent, Trapped, stack_words}
-use Rattle.machine.specs.States as machine
-use Rattle.machine.specs.Run.{main_of}
 use Rattle.run_codes.specs.Flat.{Flat}
 use Rattle.run_codes.specs.Points.{Frame, Ran, sub_at, run_with, run_of, run_given, is_declaring, lowered_run}
 use Rattle.run_codes.specs.Points as points
-use Rattle.run_codes.specs.Programs.{Program, lowered_program}
+use Rattle.run_codes.specs.Programs.{Program}
 use Rattle.slot_heap.proofs.Greatest.{enough-none}
 use Rattle.numbered_cells.proofs.Numbering.{follows-none}
 use Rattle.numbered_cells.proofs.Peaks.{peaks-none}
@@ -39,7 +36,7 @@ none_beside = record {
   waits = refl;
   base = refl;
   live = refl;
-  made = refl;
+  made = (refl, refl);
   freed = refl;
   rest = refl;
   cells = follows-none;
@@ -126,7 +123,7 @@ ran_same table handles ks e a b is =
     ap (λ x. record { output = x; leaks = b.leaks; ending = e; steps = b.steps; made = b.memory.made; freed = b.memory.freed; leaked = length b.leaks }) is.output
     ∙ (ap (λ x. record { output = a.output; leaks = x; ending = e; steps = b.steps; made = b.memory.made; freed = b.memory.freed; leaked = length x }) is.leaks
     ∙ (ap (λ x. record { output = a.output; leaks = a.leaks; ending = e; steps = x; made = b.memory.made; freed = b.memory.freed; leaked = length a.leaks }) is.steps
-    ∙ (ap (λ x. record { output = a.output; leaks = a.leaks; ending = e; steps = a.steps; made = x; freed = b.memory.freed; leaked = length a.leaks }) is.memory.made
+    ∙ (ap (λ x. record { output = a.output; leaks = a.leaks; ending = e; steps = a.steps; made = x; freed = b.memory.freed; leaked = length a.leaks }) is.memory.made.0
     ∙ ap (λ x. record { output = a.output; leaks = a.leaks; ending = e; steps = a.steps; made = length a.memory.cells; freed = x; leaked = length a.leaks }) is.memory.freed)))
 
 ends_same : (table : Table) (handles : List ℕ) (e : Ending) (a : points.State) (r : Outcome) (q : Ran) → EndsAlike table handles e a r → Some (run_with e a) ≡ Some q → (given r ≡ Some q) ⊎ (r ≡ Wants)

@@ -14,3 +14,4 @@ pub mod Runs
 pub mod Clear
 -- slots and greatest counts
 pub mod Greatest
+pub mod Rises

@@ -14,7 +14,7 @@ use Rattle.handled_steps.specs.Steps.{Within}
 use Rattle.handled_steps.specs.Alike.{frame_kinds}
 
 abbrev pub no_memory : Slots
-no_memory = record { stack = []; base = 0; heap = no_heap; numbers = λ h. 0; live = 0; made = 0; freed = 0; peaks = []; waits = []; rest = []; moves = [] }
+no_memory = record { stack = []; base = 0; heap = no_heap; numbers = λ h. 0; live = 0; made = 0; freed = 0; peaks = []; sizes = []; waits = []; rest = []; moves = [] }
 
 abbrev pub state_of : Slots → List Frame → State
 state_of s frames = record { memory = s; frames = frames; at = 0; output = []; leaks = []; steps = 0 }

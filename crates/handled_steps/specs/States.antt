@@ -69,6 +69,7 @@ given_up before s = record before {
   made = s.made;
   freed = before.freed + (s.made - before.made);
   peaks = s.peaks;
+  sizes = before.sizes ++ drop (length before.sizes) s.sizes;
 }
 
 abbrev pub ended : Turn → Ending → Slots → Outcome

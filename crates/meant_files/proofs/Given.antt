@@ -50,12 +50,6 @@ abbrev pub is_type_kind : DeclKind → Bool
 is_type_kind kinds.TypeName = true
 is_type_kind _ = false
 
-abbrev pub is_object_kind : DeclKind → Bool
-is_object_kind kinds.Object = true
-is_object_kind kinds.Formal = true
-is_object_kind kinds.Parameter = true
-is_object_kind _ = false
-
 -- Types are 0, objects 1, subprograms 2, others 3.
 abbrev pub kind_class : DeclKind → ℕ
 kind_class kinds.TypeName = 0

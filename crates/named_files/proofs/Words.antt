@@ -23,10 +23,6 @@ pub fresh_both : (names : List Name) (xs ys : List (List ℕ)) → AreFresh name
 fresh_both names [] ys a b = b
 fresh_both names (x ∷ xs) ys a b = (a.0, fresh_both (added_name names (lower x)) xs ys a.1 b)
 
-pub added_both : (names : List Name) (xs ys : List (List ℕ)) → added_all names (xs ++ ys) ≡ added_all (added_all names xs) ys
-added_both names [] ys = refl
-added_both names (x ∷ xs) ys = added_both (added_name names (lower x)) xs ys
-
 -- ---- what was there stays
 
 any_left : (w : Name) (xs ys : List Name) → list_any (same w) (xs ++ ys) ≡ false → list_any (same w) xs ≡ false

@@ -15,13 +15,13 @@ greater_is a b c is =
     let second = is.second in
     ⊎_elim (λ (e : c ≡ a). grind (arith, nat_tests)) (λ (e : c ≡ b). grind (arith, nat_tests)) is.one
 
-greatest_same : (size count : ℕ) (peaks : List Peak) → peak_of size (greatest size count peaks) ≡ (if nat_le (peak_of size peaks) count then count else peak_of size peaks)
+pub greatest_same : (size count : ℕ) (peaks : List Peak) → peak_of size (greatest size count peaks) ≡ (if nat_le (peak_of size peaks) count then count else peak_of size peaks)
 greatest_same size count [] = grind (arith, nat_tests)
 greatest_same size count (p ∷ rest) =
     let others = greatest_same size count rest in
     grind (arith, nat_tests)
 
-greatest_other : (size count n : ℕ) (peaks : List Peak) → (n ≡ size → ⊥) → peak_of n (greatest size count peaks) ≡ peak_of n peaks
+pub greatest_other : (size count n : ℕ) (peaks : List Peak) → (n ≡ size → ⊥) → peak_of n (greatest size count peaks) ≡ peak_of n peaks
 greatest_other size count n [] other = grind (arith, nat_tests)
 greatest_other size count n (p ∷ rest) other =
     let others = greatest_other size count n rest other in

@@ -1,22 +1,20 @@
 -- A move into a hand, and from a hand to a target, under the acts Move and Write.
-use Rattle.std.proofs.Common.{◌≡◌, ◌<◌, refl, sym, ap, ◌∙◌, subst, inl, inr, ℕ, Bool, true, false, not, ◌||◌, List, [], ◌∷◌, map, length, nat_lt, lt-ltb, Some, None, if◌then◌else◌}
-use Rattle.std.specs.List.{list_any, filter}
+use Rattle.std.proofs.Common.{◌≡◌, ◌<◌, refl, sym, ap, ◌∙◌, subst, inl, inr, ℕ, Bool, true, false, not, ◌||◌, List, [], ◌∷◌, Some, None, if◌then◌else◌}
+use Rattle.std.specs.List.{filter}
 use Rattle.place_names.specs.declared.selector.Sel.{Sel}
 use Rattle.spark_base.specs.Lists.{Has}
 use Rattle.spark_base.proofs.Lists.{Has-append_left, Has-append_right, Has-filter_passes, Has-map}
-use Rattle.place_names.specs.Names.{extend, overlaps, leads_to, covers, strict_prefixes}
+use Rattle.place_names.specs.Names.{extend, overlaps, covers}
 use Rattle.place_names.specs.declared.act.Act.{Act}
 use Rattle.place_names.specs.declared.act.Act.TheVariants.{Move, Write}
 use Rattle.place_names.specs.declared.fact.Fact.{Fact}
 use Rattle.place_names.specs.declared.fact.Fact.TheVariants.{Moved}
 use Rattle.place_names.specs.Facts.{adds, removes, effect}
-use Rattle.place_names.specs.declared.rule.Rule.TheVariants.{O3, O4}
+use Rattle.place_names.specs.declared.rule.Rule.TheVariants.{O4}
 use Rattle.place_names.specs.declared.rule.State.TheVariants as state
-use Rattle.place_names.specs.Rules.{Forbidden, breaks_O2, breaks_O3}
-use Rattle.place_names.proofs.Rules.{any_breaks_O2}
-use Rattle.owned_ways.specs.Ways.{Step, OfVariable, OfHand, Loc, OfCell, Way, Object, Lost, Into, All, Gone, View, part, along, Reaches, IsRooted, Under, Past, Owned, IsMove, IsSame, base_of, sels_of, name_of, Named, IsMoved, Excused, Spares, Allows, Sound}
-use Rattle.owned_ways.proofs.Locations.{past_under, both_true}
-use Rattle.owned_ways.proofs.Named.{longer, under_overlaps, under_leads, under_front, past_longer, covered_under}
+use Rattle.place_names.specs.Rules.{Forbidden}
+use Rattle.owned_ways.specs.Ways.{Step, OfVariable, OfHand, Loc, OfCell, Way, Object, Lost, Into, All, Gone, View, part, along, Reaches, IsRooted, Under, Owned, IsMove, IsSame, base_of, name_of, Named, IsMoved, Excused, Spares, Allows, Sound}
+use Rattle.owned_ways.proofs.Named.{longer, under_overlaps, covered_under}
 use Rattle.owned_ways.proofs.Moving.{Given, owned_after, covered_after, known_after}
 
 -- ---- what rules say
@@ -35,24 +33,6 @@ pub move_clean : (home : ℕ → ℕ) (facts : List Fact) (m : Way) (parts : Lis
 move_clean home facts m parts allowed v u h =
     test_fails Forbidden (record { rule = O4; name = name_of m; word = state.Moved }) (overlaps (name_of v) (name_of m))
     (under_overlaps m v u) (allowed (Moved (name_of v)) h.1)
-
-pub move_way : (home : ℕ → ℕ) (facts : List Fact) (m : Way) (parts : List (List Sel)) → Allows facts (Move (name_of m) parts)
-    → (v : Way) → Past v m → IsMoved home facts v → ⊥
-move_way home facts m parts allowed v p h =
-    test_fails Forbidden (record { rule = O4; name = name_of m; word = state.Moved }) (overlaps (name_of v) (name_of m))
-    (under_front v m (past_under v m p)) (allowed (Moved (name_of v)) h.1)
-
--- no moved name leads to a strict prefix of the name of a write
-pub write_clean : (home : ℕ → ℕ) (facts : List Fact) (k : Way) → Allows facts (Write (name_of k)) → (v : Way) → Past v k → IsMoved home facts v → ⊥
-write_clean home facts k allowed v p h =
-    let leads = under_leads v k (past_under v k p) in
-    let less = lt-ltb _ _ (past_longer v k p) in
-    let any = any_breaks_O2 (name_of k) (Moved (name_of v)) in
-    let first = either_left (leads_to (name_of v) (name_of k)) false leads in
-    let both = both_true (breaks_O2 (name_of k) (Moved (name_of v))) (nat_lt (length (sels_of v)) (length (sels_of k))) first less in
-    test_fails Forbidden (record { rule = O3; name = name_of k; word = state.Moved }) (breaks_O3 (name_of k) (Moved (name_of v)))
-    (either_left (list_any (λ p. breaks_O2 p (Moved (name_of v))) (strict_prefixes (name_of k))) false (any ∙ both))
-    (allowed (Moved (name_of v)) h.1)
 
 -- ---- facts
 

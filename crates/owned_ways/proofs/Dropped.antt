@@ -1,5 +1,5 @@
 -- The end of a scope.
-use Rattle.std.proofs.Common.{◌≡◌, sym, ap, ◌∙◌, subst, inl, inr, ℕ, Bool, true, ◌==◌, eqb-true, List, [], ◌∷◌, ◌<◌}
+use Rattle.std.proofs.Common.{◌≡◌, sym, ap, ◌∙◌, subst, inl, inr, ℕ, Bool, ◌==◌, eqb-true, List, [], ◌∷◌, ◌<◌}
 use Rattle.place_names.specs.declared.act.Act.TheVariants.{EndScope}
 use Rattle.place_names.specs.declared.fact.Fact.{Fact}
 use Rattle.place_names.specs.declared.fact.Fact.TheVariants.{Moved}

@@ -224,18 +224,6 @@ module _ (table : Table) (settled : IsSettled table) where
   pub leaf_part : (t : ℕ) (p : List Step) → is_leaf table t p ≡ true → has_part table t p ≡ true
   leaf_part t p e = (both_parts (has_part table t p) (owns_one (shape_of table (type_in table t p))) e).0
 
-  -- two at one offset are one
-  pub one_leaf : (t : ℕ) (p q : List Step) → is_leaf table t p ≡ true → is_leaf table t q ≡ true
-      → offset_in table t p ≡ offset_in table t q → p ≡ q
-  one_leaf t p q a b same =
-      let wp = leaf_words t p a in
-      let wq = leaf_words t q b in
-      elim (lie t p q (leaf_part t p a) (leaf_part t q b)) [
-        | first_in r e ↦ e ∙ ap (λ x. x ++ q) (leaf_end t r q b (ap (has_part table t) (sym e) ∙ leaf_part t p a))
-        | second_in r e ↦ sym (e ∙ ap (λ x. x ++ p) (leaf_end t r p a (ap (has_part table t) (sym e) ∙ leaf_part t q b)))
-        | aside x ↦ absurd (elim x [ inl before ↦ absurd (omega (arith, before, wp, same)) | inr behind ↦ absurd (omega (arith, behind, wq, same)) ])
-      ]
-
   -- one that isn't in a place stands outside of the words of the place
   pub leaf_outside : (t : ℕ) (p q : List Step) → is_leaf table t p ≡ true → has_part table t q ≡ true
       → ((r : List Step) → p ≡ r ++ q → ⊥)

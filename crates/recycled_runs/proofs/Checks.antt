@@ -1,18 +1,22 @@
 -- What leak checks tell of is there: at the ends of scopes, and where no check is made.
-use Rattle.std.proofs.Common.{◌≡◌, refl, sym, ap, ◌∙◌, subst, inl, inr, ◌⊎◌, ℕ, zero, suc, ◌+◌, ◌<◌, arith, Bool, true, false, not, ◌==◌, List, [], ◌∷◌, map, drop, length, get_or, slice_get, Option, Some, None, ℤ, pos, if◌then◌else◌}
+use Rattle.std.proofs.Common.{◌≡◌, refl, sym, ap, ◌∙◌, subst, inl, inr, ℕ, zero, suc, ◌+◌, ◌<◌, arith, Bool, true, false, not, ◌==◌, List, [], ◌∷◌, map, drop, length, get_or, slice_get, Option, Some, None, ℤ, pos, if◌then◌else◌}
 use Rattle.std.specs.Prelude.{option_and_then}
 use Rattle.spark_base.specs.Lists.{Has}
 use Rattle.type_definitions.specs.declared.table.Shape.{Shape}
 use Rattle.type_definitions.specs.declared.table.Shape.TheVariants as shape
 use Rattle.type_definitions.specs.Types.{Table, shape_of}
 use Rattle.flow_paths.specs.Instructions.{Instruction, Skip, Declare, Assign, Call, Output, Input, Release, Test, Choose, Start, Next, Evaluate, LeaveLoop, Hold, EndScope, Finish, Fall}
-use Rattle.flow_paths.specs.Objects.{Typing, object_at, is_package_object}
+use Rattle.flow_paths.specs.Objects.{Typing, object_at, sub_at, passings, is_package_object}
 use Rattle.flow_paths.specs.Points.{FlowPoint}
 use Rattle.flow_paths.specs.Laid.{FlowProgram, flow_typing}
 use Rattle.part_offsets.specs.Parts.{owns_one, IsSettled}
 use Rattle.part_offsets.proofs.Leaves.{leaf_at}
 use Rattle.owned_ways.specs.Ways.{Owned}
 use Rattle.soundness.specs.Seen.{is_view_formal}
+use Rattle.soundness.specs.Typed.{Kept}
+use Rattle.machine.specs.Owners.{waiting_in}
+use Rattle.typed_tree.specs.Trees.{Name}
+use Rattle.run_values.specs.declared.value.Kind.{Kind}
 use Rattle.soundness.specs.Sound.{view_of}
 use Rattle.machine.specs.Words.{access_offsets}
 use Rattle.machine.specs.Typed.{Sort, sorts}
@@ -21,7 +25,6 @@ use Rattle.machine.specs.States.{sub_of}
 use Rattle.machine.specs.States as machine
 use Rattle.machine.specs.Run.{no_point}
 use Rattle.null_places.specs.Agrees.{SameState}
-use Rattle.null_places.proofs.Only.{OnlyOwners}
 use Rattle.run_codes.specs.Codes.{Does, Point}
 use Rattle.run_codes.specs.Codes as codes
 use Rattle.run_codes.specs.Flat.{Got, Given, Stops, Broken, and_then, front, is_word, kind_of}
@@ -31,42 +34,23 @@ use Rattle.run_codes.specs.Points as points
 use Rattle.run_codes.specs.Programs.{Program, Around, own_offset, going, on_going, scope_end, does, point_takes, with_takes}
 use Rattle.run_codes.specs.Related.{types, AllStand, IsTable}
 use Rattle.run_codes.proofs.Places.{if_some, some_same}
-use Rattle.run_points.specs.States.{site_of, StateStands, FramesStand, FrameStands, FirstRuns}
-use Rattle.run_points.specs.Turns.{IsLowered, around_sub}
+use Rattle.run_points.specs.States.{site_of, StateStands, FramesStand, FrameStands, Runs, FirstRuns}
+use Rattle.run_points.specs.Turns.{IsLowered, HasTypes, around_sub}
 use Rattle.run_points.proofs.Tests.{mapped}
 use Rattle.handled_runs.specs.Leaks.{IsLeaked}
-use Rattle.handled_steps.specs.Looks.{turn_of}
+use Rattle.handled_steps.specs.Looks.{turn_of, taken_kinds}
 use Rattle.handled_kinds.specs.Turns.{LeaksThere}
-use Rattle.recycled_runs.proofs.Quiet.{IsQuiet, ChecksNone, quiet}
+use Rattle.recycled_runs.proofs.Quiet.{IsQuiet, quiet}
 use Rattle.recycled_runs.proofs.Leaked.{owned_leaked}
+use Rattle.recycled_runs.proofs.Clear.{NoneGone}
+use Rattle.recycled_runs.proofs.Keeps.{IsNull}
+use Rattle.recycled_runs.proofs.Targets.{IsOwnName, IsNameOf, AreOwnActuals, assign_there, call_there, release_there}
 use Rattle.recycled_runs.proofs.Runs.{LeaksLive}
+use Rattle.handled_kinds.specs.Kinds.{HasKinds}
+use Rattle.handled_kinds.specs.Stacks.{stack_kinds, EndsWithPackages, AreBased}
+use Rattle.handled_kinds.proofs.Stacks.{stack_has, taken_has}
 
 -- ---- instructions
-
-abbrev pub MakesChecks : Instruction → Type 0
-MakesChecks (Assign target e) = Unit {0}
-MakesChecks (Call sub e result) = Unit {0}
-MakesChecks (Release e) = Unit {0}
-MakesChecks _ = ⊥
-
-which : (i : Instruction) → ChecksNone i ⊎ (MakesChecks i ⊎ (((x : ℕ) × (i ≡ EndScope x)) ⊎ (i ≡ Finish)))
-which Skip = inl tt
-which (Declare x v) = inl tt
-which (Assign target e) = inr (inl tt)
-which (Call sub e result) = inr (inl tt)
-which (Output text line) = inl tt
-which (Input target) = inl tt
-which (Release e) = inr (inl tt)
-which (Test e) = inl tt
-which (Choose e choices) = inl tt
-which (Start x reversed low high) = inl tt
-which (Next x reversed low high) = inl tt
-which (Evaluate t e left) = inl tt
-which (LeaveLoop e) = inl tt
-which (Hold v) = inl tt
-which (EndScope x) = inr (inr (inl (x, refl)))
-which Finish = inr (inr (inr refl))
-which Fall = inl tt
 
 quiet_there : (t : points.Turn) (d : Does) → IsQuiet d → LeaksThere t d
 quiet_there t (codes.Go n) is = tt
@@ -118,11 +102,6 @@ first_word (suc n) [] z is = cc
 first_word (suc n) (w ∷ zs) z is = first_word n zs z is
 
 -- ---- the ends of scopes
-
--- No formal that views what the actual owns ends as a scope does.
-abbrev pub EndsOwn : FlowProgram → Type 0
-EndsOwn program =
-    (n k x : ℕ) → k < length (sub_of program n).points → (get_or (sub_of program n).points k no_point).instr ≡ EndScope x → is_view_formal (flow_typing program) x ≡ false
 
 is_zero : (n : ℕ) → (n == 0) ≡ true → n ≡ 0
 is_zero n e = grind arith
@@ -208,47 +187,89 @@ module _ (program : FlowProgram) (p : Program) (input : List ℕ) (lowered : IsL
           by at n stand (shape.Elements low high element) shape_is = whole at n stand
           by at n stand (shape.Same u) shape_is = whole at n stand
 
--- ---- the points that are left
+-- ---- the law
 
--- What leak checks of assignments, calls and releases tell of is there, of steps from sound states.
-abbrev pub ChecksLive : FlowProgram → Program → List ℕ → (machine.State → Type 0) → Type 0
-ChecksLive program p input sound =
-    (s t : machine.State) (g : State) → sound s → OnlyOwners (flow_typing program) s.memory → SameState s t → StateStands program t g
-    → (m : machine.Frame) (fs : List machine.Frame) (f : Frame) (outer : List Frame) (q : Point) → t.frames ≡ m ∷ fs → g.frames ≡ f ∷ outer → slice_get p.points f.next ≡ Some q
-    → points.are_taken (turn_of (flow_typing program).table p input g f outer q) ≡ true → MakesChecks (get_or (sub_of program m.sub).points m.next no_point).instr
-    → LeaksThere (turn_of (flow_typing program).table p input g f outer q) q.does
+-- What is asked of an instruction's names: its target and its `out` actuals own what is checked there, and so does an
+-- object whose scope ends.
+abbrev pub IsOwnIn : Typing → Instruction → Type 0
+IsOwnIn s (Assign target e) = IsOwnName s target
+IsOwnIn s (Call sub e result) = AreOwnActuals s (passings s (sub_at s sub)) e
+IsOwnIn s (Release e) = IsNameOf s e
+IsOwnIn s (EndScope x) = is_view_formal s x ≡ false
+IsOwnIn s _ = Unit {0}
 
-module _ (program : FlowProgram) (p : Program) (input : List ℕ) (lowered : IsLowered program p) (laws : IsTable (flow_typing program).table) (settled : IsSettled (flow_typing program).table) where
-  -- So it is of all points, where sound states are owned.
-  pub leaks_live : (sound : machine.State → Type 0) → ((s : machine.State) → sound s → Owned (view_of (flow_typing program) s)) → EndsOwn program → ChecksLive program p input sound → LeaksLive program p input sound
-  leaks_live sound owned ends checks s t g good only same stands f outer q frames next taken = by t.frames g.frames refl stands.frames stands.runs frames
+abbrev pub OwnsNames : FlowProgram → Type 0
+OwnsNames program = (n k : ℕ) → k < length (sub_of program n).points → IsOwnIn (flow_typing program) (get_or (sub_of program n).points k no_point).instr
+
+module _ (program : FlowProgram) (p : Program) (input : List ℕ) (lowered : IsLowered program p) (has : HasTypes program) (settled : IsSettled (flow_typing program).table) where
+  abbrev all : Table
+  all = (flow_typing program).table
+
+  module _ (s t : machine.State) (g : State) (owned : Owned (view_of (flow_typing program) s)) (kept : Kept (flow_typing program) s.memory (waiting_in s)) (same : SameState s t)
+      (null : IsNull (flow_typing program) t.memory) (stands : StateStands program t g)
+      (m : machine.Frame) (fs : List machine.Frame) (f : Frame) (outer : List Frame) (frames : t.frames ≡ m ∷ fs)
+      (stand : FramesStand program stands.laid (types t.memory) g.memory.stack (m ∷ fs) (f ∷ outer)) (runs : Runs program m)
+      (fp : FlowPoint) (q : Point) (taken : points.are_taken (turn_of (flow_typing program).table p input g f outer q) ≡ true)
+      (here : List Kind) (known : length here ≡ length g.memory.stack) (none : NoneGone here g.memory)
+      (kinds_there : HasKinds (site_of program m.sub q.takes) f.base here (taken_kinds (turn_of (flow_typing program).table p input g f outer q))) where
+    abbrev There : Does → Type 0
+    There d = LeaksThere (turn_of all p input g f outer q) d
+
+    abbrev here_around : Around
+    here_around = with_takes (around_sub program m.sub) q.takes
+
+    some_there : (x : Option Does) (d : Does) → x ≡ Some d → AllThere program p input lowered has.laws settled s t g owned same stands m (length fs) f stand.0 outer q q.takes x → There d
+    some_there x d is there = subst (AllThere program p input lowered has.laws settled s t g owned same stands m (length fs) f stand.0 outer q q.takes) is there
+
+    -- each instruction
+    each : (i : Instruction) (d : Does) → IsOwnIn (flow_typing program) i → does here_around fp i ≡ Some d → There d
+    each (Assign (Name name y path u) e) d own is =
+        assign_there program has settled p input s t g owned kept same null stands m fs f outer frames stand runs fp q taken here known none kinds_there y u path e name d own is
+    each (Assign target e) d own is = absurd own
+    each (Call sub e result) d own is = call_there program has settled p input s t g owned kept same null stands m fs f outer frames stand runs fp q taken here known none kinds_there sub e d own is
+    each (Release (Name name y path u)) d own is =
+        release_there program has settled p input s t g owned kept same null stands m fs f outer frames stand runs fp q taken here known none kinds_there y u path name d own is
+    each (Release e) d own is = absurd own
+    each (EndScope x) d own is = some_there (scope_end here_around fp x) d is (scope_there program p input lowered has.laws settled s t g owned same stands m (length fs) f stand.0 outer q q.takes fp x own)
+    each Finish d own is = subst There (some_same codes.Finish d is) tt
+    each Skip d own is = quiet_there (turn_of all p input g f outer q) d (quiet here_around fp Skip d tt is)
+    each (Declare x v) d own is = quiet_there (turn_of all p input g f outer q) d (quiet here_around fp (Declare x v) d tt is)
+    each (Output text line) d own is = quiet_there (turn_of all p input g f outer q) d (quiet here_around fp (Output text line) d tt is)
+    each (Input target) d own is = quiet_there (turn_of all p input g f outer q) d (quiet here_around fp (Input target) d tt is)
+    each (Test e) d own is = quiet_there (turn_of all p input g f outer q) d (quiet here_around fp (Test e) d tt is)
+    each (Choose e choices) d own is = quiet_there (turn_of all p input g f outer q) d (quiet here_around fp (Choose e choices) d tt is)
+    each (Start x reversed low high) d own is = quiet_there (turn_of all p input g f outer q) d (quiet here_around fp (Start x reversed low high) d tt is)
+    each (Next x reversed low high) d own is = quiet_there (turn_of all p input g f outer q) d (quiet here_around fp (Next x reversed low high) d tt is)
+    each (Evaluate temporary e left) d own is = quiet_there (turn_of all p input g f outer q) d (quiet here_around fp (Evaluate temporary e left) d tt is)
+    each (LeaveLoop e) d own is = quiet_there (turn_of all p input g f outer q) d (quiet here_around fp (LeaveLoop e) d tt is)
+    each (Hold v) d own is = quiet_there (turn_of all p input g f outer q) d (quiet here_around fp (Hold v) d tt is)
+    each Fall d own is = quiet_there (turn_of all p input g f outer q) d (quiet here_around fp Fall d tt is)
+
+  -- What leak checks of steps from sound states tell of is there, where names own what is checked.
+  pub leaks_live : (sound : machine.State → Type 0) → ((s : machine.State) → sound s → Owned (view_of (flow_typing program) s)) → ((s : machine.State) → sound s → Kept (flow_typing program) s.memory (waiting_in s))
+      → OwnsNames program → LeaksLive program p input sound
+  leaks_live sound owned kept own s t g good same null stands here stacked none known f outer q frames next taken =
+      by t.frames g.frames refl stands.frames stands.runs stacked.ends stacked.kinds stacked.based frames
     where
-      by : (fs : List machine.Frame) (gs : List Frame) → t.frames ≡ fs → FramesStand program stands.laid (types t.memory) g.memory.stack fs gs → FirstRuns program fs → gs ≡ f ∷ outer
-          → LeaksThere (turn_of (flow_typing program).table p input g f outer q) q.does
-      by [] [] these stand runs is = cc
-      by [] (h ∷ gs) these stand runs is = absurd stand
-      by (m ∷ fs) [] these stand runs is = absurd stand
-      by (m ∷ fs) (h ∷ gs) these stand runs is =
-          let head : h ≡ f = cc in
-          let frame = subst (λ x. FrameStands program stands.laid (types t.memory) g.memory.stack (length fs) m x) head stand.0 in
-          let there = lowered.points m.sub m.next runs frame.few in
-          let one = some_same there.0 q (sym (ap (slice_get p.points) frame.next ∙ there.1) ∙ next) in
+      by : (fs : List machine.Frame) (gs : List Frame) → t.frames ≡ fs → FramesStand program stands.laid (types t.memory) g.memory.stack fs gs → FirstRuns program fs
+          → EndsWithPackages (map (λ (f : machine.Frame). f.sub) fs) → here ≡ stack_kinds all p (map (λ (f : machine.Frame). f.sub) fs) → AreBased all p (map (λ (f : machine.Frame). f.sub) fs) gs
+          → gs ≡ f ∷ outer → LeaksThere (turn_of all p input g f outer q) q.does
+      by [] [] these stand runs ends kinds based is = cc
+      by [] (h ∷ gs) these stand runs ends kinds based is = absurd stand
+      by (m ∷ fs) [] these stand runs ends kinds based is = absurd stand
+      by (m ∷ fs) (h ∷ gs) these stand runs ends kinds based is =
+          let frame = subst (FramesStand program stands.laid (types t.memory) g.memory.stack (m ∷ fs)) is stand in
+          let base = subst (AreBased all p (m.sub ∷ map (λ (f : machine.Frame). f.sub) fs)) is based in
+          let there = lowered.points m.sub m.next runs frame.0.few in
+          let one = some_same there.0 q (sym (ap (slice_get p.points) frame.0.next ∙ there.1) ∙ next) in
           let fp : FlowPoint = get_or (sub_of program m.sub).points m.next no_point in
           let takes : List ℕ = point_takes (flow_typing program) fp.instr in
           let on = mapped (λ d. record { takes = takes; does = d; pos = fp.pos }) (does (with_takes (around_sub program m.sub) takes) fp fp.instr) q (there.2 ∙ ap Some one) in
-          let lowers : does (with_takes (around_sub program m.sub) takes) fp fp.instr ≡ Some q.does = on.1 ∙ ap (λ (r : Point). Some r.does) on.2 in
-          elim (which fp.instr) [
-            | inl none ↦ quiet_there (turn_of (flow_typing program).table p input g f outer q) q.does (quiet (with_takes (around_sub program m.sub) takes) fp fp.instr q.does none lowers)
-            | inr other ↦ elim other [
-              | inl makes ↦ checks s t g good only same stands m fs f outer q these frames next taken makes
-              | inr last ↦ elim last [
-                | inl scope ↦
-                    subst (AllThere program p input lowered laws settled s t g (owned s good) same stands m (length fs) f frame outer q takes)
-                    (ap (does (with_takes (around_sub program m.sub) takes) fp) (sym scope.1) ∙ lowers)
-                    (scope_there program p input lowered laws settled s t g (owned s good) same stands m (length fs) f frame outer q takes fp scope.0 (ends m.sub m.next scope.0 runs scope.1))
-                | inr finish ↦
-                    subst (AllThere program p input lowered laws settled s t g (owned s good) same stands m (length fs) f frame outer q takes)
-                    (ap (does (with_takes (around_sub program m.sub) takes) fp) (sym finish) ∙ lowers) tt
-              ]
-            ]
-          ]
+          let lowers : does (with_takes (around_sub program m.sub) q.takes) fp fp.instr ≡ Some q.does
+          = ap (λ (r : Point). does (with_takes (around_sub program m.sub) r.takes) fp fp.instr) (sym on.2) ∙ (on.1 ∙ ap (λ (r : Point). Some r.does) on.2) in
+          let turn = turn_of all p input g f outer q in
+          let kinds_there : HasKinds (site_of program m.sub q.takes) f.base here (taken_kinds turn)
+          = subst (λ b. HasKinds (site_of program m.sub q.takes) b here (taken_kinds turn)) (sym base.0)
+          (subst (λ ks. HasKinds (site_of program m.sub q.takes) (length (stack_kinds all p (map (λ (f : machine.Frame). f.sub) fs))) ks (taken_kinds turn)) (sym kinds)
+          (stack_has program p lowered.subs m.sub (map (λ (f : machine.Frame). f.sub) fs) q.takes (taken_kinds turn) ends (taken_has turn (site_of program m.sub q.takes) refl refl taken))) in
+          each s t g (owned s good) (kept s good) same null stands m fs f outer these frame runs fp q taken here known none kinds_there fp.instr q.does (own m.sub m.next runs) lowers

@@ -14,11 +14,37 @@ pub mod Clear
 pub mod Nulls
 -- what names of what owns are
 pub mod Leaked
+-- what memories with null keep
+pub mod Keeps
+-- where names lead
+pub mod Walks
+-- parts of what owns
+pub mod Parts
+-- memories in which more cells were made
+pub mod More
+-- those after values were moved and made
+pub mod Growing
+-- what leak checks tell of then
+pub mod Later
+-- places of the machine
+pub mod Found
+-- what leak checks of assignments, calls and releases tell of
+pub mod Targets
 -- before the first step
 pub mod Starts
+-- the machine's greatest counts while a point is evaluated
+pub mod Tops
+-- and after a step
+pub mod TopSteps
+-- where it stores
+pub mod TopStores
+-- and that over slots the counts are the same
+pub mod Rising
 -- whole runs
 pub mod Runs
 -- what leak checks tell of
 pub mod Checks
--- those of programs that are ready
+-- names of programs that are ready
+pub mod Owns
+-- the law for these
 pub mod Ready

@@ -93,7 +93,7 @@ fresh_clear : (ws : List Word) → map cleared_slot (fresh ws) ≡ fresh ws
 fresh_clear [] = refl
 fresh_clear (w ∷ ws) = ap (λ rest. record { word = w; gone = false } ∷ rest) (fresh_clear ws)
 
-variable_clear : (s : Typing) (m : Memory) (f x : ℕ) → slots_at s (null_places.cleared m) (OfVariable f x) ≡ map cleared_slot (slots_at s m (OfVariable f x))
+pub variable_clear : (s : Typing) (m : Memory) (f x : ℕ) → slots_at s (null_places.cleared m) (OfVariable f x) ≡ map cleared_slot (slots_at s m (OfVariable f x))
 variable_clear s m f x = by m.variables
   where
     by : (vs : List Variable) → variable_slots s f x (map (λ (v : Variable). record v { slots = map cleared_slot v.slots }) vs) ≡ map cleared_slot (variable_slots s f x vs)
@@ -109,7 +109,7 @@ variable_clear s m f x = by m.variables
 abbrev clear_cell : HeapCell → HeapCell
 clear_cell c = record c { slots = map cleared_slot c.slots }
 
-cell_clear : (m : Memory) (n : ℕ) → cell (null_places.cleared m) (suc n) ≡ clear_cell (cell m (suc n))
+pub cell_clear : (m : Memory) (n : ℕ) → cell (null_places.cleared m) (suc n) ≡ clear_cell (cell m (suc n))
 cell_clear m n = by m.cells n
   where
     by : (cells : List HeapCell) (n : ℕ) → get_or (map clear_cell cells) n no_cell ≡ clear_cell (get_or cells n no_cell)

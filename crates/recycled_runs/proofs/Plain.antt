@@ -1,5 +1,5 @@
 -- A point that is lowered from neither a call nor its end is neither.
-use Rattle.std.proofs.Common.{◌≡◌, subst, ℕ, zero, true, false, [], Option, Some, None, pos, if◌then◌else◌}
+use Rattle.std.proofs.Common.{◌≡◌, subst, ℕ, zero, true, false, Option, Some, None, pos, if◌then◌else◌}
 use Rattle.std.specs.Prelude.{option_and_then}
 use Rattle.spark_base.specs.declared.position.Pos.{Pos}
 use Rattle.typed_tree.specs.Trees.{TypedTree}
@@ -11,7 +11,7 @@ use Rattle.type_definitions.specs.declared.table.Shape.TheVariants as shape
 use Rattle.type_definitions.specs.Types.{shape_of, is_owning}
 use Rattle.flow_paths.specs.Names.{waiting}
 use Rattle.run_codes.specs.Codes.{Number, Place, InFrame, InPackages, Behind, Fill, Checked, Pointer as LookedAt, Does, Go, Put, Store, Assign, Call, Output, Input, Release, Test, Choose, Start, Next, EvaluateLeft, EvaluateRight, Hold, EndPointer, EndScope, Finish, Fall}
-use Rattle.run_codes.specs.Lowered.{Placed, lowered, place, value}
+use Rattle.run_codes.specs.Lowered.{Placed, place, value}
 use Rattle.recycled_runs.proofs.Quiet.{IsQuiet, quiet}
 use Rattle.run_codes.specs.Programs.{Around, typing, type_of, name_pos, own_offset, going, on_going, put_at, stored_at, use_for, assigned, release_at, does}
 

@@ -11,7 +11,7 @@ use Rattle.type_definitions.specs.Types.{shape_of}
 use Rattle.machine.specs.Evaluate.{AsValue}
 use Rattle.flow_paths.specs.Names.{waiting}
 use Rattle.typed_tree.specs.declared.node.ShortCircuit.{ShortCircuit}
-use Rattle.run_codes.specs.Codes.{Code, Number, Place, InFrame, InPackages, Behind, Fill, Checked, Pointer as LookedAt, Default, Does, Go, Assign, Call, Output, Input, Release, Test, Choose, Start, Next, EvaluateLeft, EvaluateRight, Hold, EndPointer, EndScope, Finish, Fall}
+use Rattle.run_codes.specs.Codes.{Code, Number, Place, InFrame, InPackages, Behind, Fill, Checked, Pointer as LookedAt, Default, Does, Go, Assign, Call, Output, Input, Release, Test, Choose, Start, Next, EvaluateLeft, EvaluateRight, Hold, EndPointer, EndScope, Finish}
 use Rattle.run_codes.specs.Lowered.{Placed, Scalar, scalar_of, option_map, no_index, lowered, place, value}
 use Rattle.run_codes.specs.Flat.{default_words}
 use Rattle.run_codes.specs.Programs.{Around, typing, type_of, own_offset, own_loop, going, on_going, on_next, put_at, stored_at, use_for, scalar_code, condition, chosen_code, alternatives, text_pieces, is_or_else, tested, declared, input_to, started, next_turn, operand, gone_on, held_result, does}

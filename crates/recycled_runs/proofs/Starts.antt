@@ -18,6 +18,8 @@ use Rattle.run_codes.specs.Points as points
 use Rattle.run_codes.specs.Programs.{Program, sub_rows}
 use Rattle.run_points.specs.Outcomes.{IsSeenAlike}
 use Rattle.handled_steps.specs.Alike.{frame_kinds}
+use Rattle.handled_steps.specs.Rises.{AreUnder}
+use Rattle.handled_steps.specs.Runs as handled_runs
 use Rattle.handled_steps.specs.Runs.{main_kinds, first_kinds}
 use Rattle.handled_kinds.specs.Stacks.{subs_of, IsStacked}
 use Rattle.recycled_runs.proofs.Machine.{all_subs}
@@ -59,12 +61,12 @@ start_words program p subs main =
 -- ---- nothing is there
 
 pub start_seen : (program : FlowProgram) (p : Program) (declares : Bool) → IsSeenAlike (machine_run.state_at_start program) (points.state_at_start (flow_typing program).table p declares)
-start_seen program p true = record { output = refl; leaks = refl; steps = refl; made = refl; freed = refl }
+start_seen program p true = record { output = refl; leaks = refl; steps = refl; made = refl; freed = refl; sizes = refl }
 start_seen program p false = by p.main
   where
     by : (main : Option ℕ) → IsSeenAlike (machine_run.state_at_start program) (points.state_at_start (flow_typing program).table (record p { main = main }) false)
-    by None = record { output = refl; leaks = refl; steps = refl; made = refl; freed = refl }
-    by (Some main) = record { output = refl; leaks = refl; steps = refl; made = refl; freed = refl }
+    by None = record { output = refl; leaks = refl; steps = refl; made = refl; freed = refl; sizes = refl }
+    by (Some main) = record { output = refl; leaks = refl; steps = refl; made = refl; freed = refl; sizes = refl }
 
 -- ---- frames without a value
 
@@ -107,3 +109,21 @@ module _ (program : FlowProgram) (p : Program) (main : p.main ≡ program.main) 
 
   pub starts_stacked : IsStacked table p (subs_of (machine_run.state_at_start program)) (points.state_at_start table p (is_declaring program)).frames (first_kinds table p (is_declaring program))
   starts_stacked = with_first (sub_of program 0).points
+
+-- ---- no cells
+
+pub start_peaks : (types : Table) (p : Program) (declares : Bool) → (handled_runs.state_at_start types p declares).memory.peaks ≡ []
+start_peaks types p true = refl
+start_peaks types p false = by p.main
+  where
+    by : (main : Option ℕ) → (handled_runs.state_at_start types (record p { main = main }) false).memory.peaks ≡ []
+    by None = refl
+    by (Some main) = refl
+
+pub start_under : (types : Table) (p : Program) (declares : Bool) → AreUnder (handled_runs.state_at_start types p declares).memory
+start_under types p true = λ n. omega arith
+start_under types p false = by p.main
+  where
+    by : (main : Option ℕ) → AreUnder (handled_runs.state_at_start types (record p { main = main }) false).memory
+    by None = λ n. omega arith
+    by (Some main) = λ n. omega arith

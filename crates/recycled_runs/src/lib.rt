@@ -8,6 +8,11 @@
 //! the stack has the words of the frames that there are (`proofs/Frames.antt` and `Machine.antt`,
 //! by `Subs.antt`), and with null where something was moved the states still stand for each other
 //! (`proofs/Nulls.antt`). So the next step is as the rules ask it, and whole runs give the same, or
-//! memory is out (`proofs/Runs.antt`), where what leak checks tell of is there
-//! (`proofs/Leaked.antt`, `Checks.antt`). Nothing here runs.
+//! memory is out (`proofs/Runs.antt`).
+//!
+//! What leak checks tell of is there, as it is owned where it stands (`proofs/Leaked.antt`,
+//! `Parts.antt`): a name leads to a part of its variable or of a cell (`Walks.antt`, `Found.antt`),
+//! and what a point has moved and made until then changes nothing there but marks (`More.antt`,
+//! `Growing.antt`, `Later.antt`, `Targets.antt`). So it is in programs that are ready, whose names
+//! own what is checked (`Checks.antt`, `Owns.antt`, `Ready.antt`). Nothing here runs.
 #![tactic(auto)]

@@ -20,6 +20,7 @@ use Rattle.run_codes.specs.Related.{Stands, Stopped, Same, types, now}
 use Rattle.run_points.specs.Outcomes.{IsSeenAlike, IsAlike}
 use Rattle.run_points.specs.States.{Laid, LoopsStand, WaitsStand, StateStands, MainBegins}
 use Rattle.run_points.specs.Turns.{Turns, state, turn, flat_state, flat_turn, around, seen, TurnStands, IsKept}
+use Rattle.run_points.proofs.Sizes.{sizes_same}
 use Rattle.run_points.proofs.Waits.{rest_stand}
 use Rattle.run_points.proofs.Goes.{after_stands, unchanged}
 
@@ -45,6 +46,9 @@ seen_before b laid is = record {
   freed =
       none_made b.flat.freed (length b.flat.cells) ∙ is.memory.related.counted.freed
       ∙ sym (ap (λ l. length (filter (λ (c : HeapCell). c.freed) l)) (cells_kept b.memory.cells machine_memory.as_freed));
+  sizes =
+      ap (map (λ (c : Cell). length c.words)) (cells_kept b.flat.cells as_freed)
+      ∙ (sizes_same (flow_typing b.program) laid.objects b.memory b.flat is.memory.related ∙ sym (ap (map machine_memory.cell_words) (cells_kept b.memory.cells machine_memory.as_freed)));
 }
 
 pub raised_alike : (b : Turns) (laid : Laid) → TurnStands b laid → (d : Does) (e : Exception)

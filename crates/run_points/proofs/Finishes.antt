@@ -25,6 +25,7 @@ use Rattle.run_fills.proofs.Wholes.{unchanged}
 use Rattle.run_points.specs.Outcomes.{IsAlike}
 use Rattle.run_points.specs.States.{LoopAt, LoopsApart, PlaceStands, ReturnsStand, Laid, site_of, FramesStand, FirstRuns, AreUndeclared, MemoryStands, StateStands, IsLow}
 use Rattle.run_points.specs.Turns.{Turns, state, turn, flat_state, flat_turn, seen, TurnStands, DoesAlike}
+use Rattle.run_points.proofs.Sizes.{sizes_same}
 use Rattle.run_points.proofs.Ends.{start_is}
 use Rattle.run_points.proofs.More.{frames_more}
 use Rattle.run_points.proofs.Halts.{is_whole}
@@ -315,7 +316,7 @@ left_alike b laid m f [] [] long memory frames = record {
   steps = refl;
 }
 left_alike b laid m f (x ∷ []) (y ∷ []) long memory frames =
-    (refl, record { output = refl; leaks = refl; steps = refl; made = memory.related.counted.made; freed = memory.related.counted.freed })
+    (refl, record { output = refl; leaks = refl; steps = refl; made = memory.related.counted.made; freed = memory.related.counted.freed; sizes = sizes_same (flow_typing b.program) _ _ _ memory.related })
 left_alike b laid m f (x ∷ h ∷ fs) (y ∷ i ∷ gs) long memory frames = record {
   laid = laid;
   memory = subst (λ n. MemoryStands b.program laid n (without_frame (length b.outer) m) f) (sym long) memory;

@@ -19,6 +19,7 @@ use Rattle.run_fills.proofs.GivenUp.{given_up_later}
 use Rattle.run_points.specs.Outcomes.{IsAlike}
 use Rattle.run_points.specs.States.{Laid, AreUndeclared, StateStands}
 use Rattle.run_points.specs.Turns.{Turns, turn, flat_turn, seen, TurnStands}
+use Rattle.run_points.proofs.Sizes.{sizes_same}
 use Rattle.run_points.proofs.Waits.{at_start, sited, seen_waits}
 use Rattle.run_points.proofs.Undeclared.{Keeps}
 
@@ -39,13 +40,13 @@ pub raised_later : (b : Turns) (laid : Laid) → TurnStands b laid → (d : Does
     → IsAlike (StateStands b.program) (machine_step.raised (turn b) e m) (halted (flat_turn b d) (Raises e) f)
 raised_later b laid is d e m f later =
     let related = given_up_later (seen b) laid.objects m f (is_whole b laid is) later in
-    (refl, record { output = refl; leaks = refl; steps = refl; made = related.counted.made; freed = related.counted.freed })
+    (refl, record { output = refl; leaks = refl; steps = refl; made = related.counted.made; freed = related.counted.freed; sizes = sizes_same (flow_typing b.program) laid.objects _ _ related })
 
 pub trapped_later : (b : Turns) (laid : Laid) → TurnStands b laid → (d : Does) (t : Trap) (m : Memory) (f : Flat) → Later (seen b) laid.objects m f
     → IsAlike (StateStands b.program) (machine_step.trapped (turn b) t m) (halted (flat_turn b d) (Traps t) f)
 trapped_later b laid is d t m f later =
     let related = given_up_later (seen b) laid.objects m f (is_whole b laid is) later in
-    (refl, record { output = refl; leaks = refl; steps = refl; made = related.counted.made; freed = related.counted.freed })
+    (refl, record { output = refl; leaks = refl; steps = refl; made = related.counted.made; freed = related.counted.freed; sizes = sizes_same (flow_typing b.program) laid.objects _ _ related })
 
 -- An evaluation that stops with the memory that it had.
 pub stops_later : {A : Type 0} (b : Turns) (laid : Laid) → TurnStands b laid → (d : Does) (stop : Stop) (m : Memory) (f : Flat) (ev : Evaluated A) (go : A → Memory → machine.Outcome)

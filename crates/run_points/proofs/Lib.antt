@@ -2,6 +2,7 @@ pub mod Runs
 pub mod Waits
 pub mod More
 pub mod Goes
+pub mod Sizes
 pub mod Ends
 pub mod Tests
 pub mod Operands

@@ -46,12 +46,12 @@ two a b = omega arith
 
 -- Before the first step nothing is there.
 start_alike : (program : FlowProgram) (p : Program) (declares : Bool) → IsSeenAlike (machine_run.state_at_start program) (state_at_start (flow_typing program).table p declares)
-start_alike program p true = record { output = refl; leaks = refl; steps = refl; made = refl; freed = refl }
+start_alike program p true = record { output = refl; leaks = refl; steps = refl; made = refl; freed = refl; sizes = refl }
 start_alike program p false = by p.main
   where
     by : (main : Option ℕ) → IsSeenAlike (machine_run.state_at_start program) (state_at_start (flow_typing program).table (record p { main = main }) false)
-    by None = record { output = refl; leaks = refl; steps = refl; made = refl; freed = refl }
-    by (Some main) = record { output = refl; leaks = refl; steps = refl; made = refl; freed = refl }
+    by None = record { output = refl; leaks = refl; steps = refl; made = refl; freed = refl; sizes = refl }
+    by (Some main) = record { output = refl; leaks = refl; steps = refl; made = refl; freed = refl; sizes = refl }
 
 -- The states with which runs begin are a premise, too. Where the first frames have too many words, there is no step.
 pub run_alike : (R : machine.State → State → Type 0) (program : FlowProgram) (p : Program) (input : List ℕ)

@@ -24,6 +24,7 @@ use Rattle.run_points.specs.Outcomes.{IsSeenAlike, IsAlike, GivesAlike}
 use Rattle.run_points.specs.States.{Laid, StateStands, MainBegins}
 use Rattle.run_points.specs.Turns.{Turns, turn, flat_turn, around, around_sub, TurnStands, IsLowered, HasTypes, DoesAlike}
 use Rattle.run_points.specs.Frames.{IsCallable, HasFrames}
+use Rattle.run_points.proofs.Sizes.{sizes_same}
 use Rattle.run_points.proofs.Runs.{run_alike, given_alike}
 use Rattle.run_points.proofs.Tests.{mapped, go_alike, fall_alike, test_alike}
 use Rattle.run_points.proofs.Operands.{left_alike, right_alike}
@@ -71,7 +72,7 @@ types_taken s (New t v) = types_taken s v
 types_taken s (More e rest) = two_taken s e rest (types_taken s e) (types_taken s rest)
 types_taken s _ = refl
 
-many_taken : (s : Typing) (i : Instruction) → scopes.taken i ≡ length (point_takes s i)
+pub many_taken : (s : Typing) (i : Instruction) → scopes.taken i ≡ length (point_takes s i)
 many_taken s Skip = refl
 many_taken s (Declare x v) = types_taken s v
 many_taken s (Assign target e) = two_taken s e target (types_taken s e) (types_taken s target)
@@ -129,6 +130,7 @@ stands_seen program s g is = record {
   steps = is.steps;
   made = is.memory.related.counted.made;
   freed = is.memory.related.counted.freed;
+  sizes = sizes_same (flow_typing program) is.laid.objects s.memory g.memory is.memory.related;
 }
 
 -- What is shared of both states.
@@ -140,7 +142,7 @@ frames_alike : (program : FlowProgram) (p : Program) (input : List ℕ) → HasT
     → IsAlike (StateStands program) (machine_run.stepped program input (record s { frames = fs }) fs)
     (stepped (flow_typing program).table p input (with_shared g gs s.at s.output s.leaks s.steps) gs)
 frames_alike program p input has lowered frames begins s g [] [] is =
-    (refl, record { output = refl; leaks = refl; steps = refl; made = is.memory.related.counted.made; freed = is.memory.related.counted.freed })
+    (refl, record { output = refl; leaks = refl; steps = refl; made = is.memory.related.counted.made; freed = is.memory.related.counted.freed; sizes = sizes_same (flow_typing program) is.laid.objects s.memory g.memory is.memory.related })
 frames_alike program p input has lowered frames begins s g [] (h ∷ gs) is = absurd is.frames
 frames_alike program p input has lowered frames begins s g (f ∷ fs) [] is = absurd is.frames
 frames_alike program p input has lowered frames begins s g (f ∷ fs) (h ∷ gs) is =

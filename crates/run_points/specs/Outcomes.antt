@@ -1,18 +1,20 @@
 -- When what the executor's steps and runs come to is what the machine's come to.
-use Rattle.std.specs.Prelude.{◌≡◌, length, filter, Option, Some, None}
-use Rattle.machine.specs.Memory.{HeapCell}
+use Rattle.std.specs.Prelude.{◌≡◌, length, filter, map, Option, Some, None}
+use Rattle.machine.specs.Memory.{HeapCell, cell_words}
 use Rattle.machine.specs.States.{Ending}
 use Rattle.machine.specs.States as machine
 use Rattle.machine.specs.Run.{Run}
+use Rattle.reuse_heap.specs.Cells.{Cell}
 use Rattle.run_codes.specs.Points.{State, Outcome, Goes, Ends, Wants, Fails, Ran, ran_of}
 
--- The output, the leaks and the counts of a state are the machine's.
+-- The output, the leaks, the counts and the sizes of cells of a state are the machine's.
 pub record IsSeenAlike (s : machine.State) (g : State) : Type 0 where
   pub output : g.output ≡ s.output
   pub leaks : g.leaks ≡ s.leaks
   pub steps : g.steps ≡ s.steps
   pub made : length g.memory.cells ≡ length s.memory.cells
   pub freed : g.memory.freed ≡ length (filter (λ (c : HeapCell). c.freed) s.memory.cells)
+  pub sizes : map (λ (c : Cell). length c.words) g.memory.cells ≡ map cell_words s.memory.cells
 
 abbrev pub GoesAlike : (machine.State → State → Type 0) → machine.Outcome → State → Type 0
 GoesAlike R (machine.Goes s) g = R s g

@@ -1,17 +1,11 @@
 -- The frames around the innermost one. What it can name they have moved only where it is a package
 -- object, and then facts say so; so their facts on package objects stand beside its own.
-use Rattle.std.proofs.Common.{◌≡◌, refl, sym, ap, ◌∙◌, subst, ◌⊎◌, inl, inr, ℕ, ◌<◌, Bool, true, false, ◌==◌, eqb-true, eq-eqb, List, [], ◌∷◌, arith, if◌then◌else◌}
-use Rattle.std.specs.Prelude.{filter, flat_map}
-use Rattle.spark_base.specs.Lists.{Has}
-use Rattle.spark_base.proofs.Lists.{Has-append_left, Has-append_right, Has-append_cases, Has-filter, Has-filter_passes}
-use Rattle.place_names.specs.declared.fact.Fact.{Fact}
-use Rattle.place_names.specs.declared.fact.Fact.TheVariants.{Moved, Lent}
+use Rattle.std.proofs.Common.{◌≡◌, sym, ap, ◌∙◌, ◌⊎◌, inl, inr, ℕ, ◌<◌, true, false, ◌==◌, eqb-true, eq-eqb, arith, if◌then◌else◌}
 use Rattle.flow_paths.specs.declared.report.Effects.{Effects}
 use Rattle.flow_paths.specs.Objects.{Typing, is_package_object}
 use Rattle.flow_paths.specs.Laid.{FlowProgram, flow_typing}
 use Rattle.owned_ways.specs.Ways.{OfVariable, OfHand, Way, Object, Lost, Into, All, Named, number_of}
 use Rattle.soundness.specs.Seen.{home, IsNear}
-use Rattle.soundness.specs.Sound.{Stage, facts_of}
 use Rattle.soundness.proofs.Contents.{bool_cases}
 
 -- ---- near and far
@@ -65,33 +59,6 @@ near_package s a b some less (All w) named near = near_package s a b some less w
 
 -- ---- what older frames say of package objects
 
-abbrev pub is_inherited : Typing → Fact → Bool
-is_inherited s (Moved n) = is_package_object s n.root
-is_inherited s (Lent l h n) = false
-
-abbrev pub inherited_of : FlowProgram → Effects → Stage → List Fact
-inherited_of program effects g = filter (λ f. is_inherited (flow_typing program) f) (facts_of program effects g)
-
-abbrev pub inherited : FlowProgram → Effects → List Stage → List Fact
-inherited program effects older = flat_map (inherited_of program effects) older
-
 module _ (program : FlowProgram) (effects : Effects) where
   abbrev s : Typing
   s = flow_typing program
-
-  pub inherited_has : (older : List Stage) (g : Stage) → Has older g → (f : Fact) → Has (facts_of program effects g) f → is_inherited (flow_typing program) f ≡ true
-      → Has (inherited program effects older) f
-  inherited_has [] g has f fact e = absurd has
-  inherited_has (h ∷ older) g (inl same) f fact e =
-      Has-append_left (inherited_of program effects h) (inherited program effects older) f
-      (Has-filter_passes (λ z. is_inherited (flow_typing program) z) (facts_of program effects h) f (subst (λ z. Has (facts_of program effects z) f) (sym same) fact) e)
-  inherited_has (h ∷ older) g (inr has) f fact e =
-      Has-append_right (inherited_of program effects h) (inherited program effects older) f (inherited_has older g has f fact e)
-
-  pub inherited_from : (older : List Stage) (f : Fact) → Has (inherited program effects older) f
-      → (g : Stage) × Has older g × Has (facts_of program effects g) f × (is_inherited (flow_typing program) f ≡ true)
-  inherited_from [] f has = absurd has
-  inherited_from (h ∷ older) f has = elim (Has-append_cases (inherited_of program effects h) (inherited program effects older) f has) [
-    | inl mine ↦ (let was = Has-filter (λ z. is_inherited (flow_typing program) z) (facts_of program effects h) f mine in (h, inl refl, was.0, was.1))
-    | inr later ↦ (let found = inherited_from older f later in (found.0, inr found.1, found.2, found.3))
-  ]

@@ -1,9 +1,8 @@
 -- Words of a scalar type that are put at a place: owners don't see it, and words stay typed.
 use Rattle.std.proofs.Common.{◌≡◌, refl, sym, ap, ◌∙◌, subst, inl, inr, ℕ, suc, ◌+◌, ◌<◌, ◌≤◌, true, false, ◌&&◌, ◌⊎◌, List, ◌++◌, length, get_or, arith, append-nil, if◌then◌else◌}
-use Rattle.std.proofs.lemmas.List.{length-map}
 use Rattle.type_definitions.specs.Types.{shape_of, words, full, view_of, is_scalar}
 use Rattle.flow_paths.specs.Objects.{Typing, object_at}
-use Rattle.machine.specs.Memory.{Memory, Place, Slot, no_slot, slots_of, words_of, with_slots}
+use Rattle.machine.specs.Memory.{Memory, Place, Slot, no_slot, with_slots}
 use Rattle.machine.specs.States.{Waiting, Leak}
 use Rattle.owned_ways.specs.Ways.{Step, Loc, OfRoot, IsSame, part}
 use Rattle.owned_ways.specs.Ways as ways
@@ -15,7 +14,7 @@ use Rattle.soundness.specs.Changes.{Put}
 use Rattle.soundness.specs.Typed.{Matches, Kept, Spot, IsFixed, IsMade, loc_of}
 use Rattle.soundness.proofs.Joined.{trunk_trunk, trunk_part, steps_part, leaf_join}
 use Rattle.soundness.proofs.Contents.{bool_cases, word_no}
-use Rattle.soundness.proofs.Steps.{plain_shape, no_leaf, put_at, put_off, put_count, put_freed, room, taken_slots}
+use Rattle.soundness.proofs.Steps.{plain_shape, no_leaf, put_at, put_off, put_count, put_freed, room}
 
 pub matches_scalar : (s : Typing) (t u : ℕ) → Matches s.table t u → is_scalar (full s.table t) ≡ true → is_scalar (full s.table u) ≡ true
 matches_scalar s t u (inl e) plain = ap (λ z. is_scalar (view_of z)) (sym e) ∙ plain
@@ -112,9 +111,3 @@ module _ (s : Typing) (settled : IsSettled s.table) where
         of = subst (λ z. Matches s.table k.of (type_in s.table (content s m hands z).of (steps_in (part r fixed.steps)))) (sym base)
             (subst (λ z. Matches s.table k.of (type_in s.table (object_at s fixed.object).of z)) (sym steps) fixed.of);
       }
-
-  pub fixed_one : (k : Place) → IsFixed s k → (m : Memory) (hands : List Waiting) → Kept s m hands → length (words_of s m k) ≡ 1
-  fixed_one k fixed m hands kept =
-      length-map (slots_of s m k) (λ (x : Slot). x.word)
-      ∙ (taken_slots s settled m k (room s settled m hands kept k (fixed_at k fixed) (fixed_spot k fixed m hands))).0
-      ∙ plain_word k.of fixed.scalar

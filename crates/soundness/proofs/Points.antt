@@ -14,7 +14,7 @@ use Rattle.flow_paths.specs.declared.report.Effects.{Effects}
 use Rattle.flow_paths.specs.Acts as flow
 use Rattle.flow_paths.specs.Objects.{Signature, Typing}
 use Rattle.flow_paths.specs.Points.{PointName, same_place, same_point, NamedPoint, FlowPoint, flow_point}
-use Rattle.flow_paths.specs.Laid.{FlowSub, FlowProgram, NamedSub, number_in, signature, frame_of, kept_roots, sub_facts, flow_sub, typing_of, flow_typing, flow_program, flow_named, named_subs, sub_temporaries, all_named}
+use Rattle.flow_paths.specs.Laid.{FlowSub, FlowProgram, NamedSub, number_in, signature, frame_of, kept_roots, sub_facts, flow_sub, typing_of, flow_program, flow_named, named_subs, sub_temporaries, all_named}
 use Rattle.flow_paths.specs.Paths.{PathPoint, path_point}
 use Rattle.flow_paths.specs.Effects.{all_acts, path_points}
 use Rattle.flow_paths.specs.Scopes.{Differ, ScopesHold, Leads, scope_behind}
@@ -133,14 +133,6 @@ named_signatures s n (sub ∷ rest) = ap (λ z. signature sub ∷ z) (named_sign
 pub all_signatures : (s : Typing) (subs : List TypedSub) → map signature_of (map (flow_sub s) (all_named s subs)) ≡ map signature subs
 all_signatures s [] = refl
 all_signatures s (sub ∷ rest) = ap (λ z. signature sub ∷ z) (named_signatures s (length s.objects) rest)
-
--- but for its temporaries
-pub typing_same : (table : Table) (typed : TypedProgram) → (flow_program table typed).objects ≡ typed.objects
-    → flow_typing (flow_program table typed) ≡ typing_of table typed
-unfolding flow_program
-typing_same table typed objects =
-    let subs = all_signatures (typing_of table typed) typed.subs in
-    (λ j. record { table = table; objects = objects j; subs = subs j })
 
 module _ (s : Typing) (named : NamedSub) (n : ℕ) (p : NamedPoint) (stands : IsAtPoint named.points n p) where
   pub point_there : get_or (flow_sub s named).points n no_point ≡ flow_at s named p

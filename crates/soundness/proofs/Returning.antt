@@ -6,9 +6,9 @@ use Rattle.std.proofs.lemmas.List.{length-map}
 use Rattle.type_definitions.specs.Types.{full, is_scalar}
 use Rattle.flow_paths.specs.Objects.{Typing, object_at}
 use Rattle.machine.specs.Words.{default}
-use Rattle.machine.specs.Memory.{Memory, Slot, no_slot, variable_slots, words_of, stored, moved_out, without_frame}
-use Rattle.machine.specs.Evaluate.{Now, Exception, Evaluated, Done, Raises, Traps, followed_by, checked, variable_place}
-use Rattle.machine.specs.States.{Waiting, Return, Frame, Leak, State, Normal, Outcome, Goes, Ends}
+use Rattle.machine.specs.Memory.{Memory, Slot, no_slot, variable_slots, without_frame}
+use Rattle.machine.specs.Evaluate.{Exception, Evaluated, Done, Raises, Traps, variable_place}
+use Rattle.machine.specs.States.{Waiting, Frame, Leak, State, Normal, Outcome, Goes, Ends}
 use Rattle.machine.specs.Step.{Turn, typing, here, start, counted, raised, copied_back, finish}
 use Rattle.machine.specs.Step as steps
 use Rattle.machine.specs.Owners.{waiting_in, WellOwned}
@@ -87,12 +87,6 @@ Backs Q (Raises e n) = Unit {0}
 Backs Q (Traps trap n) = ⊥
 
 module _ (t : Turn) where
-  -- A place in a variable is there.
-  pub copied_is : (r : Return) (rest : List Return) (begun : Now) → IsFixed (typing t) r.to → copied_back t (r ∷ rest) begun
-      ≡ followed_by (checked (here t) r.to.of (words_of (typing t) begun.memory (variable_place (here t) r.formal)) begun)
-      (λ ws n. copied_back t rest (record n { memory = stored (typing t) r.to ws (moved_out (typing t) (variable_place (here t) r.formal) n.memory) }))
-  copied_is r rest begun fixed = rw fixed.base refl
-
   pub formal_fixed : (x : ℕ) → is_scalar (full (typing t).table (object_at (typing t) x).of) ≡ true → IsFixed (typing t) (variable_place (here t) x)
   formal_fixed x plain = record {
     frame = home (typing t) (length t.outer) x;

@@ -1,24 +1,20 @@
 -- A program without calls has no temporaries.
-use Rattle.std.proofs.Common.{◌≡◌, refl, sym, ap, ◌∙◌, inl, inr, ℕ, suc, ◌+◌, Bool, true, false, List, [], ◌∷◌, ◌++◌, map, length, arith, if◌then◌else◌}
+use Rattle.std.proofs.Common.{◌≡◌, refl, sym, ap, ◌∙◌, inl, inr, ℕ, suc, ◌+◌, Bool, true, false, List, [], ◌∷◌, ◌++◌, length, if◌then◌else◌}
 use Rattle.std.specs.Prelude.{Some, flat_map, drop, reverse, is_some}
 use Rattle.std.specs.List.{AllByRecursion}
-use Rattle.std.proofs.lemmas.Grind.{common_steps}
 use Rattle.spark_base.specs.Lists.{Has}
-use Rattle.spark_base.proofs.Lists.{Has-map}
 use Rattle.spark_base.specs.declared.position.Pos.{Pos}
-use Rattle.typed_tree.specs.declared.object.Object.{Object}
 use Rattle.typed_tree.specs.Trees.{TypedTree, Name, Component, Designated, Element, Image, Parens, Unary, Binary, Short, IsNull, Aggregate, Alike, New, TypedCode, Declare, Assign, Skip, Output, Input, Release, If, Branch, Case, When, Loop, While, For, Exit, Return, Block}
 use Rattle.typed_tree.specs.Trees as typed
-use Rattle.typed_tree.specs.Programs.{TypedSub, TypedProgram}
-use Rattle.type_definitions.specs.Types.{Table}
+use Rattle.typed_tree.specs.Programs.{TypedSub}
 use Rattle.flow_paths.specs.Instructions.{Instruction, Finish, Evaluate}
 use Rattle.flow_paths.specs.Instructions as instruction
 use Rattle.flow_paths.specs.Objects.{Typing}
 use Rattle.flow_paths.specs.Names.{has_call}
-use Rattle.flow_paths.specs.Points.{Place, PointName, row_at, NamedPoint, point, FlowPoint, flow_point}
+use Rattle.flow_paths.specs.Points.{Place, PointName, row_at, NamedPoint, point}
 use Rattle.flow_paths.specs.Prep.{Setting, prep}
 use Rattle.flow_paths.specs.Layout.{Around, within_loop, within_block, with_scope, declared, from, ending, ends, closing, laid, laid_branches, laid_branch, laid_whens, laid_when}
-use Rattle.flow_paths.specs.Laid.{Temporary, temporary_object, filled, temporaries, numbers_from, unnumbered, around_body, scope_at_end, procedure_end, function_end, sub_points, sub_temporaries, NamedSub, named_sub, named_subs, all_named, frame_of, kept_roots, sub_facts, FlowSub, flow_sub, typing_of, flow_program, flow_named, number_in}
+use Rattle.flow_paths.specs.Laid.{Temporary, filled, temporaries, numbers_from, unnumbered, around_body, scope_at_end, procedure_end, function_end, sub_points, sub_temporaries, NamedSub, named_sub, named_subs, all_named}
 use Rattle.soundness.specs.Sound.{calls_procedures}
 use Rattle.flow_paths.proofs.Slots.{each_both as all_both}
 
@@ -235,20 +231,3 @@ pub none_named : (s : Typing) (subs : List TypedSub)
     → ((named : NamedSub) → Has (all_named s subs) named → (p : NamedPoint) → Has named.points p → IsCalm p) → flat_map temporaries_of (all_named s subs) ≡ []
 none_named s [] calm = refl
 none_named s (sub ∷ rest) calm = no_named s (length s.objects) rest (λ named has. calm named (inr has))
-
--- The objects of the program are those of the typed program.
-pub few_temporaries : (table : Table) (typed : TypedProgram)
-    → ((sub : FlowSub) → Has (flow_program table typed).subs sub → (p : FlowPoint) → Has sub.points p → calls_procedures p.instr ≡ true)
-    → (flow_program table typed).objects ≡ typed.objects
-unfolding flow_program
-few_temporaries table typed calm =
-    let s : Typing = typing_of table typed in
-    let none : flat_map temporaries_of (flow_named table typed) ≡ [] =
-    none_named s typed.subs (λ named has p there.
-    calm (flow_sub s named) (Has-map (flow_sub s) (flow_named table typed) named has)
-    (flow_point (frame_of s named.sub (kept_roots s 0 s.objects (sub_facts s named.sub named.points))) (number_in named.points) p)
-    (Has-map (flow_point (frame_of s named.sub (kept_roots s 0 s.objects (sub_facts s named.sub named.points))) (number_in named.points)) named.points p there)) in
-    ap (λ xs. typed.objects ++ map temporary_object xs) none ∙ nothing_more typed.objects
-  where
-    nothing_more : (xs : List Object) → xs ++ [] ≡ xs
-    nothing_more xs = grind (arith, common_steps)
