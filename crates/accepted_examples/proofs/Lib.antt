@@ -12,3 +12,4 @@ pub mod Handed
 pub mod Copied
 pub mod Shown
 pub mod Traversed
+pub mod Behind

@@ -2,7 +2,6 @@ pub mod Whole
 pub mod Written
 pub mod Once
 pub mod Kinded
-pub mod Formals
 pub mod Known
 pub mod Declared
 pub mod Flat
