@@ -1,4 +1,4 @@
--- A text with a procedure that is called and lends to an observer, of the second class of the law on runs with
+-- A text with a procedure that is called and lends to an observer, of the class of the law on runs with
 -- borrowers and observers, and that law of it.
 use Rattle.std.specs.Prelude.{codes}
 use Rattle.std.proofs.Common.{◌≡◌, ℕ, ◌+◌, true, ◌||◌, List, [], ◌∷◌, refl, ◌∙◌, Some, None, Ok, Err}
