@@ -11,4 +11,5 @@ pub mod Lent
 pub mod Handed
 pub mod Copied
 pub mod Shown
+pub mod Behind
 pub mod Traversed
