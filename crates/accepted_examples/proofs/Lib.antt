@@ -13,3 +13,4 @@ pub mod Copied
 pub mod Shown
 pub mod Behind
 pub mod Traversed
+pub mod Filled
