@@ -11,5 +11,6 @@ pub mod Lent
 pub mod Handed
 pub mod Copied
 pub mod Shown
-pub mod Traversed
 pub mod Behind
+pub mod Traversed
+pub mod Filled
