@@ -1,6 +1,6 @@
 -- Programs in which formals of mode `in` that own are of named access types, and which have no functions that give a borrower, or
 -- such with one formal whose results borrowers take, by computation.
-use Rattle.std.proofs.Common.{◌≡◌, refl, sym, ap, ◌∙◌, subst, ℕ, inl, inr, Bool, true, false, not, ◌&&◌, ◌||◌, eqb-true, List, [], ◌∷◌, Some, None, true≢false}
+use Rattle.std.proofs.Common.{◌≡◌, refl, sym, ap, ◌∙◌, subst, ℕ, inl, inr, Bool, true, false, not, ◌&&◌, ◌||◌, eqb-true, List, [], ◌∷◌, Option, Some, None, true≢false}
 use Rattle.spark_base.specs.Lists.{Has}
 use Rattle.ada_tree.specs.declared.unit.SourceUnit.{SourceUnit}
 use Rattle.type_definitions.specs.Types.{full, is_owning}

@@ -1,7 +1,7 @@
 -- A text with a procedure that is called and lends to an observer, of the class of the law on runs with
 -- borrowers and observers, and that law of it.
 use Rattle.std.specs.Prelude.{codes}
-use Rattle.std.proofs.Common.{◌≡◌, ℕ, ◌+◌, true, ◌||◌, List, [], ◌∷◌, refl, ◌∙◌, Some, None, Ok, Err}
+use Rattle.std.proofs.Common.{◌≡◌, ℕ, ◌+◌, true, List, [], ◌∷◌, refl, Some, None, Ok, Err}
 use Rattle.ada_lexer.specs.Tokens.{Cut, CutResult, tokens}
 use Rattle.ada_tree.specs.declared.declaration.Item.TheVariants as item
 use Rattle.ada_tree.specs.declared.declaration.Indication.TheVariants as indication

@@ -11,7 +11,6 @@ use Rattle.file_positions.specs.Texts.{AreParsed}
 use Rattle.file_positions.proofs.Cuts.{cut_in_order}
 use Rattle.viewed_files.proofs.Files.{parsed_called_sound}
 use Rattle.accepted_runs.proofs.Runs.{RunsAreSound}
-use Rattle.accepted_runs.specs.Classes.{AreInSecondViewClass}
 use Rattle.accepted_examples.proofs.Naming.{naming}
 use Rattle.accepted_examples.proofs.Typing.{typing}
 use Rattle.accepted_examples.proofs.Quiet.{is_quiet_sub, all_pass, no_acts, each, nothing, no_reports, no_effects}
