@@ -1,6 +1,6 @@
 -- Programs in which formals of mode `in` that own are of named access types, and which have no functions that give a borrower, or
 -- such with one formal whose results borrowers take, by computation.
-use Rattle.std.proofs.Common.{◌≡◌, refl, sym, ap, ◌∙◌, subst, ℕ, inl, inr, Bool, true, false, not, ◌&&◌, ◌||◌, eqb-true, List, [], ◌∷◌, Some, None, true≢false}
+use Rattle.std.proofs.Common.{◌≡◌, refl, sym, ap, ◌∙◌, subst, ℕ, inl, inr, Bool, true, false, not, ◌&&◌, ◌||◌, eqb-true, List, [], ◌∷◌, Option, Some, None, true≢false}
 use Rattle.spark_base.specs.Lists.{Has}
 use Rattle.ada_tree.specs.declared.unit.SourceUnit.{SourceUnit}
 use Rattle.type_definitions.specs.Types.{full, is_owning}
@@ -19,8 +19,8 @@ use Rattle.soundness.specs.Seen.{is_view_formal}
 use Rattle.soundness.specs.Ready.{root_of}
 use Rattle.viewed_soundness.specs.Holds.{is_first}
 use Rattle.order_laws.specs.Orderly.{typed_of}
-use Rattle.sound_files.specs.Class.{laid_in, FormalsAreAccess, LendFirst, TakesBorrower, TakeBorrowers, SparePackages}
-use Rattle.accepted_examples.proofs.Quiet.{all_pass, each, at_any, right_of}
+use Rattle.sound_files.specs.Class.{laid_in, FormalsAreAccess, LendFirst, TakesBorrower, TakeBorrowers, SparePackages, CallsWithOwners}
+use Rattle.accepted_examples.proofs.Quiet.{all_pass, each, at_any, left_of, right_of}
 
 abbrev pub is_access_formal : Typing → Object → Bool
 is_access_formal s o = not ((is_formal_kind o.kind && is_in o.mode) && is_owning s.table o.of) || is_named_access (full s.table o.of)
@@ -59,16 +59,32 @@ module _ (files : List (List SourceUnit)) where
       by true b e h = h
       by false b e h = absurd (true≢false (sym e))
 
-  pub lend_first : all_pass (lends_none laid) laid.subs ≡ true → LendFirst (program_of files)
-  lend_first all n x y lends has given =
-      absurd (by (gives_variable laid (sub_at laid n).result) _ lends
-      (at_any (λ (z : Signature). lends_none laid z ≡ true) laid.subs (record { formals = []; result = None }) refl (each (lends_none laid) laid.subs all) n))
+  lends_nothing : all_pass (lends_none laid) laid.subs ≡ true → (n : ℕ) → gives_variable laid (sub_at laid n).result ≡ true → ⊥
+  lends_nothing all n lends =
+      by (gives_variable laid (sub_at laid n).result) lends
+      (at_any (λ (z : Signature). lends_none laid z ≡ true) laid.subs (record { formals = []; result = None }) refl (each (lends_none laid) laid.subs all) n)
     where
-      by : (a b : Bool) → a && b ≡ true → not a ≡ true → ⊥
-      by true b e h = true≢false (sym h)
-      by false b e h = true≢false (sym e)
+      by : (a : Bool) → a ≡ true → not a ≡ true → ⊥
+      by true e h = true≢false (sym h)
+      by false e h = true≢false (sym e)
 
-  -- Or no subprogram has two formals.
+  -- where no function gives a borrower, none is taken
+  takes_none : all_pass (lends_none laid) laid.subs ≡ true → (result : Option ℕ) (i : Instruction) → TakesBorrower laid result i
+  takes_none all result (Declare x (More (CallIn q n a) rest)) = λ lends. absurd (lends_nothing all n lends)
+  takes_none all result (Assign (Name q x path u) (CallIn r n a)) = λ lends. absurd (lends_nothing all n lends)
+  takes_none all result (Hold (More (CallIn q n a) rest)) = λ lends. absurd (lends_nothing all n lends)
+  takes_none all result i = tt
+
+  -- and the program is of the class.
+  pub classed : all_pass (is_access_formal laid) laid.objects ≡ true → all_pass (lends_none laid) laid.subs ≡ true → CallsWithOwners (program_of files)
+  classed formals lends = record {
+    formals = formals_access formals;
+    lends = inl (λ n x y first has given. absurd (lends_nothing lends n (left_of (gives_variable laid (sub_at laid n).result) (is_first x (sub_at laid n).formals) first)));
+    borrowed = λ sub has q there. takes_none lends sub.result q.instr;
+    spared = λ sub has q there n actuals result is borrows. absurd (lends_nothing lends n borrows);
+  }
+
+  -- Where no subprogram has two formals, those that give borrowers see through their first ones alone.
   pub lend_single : all_pass has_one laid.subs ≡ true → LendFirst (program_of files)
   lend_single all n x y lends has given =
       inr (by (sub_at laid n).formals (at_any (λ (z : Signature). has_one z ≡ true) laid.subs (record { formals = []; result = None }) refl (each has_one laid.subs all) n)

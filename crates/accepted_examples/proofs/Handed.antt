@@ -1,7 +1,7 @@
 -- A text with a procedure that takes an access value in a formal of mode `in out` and gives it back, of the class of the
 -- law on runs with borrowers and observers, and that law of it.
 use Rattle.std.specs.Prelude.{codes}
-use Rattle.std.proofs.Common.{◌≡◌, ℕ, ◌+◌, inl, true, List, [], ◌∷◌, refl, Some, None, Ok, Err}
+use Rattle.std.proofs.Common.{◌≡◌, ℕ, ◌+◌, true, List, [], ◌∷◌, refl, Some, None, Ok, Err}
 use Rattle.ada_lexer.specs.Tokens.{Cut, CutResult, tokens}
 use Rattle.ada_tree.specs.declared.declaration.Item.TheVariants as item
 use Rattle.ada_tree.specs.declared.declaration.Indication.TheVariants as indication
@@ -21,26 +21,22 @@ use Rattle.ada_grammar.proofs.SmallSources.{IsTextOf, computes, source_of, at, i
 use Rattle.name_events.specs.Faults.{name_fault}
 use Rattle.type_definitions.specs.Whole.{type_fault}
 use Rattle.typing_steps.specs.Programs.{program_of}
-use Rattle.flow_paths.specs.Points.{FlowPoint}
 use Rattle.flow_paths.specs.Laid.{FlowSub}
 use Rattle.flow_paths.specs.Effects.{asks_for_end, path_points}
 use Rattle.flow_paths.specs.Aliases.{alias_reports}
 use Rattle.flow_paths.specs.Views.{encloses_within}
-use Rattle.soundness.specs.Sound.{calls_procedures}
 use Rattle.program_check.specs.Sources.{flow_of}
 use Rattle.file_positions.specs.Texts.{AreParsed}
 use Rattle.file_positions.proofs.Cuts.{cut_in_order}
 use Rattle.order_laws.specs.Orderly.{typed_of}
-use Rattle.sound_files.specs.Class.{CallsProcedures, FormalsAreAccess, LendFirst}
-use Rattle.sound_files.proofs.Owners.{takes_none, spares_none}
 use Rattle.viewed_files.proofs.Files.{parsed_called_sound}
 use Rattle.accepted_runs.proofs.Runs.{RunsAreSound}
 use Rattle.accepted_runs.specs.Classes.{AreInSecondViewClass}
 use Rattle.accepted_examples.proofs.Naming.{naming}
 use Rattle.accepted_examples.proofs.Typing.{typing}
+use Rattle.accepted_examples.proofs.Classed.{classed}
 use Rattle.accepted_examples.proofs.Lowering.{lowering}
 use Rattle.accepted_examples.proofs.Quiet.{all_pass, each}
-use Rattle.accepted_examples.proofs.Classed.{formals_access, lend_first}
 use Rattle.accepted_examples.proofs.Unreported.{path_passes, sub_passes, nothing, no_reports, no_effects}
 
 -- "procedure Q (X : in out T)", from its column on
@@ -85,22 +81,9 @@ pub is_main : (typed_of (program_of files)).main ≡ Some 2
 unfolding computes naming typing lowering
 is_main = refl
 
-pub calls : CallsProcedures (flow_of files)
-unfolding computes naming typing lowering
-calls = λ sub has p there.
-    each (λ (p : FlowPoint). calls_procedures p.instr) sub.points
-    (each (λ (s : FlowSub). all_pass (λ (p : FlowPoint). calls_procedures p.instr) s.points) (flow_of files).subs refl sub has) p there
-
-pub formals : FormalsAreAccess (program_of files)
-unfolding computes naming typing lowering
-formals = formals_access files refl
-
-pub lends : LendFirst (program_of files)
-unfolding computes naming typing lowering
-lends = lend_first files refl
-
 pub class : AreInSecondViewClass files
-class = record { main = 2; is_main = is_main; calls = record { formals = formals; lends = inl lends; borrowed = takes_none (program_of files) (inl calls); spared = spares_none (program_of files) (inl calls) } }
+unfolding computes naming typing lowering
+class = record { main = 2; is_main = is_main; calls = classed files refl refl }
 
 -- ---- nothing is reported of it
 

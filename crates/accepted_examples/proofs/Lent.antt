@@ -1,7 +1,7 @@
--- A text with a procedure that is called and lends to an observer, of the second class of the law on runs with
+-- A text with a procedure that is called and lends to an observer, of the class of the law on runs with
 -- borrowers and observers, and that law of it.
 use Rattle.std.specs.Prelude.{codes}
-use Rattle.std.proofs.Common.{◌≡◌, ℕ, ◌+◌, inl, Bool, true, false, not, ◌||◌, List, [], ◌∷◌, refl, sym, ◌∙◌, Some, None, Ok, Err, true≢false}
+use Rattle.std.proofs.Common.{◌≡◌, ℕ, ◌+◌, true, List, [], ◌∷◌, refl, Some, None, Ok, Err}
 use Rattle.ada_lexer.specs.Tokens.{Cut, CutResult, tokens}
 use Rattle.ada_tree.specs.declared.declaration.Item.TheVariants as item
 use Rattle.ada_tree.specs.declared.declaration.Indication.TheVariants as indication
@@ -20,34 +20,24 @@ use Rattle.ada_tree.specs.declared.unit.SourceUnit.{SourceUnit}
 use Rattle.ada_tree.specs.declared.unit.SourceUnit.TheVariants as unit
 use Rattle.ada_grammar.proofs.SmallSources.{IsTextOf, computes, source_of, at, id, mark, expr_of, object, null_at, sole, formals_of, package_of, package_body_of, subprogram_of}
 use Rattle.name_events.specs.Faults.{name_fault}
-use Rattle.type_definitions.specs.Types.{full, is_scalar}
 use Rattle.type_definitions.specs.Whole.{type_fault}
 use Rattle.typing_steps.specs.Programs.{program_of}
-use Rattle.typed_tree.specs.Trees.{TypedTree, More}
-use Rattle.typed_tree.specs.declared.object.Object.{Object}
-use Rattle.typed_tree.specs.Programs.{text_io}
-use Rattle.flow_paths.specs.Objects.{Typing, Signature, object_at, sub_at, is_formal_kind, is_formal}
-use Rattle.flow_paths.specs.Points.{FlowPoint}
 use Rattle.flow_paths.specs.Laid.{FlowSub}
 use Rattle.flow_paths.specs.Effects.{asks_for_end, path_points}
 use Rattle.flow_paths.specs.Aliases.{alias_reports}
 use Rattle.flow_paths.specs.Views.{encloses_within}
-use Rattle.machine.specs.Owners.{is_in}
-use Rattle.soundness.specs.Sound.{calls_procedures, AreCopied}
 use Rattle.program_check.specs.Sources.{flow_of}
 use Rattle.file_positions.specs.Texts.{AreParsed}
 use Rattle.file_positions.proofs.Cuts.{cut_in_order}
-use Rattle.order_laws.specs.Orderly.{typed_of, typing_in}
-use Rattle.sound_files.specs.Class.{CallsProcedures, FormalsAreScalar, CopyToVariables}
-use Rattle.sound_files.proofs.Classes.{called_alike}
-use Rattle.sound_files.proofs.Owners.{calls_functions}
+use Rattle.order_laws.specs.Orderly.{typed_of}
 use Rattle.viewed_files.proofs.Files.{parsed_called_sound}
 use Rattle.accepted_runs.proofs.Runs.{RunsAreSound}
 use Rattle.accepted_runs.specs.Classes.{AreInSecondViewClass}
 use Rattle.accepted_examples.proofs.Naming.{naming}
 use Rattle.accepted_examples.proofs.Typing.{typing}
+use Rattle.accepted_examples.proofs.Classed.{classed}
 use Rattle.accepted_examples.proofs.Lowering.{lowering}
-use Rattle.accepted_examples.proofs.Quiet.{all_pass, each, at_any, left_of, right_of}
+use Rattle.accepted_examples.proofs.Quiet.{all_pass, each}
 use Rattle.accepted_examples.proofs.Unreported.{path_passes, sub_passes, nothing, no_reports, no_effects}
 
 -- "procedure Q (N : Integer)", from its column on
@@ -86,56 +76,13 @@ typed = refl
 
 -- ---- it is of the class
 
-implied : (a b : Bool) → not a || b ≡ true → a ≡ true → b ≡ true
-implied true b e is = e
-implied false b e is = absurd (true≢false (sym is))
-
 pub is_main : (typed_of (program_of files)).main ≡ Some 2
 unfolding computes naming typing lowering
 is_main = refl
 
-pub calls : CallsProcedures (flow_of files)
-unfolding computes naming typing lowering
-calls = λ sub has p there.
-    each (λ (p : FlowPoint). calls_procedures p.instr) sub.points
-    (each (λ (s : FlowSub). all_pass (λ (p : FlowPoint). calls_procedures p.instr) s.points) (flow_of files).subs refl sub has) p there
-
-abbrev own : Typing
-own = typing_in (program_of files)
-
-abbrev scalar_if_formal : Object → Bool
-scalar_if_formal o = not (is_formal_kind o.kind) || is_scalar (full own.table o.of)
-
-scalars : all_pass scalar_if_formal own.objects ≡ true
-unfolding computes naming typing lowering
-scalars = refl
-
-pub formals : FormalsAreScalar (program_of files)
-formals x is =
-    implied (is_formal own x) (is_scalar (full own.table (object_at own x).of))
-    (at_any (λ (o : Object). scalar_if_formal o ≡ true) own.objects text_io refl (each scalar_if_formal own.objects scalars) x) is
-
-abbrev in_alone : List ℕ → Bool
-in_alone xs = all_pass (λ x. is_in (object_at own x).mode) xs
-
-ins : all_pass (λ (z : Signature). in_alone z.formals) own.subs ≡ true
-unfolding computes naming typing lowering
-ins = refl
-
-copied_in : (xs : List ℕ) (actuals : TypedTree) → in_alone xs ≡ true → AreCopied own xs actuals
-copied_in [] actuals e = tt
-copied_in (x ∷ xs) (More a rest) e =
-    (λ out. absurd (true≢false (sym (left_of (is_in (object_at own x).mode) (in_alone xs) e) ∙ out)), copied_in xs rest (right_of (is_in (object_at own x).mode) (in_alone xs) e))
-copied_in (x ∷ xs) actuals e = tt
-
--- No formal is copied back to.
-pub copied : CopyToVariables (program_of files)
-copied = called_alike (program_of files) (λ n actuals.
-    copied_in (sub_at own n).formals actuals
-    (at_any (λ (z : Signature). in_alone z.formals ≡ true) own.subs (record { formals = []; result = None }) refl (each (λ (z : Signature). in_alone z.formals) own.subs ins) n))
-
 pub class : AreInSecondViewClass files
-class = record { main = 2; is_main = is_main; calls = calls_functions (program_of files) (record { results = inl calls; formals = formals; copied = copied }) }
+unfolding computes naming typing lowering
+class = record { main = 2; is_main = is_main; calls = classed files refl refl }
 
 -- ---- nothing is reported of it
 

@@ -12,5 +12,7 @@ pub mod Lent
 pub mod Handed
 pub mod Copied
 pub mod Shown
+pub mod Behind
 pub mod Traversed
+pub mod Filled
 pub mod Shared

@@ -1,7 +1,6 @@
 -- A text with an observer of the class of the law on runs with borrowers and observers, and that law of it.
-use Rattle.std.proofs.Common.{◌≡◌, ℕ, inl, inr, true, List, [], ◌∷◌, refl, subst, Some, None, Ok, Err}
+use Rattle.std.proofs.Common.{◌≡◌, ℕ, true, List, [], ◌∷◌, refl, Some, None, Ok, Err}
 use Rattle.std.specs.Prelude.{codes}
-use Rattle.spark_base.specs.Lists.{Has}
 use Rattle.ada_lexer.specs.Tokens.{Cut, CutResult, tokens}
 use Rattle.ada_tree.specs.declared.declaration.Item.TheVariants as item
 use Rattle.ada_tree.specs.declared.declaration.Indication.TheVariants as indication
@@ -10,22 +9,19 @@ use Rattle.ada_grammar.proofs.SmallSources.{IsTextOf, computes, source_of, at, i
 use Rattle.name_events.specs.Faults.{name_fault}
 use Rattle.type_definitions.specs.Whole.{type_fault}
 use Rattle.typing_steps.specs.Programs.{program_of}
-use Rattle.flow_paths.specs.Points.{FlowPoint}
 use Rattle.flow_paths.specs.Laid.{FlowSub}
 use Rattle.flow_paths.specs.Effects.{asks_for_end, path_points}
 use Rattle.flow_paths.specs.Aliases.{alias_reports}
 use Rattle.flow_paths.specs.Views.{encloses_within}
-use Rattle.soundness.specs.Sound.{calls_nothing}
 use Rattle.program_check.specs.Sources.{flow_of}
 use Rattle.file_positions.specs.Texts.{AreParsed}
 use Rattle.file_positions.proofs.Cuts.{cut_in_order}
-use Rattle.meant_files.specs.Formless.{IsFormless}
 use Rattle.viewed_files.proofs.Files.{parsed_called_sound}
 use Rattle.accepted_runs.proofs.Runs.{RunsAreSound}
 use Rattle.accepted_runs.specs.Classes.{AreInSecondViewClass}
-use Rattle.accepted_runs.proofs.Views.{AreInViewClass, first_second}
 use Rattle.accepted_examples.proofs.Naming.{naming}
 use Rattle.accepted_examples.proofs.Typing.{typing}
+use Rattle.accepted_examples.proofs.Classed.{classed}
 use Rattle.accepted_examples.proofs.Lowering.{lowering}
 use Rattle.accepted_examples.proofs.Quiet.{all_pass, each}
 use Rattle.accepted_examples.proofs.Unreported.{path_passes, sub_passes, nothing, no_reports, no_effects}
@@ -53,23 +49,10 @@ pub typed : type_fault (program_of files) ≡ None
 unfolding computes naming typing lowering
 typed = refl
 
-one : {A : Type 0} (P : A → Type 0) (y x : A) → P y → Has (y ∷ []) x → P x
-one P y x h (inl is) = subst P is h
-one P y x h (inr none) = absurd none
-
 -- The text is of the class.
-pub class : AreInViewClass files
-unfolding computes naming typing lowering IsFormless
-class = record {
-  text = record {
-    formless = λ u has. one IsFormless _ u (refl, (tt, (tt, (tt, tt))), (tt, tt)) has;
-    main = 1;
-    is_main = refl;
-  };
-  calls = λ sub has p there.
-      each (λ (p : FlowPoint). calls_nothing p.instr) sub.points
-      (each (λ (s : FlowSub). all_pass (λ (p : FlowPoint). calls_nothing p.instr) s.points) (flow_of files).subs refl sub has) p there;
-}
+pub class : AreInSecondViewClass files
+unfolding computes naming typing lowering
+class = record { main = 1; is_main = refl; calls = classed files refl refl }
 
 -- ---- nothing is reported of it
 
@@ -105,12 +88,9 @@ parsed : AreParsed 0 (cuts ∷ []) files
 unfolding computes
 parsed = (cut_in_order 0 text 1000 cuts is_cut, spelled, tt)
 
-second : AreInSecondViewClass files
-second = first_second files class
-
 pub observed_sound : RunsAreSound files
 observed_sound input =
-    parsed_called_sound files (cuts ∷ []) parsed named typed second.main second.is_main (nothing (flow_of files) passes) (no_effects (flow_of files) passes)
+    parsed_called_sound files (cuts ∷ []) parsed named typed class.main class.is_main (nothing (flow_of files) passes) (no_effects (flow_of files) passes)
     (no_reports (flow_of files) passes no_aliases 9
     (each (λ (sub : FlowSub). path_passes 9 (path_points (flow_of files) (nothing (flow_of files) passes) sub) [] 0) (flow_of files).subs paths))
-    second.calls input
+    class.calls input

@@ -11,9 +11,6 @@ use Rattle.file_positions.specs.Texts.{AreParsed}
 use Rattle.file_positions.proofs.Cuts.{cut_in_order}
 use Rattle.viewed_files.proofs.Files.{parsed_called_sound}
 use Rattle.accepted_runs.proofs.Runs.{RunsAreSound}
-use Rattle.accepted_runs.specs.Classes.{AreInSecondViewClass}
-use Rattle.accepted_runs.proofs.Views.{third_second}
-use Rattle.accepted_runs.proofs.Main.{first_third}
 use Rattle.accepted_examples.proofs.Naming.{naming}
 use Rattle.accepted_examples.proofs.Typing.{typing}
 use Rattle.accepted_examples.proofs.Quiet.{is_quiet_sub, all_pass, no_acts, each, nothing, no_reports, no_effects}
@@ -49,11 +46,8 @@ still : all_pass (λ (sub : FlowSub). all_pass no_acts (path_points (flow_of fil
 unfolding computes naming typing
 still = refl
 
-second : AreInSecondViewClass files
-second = third_second files (first_third files class)
-
 pub small_sound : RunsAreSound files
 small_sound input =
-    parsed_called_sound files (cuts ∷ []) parsed named typed second.main second.is_main (nothing (flow_of files) quiet) (no_effects (flow_of files) quiet)
+    parsed_called_sound files (cuts ∷ []) parsed named typed class.main class.is_main (nothing (flow_of files) quiet) (no_effects (flow_of files) quiet)
     (no_reports (flow_of files) quiet no_aliases (each (λ (sub : FlowSub). all_pass no_acts (path_points (flow_of files) (nothing (flow_of files) quiet) sub)) (flow_of files).subs still))
-    second.calls input
+    class.calls input

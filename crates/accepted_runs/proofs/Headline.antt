@@ -1,5 +1,5 @@
 -- The program that `run` is given runs soundly.
-use Rattle.std.proofs.Common.{◌≡◌, ℕ, List, Bool, Some, refl, sym, subst}
+use Rattle.std.proofs.Common.{ℕ, List, refl, sym, subst}
 use Rattle.spark_base.specs.declared.limits.TheConstants.{SOURCE_BYTES}
 use Rattle.ada_tree.specs.declared.unit.SourceUnit.{SourceUnit}
 use Rattle.flow_paths.specs.declared.report.Effects.{Effects}
@@ -13,8 +13,8 @@ use Rattle.tool_answers.specs.Reading.{sources}
 use Rattle.tool_answers.specs.Product.{Passes as Found}
 use Rattle.accepted_runs.specs.Passed.{Passes}
 use Rattle.accepted_runs.specs.Classes.{AreInSecondViewClass}
-use Rattle.accepted_runs.specs.Headline.{IsSoundRun, RunsSoundly, IsRunSoundly}
-use Rattle.accepted_runs.proofs.Passing.{Passed, IsOf, found_passed}
+use Rattle.accepted_runs.specs.Headline.{IsSoundRun, IsRunSoundly}
+use Rattle.accepted_runs.proofs.Passing.{IsOf, found_passed}
 use Rattle.accepted_runs.proofs.Views.{passed_called_sound}
 use Rattle.accepted_runs.proofs.ViewFacts.{passed_called_hold}
 

@@ -21,7 +21,7 @@ use Rattle.accepted_runs.proofs.Passing.{Passed, product_passed}
 use Rattle.accepted_runs.proofs.Parsed.{are_parsed}
 use Rattle.accepted_runs.proofs.Runs.{RunsAreWithNull}
 use Rattle.accepted_runs.specs.Classes.{AreInSecondViewClass}
-use Rattle.accepted_runs.proofs.Views.{AreInViewClass, passed_called_ready, first_second}
+use Rattle.accepted_runs.proofs.Views.{passed_called_ready}
 
 pub passed_called_with_null : (texts : List (List ℕ)) (trees : List (List SourceUnit)) (effects : Effects) → Passes texts trees effects → AreInSecondViewClass trees
     → RunsAreWithNull trees
@@ -38,11 +38,3 @@ pub accepted_called_with_null : (stored : List (List ℕ × List ℕ)) (input : 
 accepted_called_with_null stored input words names answer command product zero =
     let is : Passed (sources stored 0 SOURCE_BYTES names) = product_passed stored input words names answer command product zero in
     (is, passed_called_with_null is.texts is.trees is.effects is.passes)
-
--- So they do without formals and calls.
-pub accepted_views_with_null : (stored : List (List ℕ × List ℕ)) (input : List ℕ) (words names : List (List ℕ)) (answer : Answer)
-    → command_of words ≡ Some (Check names) → Product stored input words answer → answer.status ≡ 0
-    → (is : Passed (sources stored 0 SOURCE_BYTES names)) × (AreInViewClass is.trees → RunsAreWithNull is.trees)
-accepted_views_with_null stored input words names answer command product zero =
-    let found = accepted_called_with_null stored input words names answer command product zero in
-    (found.0, λ class. found.1 (first_second found.0.trees class))

@@ -1,18 +1,11 @@
--- The runs of programs with borrowers and observers that `check` accepts are sound: where results are of scalar types or
--- stand alone, and formals are of scalar types or of mode `in out`; and so without formals and calls.
-use Rattle.std.proofs.Common.{◌≡◌, inl, ℕ, List, Some}
+-- The runs of programs of the class that `check` accepts are sound.
+use Rattle.std.proofs.Common.{◌≡◌, ℕ, List, Some}
 use Rattle.spark_base.specs.declared.limits.TheConstants.{TOKENS, SOURCE_BYTES}
 use Rattle.ada_tree.specs.declared.unit.SourceUnit.{SourceUnit}
 use Rattle.type_definitions.specs.Whole.{known_of}
 use Rattle.typing_steps.specs.Programs.{program_of}
 use Rattle.flow_paths.specs.declared.report.Effects.{Effects}
-use Rattle.soundness.proofs.Successors.{nothing_procedures}
-use Rattle.program_check.specs.Sources.{flow_of}
 use Rattle.order_laws.specs.Orderly.{typed_of}
-use Rattle.sound_files.specs.Class.{CallsNothing, CallsWithOwners}
-use Rattle.sound_files.proofs.Classes.{formless_formals, formless_copied}
-use Rattle.sound_files.proofs.Owners.{calls_functions}
-use Rattle.viewed_files.specs.Class.{IsFormlessText}
 use Rattle.viewed_steps.specs.Ready.{IsReady}
 use Rattle.viewed_steps.proofs.Main.{ready_sound}
 use Rattle.viewed_files.proofs.Files.{parsed_called_ready}
@@ -25,9 +18,7 @@ use Rattle.accepted_runs.specs.Passed.{Passes}
 use Rattle.accepted_runs.proofs.Passing.{Passed, product_passed}
 use Rattle.accepted_runs.proofs.Parsed.{are_parsed}
 use Rattle.accepted_runs.proofs.Runs.{RunsAreSound}
-use Rattle.accepted_runs.specs.Classes.{AreInThirdClass, AreInSecondViewClass}
-
--- ---- with calls
+use Rattle.accepted_runs.specs.Classes.{AreInSecondViewClass}
 
 -- Such a program is ready, as the laws on its steps ask.
 pub passed_called_ready : (texts : List (List ℕ)) (trees : List (List SourceUnit)) (effects : Effects) → Passes texts trees effects → AreInSecondViewClass trees
@@ -48,33 +39,3 @@ pub accepted_called_sound : (stored : List (List ℕ × List ℕ)) (input : List
 accepted_called_sound stored input words names answer command product zero =
     let is : Passed (sources stored 0 SOURCE_BYTES names) = product_passed stored input words names answer command product zero in
     (is, passed_called_sound is.texts is.trees is.effects is.passes)
-
--- ---- parts of it
-
--- Programs without anonymous access types that call as above are of this class.
-pub third_second : (trees : List (List SourceUnit)) → AreInThirdClass trees → AreInSecondViewClass trees
-third_second trees class = record { main = class.text.main; is_main = class.text.is_main; calls = calls_functions (program_of trees) class.calls }
-
--- No subprogram has formals, and none is called. Anonymous access types are allowed.
-pub record AreInViewClass (trees : List (List SourceUnit)) : Type 0 where
-  pub text : IsFormlessText (program_of trees)
-  pub calls : CallsNothing (flow_of trees)
-
-pub first_second : (trees : List (List SourceUnit)) → AreInViewClass trees → AreInSecondViewClass trees
-first_second trees class = record {
-  main = class.text.main;
-  is_main = class.text.is_main;
-  calls = calls_functions (program_of trees) (record {
-    results = inl (λ sub has p there. nothing_procedures p.instr (class.calls sub has p there));
-    formals = formless_formals (program_of trees) class.text.formless;
-    copied = formless_copied (program_of trees) class.text.formless;
-  });
-}
-
--- So in this class they are, too.
-pub accepted_views_sound : (stored : List (List ℕ × List ℕ)) (input : List ℕ) (words names : List (List ℕ)) (answer : Answer)
-    → command_of words ≡ Some (Check names) → Product stored input words answer → answer.status ≡ 0
-    → (is : Passed (sources stored 0 SOURCE_BYTES names)) × (AreInViewClass is.trees → RunsAreSound is.trees)
-accepted_views_sound stored input words names answer command product zero =
-    let found = accepted_called_sound stored input words names answer command product zero in
-    (found.0, λ class. found.1 (first_second found.0.trees class))

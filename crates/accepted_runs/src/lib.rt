@@ -6,9 +6,7 @@
 //! types and no limit, and that there are no reports (`specs/Passed.antt`, `proofs/Passing.antt`).
 //! The files are parsed then, as `file_positions` has it (`proofs/Parsed.antt`). So the laws of
 //! `viewed_files` speak of what `check` accepts (`proofs/Views.antt`), and so do those of
-//! `viewed_facts` (`proofs/ViewFacts.antt`) and of `viewed_nulls` (`proofs/ViewNulls.antt`); and of
-//! smaller classes of programs (`specs/Classes.antt`), without anonymous access types
-//! (`proofs/Functions.antt`, `proofs/Main.antt`). What `run` is given runs soundly, if it is of the
-//! class (`specs/Headline.antt`, `proofs/Headline.antt`): `spark_tool` promises that. Nothing here
-//! runs.
+//! `viewed_facts` (`proofs/ViewFacts.antt`) and of `viewed_nulls` (`proofs/ViewNulls.antt`), of the
+//! class of programs (`specs/Classes.antt`). What `run` is given runs soundly, if it is of the class
+//! (`specs/Headline.antt`, `proofs/Headline.antt`): `spark_tool` promises that. Nothing here runs.
 #![tactic(auto)]

@@ -5,7 +5,6 @@ use Rattle.type_definitions.specs.Types.{Table}
 use Rattle.run_values.specs.declared.value.Kind.{Kind}
 use Rattle.run_values.specs.declared.value.Kind.TheVariants as sort
 use Rattle.machine.specs.Words.{access_offsets}
-use Rattle.std.specs.Prelude.{unsigned_abs}
 use Rattle.run_codes.specs.Codes.{Code, Fill, Checked, Pointer, MovedPointer, Copied, Moved, Waited, New, Default, Repeated, Both, Empty}
 use Rattle.run_codes.specs.Flat.{Flat, Made, Done, Halted, Failed, Got, Given, Stops, Broken, Raises, Traps, Memory, and_then, access, checked, is_word, kinds, default_words, some_words, repeated, made_then, filled}
 use Rattle.run_codes.specs.Flat as flat
@@ -114,13 +113,6 @@ data_kept : (k : Kind) (z : ℤ) → IsData k → IsKeptAs k z
 data_kept sort.Int z is = tt
 data_kept sort.Enum z is = tt
 data_kept sort.Access z is = absurd is
-
-access_kept : (z y : ℤ) → access z ≡ Given y → IsKept y
-access_kept z y e = by (is_word sort.Access z) e
-  where
-    by : (b : Bool) → (if b then Given (pos (unsigned_abs z)) else Broken) ≡ Given y → IsKept y
-    by true f = let same : pos (unsigned_abs z) ≡ y = cc in subst IsKept same tt
-    by false f = cc
 
 -- ---- one value
 

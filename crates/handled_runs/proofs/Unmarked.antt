@@ -38,11 +38,6 @@ mapped_then f (Given a) F = refl
 mapped_then f (Stops t) F = refl
 mapped_then f Broken F = refl
 
-mapped_on : {A B : Type 0} (f h : A → B) (g : Got A) → ((a : A) → f a ≡ h a) → mapped f g ≡ mapped h g
-mapped_on f h (Given a) same = ap Given (same a)
-mapped_on f h (Stops t) same = refl
-mapped_on f h Broken same = refl
-
 mapped_itself : (g : Got ℤ) → mapped (λ z. z) g ≡ g
 mapped_itself (Given z) = refl
 mapped_itself (Stops t) = refl

@@ -4,7 +4,7 @@ use Rattle.std.proofs.lemmas.Bool.{cases_eq}
 use Rattle.std.proofs.lemmas.Bool.Decides.{nat_tests}
 use Rattle.run_values.specs.declared.value.Value.{Value}
 use Rattle.machine.specs.Memory.{Peak, greatest}
-use Rattle.slot_heap.specs.Heaps.{Heap, no_heap, allocated, written, released, live_count, slot_count}
+use Rattle.slot_heap.specs.Heaps.{Heap, no_heap, allocated, live_count, slot_count}
 use Rattle.slot_heap.proofs.Made.{slot_count-other}
 use Rattle.slot_heap.proofs.Greatest.{IsEnough, IsGreater, slots_greatest}
 use Rattle.numbered_cells.specs.Peaks.{peak_of, ArePeaks}
@@ -44,10 +44,3 @@ peaks-allocated peaks m h ws enough are n =
     subst (λ i. slot_count i (allocated m h ws).slots ≡ peak_of i (greatest (length ws) count peaks)) (sym e) here)
     (λ other. slot_count-other m (length ws) n other ∙ are n ∙ sym (greatest_other (length ws) count n peaks other))
     (cases_eq n (length ws))
-
--- Writing and freeing change no slot.
-pub peaks-written : (peaks : List Peak) (m : Heap) (h at : ℕ) (v : Value) → ArePeaks peaks m → ArePeaks peaks (written m h at v)
-peaks-written peaks m h at v are = are
-
-pub peaks-released : (peaks : List Peak) (m : Heap) (h : ℕ) → ArePeaks peaks m → ArePeaks peaks (released m h)
-peaks-released peaks m h are = are

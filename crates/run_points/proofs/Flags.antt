@@ -97,10 +97,6 @@ keeps_flags h before = record {
   news = λ t ws m is. frees_new before t ws m is;
 }
 
--- A cell that wasn't freed at one of two moments isn't at the other one.
-pub live_later : (before m n : Memory) (k : ℕ) → FreesNone before m → FreesNone before n → k < length m.cells → k < length n.cells → (cell m (suc k)).freed ≡ false → (cell n (suc k)).freed ≡ false
-live_later before m n k a b low high live = b.same k high ∙ sym (a.same k low) ∙ live
-
 -- ---- frames that aren't there
 
 put_low : (s : Typing) (n : ℕ) (b : Base) (slots : List Slot) (m : Memory) → IsLow n b → AreUndeclared s n m → AreUndeclared s n (put b slots m)

@@ -1,9 +1,7 @@
 pub mod Whole
 pub mod Written
 pub mod Once
-pub mod Formless
 pub mod Kinded
-pub mod Formals
 pub mod Known
 pub mod Declared
 pub mod Flat
@@ -11,11 +9,10 @@ pub mod Laws
 pub mod Main
 -- what is called
 pub mod Called
--- what the third class says as it is laid out
+-- the program as it is laid out
 pub mod Classes
 pub mod Mains
 pub mod Functions
 pub mod Shared
 pub mod Fronts
-pub mod Weaker
 pub mod Owners

@@ -37,7 +37,7 @@ use Rattle.owned_loans.proofs.Meeting.{stands}
 use Rattle.viewed_steps.proofs.Views.{same_lies}
 use Rattle.viewed_facts.proofs.Calls.{carried_told, lies_low, passed_clean}
 use Rattle.viewed_steps.proofs.Handed.{AreApart, apart_of}
-use Rattle.std.proofs.Common.{Option, None}
+use Rattle.std.proofs.Common.{Option}
 use Rattle.place_names.specs.declared.rule.Loan.TheVariants.{Borrowed}
 use Rattle.viewed_steps.specs.Taken.{AreCarried, Lodge, IsTakenIn}
 use Rattle.viewed_facts.proofs.Frames.{IsDefiniteHere}

@@ -57,7 +57,6 @@ use Rattle.viewed_facts.specs.Exact.{IsDefinite, IsExact}
 use Rattle.viewed_facts.proofs.Steps.{IsAway, definite_variable, told_still, told_fewer, told_turned, IsOthers, of_others}
 use Rattle.viewed_facts.proofs.Memories.{told_seen, exact_from, declared_exact, ended_exact}
 use Rattle.owned_loans.proofs.Ways.{home_or_foreign, under_on}
-use Rattle.place_names.specs.declared.rule.Loan.{Loan}
 use Rattle.viewed_facts.proofs.Evaluated.{ExactTo, checked_exact, exact_on}
 use Rattle.viewed_facts.proofs.Stored.{StoresExact, assigned_exact}
 use Rattle.viewed_facts.proofs.Checks.{place_holds}

@@ -1,5 +1,5 @@
 -- Borrowers and observers of files that break no rule are in order, and the runs of their program are sound where
--- nothing is reported, results are of scalar types or stand alone, and formals are of scalar types or of mode `in out`.
+-- nothing is reported, if it is of the class.
 use Rattle.std.proofs.Common.{◌≡◌, refl, sym, ap, ◌∙◌, subst, ◌⊎◌, inl, inr, ℕ, Bool, true, false, ◌&&◌, ◌||◌, List, [], ◌∷◌, Option, Some, None, is_some}
 use Rattle.spark_base.specs.declared.position.Pos.{Pos}
 use Rattle.spark_base.specs.Lists.{Has}

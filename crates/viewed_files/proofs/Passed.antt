@@ -1,4 +1,4 @@
--- The actuals of typed calls of the class with formals that own are as they are asked for.
+-- The actuals of typed calls are as they are asked for.
 use Rattle.std.proofs.Common.{◌≡◌, refl, sym, ap, subst, ◌⊎◌, inl, inr, ℕ, Bool, true, false, List, [], ◌∷◌, ◌||◌, Some, None}
 use Rattle.spark_base.specs.Lists.{Has as Holds}
 use Rattle.place_names.specs.declared.act.Mode.{Mode}

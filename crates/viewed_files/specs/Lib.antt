@@ -3,5 +3,3 @@ pub mod Sources
 -- objects, scopes and bodies by their places in the text
 pub mod Places
 pub mod Laid
--- a class of texts
-pub mod Class

@@ -9,6 +9,6 @@
 //! `Walked`, `Units`, for `specs/Sources.antt`; `Roots`). What is named was declared before, so sources
 //! are older (`Joined`). What is stored as a view is a variable (`Stored`), and what traversal functions
 //! give is taken by views (`Traversals`). Actuals that are copied back to are names of what formals may
-//! hold (`Passed`). `Main` joins this, and `Files` has the law on runs for the class of `sound_files`
-//! with formals that own. Nothing here runs.
+//! hold (`Passed`). `Main` joins this, and `Files` has the law on runs for the class of `sound_files`.
+//! Nothing here runs.
 #![tactic(auto)]

@@ -4,7 +4,7 @@ use Rattle.flow_paths.specs.Objects.{Typing, designated}
 use Rattle.machine.specs.Words.{component_type, element_type}
 use Rattle.machine.specs.Words as machine
 use Rattle.machine.specs.Memory.{Memory, Place, slots_of, words_of}
-use Rattle.machine.specs.Evaluate.{Now, Evaluated, Done, Raises, Traps, followed_by, component_place, element_place, cell_place, designated_place, stepped, walked, Touched}
+use Rattle.machine.specs.Evaluate.{Now, Evaluated, Done, Raises, Traps, followed_by, component_place, element_place, designated_place, stepped, walked}
 use Rattle.machine.specs.Evaluate as run
 use Rattle.machine.specs.States.{Waiting, Leak}
 use Rattle.owned_ways.specs.Ways.{Component, Element, Loc, Way, Into, All, Reaches, Past, Owned, Known}

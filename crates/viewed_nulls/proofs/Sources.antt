@@ -20,7 +20,7 @@ use Rattle.machine.specs.Evaluate as run
 use Rattle.machine.specs.States.{Waiting, Outcome}
 use Rattle.machine.specs.Step.{Turn, typing, here, start, Stored, taken_by, declare, assign}
 use Rattle.machine.specs.Owners.{waiting_in}
-use Rattle.owned_ways.specs.Ways.{OfVariable, Loc, Way, Object, Reaches, IsRooted, Allows, AllowsAll, number_of}
+use Rattle.owned_ways.specs.Ways.{OfVariable, Loc, Way, Object, Reaches, Allows, AllowsAll}
 use Rattle.owned_ways.specs.Ways as ways
 use Rattle.part_offsets.specs.Parts.{IsSettled}
 use Rattle.soundness.specs.Seen.{IsNear, content, trunk, seen, home}

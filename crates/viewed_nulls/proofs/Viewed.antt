@@ -12,10 +12,10 @@ use Rattle.flow_paths.specs.Names.{name_of}
 use Rattle.flow_paths.specs.Acts.{acts_in}
 use Rattle.machine.specs.Words as machine
 use Rattle.machine.specs.Memory.{Memory}
-use Rattle.machine.specs.Evaluate.{Here, Now, Use, AsValue, Evaluated, Done, Raises, Traps, evaluate, steps_of, variable_place, walked}
+use Rattle.machine.specs.Evaluate.{Here, Now, AsValue, Evaluated, Done, Raises, Traps, evaluate, variable_place, walked}
 use Rattle.machine.specs.Evaluate as run
 use Rattle.machine.specs.States.{Waiting, Leak}
-use Rattle.owned_ways.specs.Ways.{OfVariable, Loc, OfRoot, Way, Object, All, Reaches, IsRooted, Past, Named, Allows, after, AllowsAll}
+use Rattle.owned_ways.specs.Ways.{OfVariable, Loc, OfRoot, Way, Object, All, Reaches, Past, Allows, after}
 use Rattle.owned_ways.specs.Ways as ways
 use Rattle.owned_ways.proofs.Locations.{under_itself}
 use Rattle.part_offsets.specs.Parts.{IsSettled}

@@ -3,14 +3,12 @@ use Rattle.std.proofs.Common.{◌≡◌, refl, sym, ap, ◌∙◌, subst, ◌⊎
 use Rattle.spark_base.specs.Lists.{Has}
 use Rattle.place_names.specs.declared.fact.Fact.{Fact}
 use Rattle.place_names.specs.declared.fact.Fact.TheVariants.{Lent, Moved}
-use Rattle.place_names.specs.declared.rule.Loan.{Loan}
-use Rattle.place_names.specs.Names.{Name as PlaceName, overlaps}
-use Rattle.owned_ways.specs.Ways.{Step, OfVariable, OfHand, Loc, OfRoot, OfCell, Way, Object, Lost, Into, All, Gone, View, Reaches, IsSame, part, along, IsRooted, Under, Named, base_of, number_of, name_of, Owned, Covered, Known, Sound}
+use Rattle.owned_ways.specs.Ways.{Step, OfVariable, OfHand, Loc, OfRoot, OfCell, Way, Object, Lost, Into, All, Gone, View, Reaches, IsSame, part, along, IsRooted, Under, Named, base_of, number_of, Owned, Covered, Known, Sound}
 use Rattle.owned_ways.proofs.Locations.{under_along, under_itself}
 use Rattle.owned_ways.proofs.Named.{longer}
 use Rattle.owned_ways.proofs.Moving.{Given, owned_after, covered_after, known_after}
 use Rattle.owned_ways.proofs.Dropped.{named_base}
-use Rattle.owned_loans.specs.Views.{Views, Viewed, IsMovedBy, known_gone, expand}
+use Rattle.owned_loans.specs.Views.{Views, IsMovedBy}
 use Rattle.owned_loans.proofs.Ways.{beginnings}
 use Rattle.flow_paths.specs.Objects.{Typing, is_package_object}
 use Rattle.machine.specs.Memory.{Memory, Place}
@@ -18,7 +16,6 @@ use Rattle.machine.specs.States.{Return}
 use Rattle.soundness.specs.Seen.{IsNear, content, word_in, home}
 use Rattle.viewed_steps.specs.Taken.{Lodge, IsInside, IsAmong, IsBare, TakenBy, AreTaken, AreCarried}
 use Rattle.owned_ways.proofs.Assigned.{same_sound}
-use Rattle.viewed_soundness.specs.Holds.{sees_only}
 
 -- where owners see the same, ways reach the same
 pub same_reaches : (s t : View) → IsSame s t → (w : Way) (l : Loc) → Reaches s w l → Reaches t w l
@@ -34,19 +31,6 @@ pub record OwnersStand (home : ℕ → ℕ) (v : Views) (facts : List Fact) (gon
   pub owned : Owned s
   pub covered : Covered s
   pub known : Known s (λ w. IsMovedBy home v facts w ⊎ gone w)
-
--- so it is for a frame with its views
-pub owners_stand : (home : ℕ → ℕ) (observer : ℕ → Bool) (v : Views) (gone : Way → Type 0) (s : View) (facts : List Fact)
-    → Viewed home observer (known_gone home gone) v s facts → OwnersStand home v facts gone s
-owners_stand home observer v gone s facts viewed = record {
-  owned = viewed.owned;
-  covered = viewed.covered;
-  known = λ w l rooted r is. elim (viewed.known w l rooted r is) [
-    | inl (inl moved) ↦ inl moved
-    | inl (inr none) ↦ absurd none
-    | inr there ↦ inr there
-  ];
-}
 
 module _ (home : ℕ → ℕ) (v : Views) (facts : List Fact) where
   -- more may be gone
@@ -144,12 +128,6 @@ base_under t w under = (longer t w under).base
 pub same_variable : (f x g y : ℕ) → OfRoot (OfVariable f x) ≡ OfRoot (OfVariable g y) → (f ≡ g) × (x ≡ y)
 same_variable f x g y e = (cc, cc)
 
--- so does its name
-pub number_under : (home : ℕ → ℕ) (t w : Way) → Named home t → Named home w → Under t w → number_of t ≡ number_of w
-number_under home t w named_t named_w under =
-    (same_variable (home (number_of t)) (number_of t) (home (number_of w)) (number_of w)
-    (sym (named_base home t named_t) ∙ sym (base_under t w under) ∙ named_base home w named_w)).1
-
 -- A way begins at a variable of a frame, or at a package object; or at a variable of a frame below that isn't that of
 -- the package objects.
 abbrev pub IsBegun : Typing → ℕ → ℕ → ℕ → Type 0
@@ -192,18 +170,6 @@ taken_from s cells m depth v facts scope (r ∷ rest) (to ∷ ways) (inr (one, a
   (one.0).inside.begins,
 )
 taken_from s cells m depth v facts scope (r ∷ rest) (to ∷ ways) (inr (one, apart, another, more)) k (inr has) = taken_from s cells m depth v facts scope rest ways more k has
-
--- each is what a name of the frame stands for, which isn't lent
-pub taken_name : (s : Typing) (cells : List Lodge) (m : Memory) (depth : ℕ) (v : Views) (facts : List Fact) (scope : List ℕ) (returns : List Return) (ways : List Way)
-    → AreTaken s cells m depth v facts scope returns ways → (k : Way) → Has ways k
-    → (name : Way) × Named (home s depth) name × (sees_only s (number_of name) ≡ false) × (expand v name ≡ k)
-    × ((l : Loan) (h : ℕ) (n : PlaceName) → Has facts (Lent l h n) → overlaps n (name_of name) ≡ true → ⊥)
-taken_name s cells m depth v facts scope [] ways none k has = absurd (subst (λ z. Has z k) none has)
-taken_name s cells m depth v facts scope (r ∷ rest) [] taken k has = absurd has
-taken_name s cells m depth v facts scope (r ∷ rest) (to ∷ ways) (inl copied) k has = taken_name s cells m depth v facts scope rest (to ∷ ways) copied.1 k has
-taken_name s cells m depth v facts scope (r ∷ rest) (to ∷ ways) (inr (one, apart, another, more)) k (inl same) =
-    ((one.0).name, (one.0).called, (one.0).plain, (one.0).leads ∙ same, (one.0).unlent)
-taken_name s cells m depth v facts scope (r ∷ rest) (to ∷ ways) (inr (one, apart, another, more)) k (inr has) = taken_name s cells m depth v facts scope rest ways more k has
 
 pub taken_base : (s : Typing) (ways : List Way) (depth : ℕ) → ((k : Way) → Has ways k → Begins s depth k)
     → (w : Way) → TakenBy ways w → Begins s depth w

@@ -95,7 +95,7 @@ use Rattle.viewed_steps.proofs.Bared.{not_before}
 use Rattle.viewed_steps.proofs.CallActs as acting
 use Rattle.viewed_soundness.proofs.Given.{IsLow}
 use Rattle.viewed_steps.proofs.Emptied.{fewer_clear}
-use Rattle.viewed_steps.proofs.Handed.{gone_lent, with_gone, without_loans}
+use Rattle.viewed_steps.proofs.Handed.{gone_lent, with_gone}
 use Rattle.viewed_steps.proofs.Inherited.{after_more}
 use Rattle.spark_base.proofs.Lists.{Has-append_left, Has-append_right}
 use Rattle.viewed_steps.proofs.Stilled.{still, lent_only, still_viewed}
@@ -458,12 +458,6 @@ module _ (table : Table) (typed : TypedProgram) (effects : Effects) (input : Lis
         | inl own ↦ inl (subst (λ z. Has z f) (sym copies_leave) own)
         | inr there ↦ inr there
       ]
-
-      pub without_called : (around : Around (home s depth)) (view : ways.View) → Viewed (home s depth) (sees_only s) around views view facts_all
-          → ViewedAlone (home s depth) (sees_only s) around views view facts_called
-      without_called around view well =
-          without_loans table typed effects unmoved_stage local state depth older between around views view facts_all facts_called
-          (λ x w has. local x (holds.only x w has)) (innermost.package_owns table typed effects input ready state top below more_frames rest named p frames deep stages running awaiting of_sub at_point path views viewed_before kept scope holds placed_before above) all_called splits_all well
 
       module _ (passed : List Passed) (given : Given passed) where
         abbrev pub other_all : Around (home s depth)

@@ -296,12 +296,6 @@ module _ (s : Typing) (settled : IsSettled s.table) (home : ℕ → ℕ) (v : Vi
         (keeps (seen s m rest leaks) after u (Object (OfHand (length rest))) l (hand (length rest)) (goes_off f x base) w (OfCell n) reach off
         (λ past. hand_differs root (base_under (Object (OfHand (length rest))) w (past_under (Object (OfHand (length rest))) w past))))
 
-    -- as one does that begins in another frame
-    pub carried_off_low : (f x : ℕ) → base_of u ≡ OfRoot (OfVariable f x) → (w : Way) (g y : ℕ) → base_of w ≡ OfRoot (OfVariable g y) → (g ≡ f → ⊥) → (n : ℕ)
-        → Reaches (seen s m rest leaks) w (OfCell n) → Reaches (seen s (moved_out s k m) (got ∷ rest) leaks) w (OfCell n)
-    carried_off_low f x base w g y root off n reach =
-        carried_off_stays f x base w g y root (past_other u w f x g y base root off) n reach
-
   -- What a hand has goes to a place that has no number.
   module _ (m : Memory) (got : Waiting) (rest : List Waiting) (leaks : List Leak) (facts : List Fact) (k : Place) (l : Loc) (u : Way)
       (stand : OwnersStand home v facts before_it (seen s m (got ∷ rest) leaks)) (kept : Kept s m (got ∷ rest)) (spot : Spot s m (got ∷ rest) k l)
@@ -388,9 +382,3 @@ module _ (s : Typing) (settled : IsSettled s.table) (home : ℕ → ℕ) (v : Vi
         subst (λ z. Reaches z w (OfCell n)) then_is
         (keeps (seen s m (got ∷ rest) leaks) then_seen (Object (OfHand (length rest))) u (hand (length rest)) l (goes_to f x base) w (OfCell n) reach
         (λ past. hand_differs root (base_under (Object (OfHand (length rest))) w (past_under (Object (OfHand (length rest))) w past))) off)
-
-    -- as one does that begins in another frame
-    pub carried_to_low : (f x : ℕ) → base_of u ≡ OfRoot (OfVariable f x) → (w : Way) (g y : ℕ) → base_of w ≡ OfRoot (OfVariable g y) → (g ≡ f → ⊥) → (n : ℕ)
-        → Reaches (seen s m (got ∷ rest) leaks) w (OfCell n) → Reaches (seen s (stored s k got.words m) rest leaks) w (OfCell n)
-    carried_to_low f x base w g y root off n reach =
-        carried_to_stays f x base w g y root (past_other u w f x g y base root off) n reach

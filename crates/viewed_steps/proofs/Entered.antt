@@ -2,13 +2,13 @@
 -- caller. A formal of mode `in out` has what its actual had; the place of the actual is gone meanwhile, and
 -- has no number.
 use Rattle.viewed_soundness.specs.Holds.{is_view, IsNamed, is_given}
-use Rattle.std.proofs.Common.{◌≡◌, refl, sym, ap, ◌∙◌, subst, ◌⊎◌, inl, inr, ℕ, suc, ◌+◌, Bool, true, false, not, ◌&&◌, ◌||◌, List, [], ◌∷◌, ◌++◌, take, drop, length, get_or, arith, if◌then◌else◌, Some}
+use Rattle.std.proofs.Common.{◌≡◌, refl, sym, ap, ◌∙◌, subst, ◌⊎◌, inl, inr, ℕ, suc, ◌+◌, Bool, true, false, not, List, [], ◌∷◌, ◌++◌, take, drop, length, get_or, arith, if◌then◌else◌, Some}
 use Rattle.std.proofs.lemmas.List.{length-map}
 use Rattle.spark_base.specs.Lists.{Has}
 use Rattle.spark_base.specs.declared.position.Pos.{Pos}
 use Rattle.place_names.specs.declared.fact.Fact.{Fact}
 use Rattle.type_definitions.specs.Types.{shape_of, words, full, is_scalar, is_owning}
-use Rattle.flow_paths.specs.Objects.{Typing, object_at, is_variable, is_borrowing, is_observing, is_anonymous, is_observer, is_package_object, view_of}
+use Rattle.flow_paths.specs.Objects.{Typing, object_at, is_anonymous, is_package_object, view_of}
 use Rattle.machine.specs.Words.{access_offsets}
 use Rattle.machine.specs.Memory as memory
 use Rattle.machine.specs.Memory.{Slot, Memory, Place, fresh, no_slot, variable_slots, slots_at, slots_of, words_of, gone_at, moved_out, declared}
@@ -45,18 +45,6 @@ named_part home w (i ∷ p) n = named_part home w p n
 pub matches_back : (s : Typing) (t u : ℕ) → Matches s.table t u → Matches s.table u t
 matches_back s t u (inl e) = inl (sym e)
 matches_back s t u (inr (a, b)) = inr (b, a)
-
-pub not_observing : (s : Typing) (x : ℕ) → is_anonymous (view_of s x) ≡ false → is_observer s x ≡ false
-not_observing s x plain = neither (is_variable (object_at s x).kind) (is_borrowing (view_of s x)) (is_observing (view_of s x)) plain
-  where
-    neither : (k a b : Bool) → a || b ≡ false → k && b ≡ false
-    neither true a true e = second a e
-      where
-        second : (a : Bool) → a || true ≡ false → true ≡ false
-        second true e = e
-        second false e = e
-    neither true a false e = refl
-    neither false a b e = refl
 
 module _ (s : Typing) (settled : IsSettled s.table) (depth : ℕ) (k : Place) (to : Way) (inside : IsInside s depth k to) where
   -- its variable is no view, if it is in one
@@ -172,18 +160,6 @@ passed_base s m cells depth v facts scope (x ∷ formals) (a ∷ passed) (to ∷
     subst (Begins s depth) same (inside_begins s depth place to one.inside)
 passed_base s m cells depth v facts scope (x ∷ formals) (a ∷ passed) (to ∷ ways) outs (inr (place, later, how, one, apart, differ, more)) k (inr has) =
     passed_base s m cells depth v facts scope formals passed ways later more k has
-
--- each is the way of a place that is passed on
-pub passed_one : (s : Typing) (m : Memory) (cells : List Lodge) (depth : ℕ) (v : Views) (facts : List Fact) (scope : List ℕ) (formals : List ℕ) (passed : List Passed) (ways : List Way) (outs : List Out)
-    → ArePassedOn s m cells depth v facts scope formals passed ways outs → (to : Way) → Has ways to → (x : ℕ) × (k : Place) × IsPassedOn s cells depth v facts scope x k to
-passed_one s m cells depth v facts scope [] passed ways outs none to has = absurd (subst (λ z. Has z to) none.0 has)
-passed_one s m cells depth v facts scope (x ∷ formals) [] ways outs none to has = absurd (subst (λ z. Has z to) none.0 has)
-passed_one s m cells depth v facts scope (x ∷ formals) (a ∷ passed) [] outs are to has = absurd has
-passed_one s m cells depth v facts scope (x ∷ formals) (a ∷ passed) (k ∷ ways) outs (inl are) to has = passed_one s m cells depth v facts scope formals passed (k ∷ ways) outs are.1 to has
-passed_one s m cells depth v facts scope (x ∷ formals) (a ∷ passed) (k ∷ ways) outs (inr (place, later, how, one, apart, differ, more)) to (inl same) =
-    (x, place, subst (IsPassedOn s cells depth v facts scope x place) same one)
-passed_one s m cells depth v facts scope (x ∷ formals) (a ∷ passed) (k ∷ ways) outs (inr (place, later, how, one, apart, differ, more)) to (inr has) =
-    passed_one s m cells depth v facts scope formals passed ways later more to has
 
 -- A place is passed.
 abbrev pub IsOfPlace : Passed → Place → Type 0

@@ -9,7 +9,7 @@ use Rattle.machine.specs.Words.{default}
 use Rattle.machine.specs.Memory.{Memory, Place, no_slot, variable_slots, words_of, moved_out, declared}
 use Rattle.machine.specs.Calls.{Passed, Value, From, To, with_formal, with_formals, returns_of}
 use Rattle.machine.specs.States.{Waiting, Leak, Return}
-use Rattle.owned_ways.specs.Ways.{IsSame, Step, OfVariable, OfHand, Loc, OfRoot, OfCell, Reaches, Owned, Way, Object, Empty, Held, Under, Past, along, base_of}
+use Rattle.owned_ways.specs.Ways.{Step, OfVariable, OfHand, Loc, OfRoot, OfCell, Reaches, Owned, Way, Object, Empty, Held, Under, Past, along, base_of}
 use Rattle.owned_ways.proofs.Locations.{under_along, under_itself}
 use Rattle.type_definitions.specs.Types.{is_owning}
 use Rattle.part_offsets.specs.Parts.{IsSettled}
@@ -433,30 +433,4 @@ module _ (s : Typing) (settled : IsSettled s.table) (own_law : OwnsByShape s.tab
       (out_still s settled own_law in_formals hands leaks depth v only facts scope cells (outs_also other (out ∷ later)) (outs_also (away other to) later) x k to one
       m typed here new there_now found mine (λ c has_c. (cells_there c has_c).0) o.way (apart o.way (among o has))))
       (then_cells before m next had (taken_cells s k (suc depth) x (default s.table (object_at s x).of) m))))))
-
   -- ---- where no place is taken
-
-  -- nothing is emptied
-  pub none_emptied : (formals : List ℕ) (passed : List Passed) (outs : List Out) (before : Memory) → ArePassedOn s before cells depth v facts scope formals passed [] outs → outs ≡ []
-  none_emptied [] passed outs before are = are.1
-  none_emptied (x ∷ formals) [] outs before are = are.1
-  none_emptied (x ∷ formals) (a ∷ passed) outs before are = none_emptied formals passed outs before are.1
-
-  -- and owners see the same
-  pub none_taken_same : (leaks : List Leak) (formals : List ℕ) (passed : List Passed) (outs : List Out) (before m : Memory) → ArePassedOn s before cells depth v facts scope formals passed [] outs
-      → HasCells before m → Kept s m hands → ((c : Lodge) → Has cells c → Reaches (seen s m hands leaks) c.way (OfCell c.cell))
-      → IsSame (seen s m hands leaks) (seen s (with_formals s (suc depth) formals passed m) hands leaks)
-  none_taken_same leaks [] passed outs before m are had typed there = record { word = λ l. refl; made = refl; freed = λ n. refl; leaked = λ n. refl }
-  none_taken_same leaks (x ∷ formals) [] outs before m are had typed there = record { word = λ l. refl; made = refl; freed = λ n. refl; leaked = λ n. refl }
-  none_taken_same leaks (x ∷ formals) (a ∷ passed) outs before m are had typed there =
-      let mid : Memory = with_formal s (suc depth) x a m in
-      let on = one_stands s settled own_law in_formals hands leaks (suc depth) x a before m cells are.0 (λ plain. laid_in leaks m a plain typed there) had typed in
-      let more =
-      none_taken_same leaks formals passed outs before mid are.1 (then_cells before m mid had on.cells) on.typed
-      (λ c has. same_reaches (seen s m hands leaks) (seen s mid hands leaks) on.same c.way (OfCell c.cell) (there c has)) in
-      record {
-        word = λ l. more.word l ∙ on.same.word l;
-        made = more.made ∙ on.same.made;
-        freed = λ n. more.freed n ∙ on.same.freed n;
-        leaked = λ n. more.leaked n ∙ on.same.leaked n;
-      }

@@ -26,7 +26,7 @@ use Rattle.soundness.specs.Seen.{home}
 use Rattle.soundness.specs.Sound.{Stage, facts_of}
 use Rattle.soundness.proofs.Around.{near_or_far}
 use Rattle.soundness.proofs.Inherited.{Splits}
-use Rattle.owned_loans.specs.Views.{Around, known_gone, Views, AreClear, ExcusedBy, HasLoan, IsLentToOthers, Viewed, ViewedAlone}
+use Rattle.owned_loans.specs.Views.{Around, known_gone, Views, AreClear, ExcusedBy, HasLoan, Viewed, ViewedAlone}
 use Rattle.owned_loans.proofs.Moves.{view_on, own_loan, reached}
 use Rattle.viewed_soundness.specs.Holds.{is_view, sees_only}
 use Rattle.viewed_steps.specs.Sound.{ViewStage, GoneElsewhere}
@@ -200,20 +200,6 @@ module _ (table : Table) (typed : TypedProgram) (effects : Effects)
 
   -- ---- where others aren't concerned
 
-  -- what they have lent is known
-  pub lends_handed : (v : Views) (facts : List Fact) → ((x : ℕ) (w : Way) → v.way x ≡ Some w → is_package_object s x ≡ false)
-      → ((x : ℕ) → is_package_object s x ≡ true → sees_only s x ≡ false) → (l : Loan) (n : Name) → LentElsewhere table typed effects unmoved local older l n
-      → IsLentToOthers (sees_only s) v (facts ++ handed_on) l n
-  lends_handed v facts only plain l n lent = record {
-    has = Has-append_right facts handed_on (Lent l n.root n) (loans_has table typed effects unmoved local older l n lent);
-    none = by_way (v.way n.root) refl;
-    plain = plain n.root lent.5;
-  }
-    where
-      by_way : (o : Option Way) → v.way n.root ≡ o → v.way n.root ≡ None
-      by_way None is = is
-      by_way (Some w) is = (let no : true ≡ false = sym lent.5 ∙ only n.root w is in cc)
-
   -- All that is gone for them, and what they have lent.
   abbrev pub gone_lent : Around (home s depth)
   gone_lent = record {
@@ -256,52 +242,6 @@ module _ (table : Table) (typed : TypedProgram) (effects : Effects)
     far = λ w n none. absurd none;
     bare = λ w l p none. absurd none;
   }
-
-  -- the loans of views are those of the frame
-  pub without_loans : (other : Around (home s depth)) (v : Views) (view : View) (all facts : List Fact)
-      → ((x : ℕ) (w : Way) → v.way x ≡ Some w → is_package_object s x ≡ false)
-      → ((x : ℕ) → is_package_object s x ≡ true → sees_only s x ≡ false)
-      → ((f : Fact) → Has facts f → Has all f) → Splits all facts (handed table typed effects unmoved local state depth older between)
-      → Viewed (home s depth) (sees_only s) other v view all
-      → ViewedAlone (home s depth) (sees_only s) other v view facts
-  without_loans other v view all facts only plain part from well = record {
-    owned = well.owned;
-    covered = well.covered;
-    known = λ w l rooted r gone. elim (well.known w l rooted r gone) [
-      | inr o ↦ inr o
-      | inl (inr away) ↦ inl (inr away)
-      | inl (inl (u, moved, leads)) ↦ elim (from (Moved (name_of u)) moved.1) [
-        | inl mine ↦ inl (inl (u, (moved.0, mine), leads))
-        | inr there ↦ absurd (none_moved table typed effects unmoved local state depth older between (name_of u) there)
-      ]
-    ];
-    clear = record {
-      moved = λ l h n m has lends over. well.clear.moved l h n m (part (Moved n) has) (part (Lent l h m) lends) over;
-      lent = λ b h n m one two off over. well.clear.lent b h n m (part (Lent Borrowed b n) one) (part (Lent Borrowed h m) two) off over;
-      seen = λ b h n m one two over. well.clear.seen b h n m (part (Lent Borrowed b n) one) (part (Lent Observed h m) two) over;
-      owned = λ n has. well.clear.owned n (part (Moved n) has);
-    };
-    views = λ x w has.
-        view_on (home s depth) (sees_only s) other v view view all facts x w (well.views x w has) (λ b n loan. loan_kept x w has b n loan)
-        (reached (home s depth) (sees_only s) other v view all x w (well.views x w has));
-    whole = well.whole;
-  }
-    where
-      not_both : (b : Bool) → b ≡ true → b ≡ false → ⊥
-      not_both true e h = cc
-      not_both false e h = cc
-
-      loan_kept : (x : ℕ) (w : Way) → v.way x ≡ Some w → (b : Bool) (n : Name) → HasLoan (sees_only s) b x all n → HasLoan (sees_only s) b x facts n
-      loan_kept x w has true n (h, lent, sees) = elim (from (Lent Observed h n) lent) [
-        | inl mine ↦ (h, mine, sees)
-        | inr there ↦ absurd (let away = lent_handed table typed effects unmoved local state depth older between Observed h n there in
-            not_both (sees_only s h) sees (plain h (ap (is_package_object s) away.0 ∙ (away.1).5)))
-      ]
-      loan_kept x w has false n lent = elim (from (Lent Borrowed x n) lent) [
-        | inl mine ↦ mine
-        | inr there ↦ absurd (let away = lent_handed table typed effects unmoved local state depth older between Borrowed x n there in
-            not_both (is_package_object s x) (ap (is_package_object s) away.0 ∙ (away.1).5) (only x w has))
-      ]
 
   -- ---- a frame that the others wait for
 

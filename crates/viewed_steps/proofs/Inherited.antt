@@ -17,12 +17,11 @@ use Rattle.place_names.specs.declared.rule.Loan.TheVariants.{Borrowed, Observed}
 use Rattle.place_names.specs.declared.rule.Rule.{Rule}
 use Rattle.place_names.specs.Names.{Name, agree_along, agrees_whole, overlaps, strict_fronts, strict_prefixes}
 use Rattle.place_names.specs.Facts.{adds, removes, effect}
-use Rattle.place_names.specs.Rules.{forbidden_if, forbids, breaks_O1, breaks_O3, breaks_O4, breaks_O5, breaks_O6, breaks_O7, breaks_O8, breaks_O10, breaks_O14, breaks_O2}
+use Rattle.place_names.specs.Rules.{forbidden_if, forbids, breaks_O1, breaks_O3, breaks_O4, breaks_O5, breaks_O6, breaks_O7, breaks_O10, breaks_O14, breaks_O2}
 use Rattle.flow_paths.specs.Effects.{act_reads, act_writes, actual_writes}
 use Rattle.flow_paths.specs.Objects.{Typing, is_borrower, is_package_object}
 use Rattle.owned_ways.specs.Ways.{after}
 use Rattle.soundness.proofs.Contents.{bool_cases}
-use Rattle.soundness.proofs.Inherited.{apart_allows}
 use Rattle.viewed_steps.proofs.Lent.{ends}
 
 -- ---- facts among others
@@ -89,45 +88,6 @@ module _ (s : Typing) (n : Name) (shared : is_package_object s n.root ≡ true)
     | inr e ↦ e
     | inl e ↦ absurd (not_so (is_package_object s n.root) (is_package_object s x) shared own (sym (ap (is_package_object s) (eqb-true x n.root e))))
   ]
-
-  pub apart_end : (x : ℕ) (borrower : Bool) → is_package_object s x ≡ false → forbids (act.EndScope x borrower) (Moved n) ≡ None
-  apart_end x borrower own =
-      forbidden_none (breaks_O8 x borrower (Moved n)) _ n (Moved n) (second borrower ((x == n.root) || false) (neither (x == n.root) false (own_root x own) refl))
-    where
-      second : (a b : Bool) → b ≡ false → a && b ≡ false
-      second true b e = e
-      second false b e = refl
-
-  apart_actual : (m : Name) (how : Mode) (owning access : Bool) → (m.root == n.root) ≡ false → breaks_O10 m how owning access (Moved n) ≡ false
-  apart_actual m mode.In owning true other = apart_overlap m other
-  apart_actual m mode.In true false other = apart_overlap m other
-  apart_actual m mode.In false false other = refl
-  apart_actual m mode.InOut true access other = apart_overlap m other
-  apart_actual m mode.InOut false access other = neither (breaks_O1 m (Moved n)) (breaks_O3 m (Moved n)) (apart_overlap m other) (apart_write m other)
-  apart_actual m mode.Out owning access other = apart_write m other
-
-  pub apart_act : (a : Act) → ends s a ≡ false → act_writes n.root a ≡ false → act_reads n.root a ≡ false → forbids a (Moved n) ≡ None
-  apart_act (act.Read m) fits writes reads = apart_allows n n.root refl (act.Read m) refl writes reads
-  apart_act (act.Look m) fits writes reads = apart_allows n n.root refl (act.Look m) refl writes reads
-  apart_act (act.Write m) fits writes reads = apart_allows n n.root refl (act.Write m) refl writes reads
-  apart_act (act.Move m parts) fits writes reads = apart_allows n n.root refl (act.Move m parts) refl writes reads
-  apart_act (act.Free m) fits writes reads = apart_allows n n.root refl (act.Free m) refl writes reads
-  apart_act (act.Borrow h m) fits writes reads = forbidden_none (breaks_O5 m (Moved n)) _ m (Moved n) (apart_overlap m writes)
-  apart_act (act.Observe h m from) fits writes reads = forbidden_none (breaks_O6 m (Moved n)) _ m (Moved n) (apart_overlap m reads)
-  apart_act (act.Reborrow b m) fits writes reads =
-      forbidden_none (breaks_O7 b (Moved n)) _ _ (Moved n) (apart_overlap (record { root = b; sels = [] }) (own_root b (local b (borrows (is_borrower s b) fits))))
-    where
-      borrows : (b : Bool) → not b ≡ false → b ≡ true
-      borrows true e = refl
-      borrows false e = cc
-  apart_act (act.EndScope x borrower) fits writes reads = cc
-  apart_act (act.Return roots) fits writes reads = cc
-  apart_act (act.Actual m how owning access) fits writes reads =
-      forbidden_none (breaks_O10 m how owning access (Moved n)) _ m (Moved n)
-      (apart_actual m how owning access (no_kind (m.root == n.root) (actual_writes how access) writes reads))
-  apart_act (act.Global g written) fits writes reads = cc
-  apart_act (act.Give m true) fits writes reads = forbidden_none (breaks_O5 m (Moved n)) _ m (Moved n) (apart_overlap m (own_root m.root fits))
-  apart_act (act.Give m false) fits writes reads = forbidden_none (breaks_O6 m (Moved n)) _ m (Moved n) (apart_overlap m reads)
 
   -- ---- loans
 

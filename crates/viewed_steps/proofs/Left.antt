@@ -99,10 +99,6 @@ module _ (s : Typing) (m : Memory) (f : ℕ) (hands : List Waiting) (leaks : Lis
   base_there (Into w i) named own = base_there w named own
   base_there (All w) named own = base_there w named own
 
-  -- nothing that the frame named of its own is gone
-  pub own_whole : (w : Way) (l : Loc) → Named (home s f) w → is_package_object s (number_of w) ≡ false → Reaches now w l → now.word l ≡ Gone → ⊥
-  own_whole w l named own r gone = whole_there w l (number_of w) (base_there w named own) r gone
-
 -- the variables of other frames stay, and those of the frame have no number
 module _ (s : Typing) (m : Memory) (f : ℕ) where
   pub other_word : (g y : ℕ) → (g ≡ f → ⊥)

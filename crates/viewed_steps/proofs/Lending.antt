@@ -27,27 +27,16 @@ use Rattle.flow_paths.specs.Names.{Written, written}
 use Rattle.flow_paths.specs.Views.{is_in_mode, text_report}
 use Rattle.flow_paths.specs.Aliases.{pair_reports, overlap_reports, may_overlap}
 use Rattle.flow_paths.specs.Aliases as alias
-use Rattle.owned_ways.specs.Ways.{Way, Allows, AllowsAll, after}
+use Rattle.owned_ways.specs.Ways.{AllowsAll, after}
 use Rattle.owned_ways.proofs.Assigned.{kept_fact, is_false}
 use Rattle.soundness.proofs.Scalars.{acts, acts_append, allows_both}
-use Rattle.owned_ways.specs.Ways as ways
 use Rattle.owned_loans.proofs.Clear.{refused}
-use Rattle.owned_loans.proofs.Safe.{Unlent, Unmoved}
 use Rattle.viewed_soundness.specs.Holds.{sees_only, is_fixed, AllKeep}
 use Rattle.viewed_soundness.proofs.Names.{free_sees}
 use Rattle.viewed_soundness.proofs.Evaluated.{keep_both}
 use Rattle.viewed_steps.specs.Ready.{AreDifferent}
 use Rattle.viewed_steps.specs.Sound.{IsCopiedBack}
 use Rattle.viewed_steps.proofs.Passed.{flat_has, later_none}
-
--- nothing that overlaps an actual of mode `in` that is lent is moved or lent
-pub lent_unlent : (facts : List Fact) (u : Way) (owning : Bool) → Allows facts (act.Actual (ways.name_of u) mode.In owning true) → Unlent facts u
-lent_unlent facts u owning allowed l h n has over =
-    refused (moved_or_lent (ways.name_of u) (Lent l h n)) O10 (ways.name_of u) (Lent l h n) over (allowed (Lent l h n) has)
-
-pub lent_unmoved : (facts : List Fact) (u : Way) (owning : Bool) → Allows facts (act.Actual (ways.name_of u) mode.In owning true) → Unmoved facts u
-lent_unmoved facts u owning allowed n has over =
-    refused (moved_or_lent (ways.name_of u) (Moved n)) O10 (ways.name_of u) (Moved n) over (allowed (Moved n) has)
 
 -- An actual stands for a formal.
 abbrev pub IsActualOf : List ℕ → TypedTree → ℕ → TypedTree → Type 0

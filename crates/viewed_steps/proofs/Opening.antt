@@ -228,10 +228,6 @@ module _ (h : Here) (settled : IsSettled h.typing.table) (hands : List Waiting) 
     abbrev Next : ℕ → ℕ
     Next = home h.typing (suc h.frame)
 
-    -- what each sees is foreign, and below
-    pub sees_of : (y : ℕ) (w : Way) → t.way y ≡ Some w → (found : SeesHere (t.cell y)) × ((found.1).way ≡ w)
-    sees_of y w has = (let found = opened.way y w has in (found.2, found.3))
-
     pub low_of : (y : ℕ) (w : Way) → t.way y ≡ Some w → IsLow h.typing h.frame w
     low_of y w has = (let found = opened.way y w has in subst (IsLow s h.frame) found.3 ((found.2).1).low)
 

@@ -123,42 +123,6 @@ module _ (home : ℕ → ℕ) (observer : ℕ → Bool) (other : Around home) (v
         bare = viewed.bare;
       }
 
-  -- a store at a place without owners hides nothing
-  pub nothing_written : (k : Way) (at : Loc) → Named home k → IsPlace v k → Reaches s (expand v k) at → ((p : List ways.Step) → s.word (part at p) ≡ Empty)
-      → Viewed home observer other v s (effect (act.Write (ways.name_of k)) facts)
-  nothing_written k at named place target empty =
-      let a : Act = act.Write (ways.name_of k) in
-      record {
-        owned = viewed.owned;
-        covered = viewed.covered;
-        known = λ w l rooted r h. elim (viewed.known w l rooted r h) [
-          | inr o ↦ inr o
-          | inl (inr away) ↦ inl (inr away)
-          | inl (inl (u, moved, leads)) ↦ inl (inl (
-            u,
-            (
-              moved.0,
-              kept_fact a facts (Moved (ways.name_of u)) moved.1
-                  (is_false (covers (ways.name_of k) (ways.name_of u)) (λ e. (
-                  let under = subst (Under (expand v k)) leads (expand_under v k u place (covered_under home k u named moved.0 e)) in
-                  let b = ends_there s (expand v k) at target empty w l r under in
-                  let gone : Gone ≡ Empty = sym h ∙ ap s.word b.1 ∙ empty b.0 in cc))),
-            ),
-            leads,
-          ))
-        ];
-        clear = clear_same observer facts viewed.clear a refl;
-        views = λ x w has. (let own = viewed.views x w has in
-            view_on home observer other v s s facts (effect a facts) x w own (λ seen n. own_loan observer facts (effect a facts) (loan_kept a facts (λ l h z. refl)) seen x n) (reached home observer other v s facts x w own));
-        whole = viewed.whole;
-        whole_away = viewed.whole_away;
-        shown = viewed.shown;
-        past = viewed.past;
-        lends = λ l n lent. lends_on observer v facts (effect a facts) (loan_kept a facts (λ l h z. refl)) l n (viewed.lends l n lent);
-        far = viewed.far;
-        bare = viewed.bare;
-      }
-
 -- ---- the outcome
 
 module _ (t : Turn) (settled : IsSettled (typing t).table) (own_law : OwnsByShape (typing t).table) (other : Around (home (typing t) (length t.outer)))

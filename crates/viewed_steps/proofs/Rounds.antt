@@ -3,7 +3,7 @@ use Rattle.std.proofs.Common.{◌≡◌, refl, sym, ap, ◌∙◌, subst, inl, i
 use Rattle.place_names.specs.declared.fact.Fact.{Fact}
 use Rattle.type_definitions.specs.Types.{shape_of, words, is_scalar, full}
 use Rattle.typed_tree.specs.Trees.{TypedTree, Text, Parens, Image, Binary, NoMore, More}
-use Rattle.flow_paths.specs.Instructions.{Skip, Fall}
+use Rattle.flow_paths.specs.Instructions.{Skip}
 use Rattle.flow_paths.specs.Objects.{Typing, object_at}
 use Rattle.flow_paths.specs.Names.{waiting as waits_in}
 use Rattle.flow_paths.specs.Scopes.{taken}
@@ -98,9 +98,6 @@ module _ (t : Turn) (settled : IsSettled (typing t).table) (own_law : OwnsByShap
 
   pub skip_leads : (facts : List Fact) → Good facts → LeadsHere facts (steps.turn t Skip)
   skip_leads facts good = stays_here facts good 0
-
-  pub fall_leads : (facts : List Fact) → Good facts → LeadsHere facts (steps.turn t Fall)
-  fall_leads facts good = (λ trap. trap, raises t settled own_law other alone v parts_named may frames none facts good m)
 
   -- ---- output
 

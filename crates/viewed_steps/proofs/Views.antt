@@ -8,9 +8,8 @@ use Rattle.flow_paths.specs.Objects.{Typing, object_at, is_anonymous, has_scope_
 use Rattle.machine.specs.Words.{Cell}
 use Rattle.machine.specs.Memory.{Memory, variable_slots, no_slot}
 use Rattle.machine.specs.Owners.{is_in_formal}
-use Rattle.owned_ways.specs.Ways.{OfVariable, OfHand, OfRoot, Way, Object, Lost, Into, All, Named, base_of, Under}
+use Rattle.owned_ways.specs.Ways.{OfVariable, OfHand, OfRoot, Way, Object, Lost, Into, All, Named, base_of}
 use Rattle.owned_ways.proofs.Dropped.{named_base}
-use Rattle.owned_ways.proofs.Named.{longer}
 use Rattle.soundness.specs.Seen.{home, is_view_formal}
 use Rattle.owned_loans.specs.Views.{Views, IsForeign}
 use Rattle.viewed_soundness.proofs.Names.{true_false}
@@ -44,18 +43,6 @@ not_elsewhere at_home (Object (OfHand h)) named foreign = absurd named
 not_elsewhere at_home (Lost n) named foreign = absurd named
 not_elsewhere at_home (Into w i) named foreign = not_elsewhere at_home w named foreign
 not_elsewhere at_home (All w) named foreign = not_elsewhere at_home w named foreign
-
--- ways that begin at variables of two frames don't meet
-pub apart_by_base : (w z : Way) (f y e x : ℕ) → base_of w ≡ OfRoot (OfVariable f y) → base_of z ≡ OfRoot (OfVariable e x) → (f ≡ e → ⊥)
-    → Under z w ⊎ Under w z → ⊥
-apart_by_base w z f y e x base other differ (inl above) = same_frame f y e x differ (sym base ∙ (longer z w above).base ∙ other)
-  where
-    same_frame : (f y e x : ℕ) → (f ≡ e → ⊥) → OfRoot (OfVariable f y) ≡ OfRoot (OfVariable e x) → ⊥
-    same_frame f y e x differ is = (let same : f ≡ e = cc in differ same)
-apart_by_base w z f y e x base other differ (inr below) = same_frame f y e x differ (sym base ∙ sym (longer w z below).base ∙ other)
-  where
-    same_frame : (f y e x : ℕ) → (f ≡ e → ⊥) → OfRoot (OfVariable f y) ≡ OfRoot (OfVariable e x) → ⊥
-    same_frame f y e x differ is = (let same : f ≡ e = cc in differ same)
 
 -- Views of what belongs to other frames see what belongs to frames below.
 abbrev pub AreFar : (ℕ → ℕ) → Views → ℕ → Type 0

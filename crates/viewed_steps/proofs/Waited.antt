@@ -98,10 +98,6 @@ module _ (s : Typing) where
 
   -- ---- the others
 
-  not_is : (b : Bool) → not b ≡ true → b ≡ false
-  not_is true e = cc
-  not_is false e = refl
-
   lasting_first : (x : ℕ) (scope : List ℕ) → is_held s x ≡ false → lasting_of s (x ∷ scope) ≡ x ∷ lasting_of s scope
   lasting_first x scope isnt = rw isnt refl
 

@@ -1,7 +1,7 @@
 -- Frames that wait for a call to end, with views: what they keep concerns the innermost frame as ways
 -- of others, and they wait still after its steps.
 use Rattle.viewed_soundness.specs.Holds.{is_view, sees_only}
-use Rattle.std.proofs.Common.{◌≡◌, refl, sym, ap, ◌∙◌, subst, ◌⊎◌, inl, inr, ℕ, ◌<◌, ◌≤◌, Bool, true, false, ◌&&◌, nat_lt, ltb-true, lt-ltb, List, [], ◌∷◌, ◌++◌, length, arith, Option, Some, None, if◌then◌else◌, append-nil}
+use Rattle.std.proofs.Common.{◌≡◌, refl, sym, ap, ◌∙◌, subst, ◌⊎◌, inl, inr, ℕ, ◌<◌, ◌≤◌, Bool, true, false, ◌&&◌, nat_lt, ltb-true, lt-ltb, List, [], ◌∷◌, ◌++◌, length, arith, Some, None, if◌then◌else◌, append-nil}
 use Rattle.std.specs.Prelude.{flat_map}
 use Rattle.spark_base.specs.Lists.{Has}
 use Rattle.spark_base.proofs.Lists.{Has-append_left, Has-append_cases}
@@ -17,7 +17,7 @@ use Rattle.flow_paths.specs.declared.report.Effects.{Effects}
 use Rattle.flow_paths.specs.Objects.{Typing, is_package_object}
 use Rattle.flow_paths.specs.Laid.{FlowProgram, flow_typing, flow_program}
 use Rattle.machine.specs.States.{Frame, Return, State, sub_of}
-use Rattle.owned_ways.specs.Ways.{Loc, IsSame, Step, OfVariable, OfHand, OfRoot, OfCell, Way, Root, Object, Lost, Into, All, Held, View, Reaches, Under, Named, IsMoved, base_of, number_of, name_of, part, along}
+use Rattle.owned_ways.specs.Ways.{Loc, IsSame, Step, OfVariable, OfRoot, OfCell, Way, Root, Object, Lost, Into, All, Held, View, Reaches, Under, Named, IsMoved, base_of, number_of, name_of, part, along}
 use Rattle.owned_ways.proofs.Locations.{under_itself, under_along}
 use Rattle.owned_ways.proofs.Named.{longer}
 use Rattle.owned_ways.proofs.Dropped.{named_base}
@@ -46,18 +46,6 @@ use Rattle.machine.specs.Owners.{waiting_in}
 module _ (s : Typing) (a b : ℕ) (some : 0 < a) (less : a < b) where
   other_frame : (r : ℕ) → is_package_object s r ≡ false → a ≡ home s b r → ⊥
   other_frame r own e = (let same : home s b r ≡ b = ap (λ z. if z then 0 else b) own in omega (arith, less, e, same))
-
-  far_root : (r : ℕ) → is_package_object s r ≡ false → (f : ℕ) → f ≡ home s a r → (f ≡ 0) ⊎ (f ≡ b) → ⊥
-  far_root r own f e (inl none) = (let same : home s a r ≡ a = ap (λ z. if z then 0 else a) own in omega (arith, some, e, none, same))
-  far_root r own f e (inr there) = (let same : home s a r ≡ a = ap (λ z. if z then 0 else a) own in omega (arith, less, e, there, same))
-
-  -- what a frame names of its own isn't near another one
-  pub not_near : (w : Way) → Named (home s a) w → is_package_object s (number_of w) ≡ false → IsNear b w → ⊥
-  not_near (Object (OfVariable f x)) named own near = far_root x own f named near
-  not_near (Object (OfHand h)) named own near = named
-  not_near (Lost n) named own near = named
-  not_near (Into w i) named own near = not_near w named own near
-  not_near (All w) named own near = not_near w named own near
 
 same_frame : (f x g y : ℕ) → OfRoot (OfVariable f x) ≡ OfRoot (OfVariable g y) → f ≡ g
 same_frame f x g y e = cc
@@ -583,21 +571,6 @@ module _ (table : Table) (typed : TypedProgram) (effects : Effects)
         apart near =
             let (k, named, under, lent) = near_lent z near gone in
             at_home (base_named (home s depth) z (number_of k) ((longer k z under).base ∙ named_base (home s depth) k named))
-
-    -- a package object is no view of another frame
-    pub no_view_there : (g : ViewStage) → Has older g → (r : ℕ) → is_package_object s r ≡ true → g.views.way r ≡ None
-    no_view_there g has r shared = by_way (g.views.way r) refl
-      where
-        not_both : (b : Bool) → b ≡ true → b ≡ false → ⊥
-        not_both true e h = cc
-        not_both false e h = cc
-
-        by_way : (o : Option Way) → g.views.way r ≡ o → g.views.way r ≡ None
-        by_way None is = is
-        by_way (Some w) is = elim (between g has) [
-          | inl first ↦ first.2 r
-          | inr (some, less, callee, backs, waits, shares) ↦ absurd (not_both (is_package_object s r) shared (local r (waits.holds.only r w is)))
-        ]
 
     pub far : (w : Way) (n : ℕ) → KeptElsewhere older w n → Reaches (view_here s state) w (OfCell n)
     far w n (g, has, way) = elim (between g has) [
