@@ -19,7 +19,7 @@ use Rattle.soundness.specs.Seen.{is_view_formal}
 use Rattle.soundness.specs.Ready.{root_of}
 use Rattle.viewed_soundness.specs.Holds.{is_first}
 use Rattle.order_laws.specs.Orderly.{typed_of}
-use Rattle.sound_files.specs.Class.{laid_in, FormalsAreAccess, LendFirst, TakesBorrower, TakeBorrowers, SparePackages, CallsWithOwners}
+use Rattle.sound_files.specs.Class.{laid_in, FormalsAreAccess, LendFirst, TakesBorrower, TakeBorrowers, SparePackages, IsInClass}
 use Rattle.accepted_examples.proofs.Quiet.{all_pass, each, at_any, left_of, right_of}
 
 abbrev pub is_access_formal : Typing → Object → Bool
@@ -76,7 +76,7 @@ module _ (files : List (List SourceUnit)) where
   takes_none all result i = tt
 
   -- and the program is of the class.
-  pub classed : all_pass (is_access_formal laid) laid.objects ≡ true → all_pass (lends_none laid) laid.subs ≡ true → CallsWithOwners (program_of files)
+  pub classed : all_pass (is_access_formal laid) laid.objects ≡ true → all_pass (lends_none laid) laid.subs ≡ true → IsInClass (program_of files)
   classed formals lends = record {
     formals = formals_access formals;
     lends = inl (λ n x y first has given. absurd (lends_nothing lends n (left_of (gives_variable laid (sub_at laid n).result) (is_first x (sub_at laid n).formals) first)));

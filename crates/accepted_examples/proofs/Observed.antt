@@ -18,7 +18,7 @@ use Rattle.file_positions.specs.Texts.{AreParsed}
 use Rattle.file_positions.proofs.Cuts.{cut_in_order}
 use Rattle.viewed_files.proofs.Files.{parsed_called_sound}
 use Rattle.accepted_runs.proofs.Runs.{RunsAreSound}
-use Rattle.accepted_runs.specs.Classes.{AreInSecondViewClass}
+use Rattle.accepted_runs.specs.Classes.{AreInClass}
 use Rattle.accepted_examples.proofs.Naming.{naming}
 use Rattle.accepted_examples.proofs.Typing.{typing}
 use Rattle.accepted_examples.proofs.Classed.{classed}
@@ -50,7 +50,7 @@ unfolding computes naming typing lowering
 typed = refl
 
 -- The text is of the class.
-pub class : AreInSecondViewClass files
+pub class : AreInClass files
 unfolding computes naming typing lowering
 class = record { main = 1; is_main = refl; calls = classed files refl refl }
 

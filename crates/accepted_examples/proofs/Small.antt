@@ -7,7 +7,7 @@ use Rattle.ada_grammar.proofs.SmallSources.{IsTextOf, computes, source_of, at, i
 use Rattle.name_events.specs.Faults.{name_fault}
 use Rattle.type_definitions.specs.Whole.{type_fault}
 use Rattle.typing_steps.specs.Programs.{program_of}
-use Rattle.accepted_runs.specs.Classes.{AreInSecondViewClass}
+use Rattle.accepted_runs.specs.Classes.{AreInClass}
 use Rattle.accepted_examples.proofs.Naming.{naming}
 use Rattle.accepted_examples.proofs.Typing.{typing}
 use Rattle.accepted_examples.proofs.Classed.{classed}
@@ -31,6 +31,6 @@ unfolding computes naming typing
 typed = refl
 
 -- The text is of the class.
-pub class : AreInSecondViewClass files
+pub class : AreInClass files
 unfolding computes naming typing
 class = record { main = 1; is_main = refl; calls = classed files refl refl }

@@ -33,7 +33,7 @@ use Rattle.order_laws.specs.Orderly.{typed_of}
 use Rattle.sound_files.specs.Class.{FormalsAreAccess, LendFirst, TakeBorrowers, SparePackages}
 use Rattle.viewed_files.proofs.Files.{parsed_called_sound}
 use Rattle.accepted_runs.proofs.Runs.{RunsAreSound}
-use Rattle.accepted_runs.specs.Classes.{AreInSecondViewClass}
+use Rattle.accepted_runs.specs.Classes.{AreInClass}
 use Rattle.accepted_examples.proofs.Naming.{naming}
 use Rattle.accepted_examples.proofs.Typing.{typing}
 use Rattle.accepted_examples.proofs.Lowering.{lowering}
@@ -104,7 +104,7 @@ pub spared : SparePackages (program_of files)
 unfolding computes naming typing lowering
 spared = spare_packages files refl
 
-pub class : AreInSecondViewClass files
+pub class : AreInClass files
 class = record { main = 2; is_main = is_main; calls = record { formals = formals; lends = inl lends; borrowed = borrowed; spared = spared } }
 
 -- ---- nothing is reported of it

@@ -31,10 +31,10 @@ use Rattle.tool_answers.specs.Commands.{command_of}
 use Rattle.tool_answers.specs.Reading.{sources}
 use Rattle.tool_answers.specs.Product.{Product}
 use Rattle.accepted_runs.specs.Passed.{Passes}
-use Rattle.accepted_runs.specs.Classes.{AreInSecondViewClass}
+use Rattle.accepted_runs.specs.Classes.{AreInClass}
 use Rattle.accepted_runs.proofs.Passing.{Passed, product_passed}
 use Rattle.accepted_runs.proofs.Parsed.{are_parsed}
-use Rattle.accepted_runs.proofs.Views.{passed_called_ready}
+use Rattle.accepted_runs.proofs.Views.{passed_ready}
 use Rattle.accepted_lowered.specs.Runs.{IsRunnable}
 use Rattle.accepted_lowered.proofs.Runnable.{passed_runnable}
 use Rattle.accepted_recycled.specs.Runs.{IsRunOf, RunsAreRecycled}
@@ -48,7 +48,7 @@ with_slots x Fails slots (inl same) = inl (same.0, tt)
 with_slots x r slots (inr out) = inr out
 
 -- However the program is laid out in rows.
-pub passed_recycled : (texts : List (List ℕ)) (trees : List (List SourceUnit)) (effects : Effects) → Passes texts trees effects → AreInSecondViewClass trees
+pub passed_recycled : (texts : List (List ℕ)) (trees : List (List SourceUnit)) (effects : Effects) → Passes texts trees effects → AreInClass trees
     → (laid : Laid) → flow_of trees ≡ laid_out laid → RunsAreRecycled (flow_of trees)
 passed_recycled texts trees effects passes class laid is p lowers main is_main input n r so =
     let program : FlowProgram = flow_of trees in
@@ -56,14 +56,14 @@ passed_recycled texts trees effects passes class laid is p lowers main is_main i
     let has : HasTypes program = subst HasTypes (sym is) (types_are laid runnable.tested.types) in
     let frames : HasFrames program = subst HasFrames (sym is) (frames_are laid runnable.tested.frames) in
     with_slots (run program input n) r (run_keeps (flow_typing program).table p (is_declaring program) (sub_of program main).pos main input n r so)
-    (ready_recycled (known_of (program_of trees)).table (typed_of (program_of trees)) effects input (passed_called_ready texts trees effects passes class)
+    (ready_recycled (known_of (program_of trees)).table (typed_of (program_of trees)) effects input (passed_ready texts trees effects passes class)
     (typed_compared program (parsed_steps trees passes.cuts (are_parsed texts 0 TOKENS passes.cuts trees passes.cut passes.parsed) passes.named passes.typed))
     p has (is_lowered program p lowers) frames main n is_main r so)
 
 -- If the tool answers a check with status 0, and the program is in this class, its runs give the same.
 pub accepted_recycled : (stored : List (List ℕ × List ℕ)) (input : List ℕ) (words names : List (List ℕ)) (answer : Answer)
     → command_of words ≡ Some (Check names) → Product stored input words answer → answer.status ≡ 0
-    → (is : Passed (sources stored 0 SOURCE_BYTES names)) × (AreInSecondViewClass is.trees → (laid : Laid) → flow_of is.trees ≡ laid_out laid → RunsAreRecycled (flow_of is.trees))
+    → (is : Passed (sources stored 0 SOURCE_BYTES names)) × (AreInClass is.trees → (laid : Laid) → flow_of is.trees ≡ laid_out laid → RunsAreRecycled (flow_of is.trees))
 accepted_recycled stored input words names answer command product zero =
     let is : Passed (sources stored 0 SOURCE_BYTES names) = product_passed stored input words names answer command product zero in
     (is, passed_recycled is.texts is.trees is.effects is.passes)

@@ -12,22 +12,22 @@ use Rattle.order_laws.specs.Orderly.{typed_of}
 use Rattle.tool_answers.specs.Reading.{sources}
 use Rattle.tool_answers.specs.Product.{Passes as Found}
 use Rattle.accepted_runs.specs.Passed.{Passes}
-use Rattle.accepted_runs.specs.Classes.{AreInSecondViewClass}
+use Rattle.accepted_runs.specs.Classes.{AreInClass}
 use Rattle.accepted_runs.specs.Headline.{IsSoundRun, IsRunSoundly}
 use Rattle.accepted_runs.proofs.Passing.{IsOf, found_passed}
-use Rattle.accepted_runs.proofs.Views.{passed_called_sound}
-use Rattle.accepted_runs.proofs.ViewFacts.{passed_called_hold}
+use Rattle.accepted_runs.proofs.Views.{passed_sound}
+use Rattle.accepted_runs.proofs.ViewFacts.{passed_hold}
 
-passed_run : (texts : List (List ℕ)) (trees : List (List SourceUnit)) (effects : Effects) → Passes texts trees effects → AreInSecondViewClass trees
+passed_run : (texts : List (List ℕ)) (trees : List (List SourceUnit)) (effects : Effects) → Passes texts trees effects → AreInClass trees
     → (input : List ℕ) → IsSoundRun (flow_of trees) input
 passed_run texts trees effects passes class input =
-    let sound : RunIsSound (known_of (program_of trees)).table (typed_of (program_of trees)) input = passed_called_sound texts trees effects passes class input in
+    let sound : RunIsSound (known_of (program_of trees)).table (typed_of (program_of trees)) input = passed_sound texts trees effects passes class input in
     record {
       no_trap = sound.no_trap;
       owned = sound.owned;
       effects = effects;
       are_effects = passes.effects_are;
-      excused = passed_called_hold texts trees effects passes class input;
+      excused = passed_hold texts trees effects passes class input;
     }
 
 pub run_soundly : (stored : List (List ℕ × List ℕ)) (input : List ℕ) (words : List (List ℕ)) → IsRunSoundly stored input words

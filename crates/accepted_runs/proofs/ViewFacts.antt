@@ -17,19 +17,19 @@ use Rattle.tool_answers.specs.Product.{Product}
 use Rattle.accepted_runs.specs.Passed.{Passes}
 use Rattle.accepted_runs.proofs.Passing.{Passed, product_passed}
 use Rattle.accepted_runs.proofs.Runs.{RunsHold}
-use Rattle.accepted_runs.specs.Classes.{AreInSecondViewClass}
-use Rattle.accepted_runs.proofs.Views.{passed_called_ready}
+use Rattle.accepted_runs.specs.Classes.{AreInClass}
+use Rattle.accepted_runs.proofs.Views.{passed_ready}
 
-pub passed_called_hold : (texts : List (List ℕ)) (trees : List (List SourceUnit)) (effects : Effects) → Passes texts trees effects → AreInSecondViewClass trees
+pub passed_hold : (texts : List (List ℕ)) (trees : List (List SourceUnit)) (effects : Effects) → Passes texts trees effects → AreInClass trees
     → RunsHold trees effects
-passed_called_hold texts trees effects passes class input =
-    run_holds (known_of (program_of trees)).table (typed_of (program_of trees)) effects (passed_called_ready texts trees effects passes class) input
+passed_hold texts trees effects passes class input =
+    run_holds (known_of (program_of trees)).table (typed_of (program_of trees)) effects (passed_ready texts trees effects passes class) input
 
 -- If the tool answers a check with status 0, and the program is in this class, no leak check fails in its runs that is
 -- excused.
-pub accepted_called_hold : (stored : List (List ℕ × List ℕ)) (input : List ℕ) (words names : List (List ℕ)) (answer : Answer)
+pub accepted_hold : (stored : List (List ℕ × List ℕ)) (input : List ℕ) (words names : List (List ℕ)) (answer : Answer)
     → command_of words ≡ Some (Check names) → Product stored input words answer → answer.status ≡ 0
-    → (is : Passed (sources stored 0 SOURCE_BYTES names)) × (AreInSecondViewClass is.trees → RunsHold is.trees is.effects)
-accepted_called_hold stored input words names answer command product zero =
+    → (is : Passed (sources stored 0 SOURCE_BYTES names)) × (AreInClass is.trees → RunsHold is.trees is.effects)
+accepted_hold stored input words names answer command product zero =
     let is : Passed (sources stored 0 SOURCE_BYTES names) = product_passed stored input words names answer command product zero in
-    (is, passed_called_hold is.texts is.trees is.effects is.passes)
+    (is, passed_hold is.texts is.trees is.effects is.passes)

@@ -3,11 +3,11 @@ use Rattle.std.specs.Prelude.{◌≡◌, ℕ, List, Some}
 use Rattle.ada_tree.specs.declared.unit.SourceUnit.{SourceUnit}
 use Rattle.typing_steps.specs.Programs.{program_of}
 use Rattle.order_laws.specs.Orderly.{typed_of}
-use Rattle.sound_files.specs.Class.{CallsWithOwners}
+use Rattle.sound_files.specs.Class.{IsInClass}
 
 -- There is a main procedure, and the program is of the class of `sound_files`.
-pub record AreInSecondViewClass (trees : List (List SourceUnit)) : Type 0 where
+pub record AreInClass (trees : List (List SourceUnit)) : Type 0 where
   -- there is a main procedure, so that there are runs
   pub main : ℕ
   pub is_main : (typed_of (program_of trees)).main ≡ Some main
-  pub calls : CallsWithOwners (program_of trees)
+  pub calls : IsInClass (program_of trees)

@@ -15,7 +15,7 @@ use Rattle.command_words.specs.Words.{Run}
 use Rattle.tool_answers.specs.Commands.{command_of}
 use Rattle.tool_answers.specs.Reading.{sources}
 use Rattle.tool_answers.specs.Product.{Checks, Passes as Found}
-use Rattle.accepted_runs.specs.Classes.{AreInSecondViewClass}
+use Rattle.accepted_runs.specs.Classes.{AreInClass}
 
 -- No freed cell is touched, and none is freed twice: no moment is a trap. Every cell is freed, has one owner, or was
 -- named by a leak check that failed: each moment is well owned. At no step a leak check fails that the leak plan
@@ -31,7 +31,7 @@ pub record IsSoundRun (program : FlowProgram) (input : List ℕ) : Type 0 where
 pub record RunsSoundly (program : FlowProgram) (input : List ℕ) : Type 0 where
   pub trees : List (List SourceUnit)
   pub is : program ≡ flow_of trees
-  pub sound : AreInSecondViewClass trees → IsSoundRun program input
+  pub sound : AreInClass trees → IsSoundRun program input
 
 -- So it is with the program that `run` is given: that of the named files, where nothing is reported of it.
 abbrev pub IsRunSoundly : List (List ℕ × List ℕ) → List ℕ → List (List ℕ) → Type 0

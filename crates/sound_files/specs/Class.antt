@@ -57,7 +57,7 @@ SparePackages p =
     → (e rest : TypedTree) → actuals ≡ More e rest → (y : ℕ) → Has (root_of e) y → is_package_object (laid_in p) y ≡ true
     → (effects : Effects) → AreEffects (flow_program (known_of p).table (typed_of p)) effects → Uses effects n y → ⊥
 
-pub record CallsWithOwners (p : Program) : Type 0 where
+pub record IsInClass (p : Program) : Type 0 where
   pub formals : FormalsAreAccess p
   -- or in its calls what its first formal is passed overlaps nothing that other ones see
   pub lends : LendFirst p ⊎ LendsApart (flow_program (known_of p).table (typed_of p))

@@ -81,7 +81,7 @@ use Rattle.meant_files.proofs.Main.{files_denote}
 use Rattle.meant_files.proofs.Main as meant
 use Rattle.meant_files.proofs.Codes as codes
 use Rattle.scope_laws.proofs.Lists.{and_second}
-use Rattle.sound_files.specs.Class.{TakesBorrower, CallsWithOwners}
+use Rattle.sound_files.specs.Class.{TakesBorrower, IsInClass}
 use Rattle.sound_files.proofs.Laws.{table_laws, files_declared, integers_scalar, truths_scalar}
 use Rattle.sound_files.proofs.Called.{files_bodies}
 use Rattle.sound_files.proofs.Mains.{main_formless}
@@ -242,7 +242,7 @@ module _ (files : List (List SourceUnit)) where
 
     -- Of the class with formals that own, the program is ready,
     module _ (main : ℕ) (is_main : (typed_of p).main ≡ Some main) (effects : Effects) (are : AreEffects flow_of_files effects) (none : AreReports flow_of_files effects [])
-        (calls : CallsWithOwners p) where
+        (calls : IsInClass p) where
       accepted : Accepted table (typed_of p) effects
       accepted = record {
         no_reports = none;
@@ -548,11 +548,11 @@ module _ (files : List (List SourceUnit)) where
 
   -- So it is if the files are parsed from texts: then their positions are as in a text.
   pub parsed_called_ready : (texts : List (List Cut)) → AreParsed 0 texts files → name_fault files ≡ None → type_fault p ≡ None → (main : ℕ) → (typed_of p).main ≡ Some main
-      → (effects : Effects) → AreEffects flow_of_files effects → AreReports flow_of_files effects [] → CallsWithOwners p → IsReady table (typed_of p) effects
+      → (effects : Effects) → AreEffects flow_of_files effects → AreReports flow_of_files effects [] → IsInClass p → IsReady table (typed_of p) effects
   parsed_called_ready texts parsed named no_fault =
       files_called_ready (files_apart texts files parsed) (files_ended (identified files) texts files parsed) (events_ascend texts files parsed) named no_fault
 
   pub parsed_called_sound : (texts : List (List Cut)) → AreParsed 0 texts files → name_fault files ≡ None → type_fault p ≡ None → (main : ℕ) → (typed_of p).main ≡ Some main
-      → (effects : Effects) → AreEffects flow_of_files effects → AreReports flow_of_files effects [] → CallsWithOwners p → (input : List ℕ) → RunIsSound table (typed_of p) input
+      → (effects : Effects) → AreEffects flow_of_files effects → AreReports flow_of_files effects [] → IsInClass p → (input : List ℕ) → RunIsSound table (typed_of p) input
   parsed_called_sound texts parsed named no_fault =
       files_called_sound (files_apart texts files parsed) (files_ended (identified files) texts files parsed) (events_ascend texts files parsed) named no_fault
