@@ -286,7 +286,7 @@ def try_runs(program):
         for found in pool.map(one, paths):
             for text in found:
                 fault(text)
-    for status, lines in ((10, ["input too large"]), (20, ["f.adb:1:1: trapped Touched"]), (20, ["f.adb:1:1: trapped Twice"])):
+    for status, lines in ((10, ["input too large"]),):
         met.add(status)
         with tempfile.TemporaryDirectory() as name:
             source, other = pathlib.Path(name, "f.adb"), pathlib.Path(name, "other")

@@ -30,7 +30,6 @@ REPORT = re.compile(rb"(?:" + PLACE + rb"([OVA]\d+) \S+: [a-z ,]+\n)+")
 LEAK = rb"(?:" + PLACE + rb"leak of cell [1-9]\d*\n)*"
 RAISED = re.compile(LEAK + PLACE + rb"raised ([A-Z][a-z]+_[A-Z][a-z]+)\n")
 SPENT = re.compile(LEAK + rb"steps spent: \d+\n")
-TRAPPED = re.compile(LEAK + PLACE + rb"trapped (Touched|Twice)\n")
 RESERVED = {word.encode() for word in (TOP / "docs" / "LANGUAGE.md").read_text().split("\n## Reserved words\n")[1].strip().split("\n\n")[0].split()}
 OPENERS = set(b"begin case declare else elsif end for function if is loop package procedure record then type when while with".split())
 INPUT = b"12 -7\n 2147483647\n0 1 2 3\nx 5\n"
@@ -161,7 +160,7 @@ def told(command, status, out, err):
     if status in (0, 5):
         well = re.fullmatch(LEAK, err) and (status == 5) == bool(err)
         return ("ends with a leak" if err else "ends") if well else None
-    for ending, form, name in ((3, RAISED, None), (4, SPENT, "steps spent"), (20, TRAPPED, None)):
+    for ending, form, name in ((3, RAISED, None), (4, SPENT, "steps spent")):
         if status == ending:
             match = form.fullmatch(err)
             return (name or match.group(1).decode()) if match else None

@@ -8,9 +8,9 @@ use Rattle.std.proofs.lemmas.List.{get_or_past}
 use Rattle.spark_base.specs.Lists.{Has}
 use Rattle.typed_tree.specs.Programs.{text_io}
 use Rattle.flow_paths.specs.declared.report.Effects.{Effects}
-use Rattle.flow_paths.specs.Objects.{Typing, object_at, is_package_object, is_state}
+use Rattle.flow_paths.specs.Objects.{Typing, is_package_object, is_state}
 use Rattle.flow_paths.specs.Laid.{FlowSub, FlowProgram, flow_typing}
-use Rattle.flow_paths.specs.Effects.{AreEffects, Reads, Writes, Ascends, CallChain, ends, calls_on, own_reads, own_writes, point_reads, point_writes, is_global, is_in, sub_calls, flow_sub_at, read_by, written_by}
+use Rattle.flow_paths.specs.Effects.{AreEffects, Ascends, CallChain, ends, calls_on, own_reads, own_writes, point_reads, point_writes, is_global, is_in, sub_calls, flow_sub_at}
 use Rattle.accepted_examples.proofs.Quiet.{all_pass, left_of, right_of, each}
 
 -- ---- numbers

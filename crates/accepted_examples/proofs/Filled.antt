@@ -1,5 +1,4 @@
--- A text with a function that gives an access value, which becomes a part of a record, of the class of the law on runs with
--- borrowers and observers, and that law of it.
+-- A text with a function that gives an access value, which becomes a part of a record, and the law on runs of it.
 use Rattle.std.specs.Prelude.{codes}
 use Rattle.ada_tree.specs.declared.expression.Primary.TheVariants as primary
 use Rattle.std.proofs.Common.{◌≡◌, ℕ, ◌+◌, true, List, [], ◌∷◌, refl, Some, None, Ok, Err}
@@ -32,12 +31,10 @@ use Rattle.file_positions.proofs.Cuts.{cut_in_order}
 use Rattle.order_laws.specs.Orderly.{typed_of}
 use Rattle.viewed_files.proofs.Files.{parsed_called_sound}
 use Rattle.accepted_runs.proofs.Runs.{RunsAreSound}
-use Rattle.accepted_runs.specs.Classes.{AreInClass}
 use Rattle.accepted_examples.proofs.Naming.{naming}
 use Rattle.accepted_examples.proofs.Typing.{typing}
 use Rattle.accepted_examples.proofs.Lowering.{lowering}
 use Rattle.accepted_examples.proofs.Quiet.{all_pass, each}
-use Rattle.accepted_examples.proofs.Classed.{classed}
 use Rattle.accepted_examples.proofs.Unreported.{path_passes, sub_passes, nothing, no_reports, no_effects}
 
 -- "function F return T", from its column on
@@ -76,15 +73,11 @@ pub typed : type_fault (program_of files) ≡ None
 unfolding computes naming typing lowering
 typed = refl
 
--- ---- it is of the class
+-- ---- it has a main procedure
 
 pub is_main : (typed_of (program_of files)).main ≡ Some 2
 unfolding computes naming typing lowering
 is_main = refl
-
-pub class : AreInClass files
-unfolding computes naming typing lowering
-class = record { main = 2; is_main = is_main; calls = classed files refl refl }
 
 -- ---- nothing is reported of it
 
@@ -122,7 +115,7 @@ parsed = (cut_in_order 0 text 1000 cuts is_cut, spelled, tt)
 
 pub filled_sound : RunsAreSound files
 filled_sound input =
-    parsed_called_sound files (cuts ∷ []) parsed named typed class.main class.is_main (nothing (flow_of files) passes) (no_effects (flow_of files) passes)
+    parsed_called_sound files (cuts ∷ []) parsed named typed 2 is_main (nothing (flow_of files) passes) (no_effects (flow_of files) passes)
     (no_reports (flow_of files) passes no_aliases 9
     (each (λ (sub : FlowSub). path_passes 9 (path_points (flow_of files) (nothing (flow_of files) passes) sub) [] 0) (flow_of files).subs paths))
-    class.calls input
+    input

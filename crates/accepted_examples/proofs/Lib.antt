@@ -4,7 +4,6 @@ mod Lowering
 mod Quiet
 mod Unreported
 mod Affected
-mod Classed
 pub mod Small
 pub mod Sound
 pub mod Observed
@@ -16,3 +15,8 @@ pub mod Behind
 pub mod Traversed
 pub mod Filled
 pub mod Shared
+pub mod Bundled
+pub mod Rowed
+pub mod Watched
+pub mod Doubled
+pub mod Reached

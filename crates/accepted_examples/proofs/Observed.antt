@@ -1,4 +1,4 @@
--- A text with an observer of the class of the law on runs with borrowers and observers, and that law of it.
+-- A text with an observer, and the law on runs of it.
 use Rattle.std.proofs.Common.{◌≡◌, ℕ, true, List, [], ◌∷◌, refl, Some, None, Ok, Err}
 use Rattle.std.specs.Prelude.{codes}
 use Rattle.ada_lexer.specs.Tokens.{Cut, CutResult, tokens}
@@ -9,6 +9,7 @@ use Rattle.ada_grammar.proofs.SmallSources.{IsTextOf, computes, source_of, at, i
 use Rattle.name_events.specs.Faults.{name_fault}
 use Rattle.type_definitions.specs.Whole.{type_fault}
 use Rattle.typing_steps.specs.Programs.{program_of}
+use Rattle.order_laws.specs.Orderly.{typed_of}
 use Rattle.flow_paths.specs.Laid.{FlowSub}
 use Rattle.flow_paths.specs.Effects.{asks_for_end, path_points}
 use Rattle.flow_paths.specs.Aliases.{alias_reports}
@@ -18,10 +19,8 @@ use Rattle.file_positions.specs.Texts.{AreParsed}
 use Rattle.file_positions.proofs.Cuts.{cut_in_order}
 use Rattle.viewed_files.proofs.Files.{parsed_called_sound}
 use Rattle.accepted_runs.proofs.Runs.{RunsAreSound}
-use Rattle.accepted_runs.specs.Classes.{AreInClass}
 use Rattle.accepted_examples.proofs.Naming.{naming}
 use Rattle.accepted_examples.proofs.Typing.{typing}
-use Rattle.accepted_examples.proofs.Classed.{classed}
 use Rattle.accepted_examples.proofs.Lowering.{lowering}
 use Rattle.accepted_examples.proofs.Quiet.{all_pass, each}
 use Rattle.accepted_examples.proofs.Unreported.{path_passes, sub_passes, nothing, no_reports, no_effects}
@@ -49,10 +48,9 @@ pub typed : type_fault (program_of files) ≡ None
 unfolding computes naming typing lowering
 typed = refl
 
--- The text is of the class.
-pub class : AreInClass files
+pub is_main : (typed_of (program_of files)).main ≡ Some 1
 unfolding computes naming typing lowering
-class = record { main = 1; is_main = refl; calls = classed files refl refl }
+is_main = refl
 
 -- ---- nothing is reported of it
 
@@ -90,7 +88,7 @@ parsed = (cut_in_order 0 text 1000 cuts is_cut, spelled, tt)
 
 pub observed_sound : RunsAreSound files
 observed_sound input =
-    parsed_called_sound files (cuts ∷ []) parsed named typed class.main class.is_main (nothing (flow_of files) passes) (no_effects (flow_of files) passes)
+    parsed_called_sound files (cuts ∷ []) parsed named typed 1 is_main (nothing (flow_of files) passes) (no_effects (flow_of files) passes)
     (no_reports (flow_of files) passes no_aliases 9
     (each (λ (sub : FlowSub). path_passes 9 (path_points (flow_of files) (nothing (flow_of files) passes) sub) [] 0) (flow_of files).subs paths))
-    class.calls input
+    input

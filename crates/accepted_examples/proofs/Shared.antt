@@ -1,8 +1,8 @@
--- A text with a procedure that writes through a formal of mode `in` of an access type what a package object designates, of
--- the class of the law on runs with borrowers and observers, and that law of it.
+-- A text with a procedure that writes through a formal of mode `in` of an access type what a package object designates, and
+-- the law on runs of it.
 use Rattle.std.specs.Prelude.{codes}
 use Rattle.ada_tree.specs.declared.expression.Primary.TheVariants as primary
-use Rattle.std.proofs.Common.{◌≡◌, ℕ, ◌+◌, inl, true, List, [], ◌∷◌, refl, Some, None, Ok, Err, ◌∙◌, not, true≢false, sym, false}
+use Rattle.std.proofs.Common.{◌≡◌, ℕ, ◌+◌, true, List, [], ◌∷◌, refl, Some, None, Ok, Err}
 use Rattle.ada_lexer.specs.Tokens.{Cut, CutResult, tokens}
 use Rattle.ada_tree.specs.declared.declaration.Item.TheVariants as item
 use Rattle.ada_tree.specs.declared.declaration.Indication.TheVariants as indication
@@ -18,30 +18,26 @@ use Rattle.ada_tree.specs.declared.unit.BodyPart.TheVariants as part
 use Rattle.ada_tree.specs.declared.unit.Context.TheVariants as context
 use Rattle.ada_tree.specs.declared.unit.SourceUnit.{SourceUnit}
 use Rattle.ada_tree.specs.declared.unit.SourceUnit.TheVariants as unit
-use Rattle.ada_grammar.proofs.SmallSources.{IsTextOf, computes, source_of, at, id, mark, selected, expr_of, object, sole, formals_of, package_of, package_body_of, subprogram_of}
+use Rattle.ada_grammar.proofs.SmallSources.{IsTextOf, computes, source_of, at, id, mark, expr_of, sole, formals_of, package_of, package_body_of, subprogram_of}
 use Rattle.name_events.specs.Faults.{name_fault}
 use Rattle.type_definitions.specs.Whole.{type_fault}
 use Rattle.typing_steps.specs.Programs.{program_of}
-use Rattle.flow_paths.specs.Points.{FlowPoint}
 use Rattle.flow_paths.specs.Laid.{FlowSub}
 use Rattle.flow_paths.specs.Effects.{AreEffects, asks_for_end, path_points}
 use Rattle.flow_paths.specs.Aliases.{alias_reports}
-use Rattle.flow_paths.specs.Views.{encloses_within, is_function}
+use Rattle.flow_paths.specs.Views.{encloses_within}
 use Rattle.program_check.specs.Sources.{flow_of}
 use Rattle.file_positions.specs.Texts.{AreParsed}
 use Rattle.file_positions.proofs.Cuts.{cut_in_order}
 use Rattle.order_laws.specs.Orderly.{typed_of}
 use Rattle.viewed_files.proofs.Files.{parsed_called_sound}
 use Rattle.accepted_runs.proofs.Runs.{RunsAreSound}
-use Rattle.accepted_runs.specs.Classes.{AreInClass}
 use Rattle.accepted_examples.proofs.Naming.{naming}
 use Rattle.accepted_examples.proofs.Typing.{typing}
 use Rattle.accepted_examples.proofs.Lowering.{lowering}
-use Rattle.accepted_examples.proofs.Quiet.{all_pass, each, isnt}
-use Rattle.accepted_examples.proofs.Classed.{classed}
-use Rattle.accepted_examples.proofs.Unreported.{path_passes, keeps_rules, reports_none}
+use Rattle.accepted_examples.proofs.Quiet.{all_pass, each}
+use Rattle.accepted_examples.proofs.Unreported.{path_passes, keeps_rules, is_silent, reports_silent}
 use Rattle.accepted_examples.proofs.Affected.{affected, effects_are}
-use Rattle.spark_base.specs.Lists.{Has}
 
 -- "procedure Q (X : in T)", from its column on
 abbrev front : ℕ → Subspec
@@ -82,15 +78,11 @@ pub typed : type_fault (program_of files) ≡ None
 unfolding computes naming typing lowering
 typed = refl
 
--- ---- it is of the class
+-- ---- it has a main procedure
 
 pub is_main : (typed_of (program_of files)).main ≡ Some 2
 unfolding computes naming typing lowering
 is_main = refl
-
-pub class : AreInClass files
-unfolding computes naming typing lowering
-class = record { main = 2; is_main = is_main; calls = classed files refl refl }
 
 -- ---- nothing is reported of it
 
@@ -98,12 +90,9 @@ passes : all_pass (keeps_rules (flow_of files)) (flow_of files).subs ≡ true
 unfolding computes naming typing lowering encloses_within
 passes = refl
 
-procedures : all_pass (λ (sub : FlowSub). not (is_function sub)) (flow_of files).subs ≡ true
+silent : all_pass is_silent (flow_of files).subs ≡ true
 unfolding computes naming typing lowering
-procedures = refl
-
-no_function : (sub : FlowSub) → Has (flow_of files).subs sub → is_function sub ≡ false
-no_function sub has = isnt (is_function sub) (each (λ (sub : FlowSub). not (is_function sub)) (flow_of files).subs procedures sub has)
+silent = refl
 
 effects : AreEffects (flow_of files) (affected (flow_of files))
 unfolding computes naming typing lowering asks_for_end
@@ -139,8 +128,7 @@ parsed = (cut_in_order 0 text 1000 cuts is_cut, spelled, tt)
 
 pub shared_sound : RunsAreSound files
 shared_sound input =
-    parsed_called_sound files (cuts ∷ []) parsed named typed class.main class.is_main (affected (flow_of files)) effects
-    (reports_none (flow_of files) (affected (flow_of files)) passes (λ sub has function. absurd (true≢false (sym function ∙ no_function sub has)))
-    (λ sub has function. absurd (true≢false (sym function ∙ no_function sub has))) no_aliases 9
+    parsed_called_sound files (cuts ∷ []) parsed named typed 2 is_main (affected (flow_of files)) effects
+    (reports_silent (flow_of files) (affected (flow_of files)) passes silent no_aliases 9
     (each (λ (sub : FlowSub). path_passes 9 (path_points (flow_of files) (affected (flow_of files)) sub) [] 0) (flow_of files).subs paths))
-    class.calls input
+    input

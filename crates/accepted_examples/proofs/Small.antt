@@ -1,5 +1,5 @@
--- A text of the class of the law on runs.
-use Rattle.std.proofs.Common.{◌≡◌, List, [], ◌∷◌, refl, None}
+-- A small text.
+use Rattle.std.proofs.Common.{◌≡◌, List, [], ◌∷◌, refl, Some, None}
 use Rattle.ada_tree.specs.declared.subprogram.Subspec.TheVariants as subspec
 use Rattle.ada_tree.specs.declared.unit.SourceUnit.{SourceUnit}
 use Rattle.ada_tree.specs.declared.unit.SourceUnit.TheVariants as unit
@@ -7,10 +7,9 @@ use Rattle.ada_grammar.proofs.SmallSources.{IsTextOf, computes, source_of, at, i
 use Rattle.name_events.specs.Faults.{name_fault}
 use Rattle.type_definitions.specs.Whole.{type_fault}
 use Rattle.typing_steps.specs.Programs.{program_of}
-use Rattle.accepted_runs.specs.Classes.{AreInClass}
+use Rattle.order_laws.specs.Orderly.{typed_of}
 use Rattle.accepted_examples.proofs.Naming.{naming}
 use Rattle.accepted_examples.proofs.Typing.{typing}
-use Rattle.accepted_examples.proofs.Classed.{classed}
 
 abbrev pub units : List SourceUnit
 units = unit.OfSubprogram (at 1) [] (subprogram_of 1 (subspec.Procedure (at 1) (id 11 "P") None) None 13 [] 16 (null_at 22) 28 None 31) ∷ []
@@ -30,7 +29,6 @@ pub typed : type_fault (program_of files) ≡ None
 unfolding computes naming typing
 typed = refl
 
--- The text is of the class.
-pub class : AreInClass files
+pub is_main : (typed_of (program_of files)).main ≡ Some 1
 unfolding computes naming typing
-class = record { main = 1; is_main = refl; calls = classed files refl refl }
+is_main = refl

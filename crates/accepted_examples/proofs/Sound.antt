@@ -14,7 +14,7 @@ use Rattle.accepted_runs.proofs.Runs.{RunsAreSound}
 use Rattle.accepted_examples.proofs.Naming.{naming}
 use Rattle.accepted_examples.proofs.Typing.{typing}
 use Rattle.accepted_examples.proofs.Quiet.{is_quiet_sub, all_pass, no_acts, each, nothing, no_reports, no_effects}
-use Rattle.accepted_examples.proofs.Small.{files, spelled, named, typed, class}
+use Rattle.accepted_examples.proofs.Small.{files, spelled, named, typed, is_main}
 
 abbrev text : List ℕ
 text = codes "procedure P is begin null; end;"
@@ -48,6 +48,6 @@ still = refl
 
 pub small_sound : RunsAreSound files
 small_sound input =
-    parsed_called_sound files (cuts ∷ []) parsed named typed class.main class.is_main (nothing (flow_of files) quiet) (no_effects (flow_of files) quiet)
+    parsed_called_sound files (cuts ∷ []) parsed named typed 1 is_main (nothing (flow_of files) quiet) (no_effects (flow_of files) quiet)
     (no_reports (flow_of files) quiet no_aliases (each (λ (sub : FlowSub). all_pass no_acts (path_points (flow_of files) (nothing (flow_of files) quiet) sub)) (flow_of files).subs still))
-    class.calls input
+    input

@@ -1,8 +1,7 @@
--- A text with a traversal function whose result a borrower takes, of the class of the law on runs with borrowers and observers,
--- and that law of it.
+-- A text with a traversal function whose result a borrower takes, and the law on runs of it.
 use Rattle.std.specs.Prelude.{codes}
 use Rattle.ada_tree.specs.declared.expression.Primary.TheVariants as primary
-use Rattle.std.proofs.Common.{◌≡◌, ℕ, ◌+◌, inl, true, List, [], ◌∷◌, refl, Some, None, Ok, Err}
+use Rattle.std.proofs.Common.{◌≡◌, ℕ, ◌+◌, true, List, [], ◌∷◌, refl, Some, None, Ok, Err}
 use Rattle.ada_lexer.specs.Tokens.{Cut, CutResult, tokens}
 use Rattle.ada_tree.specs.declared.declaration.Item.TheVariants as item
 use Rattle.ada_tree.specs.declared.declaration.Indication.TheVariants as indication
@@ -30,15 +29,12 @@ use Rattle.program_check.specs.Sources.{flow_of}
 use Rattle.file_positions.specs.Texts.{AreParsed}
 use Rattle.file_positions.proofs.Cuts.{cut_in_order}
 use Rattle.order_laws.specs.Orderly.{typed_of}
-use Rattle.sound_files.specs.Class.{FormalsAreAccess, LendFirst, TakeBorrowers, SparePackages}
 use Rattle.viewed_files.proofs.Files.{parsed_called_sound}
 use Rattle.accepted_runs.proofs.Runs.{RunsAreSound}
-use Rattle.accepted_runs.specs.Classes.{AreInClass}
 use Rattle.accepted_examples.proofs.Naming.{naming}
 use Rattle.accepted_examples.proofs.Typing.{typing}
 use Rattle.accepted_examples.proofs.Lowering.{lowering}
 use Rattle.accepted_examples.proofs.Quiet.{all_pass, each}
-use Rattle.accepted_examples.proofs.Classed.{formals_access, lend_single, take_borrowers, spare_packages}
 use Rattle.accepted_examples.proofs.Unreported.{path_passes, sub_passes, nothing, no_reports, no_effects}
 
 -- "function F (L : access Integer) return access Integer", from its column on
@@ -82,30 +78,11 @@ pub typed : type_fault (program_of files) ≡ None
 unfolding computes naming typing lowering
 typed = refl
 
--- ---- it is of the class
+-- ---- it has a main procedure
 
 pub is_main : (typed_of (program_of files)).main ≡ Some 2
 unfolding computes naming typing lowering
 is_main = refl
-
-pub formals : FormalsAreAccess (program_of files)
-unfolding computes naming typing lowering
-formals = formals_access files refl
-
-pub lends : LendFirst (program_of files)
-unfolding computes naming typing lowering
-lends = lend_single files refl
-
-pub borrowed : TakeBorrowers (program_of files)
-unfolding computes naming typing lowering
-borrowed = take_borrowers files refl
-
-pub spared : SparePackages (program_of files)
-unfolding computes naming typing lowering
-spared = spare_packages files refl
-
-pub class : AreInClass files
-class = record { main = 2; is_main = is_main; calls = record { formals = formals; lends = inl lends; borrowed = borrowed; spared = spared } }
 
 -- ---- nothing is reported of it
 
@@ -143,7 +120,7 @@ parsed = (cut_in_order 0 text 1000 cuts is_cut, spelled, tt)
 
 pub traversed_sound : RunsAreSound files
 traversed_sound input =
-    parsed_called_sound files (cuts ∷ []) parsed named typed class.main class.is_main (nothing (flow_of files) passes) (no_effects (flow_of files) passes)
+    parsed_called_sound files (cuts ∷ []) parsed named typed 2 is_main (nothing (flow_of files) passes) (no_effects (flow_of files) passes)
     (no_reports (flow_of files) passes no_aliases 9
     (each (λ (sub : FlowSub). path_passes 9 (path_points (flow_of files) (nothing (flow_of files) passes) sub) [] 0) (flow_of files).subs paths))
-    class.calls input
+    input

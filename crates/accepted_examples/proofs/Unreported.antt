@@ -17,12 +17,12 @@ use Rattle.place_names.specs.Facts.{facts_after}
 use Rattle.place_names.specs.Rules.{Forbidden, forbids}
 use Rattle.place_names.specs.Reports.{Report}
 use Rattle.flow_paths.specs.declared.report.Effects.{Effects}
-use Rattle.flow_paths.specs.Instructions.{Instruction}
+use Rattle.flow_paths.specs.Instructions.{Instruction, Call}
 use Rattle.flow_paths.specs.Objects.{Typing, object_at, view_of, is_observer, is_borrowing, is_observing, is_variable, is_formal, is_formal_kind, is_named_access}
 use Rattle.flow_paths.specs.Points.{FlowPoint}
 use Rattle.flow_paths.specs.Laid.{FlowSub, FlowProgram, flow_typing}
 use Rattle.flow_paths.specs.Paths.{PathPoint, PathReport, ControlPath, begins, goes_on, path_point, acts_at, acts_along}
-use Rattle.flow_paths.specs.Views.{is_in_mode, ViewReport, changed, lent, given, called, text_io, shorter, elsewhere, other_root, ConstantView, of_observer, of_formal, in_function, of_borrower, is_function, has_selector, is_assignment, encloses, scope_of, changes, lends, traversed_formal, sub_acts, IsOnlyRoot, Roots, itself as root_itself, borrows as root_borrows, observes as root_observes}
+use Rattle.flow_paths.specs.Views.{is_in_mode, Calls, ViewReport, changed, lent, given, called, text_io, shorter, elsewhere, other_root, ConstantView, of_observer, of_formal, in_function, of_borrower, is_function, has_selector, is_assignment, encloses, scope_of, changes, lends, traversed_formal, sub_acts, IsOnlyRoot, Roots, itself as root_itself, borrows as root_borrows, observes as root_observes}
 use Rattle.flow_paths.specs.Aliases.{alias_reports}
 use Rattle.flow_paths.specs.Effects.{AreEffects, Reads, Writes, Ascends, path_points, point_reads, point_writes, is_global, reads_text, writes_text, flow_sub_at, act_reads, act_writes, written_by}
 use Rattle.flow_paths.specs.Reports.{AreReports, ProgramReport, on_actuals, on_views, on_paths}
@@ -208,7 +208,8 @@ local_write s g a here shared = by a here
     by a h = refl
 
 module _ (program : FlowProgram) (effects : Effects) (passes : all_pass (keeps_rules program) program.subs ≡ true)
-    (silent : (sub : FlowSub) → Has program.subs sub → is_function sub ≡ true → (callee g : ℕ) → Has (written_by effects callee) g → ⊥)
+    (silent : (sub : FlowSub) → Has program.subs sub → is_function sub ≡ true → (p : FlowPoint) → Has sub.points p → (callee g : ℕ) → Calls p.instr callee
+    → Has (written_by effects callee) g → ⊥)
     (mute : (sub : FlowSub) → Has program.subs sub → is_function sub ≡ true → (p : FlowPoint) → Has sub.points p → writes_text p.instr ≡ true → ⊥) where
   abbrev s : Typing
   s = flow_typing program
@@ -318,7 +319,7 @@ module _ (program : FlowProgram) (effects : Effects) (passes : all_pass (keeps_r
   no_view sub has _ (given p at m there is) =
       true≢false (sym (and_first (is_variable (object_at s m.root).kind) (is_observing (view_of s m.root)) is)
       ∙ no_variable (object_at s m.root).kind (left_of (is_formal s m.root) (is_first_of (traversed_formal s sub) m.root) (rooted_there sub has p (record { pos = at; act = act.Give m true }) there)))
-  no_view sub has _ (called p g callee is there calls writes) = silent sub has is callee g writes
+  no_view sub has _ (called p g callee is there calls writes) = silent sub has is p there callee g calls writes
   no_view sub has _ (text_io p is there writes) = mute sub has is p there writes
   no_view sub has _ (shorter p at h m from there assigns outer) =
       let kept = keeps p.instr (act.Observe h m from) (act_is sub has p (record { pos = at; act = act.Observe h m from }) there) in
@@ -346,6 +347,39 @@ module _ (program : FlowProgram) (effects : Effects) (passes : all_pass (keeps_r
       none r (on_views sub has view) = no_view sub has r view
       none r (on_paths sub has path) = unreported (path_points program effects sub) n (paths sub has) r path
 
+-- ---- functions that call no procedure and write nothing
+
+abbrev is_still_call : Instruction → Bool
+is_still_call (Call n actuals None) = false
+is_still_call i = not (writes_text i)
+
+abbrev pub is_silent : FlowSub → Bool
+is_silent sub = not (is_function sub) || all_pass (λ (p : FlowPoint). is_still_call p.instr) sub.points
+
+no_call : (i : Instruction) → is_still_call i ≡ true → (callee : ℕ) → Calls i callee → ⊥
+no_call (Call n actuals None) still callee is = true≢false (sym still)
+no_call i still callee is = is
+
+no_text : (i : Instruction) → is_still_call i ≡ true → writes_text i ≡ true → ⊥
+no_text (Call n actuals None) still writes = true≢false (sym still)
+no_text i still writes = no (writes_text i) writes still
+
+module _ (program : FlowProgram) (effects : Effects) (passes : all_pass (keeps_rules program) program.subs ≡ true) (silent : all_pass is_silent program.subs ≡ true) where
+  silent_at : (sub : FlowSub) → Has program.subs sub → is_function sub ≡ true → (p : FlowPoint) → Has sub.points p → is_still_call p.instr ≡ true
+  silent_at sub has function = each (λ (p : FlowPoint). is_still_call p.instr) sub.points (by (is_function sub) function (each is_silent program.subs silent sub has))
+    where
+      by : (a : Bool) → a ≡ true → not a || all_pass (λ (p : FlowPoint). is_still_call p.instr) sub.points ≡ true
+          → all_pass (λ (p : FlowPoint). is_still_call p.instr) sub.points ≡ true
+      by true is e = e
+      by false is e = absurd (true≢false (sym is))
+
+  -- There are no reports where no call reports, and none is found along paths.
+  pub reports_silent : alias_reports program effects ≡ [] → (n : ℕ)
+      → ((sub : FlowSub) → Has program.subs sub → path_passes n (path_points program effects sub) [] 0 ≡ true) → AreReports program effects []
+  reports_silent =
+      reports_none program effects passes (λ sub has function p there callee g calls writes. no_call p.instr (silent_at sub has function p there) callee calls)
+      (λ sub has function p there writes. no_text p.instr (silent_at sub has function p there) writes)
+
 -- ---- what touches no package object
 
 all_left : {A : Type 0} (f g : A → Bool) (xs : List A) → all_pass (λ x. f x && g x) xs ≡ true → all_pass f xs ≡ true
@@ -372,7 +406,7 @@ module _ (program : FlowProgram) (passes : all_pass (sub_passes program) program
       → ((sub : FlowSub) → Has program.subs sub → path_passes n (path_points program nothing sub) [] 0 ≡ true) → AreReports program nothing []
   no_reports aliases n paths =
       reports_none program nothing (all_left (keeps_rules program) (λ sub. all_pass (point_is_local typing) sub.points) program.subs passes)
-      (λ sub has function callee g writes. subst (λ xs. Has xs g) (empty_at program.subs callee) writes)
+      (λ sub has function p there callee g calls writes. subst (λ xs. Has xs g) (empty_at program.subs callee) writes)
       (λ sub has function p there writes. no (writes_text p.instr) writes
       (right_of (not (reads_text p.instr)) (not (writes_text p.instr))
       (right_of (all_pass (λ (b : Placed). is_local typing b.act) p.acts) (not (reads_text p.instr) && not (writes_text p.instr)) (local_is sub has p there)))) aliases n paths

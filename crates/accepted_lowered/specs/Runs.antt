@@ -1,21 +1,11 @@
--- What `run` rests on.
-use Rattle.std.specs.Prelude.{◌≡◌, ℕ, List, None}
-use Rattle.spark_base.specs.declared.limits.TheConstants.{SOURCE_BYTES}
+-- What a run rests on.
+use Rattle.std.specs.Prelude.{◌≡◌, None}
 use Rattle.laid_program.specs.declared.laid.Laid.{Laid}
 use Rattle.laid_program.specs.Programs.{program_of}
 use Rattle.run_codes.specs.Programs.{lowered_program}
 use Rattle.run_ready.specs.Tests.{IsReady}
-use Rattle.run_command.specs.Answers.{Answer}
-use Rattle.tool_answers.specs.Reading.{sources}
-use Rattle.tool_answers.specs.Product.{Finding, Checks, run_answer_of}
 
 -- The program that is laid out in rows is lowered, and passes the tests before a run.
 pub record IsRunnable (laid : Laid) : Type 0 where
   pub lowered : lowered_program (program_of laid) ≡ None → ⊥
   pub tested : IsReady laid
-
--- What is found of the named files gives the answer to `run`.
-pub record RunsOn (stored : List (List ℕ × List ℕ)) (input : List ℕ) (names : List (List ℕ)) (budget : ℕ) (answer : Answer) : Type 0 where
-  pub finding : Finding
-  pub checks : Checks names (sources stored 0 SOURCE_BYTES names) finding
-  pub answered : answer ≡ run_answer_of names budget input finding

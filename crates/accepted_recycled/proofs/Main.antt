@@ -1,6 +1,6 @@
 -- The runs of programs that `check` accepts give the same over a heap that uses its slots again.
-use Rattle.std.proofs.Common.{◌≡◌, ◌∙◌, inl, inr, ℕ, List, Some, sym, subst}
-use Rattle.spark_base.specs.declared.limits.TheConstants.{TOKENS, SOURCE_BYTES}
+use Rattle.std.proofs.Common.{◌≡◌, ◌∙◌, inl, inr, ℕ, List, sym, subst}
+use Rattle.spark_base.specs.declared.limits.TheConstants.{TOKENS}
 use Rattle.ada_tree.specs.declared.unit.SourceUnit.{SourceUnit}
 use Rattle.type_definitions.specs.Whole.{known_of}
 use Rattle.typing_steps.specs.Programs.{program_of}
@@ -25,14 +25,8 @@ use Rattle.run_ready.proofs.Entering.{frames_are}
 use Rattle.handled_steps.proofs.Runs.{run_keeps}
 use Rattle.recycled_runs.proofs.Runs.{GivesSame}
 use Rattle.recycled_runs.proofs.Ready.{ready_recycled}
-use Rattle.command_words.specs.Words.{Check}
-use Rattle.run_command.specs.Answers.{Answer}
-use Rattle.tool_answers.specs.Commands.{command_of}
-use Rattle.tool_answers.specs.Reading.{sources}
-use Rattle.tool_answers.specs.Product.{Product}
 use Rattle.accepted_runs.specs.Passed.{Passes}
-use Rattle.accepted_runs.specs.Classes.{AreInClass}
-use Rattle.accepted_runs.proofs.Passing.{Passed, product_passed}
+use Rattle.accepted_runs.specs.Mains.{HasMain}
 use Rattle.accepted_runs.proofs.Parsed.{are_parsed}
 use Rattle.accepted_runs.proofs.Views.{passed_ready}
 use Rattle.accepted_lowered.specs.Runs.{IsRunnable}
@@ -48,22 +42,14 @@ with_slots x Fails slots (inl same) = inl (same.0, tt)
 with_slots x r slots (inr out) = inr out
 
 -- However the program is laid out in rows.
-pub passed_recycled : (texts : List (List ℕ)) (trees : List (List SourceUnit)) (effects : Effects) → Passes texts trees effects → AreInClass trees
+pub passed_recycled : (texts : List (List ℕ)) (trees : List (List SourceUnit)) (effects : Effects) → Passes texts trees effects → HasMain trees
     → (laid : Laid) → flow_of trees ≡ laid_out laid → RunsAreRecycled (flow_of trees)
-passed_recycled texts trees effects passes class laid is p lowers main is_main input n r so =
+passed_recycled texts trees effects passes has_main laid is p lowers main is_main input n r so =
     let program : FlowProgram = flow_of trees in
     let runnable : IsRunnable laid = passed_runnable texts trees effects passes laid is in
     let has : HasTypes program = subst HasTypes (sym is) (types_are laid runnable.tested.types) in
     let frames : HasFrames program = subst HasFrames (sym is) (frames_are laid runnable.tested.frames) in
     with_slots (run program input n) r (run_keeps (flow_typing program).table p (is_declaring program) (sub_of program main).pos main input n r so)
-    (ready_recycled (known_of (program_of trees)).table (typed_of (program_of trees)) effects input (passed_ready texts trees effects passes class)
+    (ready_recycled (known_of (program_of trees)).table (typed_of (program_of trees)) effects input (passed_ready texts trees effects passes has_main)
     (typed_compared program (parsed_steps trees passes.cuts (are_parsed texts 0 TOKENS passes.cuts trees passes.cut passes.parsed) passes.named passes.typed))
     p has (is_lowered program p lowers) frames main n is_main r so)
-
--- If the tool answers a check with status 0, and the program is in this class, its runs give the same.
-pub accepted_recycled : (stored : List (List ℕ × List ℕ)) (input : List ℕ) (words names : List (List ℕ)) (answer : Answer)
-    → command_of words ≡ Some (Check names) → Product stored input words answer → answer.status ≡ 0
-    → (is : Passed (sources stored 0 SOURCE_BYTES names)) × (AreInClass is.trees → (laid : Laid) → flow_of is.trees ≡ laid_out laid → RunsAreRecycled (flow_of is.trees))
-accepted_recycled stored input words names answer command product zero =
-    let is : Passed (sources stored 0 SOURCE_BYTES names) = product_passed stored input words names answer command product zero in
-    (is, passed_recycled is.texts is.trees is.effects is.passes)

@@ -2,7 +2,7 @@
 //! definitions and laws, for readers.
 //!
 //! `recycled_runs` has the law for programs that are ready, as the laws on steps ask. Those that
-//! `check` accepts, of the class of `accepted_runs`, are ready, and pass the tests before a run
+//! `check` accepts, with a main procedure, are ready, and pass the tests before a run
 //! (`accepted_lowered`). So what such a run gives is what the machine's run gives, or memory is out
 //! (`specs/Runs.antt`, `proofs/Main.antt`). Nothing here runs.
 #![tactic(auto)]

@@ -1,10 +1,12 @@
-pub mod Passing
 pub mod Parsed
 -- what holds of runs
 pub mod Runs
--- of the class
+-- if there is a main procedure
 pub mod Views
 pub mod ViewFacts
 pub mod ViewNulls
--- what is said of `run`
+-- all of it, for one run
 pub mod Headline
+pub mod Endings
+-- of what a type keeps
+pub mod Kept

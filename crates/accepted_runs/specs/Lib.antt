@@ -1,3 +1,3 @@
 pub mod Passed
-pub mod Classes
+pub mod Mains
 pub mod Headline

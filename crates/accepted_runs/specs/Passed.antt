@@ -8,6 +8,7 @@ use Rattle.type_definitions.specs.Whole.{type_fault}
 use Rattle.typing_steps.specs.Programs.{program_of}
 use Rattle.flow_paths.specs.declared.report.Effects.{Effects}
 use Rattle.flow_paths.specs.Effects.{AreEffects}
+use Rattle.flow_paths.specs.Laid.{FlowProgram}
 use Rattle.flow_paths.specs.Limits.{lay_fault}
 use Rattle.flow_paths.specs.Reports.{AreReports}
 use Rattle.program_check.specs.Sources.{flow_of}
@@ -24,3 +25,10 @@ pub record Passes (texts : List (List ℕ)) (trees : List (List SourceUnit)) (ef
   pub within : lay_fault (flow_of trees) ≡ None
   pub effects_are : AreEffects (flow_of trees) effects
   pub none : AreReports (flow_of trees) effects []
+
+-- The program is that of such texts.
+pub record IsPassed (program : FlowProgram) (effects : Effects) : Type 0 where
+  pub texts : List (List ℕ)
+  pub trees : List (List SourceUnit)
+  pub passes : Passes texts trees effects
+  pub is : flow_of trees ≡ program

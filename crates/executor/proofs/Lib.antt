@@ -1,2 +1,4 @@
 -- runs of programs in rows
 pub mod Runs
+-- what is told of them
+pub mod Told

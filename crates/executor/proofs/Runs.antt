@@ -23,7 +23,7 @@ use Rattle.whole_runs.proofs.Owed.{had_more}
 use Rattle.run_laws.specs.Settings.{setting_of, start_of, fits}
 use Rattle.run_laws.proofs.Whole.{whole_there, whole_is, unfit_is}
 use Rattle.longer_runs.proofs.Runs.{run_begins}
-use Rattle.executor.specs.Executes.{IsExecuted, IsReady}
+use Rattle.executor.specs.Executes.{IsDone, IsReady}
 
 -- ---- the state at the start
 
@@ -88,7 +88,7 @@ module _ (laid : Laid) (codes : Codes) (ready : IsReady laid codes) (input : Lis
 
     -- What is written is the run of the machine.
     pub run_executed : (files : List (List ℕ)) (ran : RanRow) (old new : Sinks) → IsWritten files (some_steps n (setting_of program (program_of codes) input) begun) ran old new
-        → IsExecuted files (run program input n) ran old new
+        → IsDone files (run program input n) ran old new
     run_executed files ran old new is =
         let same : is.run ≡ ran_of (run program input n) = whole_is program (program_of codes) input ready.types ready.frames ready.lowered ready.main n ready.has fit is.run is.given in
         record {
@@ -118,7 +118,7 @@ module _ (laid : Laid) (codes : Codes) (ready : IsReady laid codes) (input : Lis
         (subst (λ x. is_failing (some_steps n (setting_of program (program_of codes) input) x) ≡ false) (sym state) steps_there)
 
     pub all_executed : {E : Type 0} (files : List (List ℕ)) (c : Setting) (s : State) (r : Result RanRow E) (old new : Sinks) → c ≡ setting_of program (program_of codes) input → s ≡ begun
-        → IfOk r (λ ran. IsWritten files (some_steps n c s) ran old new) → IfOk r (λ ran. IsExecuted files (run program input n) ran old new)
+        → IfOk r (λ ran. IsWritten files (some_steps n c s) ran old new) → IfOk r (λ ran. IsDone files (run program input n) ran old new)
     all_executed files c s (Ok ran) old new setting state is =
         run_executed files ran old new
         (subst (λ x. IsWritten files (some_steps n (setting_of program (program_of codes) input) x) ran old new) state
@@ -167,7 +167,7 @@ pub none_written : (old : Option (List ℕ)) → Appends old old []
 none_written None = tt
 none_written (Some xs) = sym (append-nil xs)
 
-pub none_executed : (files : List (List ℕ)) (r : Run) (ran : RanRow) (s : Sinks) → IsRun (ran_of r) ran → r.output ≡ [] → r.leaks ≡ [] → IsExecuted files r ran s s
+pub none_executed : (files : List (List ℕ)) (r : Run) (ran : RanRow) (s : Sinks) → IsRun (ran_of r) ran → r.output ≡ [] → r.leaks ≡ [] → IsDone files r ran s s
 none_executed files r ran s is output leaks = record {
   is = is;
   output = subst (λ bytes. Appends s.output s.output bytes) (sym output) (none_written s.output);

@@ -10,14 +10,22 @@ use Rattle.run_points.specs.Turns.{HasTypes}
 use Rattle.run_points.specs.Frames.{HasFrames}
 use Rattle.code_rows.specs.declared.codes.Codes.{Codes}
 use Rattle.code_rows.specs.Points.{program_of, IsWhole}
-use Rattle.run_results.specs.declared.ran.Ran.{Ran}
-use Rattle.run_results.specs.Results.{IsRun}
+use Rattle.run_results.specs.declared.ran.Ran.{Ran as Went}
+use Rattle.run_results.specs.Results as results
 use Rattle.run_results.specs.Lines.{leak_lines}
 use Rattle.whole_runs.specs.Tellings.{Sinks}
+use Rattle.executor.specs.declared.ran.Ran.{Ran}
+use Rattle.executor.specs.Results.{IsRun}
 
 -- The run has this ending and these counts; one sink got its output, and the other one its leak lines.
 pub record IsExecuted (files : List (List ℕ)) (run : Run) (ran : Ran) (old new : Sinks) : Type 0 where
   pub is : IsRun (ran_of run) ran
+  pub output : Appends old.output new.output run.output
+  pub lines : Appends old.lines new.lines (leak_lines files run.leaks)
+
+-- The same, where the ending may be a trap.
+pub record IsDone (files : List (List ℕ)) (run : Run) (went : Went) (old new : Sinks) : Type 0 where
+  pub is : results.IsRun (ran_of run) went
   pub output : Appends old.output new.output run.output
   pub lines : Appends old.lines new.lines (leak_lines files run.leaks)
 

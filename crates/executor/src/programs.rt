@@ -5,29 +5,31 @@ ghost use Rattle.machine.specs.Run.{run, main_of};
 ghost use Rattle.laid_program.specs.Programs.{program_of};
 ghost use Rattle.code_rows.specs.Points.{program_of as rows_program};
 ghost use Rattle.run_codes.specs.Points.{ran_of};
-ghost use Rattle.run_results.specs.Results.{IsRun};
+ghost use Rattle.run_results.specs.Results as results;
 ghost use Rattle.run_laws.specs.Settings as settings;
 ghost use Rattle.whole_runs.specs.Tellings.{HaveFronts};
-ghost use Rattle.executor.specs.Executes.{IsExecuted, IsReady};
+ghost use Rattle.accepted_runs.specs.Headline.{IsSoundRun};
+ghost use Rattle.executor.specs.Executes.{IsDone, IsExecuted, IsReady};
 
+use crate::ran::{Ran, told};
 use crate::starts::{fits, is_declaring, position};
 use code_rows::{Codes, Exception};
 use laid_program::Laid;
 use path_check::AcceptedProgram;
 use reuse_heap::TrapStore;
 use run_ready::lower_ready;
-use run_results::{Ending, ExecFault, Ran};
+use run_results::{Ending as Stopped, ExecFault, Ran as Went};
 use run_steps::Run;
 use spark_base::Sink;
 use std::alloc::Global;
 use whole_runs::run_whole;
 
 /// The run of a program whose first frames are too large: no step is made.
-fn unfit(laid: &Laid, codes: &Codes, input: &[u8], steps: u64, main: u32) -> Result<Ran, ExecFault>
+fn unfit(laid: &Laid, codes: &Codes, input: &[u8], steps: u64, main: u32) -> Result<Went, ExecFault>
     requires ready { IsReady laid.now codes.now }
     requires main { laid.now.main ≡ Some main }
     requires unfit { settings.fits (rows_program codes.now) main ≡ false }
-    ensures ran { IfOk result (λ ran. IsRun (ran_of (run (program_of laid.now) input.now steps)) ran) }
+    ensures ran { IfOk result (λ ran. results.IsRun (ran_of (run (program_of laid.now) input.now steps)) ran) }
     ensures output { (run (program_of laid.now) input.now steps).output ≡ [] }
     ensures leaks { (run (program_of laid.now) input.now steps).leaks ≡ [] }
     ensures memory { result ≢ Err ExecFault.WriteFault }
@@ -35,8 +37,8 @@ fn unfit(laid: &Laid, codes: &Codes, input: &[u8], steps: u64, main: u32) -> Res
     let Some(pos) = position(laid, main) else {
         return Err(ExecFault::Memory);
     };
-    Ok(Ran {
-        ending: Ending::Raised {
+    Ok(Went {
+        ending: Stopped::Raised {
             exception: Exception::StorageError,
             pos,
         },
@@ -57,11 +59,11 @@ fn run_fitting<K: Sink>(
     steps: u64,
     out: &mut K,
     err: &mut K,
-) -> Result<Ran, ExecFault>
+) -> Result<Went, ExecFault>
     requires ready { IsReady laid.now codes }
     requires fits { settings.fits (rows_program codes) (main_of laid.now.main) ≡ true }
     requires store { store.old ≡ [] }
-    ensures executed { IfOk result (λ ran. IsExecuted (map string_bytes laid.now.names.items) (run (program_of laid.now) input.now steps) ran
+    ensures executed { IfOk result (λ ran. IsDone (map string_bytes laid.now.names.items) (run (program_of laid.now) input.now steps) ran
         (record { output = K.written out.old; lines = K.written err.old }) (record { output = K.written out.new; lines = K.written err.new })) }
     ensures fronts { OnErr result (HaveFronts (map string_bytes laid.now.names.items)
         (record { output = K.written out.old; lines = K.written err.old }) (record { output = K.written out.new; lines = K.written err.new })
@@ -91,11 +93,11 @@ fn run_codes<K: Sink>(
     steps: u64,
     out: &mut K,
     err: &mut K,
-) -> Result<Ran, ExecFault>
+) -> Result<Went, ExecFault>
     requires ready { IsReady laid.now codes }
     requires main { laid.now.main ≡ Some main }
     requires store { store.old ≡ [] }
-    ensures executed { IfOk result (λ ran. IsExecuted (map string_bytes laid.now.names.items) (run (program_of laid.now) input.now steps) ran
+    ensures executed { IfOk result (λ ran. IsDone (map string_bytes laid.now.names.items) (run (program_of laid.now) input.now steps) ran
         (record { output = K.written out.old; lines = K.written err.old }) (record { output = K.written out.new; lines = K.written err.new })) }
     ensures fronts { OnErr result (HaveFronts (map string_bytes laid.now.names.items)
         (record { output = K.written out.old; lines = K.written err.old }) (record { output = K.written out.new; lines = K.written err.new })
@@ -115,7 +117,8 @@ fn run_codes<K: Sink>(
 
 /// Runs an accepted program with a main procedure on an input, in so many steps at most. Its output
 /// goes to `out`, and its leak lines go to `err`. Where a write fails, nothing more is written; then,
-/// and out of memory, each sink has a front of its bytes. The store has handed out no handle.
+/// and out of memory, each sink has a front of its bytes. The run is sound. The store has handed out
+/// no handle.
 pub fn execute<K: Sink>(
     alloc: Global,
     program: &AcceptedProgram,
@@ -129,6 +132,7 @@ pub fn execute<K: Sink>(
     requires store { store.old ≡ [] }
     requires steps { steps ≤ 4294967296 }
     requires input { length input.now ≤ 16777216 }
+    ensures sound { ∥ IsSoundRun (program_of program.now.laid) input.now ∥₁ }
     ensures executed { IfOk result (λ ran. IsExecuted (map string_bytes program.now.laid.names.items) (run (program_of program.now.laid) input.now steps) ran
         (record { output = K.written out.old; lines = K.written err.old }) (record { output = K.written out.new; lines = K.written err.new })) }
     ensures fronts { OnErr result (HaveFronts (map string_bytes program.now.laid.names.items)
@@ -145,8 +149,11 @@ pub fn execute<K: Sink>(
     let Some(main) = laid.main else {
         return Err(ExecFault::Memory);
     };
-    match lower_ready(alloc, laid) {
-        Ok(codes) => run_codes(alloc, laid, codes, main, store, input, steps, out, err),
-        Err(_) => Err(ExecFault::Memory),
+    let Ok(codes) = lower_ready(alloc, laid) else {
+        return Err(ExecFault::Memory);
+    };
+    match run_codes(alloc, laid, codes, main, store, input, steps, out, err) {
+        Ok(went) => Ok(told(went)),
+        Err(fault) => Err(fault),
     }
 }

@@ -1,7 +1,7 @@
 //! How runs end, what they write, and their counts.
 use crate::program::{NO_FAULTS, run};
 use code_rows::Exception;
-use run_results::{Ending, Ran};
+use executor::{Ending, Ran};
 use spark_base::Pos;
 use std::test::Fail;
 

@@ -1,12 +1,12 @@
 //! Runs of one source, over sinks in memory.
 use ada_lexer::lex;
 use ada_parser::parse;
-use executor::execute;
+use executor::{Ran, execute};
 use name_resolve::resolve;
 use path_check::{AcceptedProgram, Verdict};
 use program_check::{Checked, check_files};
 use reuse_heap::TrapStore;
-use run_results::{ExecFault, Ran};
+use run_results::ExecFault;
 use spark_base::{MemSink, SOURCE_BYTES, TOKENS};
 use std::alloc::{AllocError, Global};
 use std::test::Fail;

@@ -1,5 +1,5 @@
 -- Cells that are made, written and freed are so over both heaps.
-use Rattle.std.proofs.Common.{◌≡◌, refl, sym, ap, ◌∙◌, subst, ℕ, zero, suc, ◌+◌, ◌-◌, ◌≤◌, arith, Bool, true, false, true≢false, not, ◌&&◌, nat_lt, nat_le, List, [], ◌∷◌, ◌++◌, map, drop, length, get_or, slice_get, slice_set, length-append, Some, None, ℤ, pos, negsuc, if◌then◌else◌}
+use Rattle.std.proofs.Common.{◌≡◌, refl, sym, ap, ◌∙◌, subst, ℕ, zero, suc, ◌+◌, ◌-◌, ◌<◌, ◌≤◌, arith, Bool, true, false, true≢false, not, ◌&&◌, nat_lt, nat_le, List, [], ◌∷◌, ◌++◌, map, drop, length, get_or, slice_get, slice_set, length-append, Some, None, ℤ, pos, negsuc, if◌then◌else◌}
 use Rattle.std.proofs.lemmas.Bool.Decides.{nat_tests}
 use Rattle.std.proofs.lemmas.List.{get_or_append_left, length-map}
 use Rattle.run_values.specs.declared.value.Value.{Value}
@@ -10,15 +10,17 @@ use Rattle.machine.specs.Evaluate.{StorageError, heap_words}
 use Rattle.reuse_heap.specs.Cells as numbered
 use Rattle.reuse_heap.specs.Cells.{Cell}
 use Rattle.slot_heap.specs.Heaps.{Heap, words_at, written, allocated}
-use Rattle.run_codes.specs.Flat.{Flat, Got, Given, Stops, Broken, Memory, Raises, spliced, gone_from, most_cells, values, is_word, are_words, are_in, have_kinds, touched, with_words, with_cell, made, Made, Done, Halted, Failed, InCell}
+use Rattle.run_codes.specs.Flat.{Flat, Got, Given, Stops, Broken, Memory, Raises, spliced, gone_from, most_cells, values, is_word, are_words, are_in, have_kinds, most_offsets, touched, with_words, with_cell, made, Made, Done, Halted, Failed, InCell}
 use Rattle.run_codes.specs.Flat as flat
 use Rattle.numbered_cells.specs.Follows.{handled, IsThere, Names, AllName, Follows}
 use Rattle.numbered_cells.proofs.Numbering.{follows-freed, follows-allocated, follows-written}
+use Rattle.handled_runs.specs.Fits.{most_handles, are_slot_words}
 use Rattle.handled_runs.specs.Slots.{Slots}
 use Rattle.handled_runs.specs.Changes.{slot_value, slot_values, written_all, cell_stored, stored, row_with, with_heap}
 use Rattle.handled_runs.specs.Changes as changes
 use Rattle.handled_runs.specs.Beside.{renamed, all_renamed, NamesWord, NameWords, Numbers, sizes_of, Beside}
 use Rattle.handled_runs.proofs.Named.{long_renamed}
+use Rattle.handled_runs.proofs.Fit.{small_next, both_true, words_fit, kinds_stand}
 use Rattle.handled_runs.proofs.Lists.{replaced, spliced_is}
 use Rattle.handled_runs.proofs.Sizes.{sizes_changed, sizes_freed, sizes_next, spliced_long}
 use Rattle.handled_runs.proofs.Rows.{numbers_kept, changed_were, freed_were, row_kept}
@@ -189,14 +191,15 @@ module _ (handles : List ℕ) (kinds taken : List Kind) (m : Flat) (s : Slots) (
     rest = beside.rest;
     cells = follows-freed handles m.cells s.heap n ws there beside.cells;
     numbered = numbers_kept s.numbers handles m.cells (numbered.released m.cells n) (freed_were m.cells n) beside.numbered;
+    small = beside.small;
     names = beside.names;
     waiting_names = beside.waiting_names;
   }
 
   -- A cell is made, with a handle that no cell has.
-  pub new_beside : (h : ℕ) (ks : List Kind) (zs : List ℤ) → words_at s.heap.cells h ≡ None → NameWords (length handles) ks zs → are_words ks zs ≡ true
+  pub new_beside : (h : ℕ) (ks : List Kind) (zs : List ℤ) → words_at s.heap.cells h ≡ None → h < most_handles → NameWords (length handles) ks zs → are_words ks zs ≡ true
       → Beside (handles ++ h ∷ []) kinds taken (with_cell m (values ks zs)) (changes.made s h ks (all_renamed handles ks zs))
-  new_beside h ks zs new names are =
+  new_beside h ks zs new less names are =
       let long = words_long ks zs are in record {
         stack = beside.stack ∙ words_on handles (h ∷ []) kinds m.stack beside.names;
         known = beside.known;
@@ -215,14 +218,15 @@ module _ (handles : List ℕ) (kinds taken : List Kind) (m : Flat) (s : Slots) (
             (follows-allocated handles m.cells s.heap h (values ks zs) new (values_name (length handles) ks zs names) beside.cells);
         numbered = subst (λ n. Numbers (row_with s.numbers h (suc n)) (handles ++ h ∷ []) (numbered.allocated m.cells (values ks zs))) (sym beside.made.0)
             (row_kept s.numbers handles m.cells s.heap h (values ks zs) beside.cells new beside.numbered);
+        small = small_next handles h beside.small less;
         names = names_on handles (h ∷ []) kinds m.stack beside.names;
         waiting_names = names_on handles (h ∷ []) taken m.waits beside.waiting_names;
       }
 
   -- The access value that designates it has its number, which is the next one.
-  pub cell_made : (h : ℕ) (ks : List Kind) (zs us : List ℤ) (m_after : Flat) → words_at s.heap.cells h ≡ None → NameWords (length handles) ks zs → made m ks zs ≡ Done us m_after
+  pub cell_made : (h : ℕ) (ks : List Kind) (zs us : List ℤ) (m_after : Flat) → words_at s.heap.cells h ≡ None → h < most_handles → NameWords (length handles) ks zs → made m ks zs ≡ Done us m_after
       → (us ≡ pos (suc (length handles)) ∷ []) × Beside (handles ++ h ∷ []) kinds taken m_after (changes.made s h ks (all_renamed handles ks zs))
-  cell_made h ks zs us m_after new names e = by (are_words ks zs) (nat_le (m.live + length zs) heap_words) (nat_lt (length m.cells) most_cells) refl e
+  cell_made h ks zs us m_after new less names e = by (are_words ks zs) (nat_le (m.live + length zs) heap_words) (nat_lt (length m.cells) most_cells) refl e
     where
       by : (a b c : Bool) → are_words ks zs ≡ a
           → (if not a then Failed else (if b then (if c then Done (pos (suc (length m.cells)) ∷ []) (with_cell m (values ks zs)) else Halted Memory m) else Halted (Raises StorageError) m)) ≡ Done us m_after
@@ -231,7 +235,7 @@ module _ (handles : List ℕ) (kinds taken : List Kind) (m : Flat) (s : Slots) (
           let word : pos (suc (length m.cells)) ∷ [] ≡ us = cc in
           let same : with_cell m (values ks zs) ≡ m_after = cc in (
             sym word ∙ ap (λ n. pos (suc n) ∷ []) (sym beside.cells.len),
-            subst (λ x. Beside (handles ++ h ∷ []) kinds taken x (changes.made s h ks (all_renamed handles ks zs))) same (new_beside h ks zs new names are),
+            subst (λ x. Beside (handles ++ h ∷ []) kinds taken x (changes.made s h ks (all_renamed handles ks zs))) same (new_beside h ks zs new less names are),
           )
       by true true false are e = cc
       by true false c are e = cc
@@ -251,6 +255,9 @@ module _ (handles : List ℕ) (kinds taken : List Kind) (m : Flat) (s : Slots) (
       h : ℕ
       h = get_or handles n 0
 
+      us : List ℤ
+      us = all_renamed handles ks zs
+
       after : Slots
       after = with_heap s (written_all s.heap h o (map (handled handles) (values ks zs)))
 
@@ -267,8 +274,11 @@ module _ (handles : List ℕ) (kinds taken : List Kind) (m : Flat) (s : Slots) (
           = changed_at (λ (d : Cell). record d { words = spliced o (values ks zs) d.words }) (change o (values ks zs)) m.cells n c there
           (ap (λ us. record c { words = us }) (spliced_is o (values ks zs) ws within)) in (
             after,
-            ap (λ vs. cell_stored s h o vs (words_at s.heap.cells h)) (values_handled handles ks zs are)
-                ∙ ap (cell_stored s h o (map (handled handles) (values ks zs))) (beside.cells.live n ws there),
+            ap (cell_stored s h o ks us) (beside.cells.live n ws there)
+                ∙ (ap (λ b. if b then Given (with_heap s (written_all s.heap h o (slot_values ks us))) else Broken)
+                (both_true (are_slot_words ks us) (have_kinds ks (drop o (map (handled handles) ws))) (words_fit handles ks zs beside.small are)
+                (kinds_stand handles ks o ws (second_of (nat_lt (o + length ks) most_offsets) (have_kinds ks (drop o ws)) fits)))
+                ∙ ap (λ vs. Given (with_heap s (written_all s.heap h o vs))) (values_handled handles ks zs are)),
             subst (λ x. Beside handles kinds taken x after) same (record {
               stack = beside.stack;
               known = beside.known;
@@ -285,6 +295,7 @@ module _ (handles : List ℕ) (kinds taken : List Kind) (m : Flat) (s : Slots) (
                   (all_follow handles n o (values ks zs) ws m.cells s.heap there (values_name (length handles) ks zs names) beside.cells);
               numbered = numbers_kept s.numbers handles m.cells (numbered.changed (λ (d : Cell). record d { words = spliced o (values ks zs) d.words }) m.cells n)
                   (changed_were (spliced o (values ks zs)) m.cells n) beside.numbered;
+              small = beside.small;
               names = beside.names;
               waiting_names = beside.waiting_names;
             }),

@@ -160,6 +160,7 @@ module _ (handles : List ℕ) (here taken : List Kind) (m : Flat) (s : Slots) wh
     rest = beside.rest;
     cells = beside.cells;
     numbered = beside.numbered;
+    small = beside.small;
     names = names_append (length handles) here ks m.stack t beside.known beside.names (numbers_named (length handles) ks t are);
     waiting_names = beside.waiting_names;
   }

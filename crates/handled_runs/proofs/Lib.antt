@@ -9,6 +9,7 @@ pub mod Words
 -- places, and what stands there
 pub mod Places
 pub mod Standing
+pub mod Fit
 -- memories without their marks
 pub mod Unmarked
 -- lists of words in which some are replaced

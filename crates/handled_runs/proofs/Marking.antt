@@ -1,5 +1,5 @@
 -- What a point moves is marked over numbers, and noted over a heap that uses its slots again.
-use Rattle.std.proofs.Common.{◌≡◌, refl, sym, ap, ◌∙◌, subst, ℕ, zero, suc, ◌+◌, ◌-◌, ◌≤◌, arith, Bool, true, false, ◌&&◌, nat_le, nat_lt, List, [], ◌∷◌, ◌++◌, map, take, drop, length, length-append, slice_get, Some, None, ℤ, pos, negsuc, if◌then◌else◌}
+use Rattle.std.proofs.Common.{◌≡◌, refl, sym, ap, ◌∙◌, subst, ℕ, zero, suc, ◌+◌, ◌-◌, ◌<◌, ◌≤◌, arith, Bool, true, false, ◌&&◌, nat_le, nat_lt, List, [], ◌∷◌, ◌++◌, map, take, drop, length, length-append, slice_get, Some, None, ℤ, pos, negsuc, if◌then◌else◌}
 use Rattle.std.specs.Prelude.{unsigned_abs, neg_ℤ}
 use Rattle.std.proofs.lemmas.Bool.Decides.{nat_tests}
 use Rattle.std.proofs.lemmas.List.{map-append, get_or_append_left}
@@ -15,6 +15,7 @@ use Rattle.slot_heap.specs.Heaps.{words_at as handle_words}
 use Rattle.numbered_cells.specs.Follows.{IsThere}
 use Rattle.run_codes.specs.Flat.{Flat, Got, Given, Stops, Broken, Traps, and_then, gone_from, most_cells, is_word, are_words, as_fresh, all_fresh, as_gone, all_gone, word_of, value_of, values, value_gone, values_gone, is_pointer, are_pointers, are_in, have_kinds, most_offsets, touched, with_words, with_cell, spliced, Spot, InStack, InCell, moved_out}
 use Rattle.run_codes.specs.Flat as flat
+use Rattle.handled_runs.specs.Fits.{most_handles}
 use Rattle.handled_runs.specs.Slots.{Slots, Move}
 use Rattle.handled_runs.specs.Changes.{moving, all_emptied, settled, emptied}
 use Rattle.handled_runs.specs.Changes as changes
@@ -260,6 +261,7 @@ moves_beside handles here taken m s moves is = record {
   rest = is.rest;
   cells = is.cells;
   numbered = is.numbered;
+  small = is.small;
   names = is.names;
   waiting_names = is.waiting_names;
 }
@@ -420,9 +422,9 @@ stands_more here a b (q ∷ ps) less stand = (stand_more here a b q.at q.kinds l
 
 -- The law on cells that are made.
 pub during_made : (handles : List ℕ) (here taken : List Kind) (m : Flat) (s : Slots) (h : ℕ) (ks : List Kind) (zs : List ℤ) → During handles here taken m s → handle_words s.heap.cells h ≡ None
-    → NameWords (length handles) ks zs → AreKept ks zs → are_words ks zs ≡ true
+    → h < most_handles → NameWords (length handles) ks zs → AreKept ks zs → are_words ks zs ≡ true
     → During (handles ++ h ∷ []) here taken (with_cell m (values ks zs)) (changes.made s h ks (all_renamed handles ks zs))
-during_made handles here taken m s h ks zs is new names kept are =
+during_made handles here taken m s h ks zs is new less names kept are =
     let un = is.unmarked in
     let vs : List Value = values ks zs in
     let long = length-append handles (h ∷ []) in record {
@@ -438,7 +440,7 @@ during_made handles here taken m s h ks zs is new names kept are =
         rest = un.rest;
       };
       kept = is.kept;
-      beside = new_beside handles here taken is.whole s is.beside h ks zs new names are;
+      beside = new_beside handles here taken is.whole s is.beside h ks zs new less names are;
       moves = is.moves;
       marked = marks_made is.moves is.whole m vs is.marked;
       noted = is.noted ∙ moves_on handles (h ∷ []) here is.moves is.stand;

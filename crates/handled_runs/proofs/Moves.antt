@@ -15,9 +15,11 @@ use Rattle.numbered_cells.specs.Follows.{handled, IsThere, Names, Follows}
 use Rattle.numbered_cells.proofs.Numbering.{follows-written}
 use Rattle.handled_runs.specs.Slots.{Slots}
 use Rattle.handled_runs.specs.Changes.{nulled, emptied, with_heap}
+use Rattle.handled_runs.specs.Changes as changes
 use Rattle.handled_runs.specs.Beside.{Beside}
 use Rattle.handled_runs.specs.Looks.{IsFront}
 use Rattle.handled_runs.proofs.Standing.{drop_map, kinds_front}
+use Rattle.handled_runs.proofs.Fit.{both_true, kinds_stand}
 use Rattle.handled_runs.proofs.Lists.{replaced, spliced_is}
 use Rattle.handled_runs.proofs.Sizes.{sizes_changed, spliced_long}
 use Rattle.handled_runs.proofs.Rows.{numbers_kept, changed_were}
@@ -247,7 +249,8 @@ module _ (handles : List ℕ) (kinds taken : List Kind) (m : Flat) (s : Slots) (
           = changed_at (λ (d : Cell). record d { words = spliced o (values_gone gone vs) d.words }) (all_moved o gone) m.cells n c there (ap (λ us. record { words = us; freed = false }) words) in
           let access : AreAccess o gone (map kind ws) = all_access ks o gone (map kind ws) (subst (IsFront ks) (sym (drop_map kind o ws)) (kinds_front ks (drop o ws) have)) pointers in (
             after,
-            refl,
+            ap (changes.cell_emptied s (get_or handles n 0) o ks gone) (beside.cells.live n ws there)
+                ∙ ap (λ b. if b then Given after else Broken) (both_true (are_pointers ks gone) (have_kinds ks (drop o (map (handled handles) ws))) pointers (kinds_stand handles ks o ws have)),
             subst (λ x. Beside handles kinds taken x after) same (record {
               stack = beside.stack;
               known = beside.known;
@@ -263,6 +266,7 @@ module _ (handles : List ℕ) (kinds taken : List Kind) (m : Flat) (s : Slots) (
               cells = subst (λ x. Follows handles x (nulled s.heap (get_or handles n 0) o gone)) (sym cells) (all_null handles n o gone ws m.cells s.heap there access beside.cells);
               numbered = numbers_kept s.numbers handles m.cells (numbered.changed (λ (d : Cell). record d { words = spliced o (values_gone gone vs) d.words }) m.cells n)
                   (changed_were (spliced o (values_gone gone vs)) m.cells n) beside.numbered;
+              small = beside.small;
               names = beside.names;
               waiting_names = beside.waiting_names;
             }),

@@ -7,12 +7,13 @@ use Rattle.machine.specs.Evaluate.{StorageError, heap_words}
 use Rattle.run_codes.specs.Flat.{Flat, Made, Done, Halted, Failed, Stop, Raises, Memory, made_then, are_words, values, with_cell, most_cells, repeated}
 use Rattle.run_codes.specs.Flat as flat
 use Rattle.handled_runs.specs.Slots.{Slots}
-use Rattle.handled_runs.specs.Values.{Outcome, Gives, Ends, Fails, Then, MakesCell, Makes}
+use Rattle.handled_runs.specs.Values.{Outcome, Gives, Ends, Fails, Then, MakesCell, MakesWhere, Makes}
 use Rattle.handled_runs.specs.Beside.{renamed, all_renamed, NameWords}
 use Rattle.handled_runs.specs.Looks.{AreKept}
 use Rattle.handled_runs.specs.Marks.{During}
 use Rattle.handled_runs.specs.Alike.{Alike, AreAlike, StopsAlike, kinds_repeated}
 use Rattle.handled_runs.proofs.Named.{long_renamed}
+use Rattle.handled_runs.proofs.Fit.{words_fit}
 use Rattle.handled_runs.proofs.Cells.{words_on, names_on}
 use Rattle.handled_runs.proofs.Marking.{during_made}
 use Rattle.handled_runs.proofs.Copies.{unmarked_long, silent_stops, stops_alike}
@@ -142,7 +143,7 @@ module _ (handles : List ℕ) (here taken : List Kind) (m : Flat) (s : Slots) (i
   pub cell_alike : (ks : List Kind) (zs : List ℤ) (r : Outcome) → length ks ≡ length zs → NameWords (length handles) ks zs → AreKept ks zs → Makes s ks (all_renamed handles ks zs) r
       → AreAlike handles here taken (sort.Access ∷ []) (flat.made m ks zs) r
   cell_alike ks zs r known names kept makes =
-      by (are_words ks zs) (nat_le (m.live + length zs) heap_words) (nat_lt (length m.cells) most_cells) r refl refl (subst (λ b. MakesCell b s ks (all_renamed handles ks zs) r) tests makes)
+      by (are_words ks zs) (nat_le (m.live + length zs) heap_words) (nat_lt (length m.cells) most_cells) r refl refl (told (are_words ks zs) refl)
     where
       us : List ℤ
       us = all_renamed handles ks zs
@@ -153,11 +154,21 @@ module _ (handles : List ℕ) (here taken : List Kind) (m : Flat) (s : Slots) (i
       numbers : nat_lt s.made most_cells ≡ nat_lt (length m.cells) most_cells
       numbers = ap (λ n. nat_lt n most_cells) (is.beside.made.0 ∙ unmarked_long is.whole.cells m.cells is.unmarked.cells)
 
-      by : (a b c : Bool) (r : Outcome) → are_words ks zs ≡ a → nat_lt (length m.cells) most_cells ≡ c → MakesCell b s ks (all_renamed handles ks zs) r
+      Told : Bool → Bool → Outcome → Type 0
+      Told true b r = MakesCell b s ks us r
+      Told false b r = Unit {0}
+
+      told : (a : Bool) → are_words ks zs ≡ a → Told a (nat_le (m.live + length zs) heap_words) r
+      told true are =
+          subst (λ b. MakesCell b s ks us r) tests
+          (subst (λ b. MakesWhere b (MakesCell (nat_le (s.live + length us) heap_words) s ks us r) r) (words_fit handles ks zs is.beside.small are) makes)
+      told false are = tt
+
+      by : (a b c : Bool) (r : Outcome) → are_words ks zs ≡ a → nat_lt (length m.cells) most_cells ≡ c → Told a b r
           → AreAlike handles here taken (sort.Access ∷ [])
           (if not a then Failed else (if b then (if c then Done (pos (suc (length m.cells)) ∷ []) (with_cell m (values ks zs)) else Halted Memory m) else Halted (Raises StorageError) m)) r
-      by true true true (Gives ws t) are room (h, new, word, made, few) =
-          let after = during_made handles here taken m s h ks zs is new names kept are in
+      by true true true (Gives ws t) are room (h, new, less, word, made, few) =
+          let after = during_made handles here taken m s h ks zs is new less names kept are in
           let long = length-append handles (h ∷ []) in
           let count : length handles ≡ length m.cells = is.beside.cells.len ∙ unmarked_long is.whole.cells m.cells is.unmarked.cells in record {
             more = h ∷ [];
@@ -169,7 +180,7 @@ module _ (handles : List ℕ) (here taken : List Kind) (m : Flat) (s : Slots) (i
           }
       by true true true (Ends x t) are room made = made.0
       by true true true Fails are room made = absurd made
-      by true true false (Gives ws t) are room (h, new, word, made, few) = absurd (true≢false (sym few ∙ (numbers ∙ room)))
+      by true true false (Gives ws t) are room (h, new, less, word, made, few) = absurd (true≢false (sym few ∙ (numbers ∙ room)))
       by true true false (Ends x t) are room made = inr (inl made.0)
       by true true false Fails are room made = absurd made
       by true false c r are room made = subst (StopsAlike handles here taken (Raises StorageError) m) (sym made) (stops_alike handles here taken m s is (Raises StorageError))

@@ -33,14 +33,16 @@ module _ (handles : List ℕ) (kinds taken : List Kind) (m : Flat) (s : Slots) (
 
   cell_gots : (o : ℕ) (z : ℤ) → IsKept z → GotsAlike (λ q r. r ≡ spot_renamed handles q) (flat.cell_spot m o (unsigned_abs z)) (slots.cell_spot s o (unsigned_abs (handle_word handles z)))
   cell_gots o (pos zero) kept = refl
-  cell_gots o (pos (suc n)) kept = by (nat_lt n most_cells && nat_lt o most_offsets)
+  cell_gots o (pos (suc n)) kept = by (nat_lt n most_cells) (nat_lt o most_offsets)
     where
-      by : (b : Bool)
-          → GotsAlike (λ q r. r ≡ spot_renamed handles q) (if b then touched (slice_get m.cells n) (λ (c : Cell). Given (InCell n o)) else Broken) (live_spot (words_at s.heap.cells (get_or handles n 0)) (get_or handles n 0) o)
-      by true =
+      by : (a b : Bool)
+          → GotsAlike (λ q r. r ≡ spot_renamed handles q) (if a && b then touched (slice_get m.cells n) (λ (c : Cell). Given (InCell n o)) else Broken)
+          (if b then live_spot (words_at s.heap.cells (get_or handles n 0)) (get_or handles n 0) o else Broken)
+      by true true =
           touched_gots (λ q r. r ≡ spot_renamed handles q) (slice_get m.cells n) (λ (c : Cell). Given (InCell n o)) (live_spot (words_at s.heap.cells (get_or handles n 0)) (get_or handles n 0) o)
           (λ ws there. subst (λ us. GotsAlike (λ q r. r ≡ spot_renamed handles q) (Given (InCell n o)) (live_spot us (get_or handles n 0) o)) (sym (beside.cells.live n ws there)) refl)
-      by false = tt
+      by true false = tt
+      by false b = tt
   cell_gots o (negsuc n) kept = absurd kept
 
   -- The law.

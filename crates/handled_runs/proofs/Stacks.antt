@@ -42,6 +42,7 @@ module _ (handles : List ℕ) (kinds taken : List Kind) (m : Flat) (s : Slots) (
         rest = beside.rest;
         cells = beside.cells;
         numbered = beside.numbered;
+        small = beside.small;
         names = subst (NameWords (length handles) kinds) (sym there) (replaced_names (length handles) n ks kinds zs m.stack is long names beside.names);
         waiting_names = beside.waiting_names;
       }
@@ -97,8 +98,9 @@ module _ (handles : List ℕ) (kinds taken : List Kind) (m : Flat) (s : Slots) (
           let fits = front_within ks n m.stack zs found less in
           let names = gone_named (length handles) gone ks zs pointers (front_names (length handles) ks (drop n kinds) (drop n m.stack) zs is found (drop_names n kinds m.stack beside.names)) in (
             changes.with_stack s (spliced n us s.stack),
-            ap (λ g. and_then g (λ all. Given (changes.with_stack s (spliced n (all_null gone all) s.stack)))) read
-                ∙ ap (λ all. Given (changes.with_stack s (spliced n all s.stack))) (all_nulled handles gone ks zs pointers),
+            ap (λ b. if b then and_then (slots.front ks (drop n s.stack)) (λ all. Given (changes.with_stack s (spliced n (all_null gone all) s.stack))) else Broken) pointers
+                ∙ (ap (λ g. and_then g (λ all. Given (changes.with_stack s (spliced n (all_null gone all) s.stack)))) read
+                ∙ ap (λ all. Given (changes.with_stack s (spliced n all s.stack))) (all_nulled handles gone ks zs pointers)),
             subst (λ x. IsBeside x (changes.with_stack s (spliced n us s.stack))) same
                 (spliced_beside n ks (all_gone gone zs) is long (omega (arith, count, fits)) names),
           )

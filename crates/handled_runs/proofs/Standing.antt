@@ -81,7 +81,7 @@ words_renamed handles [] = refl
 words_renamed handles (v ∷ ws) =
     ap (λ z. z ∷ map slot_word (map (handled handles) ws)) (value_renamed handles v) ∙ ap (λ zs. renamed handles (kind v) (word_of v) ∷ zs) (words_renamed handles ws)
 
-kinds_handled : (handles : List ℕ) (ks : List Kind) (ws : List Value) → have_kinds ks (map (handled handles) ws) ≡ have_kinds ks ws
+pub kinds_handled : (handles : List ℕ) (ks : List Kind) (ws : List Value) → have_kinds ks (map (handled handles) ws) ≡ have_kinds ks ws
 kinds_handled handles [] ws = refl
 kinds_handled handles (k ∷ ks) [] = refl
 kinds_handled handles (k ∷ ks) (v ∷ ws) =

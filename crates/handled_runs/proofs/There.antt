@@ -11,6 +11,7 @@ use Rattle.run_codes.specs.Flat as flat
 use Rattle.handled_runs.specs.Slots.{Slots}
 use Rattle.handled_runs.specs.Slots as slots
 use Rattle.handled_runs.specs.Changes.{cell_stored, stored, emptied}
+use Rattle.handled_runs.specs.Changes as changes
 use Rattle.handled_runs.specs.Beside.{IsSilent, GotsAlike, all_renamed, spot_renamed, NameWords, Beside}
 use Rattle.handled_runs.specs.Looks.{AreKept}
 use Rattle.handled_runs.specs.Alike.{StandAt}
@@ -182,7 +183,7 @@ module _ (handles : List ℕ) (here taken : List Kind) (m : Flat) (s : Slots) (b
   there_emptied (InCell i o) [] [] n stand e =
       let there = there_of (slice_get m.cells i) (λ (d : Cell). if are_in o [] d then Given (with_words m i o []) else Broken) n e in
       let same : with_words m i o [] ≡ n = by there.0 (are_in o [] (record { words = there.0; freed = false })) (sym (ap (λ x. touched x (λ (d : Cell). if are_in o [] d then Given (with_words m i o []) else Broken)) there.1) ∙ e) in
-      (s, refl, subst (λ x. Beside handles here taken x s) same (none_beside i o))
+      (s, ap (changes.cell_emptied s (get_or handles i 0) o [] []) (beside.cells.live i there.0 there.1), subst (λ x. Beside handles here taken x s) same (none_beside i o))
     where
       by : (ws : List Value) (b : Bool) → (if b then Given (with_words m i o []) else Broken) ≡ Given n → with_words m i o [] ≡ n
       by ws true f = cc
@@ -210,7 +211,7 @@ module _ (handles : List ℕ) (here taken : List Kind) (m : Flat) (s : Slots) (b
   there_stored (InCell i o) [] [] n stand long names e =
       let there = there_of (slice_get m.cells i) (λ (d : Cell). if are_in o [] d then Given (with_words m i o []) else Broken) n e in
       let same : with_words m i o [] ≡ n = by there.0 (are_in o [] (record { words = there.0; freed = false })) (sym (ap (λ x. touched x (λ (d : Cell). if are_in o [] d then Given (with_words m i o []) else Broken)) there.1) ∙ e) in
-      (s, ap (cell_stored s (get_or handles i 0) o []) (beside.cells.live i there.0 there.1), subst (λ x. Beside handles here taken x s) same (none_beside i o))
+      (s, ap (cell_stored s (get_or handles i 0) o [] []) (beside.cells.live i there.0 there.1), subst (λ x. Beside handles here taken x s) same (none_beside i o))
     where
       by : (ws : List Value) (b : Bool) → (if b then Given (with_words m i o []) else Broken) ≡ Given n → with_words m i o [] ≡ n
       by ws true f = cc

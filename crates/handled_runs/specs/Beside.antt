@@ -6,6 +6,7 @@ use Rattle.run_values.specs.declared.value.Kind.TheVariants as sort
 use Rattle.run_codes.specs.Flat.{Flat, Got, Given, Stops, Broken, Stop, Raises, Traps, Memory, Spot, InStack, InCell}
 use Rattle.reuse_heap.specs.Cells.{Cell}
 use Rattle.numbered_cells.specs.Follows.{IsThere, Follows}
+use Rattle.handled_runs.specs.Fits.{AreSmall}
 use Rattle.handled_runs.specs.Slots.{Slots}
 
 -- An access value with the handle of its number, and null where it is gone.
@@ -91,6 +92,7 @@ pub record Beside (handles : List ℕ) (kinds taken : List Kind) (m : Flat) (s :
   pub rest : s.rest ≡ m.rest
   pub cells : Follows handles m.cells s.heap
   pub numbered : Numbers s.numbers handles m.cells
+  pub small : AreSmall handles
   -- access values name cells that were made
   pub names : NameWords (length handles) kinds m.stack
   pub waiting_names : NameWords (length handles) taken m.waits

@@ -1,12 +1,13 @@
 -- What changes in words over a heap that uses its slots again.
-use Rattle.std.specs.Prelude.{ℕ, zero, suc, ◌+◌, ◌-◌, ◌==◌, List, [], ◌∷◌, ◌++◌, drop, length, nat_le, Option, Some, None, ℤ, pos, unsigned_abs, if◌then◌else◌}
+use Rattle.std.specs.Prelude.{ℕ, zero, suc, ◌+◌, ◌-◌, ◌==◌, ◌&&◌, List, [], ◌∷◌, ◌++◌, drop, length, nat_le, Option, Some, None, ℤ, pos, unsigned_abs, if◌then◌else◌}
 use Rattle.run_values.specs.declared.value.Value.{Value}
 use Rattle.run_values.specs.declared.value.Value.TheVariants as value
 use Rattle.run_values.specs.declared.value.Kind.{Kind}
 use Rattle.run_values.specs.declared.value.Kind.TheVariants as sort
 use Rattle.machine.specs.Memory.{Peak, at_number, greatest}
 use Rattle.slot_heap.specs.Heaps.{Heap, words_at, live_count, allocated, written, released}
-use Rattle.run_codes.specs.Flat.{Got, Given, Broken, and_then, spliced, Spot, InStack, InCell}
+use Rattle.run_codes.specs.Flat.{Got, Given, Broken, and_then, spliced, have_kinds, are_pointers, Spot, InStack, InCell}
+use Rattle.handled_runs.specs.Fits.{are_slot_words}
 use Rattle.handled_runs.specs.Slots.{Move, Slots, front}
 
 abbrev pub with_stack : Slots → List ℤ → Slots
@@ -37,13 +38,15 @@ abbrev pub written_all : Heap → ℕ → ℕ → List Value → Heap
 written_all m h o [] = m
 written_all m h o (v ∷ vs) = written_all (written m h o v) h (suc o) vs
 
-abbrev pub cell_stored : Slots → ℕ → ℕ → List Value → Option (List Value) → Got Slots
-cell_stored s h o vs None = Broken
-cell_stored s h o vs (Some ws) = Given (with_heap s (written_all s.heap h o vs))
+-- Words of these kinds are stored where such words stand.
+abbrev pub cell_stored : Slots → ℕ → ℕ → List Kind → List ℤ → Option (List Value) → Got Slots
+cell_stored s h o ks zs None = Broken
+cell_stored s h o ks zs (Some ws) =
+    if are_slot_words ks zs && have_kinds ks (drop o ws) then Given (with_heap s (written_all s.heap h o (slot_values ks zs))) else Broken
 
 abbrev pub stored : Slots → Spot → List Kind → List ℤ → Got Slots
 stored s (InStack n) ks zs = if nat_le (n + length zs) (length s.stack) then Given (with_stack s (spliced n zs s.stack)) else Broken
-stored s (InCell h o) ks zs = cell_stored s h o (slot_values ks zs) (words_at s.heap.cells h)
+stored s (InCell h o) ks zs = cell_stored s h o ks zs (words_at s.heap.cells h)
 
 -- ---- what is moved
 
@@ -56,10 +59,16 @@ abbrev pub nulled : Heap → ℕ → ℕ → List ℕ → Heap
 nulled m h o [] = m
 nulled m h o (g ∷ gone) = nulled (written m h (o + g) value.Null) h o gone
 
+abbrev pub cell_emptied : Slots → ℕ → ℕ → List Kind → List ℕ → Option (List Value) → Got Slots
+cell_emptied s h o ks gone None = Broken
+cell_emptied s h o ks gone (Some ws) =
+    if are_pointers ks gone && have_kinds ks (drop o ws) then Given (with_heap s (nulled s.heap h o gone)) else Broken
+
 -- The access values at some offsets from a spot, where words of these kinds stand, are null.
 abbrev pub emptied : Slots → Spot → List Kind → List ℕ → Got Slots
-emptied s (InStack n) ks gone = and_then (front ks (drop n s.stack)) (λ zs. Given (with_stack s (spliced n (all_null gone zs) s.stack)))
-emptied s (InCell h o) ks gone = Given (with_heap s (nulled s.heap h o gone))
+emptied s (InStack n) ks gone =
+    if are_pointers ks gone then and_then (front ks (drop n s.stack)) (λ zs. Given (with_stack s (spliced n (all_null gone zs) s.stack))) else Broken
+emptied s (InCell h o) ks gone = cell_emptied s h o ks gone (words_at s.heap.cells h)
 
 -- It is noted first.
 abbrev pub moving : Slots → Spot → List Kind → List ℕ → Slots

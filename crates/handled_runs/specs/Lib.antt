@@ -1,4 +1,5 @@
 -- words over a heap that uses its slots again, and what changes there
+pub mod Fits
 pub mod Slots
 pub mod Changes
 -- how they follow those over numbers

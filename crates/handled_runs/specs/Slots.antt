@@ -3,7 +3,7 @@
 -- A word is a value of Integer, a position, or an access value: 0 for null, and else the handle of a cell and 1. A
 -- place that an access value was moved from holds null. What a point moves is noted until its last check is made: so
 -- it reads what stood there before, and one that stops has nothing to put back.
-use Rattle.std.specs.Prelude.{ℕ, zero, suc, ◌+◌, not, List, [], ◌∷◌, drop, length, map, slice_get, nat_le, Option, Some, None, ℤ, pos, unsigned_abs, if◌then◌else◌}
+use Rattle.std.specs.Prelude.{ℕ, zero, suc, ◌+◌, not, List, [], ◌∷◌, drop, length, map, slice_get, nat_lt, nat_le, Option, Some, None, ℤ, pos, unsigned_abs, if◌then◌else◌}
 use Rattle.run_values.specs.declared.value.Value.{Value}
 use Rattle.run_values.specs.declared.value.Value.TheVariants as value
 use Rattle.run_values.specs.declared.value.Kind.{Kind}
@@ -12,7 +12,7 @@ use Rattle.run_values.specs.Items.{at_end}
 use Rattle.machine.specs.Memory.{Peak}
 use Rattle.slot_heap.specs.Heaps.{Heap, word_at, words_at}
 use Rattle.run_codes.specs.Codes.{Code, Number, Local, Global, Via, Scaled, Plus, Unary, Binary, Short, IsNull, Waiting, EndOfFile, Nothing, Place, InFrame, InPackages, Behind}
-use Rattle.run_codes.specs.Flat.{Got, Given, Stops, Broken, and_then, found, same_kind, have_kinds, constraint, truth, is_zero, operated, operated_alone, decides, offset, scaled, Spot, InStack, InCell}
+use Rattle.run_codes.specs.Flat.{Got, Given, Stops, Broken, and_then, found, same_kind, have_kinds, most_offsets, constraint, truth, is_zero, operated, operated_alone, decides, offset, scaled, Spot, InStack, InCell}
 
 -- Words of these kinds stand at a spot, and the access values at some offsets are moved from there.
 pub record Move : Type 0 where
@@ -93,7 +93,7 @@ live_spot (Some ws) h o = Given (InCell h o)
 -- A cell is named by its handle.
 abbrev pub cell_spot : Slots → ℕ → ℕ → Got Spot
 cell_spot s o zero = Stops constraint
-cell_spot s o (suc h) = live_spot (words_at s.heap.cells h) h o
+cell_spot s o (suc h) = if nat_lt o most_offsets then live_spot (words_at s.heap.cells h) h o else Broken
 
 abbrev pub stack_spot : Slots → ℕ → Got Spot
 stack_spot s n = if nat_le n (length s.stack) then Given (InStack n) else Broken

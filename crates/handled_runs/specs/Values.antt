@@ -2,7 +2,7 @@
 --
 -- Which handle a new cell gets, and whether there is memory for it, the heap decides. So this says of each outcome
 -- whether it may come.
-use Rattle.std.specs.Prelude.{◌≡◌, ℕ, suc, ◌+◌, Bool, true, false, List, [], ◌∷◌, ◌++◌, drop, length, nat_le, nat_lt, None, ℤ, pos}
+use Rattle.std.specs.Prelude.{◌≡◌, ◌<◌, ℕ, suc, ◌+◌, Bool, true, false, List, [], ◌∷◌, ◌++◌, drop, length, nat_le, nat_lt, None, ℤ, pos}
 use Rattle.type_definitions.specs.Types.{Table}
 use Rattle.run_values.specs.declared.value.Kind.{Kind}
 use Rattle.run_values.specs.declared.value.Kind.TheVariants as sort
@@ -11,6 +11,7 @@ use Rattle.machine.specs.Evaluate.{StorageError, heap_words}
 use Rattle.slot_heap.specs.Heaps.{words_at}
 use Rattle.run_codes.specs.Codes.{Fill, Checked, Pointer, MovedPointer, Copied, Moved, Waited, New, Default, Repeated, Both, Empty}
 use Rattle.run_codes.specs.Flat.{Got, Given, Stops, Broken, Stop, Spot, Raises, Memory, and_then, most_cells, kinds, checked, default_words, repeated, some_words}
+use Rattle.handled_runs.specs.Fits.{most_handles, are_slot_words}
 use Rattle.handled_runs.specs.Slots.{Slots, word, spot, held}
 use Rattle.handled_runs.specs.Changes.{moving, made}
 
@@ -35,13 +36,18 @@ Then Fails P r = r ≡ Fails
 -- A new cell, where there is room for it, and a number. It has a handle that no cell has.
 abbrev pub MakesCell : Bool → Slots → List Kind → List ℤ → Outcome → Type 0
 MakesCell true s ks zs (Gives us t) =
-    (h : ℕ) × (words_at s.heap.cells h ≡ None) × (us ≡ pos (suc h) ∷ []) × (t ≡ made s h ks zs) × (nat_lt s.made most_cells ≡ true)
+    (h : ℕ) × (words_at s.heap.cells h ≡ None) × (h < most_handles) × (us ≡ pos (suc h) ∷ []) × (t ≡ made s h ks zs) × (nat_lt s.made most_cells ≡ true)
 MakesCell true s ks zs (Ends x t) = (x ≡ Memory) × (t ≡ s)
 MakesCell true s ks zs Fails = ⊥
 MakesCell false s ks zs r = r ≡ Ends (Raises StorageError) s
 
+-- So it is where the words are of these kinds.
+abbrev pub MakesWhere : Bool → Type 0 → Outcome → Type 0
+MakesWhere true P r = P
+MakesWhere false P r = r ≡ Fails
+
 abbrev pub Makes : Slots → List Kind → List ℤ → Outcome → Type 0
-Makes s ks zs r = MakesCell (nat_le (s.live + length zs) heap_words) s ks zs r
+Makes s ks zs r = MakesWhere (are_slot_words ks zs) (MakesCell (nat_le (s.live + length zs) heap_words) s ks zs r) r
 
 -- What stands at a place of these kinds, and what is moved from there.
 abbrev pub copies : Slots → Got Spot → List Kind → Outcome

@@ -129,6 +129,7 @@ cleared_beside handles here taken m s is = record {
   rest = is.rest;
   cells = follows_cleared handles m.cells s.heap is.cells;
   numbered = λ n us there. (let was = was_there m.cells n us there in is.numbered n was.0 was.1);
+  small = is.small;
   names = words_name (length handles) here m.stack is.names;
   waiting_names = is.waiting_names;
 }

@@ -68,7 +68,7 @@ module _ (table : Table) (handles : List ℕ) (here taken : List Kind) (base : �
   back_made : IsMade handles m s
   back_made =
       let cells : back.0.cells ≡ m.cells = ap (λ (y : Flat). y.cells) back.1.same in
-      ((back.2.made.0 ∙ ap length cells, back.2.made.1 ∙ ap sizes_of cells), back.2.cells.len ∙ ap length cells)
+      ((back.2.made.0 ∙ ap length cells, back.2.made.1 ∙ ap sizes_of cells), back.2.cells.len ∙ ap length cells, back.2.small)
 
 module _ (handles : List ℕ) (here : List Kind) (z : Both handles here) where
   abbrev t : points.Turn

@@ -39,6 +39,7 @@ module _ (handles : List ℕ) (here taken : List Kind) (m : Flat) (s : Slots) (b
         rest = beside.rest;
         cells = beside.cells;
         numbered = beside.numbered;
+        small = beside.small;
         names = names_append (length handles) here ks m.stack new beside.known beside.names (numbers_named (length handles) ks new are);
         waiting_names = beside.waiting_names;
       }
@@ -55,6 +56,7 @@ module _ (handles : List ℕ) (here taken : List Kind) (m : Flat) (s : Slots) (b
     rest = beside.rest;
     cells = beside.cells;
     numbered = beside.numbered;
+    small = beside.small;
     names = take_named (length handles) n here m.stack beside.names;
     waiting_names = beside.waiting_names;
   }

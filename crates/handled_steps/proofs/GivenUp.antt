@@ -13,6 +13,7 @@ use Rattle.numbered_cells.specs.Follows.{handled, IsThere, Names, AllName, there
 use Rattle.handled_runs.specs.Slots.{Slots}
 use Rattle.handled_runs.specs.Marks.{During}
 use Rattle.handled_runs.proofs.Copies.{unmarked_long}
+use Rattle.handled_runs.specs.Fits.{AreSmall}
 use Rattle.handled_runs.specs.Beside.{Numbers, sizes_of, AreMade, Beside}
 use Rattle.handled_runs.proofs.Sizes.{sizes_unmarked}
 use Rattle.handled_runs.proofs.Standing.{drop_map}
@@ -127,15 +128,15 @@ module _ (handles added : List ℕ) (cells gone : List Cell) (m : Heap) (slots :
 
 -- As many cells were made over both, and each has a handle.
 abbrev pub IsMade : List ℕ → Flat → Slots → Type 0
-IsMade hs m s = AreMade s m × (length hs ≡ length m.cells)
+IsMade hs m s = AreMade s m × (length hs ≡ length m.cells) × AreSmall hs
 
 pub beside_made : (hs : List ℕ) (here taken : List Kind) (m : Flat) (s : Slots) → Beside hs here taken m s → IsMade hs m s
-beside_made hs here taken m s is = (is.made, is.cells.len)
+beside_made hs here taken m s is = (is.made, is.cells.len, is.small)
 
 pub during_made : (hs : List ℕ) (here taken : List Kind) (m : Flat) (s : Slots) → During hs here taken m s → IsMade hs m s
 during_made hs here taken m s is =
     let long = unmarked_long is.whole.cells m.cells is.unmarked.cells in
-    ((is.beside.made.0 ∙ long, is.beside.made.1 ∙ sizes_unmarked is.whole.cells m.cells is.unmarked.cells), is.beside.cells.len ∙ long)
+    ((is.beside.made.0 ∙ long, is.beside.made.1 ∙ sizes_unmarked is.whole.cells m.cells is.unmarked.cells), is.beside.cells.len ∙ long, is.beside.small)
 
 long_drop : {A : Type 0} (n : ℕ) (xs : List A) → n ≤ length xs → n + length (drop n xs) ≡ length xs
 long_drop zero xs less = omega arith
@@ -186,6 +187,7 @@ module _ (handles more : List ℕ) (here taken : List Kind) (before : Flat) (old
     rest = beside.rest;
     cells = given_follows handles more before.cells gone old.heap s.heap.slots beside.cells (after.1 ∙ sym all_long);
     numbered = row;
+    small = after.2;
     names = names_on handles more here before.stack beside.names;
     waiting_names = names_on handles more taken before.waits beside.waiting_names;
   }

@@ -1,5 +1,5 @@
 -- What changes over the heap keeps, of counts of cells and slots.
-use Rattle.std.proofs.Common.{◌≡◌, refl, sym, subst, ℕ, zero, suc, ◌+◌, Bool, true, false, nat_le, List, [], ◌∷◌, ◌++◌, drop, length, Option, Some, None, ℤ, pos, if◌then◌else◌}
+use Rattle.std.proofs.Common.{◌≡◌, refl, sym, subst, ℕ, zero, suc, ◌+◌, ◌&&◌, Bool, true, false, nat_le, List, [], ◌∷◌, ◌++◌, drop, length, Option, Some, None, ℤ, pos, if◌then◌else◌}
 use Rattle.std.specs.Prelude.{unsigned_abs}
 use Rattle.spark_base.specs.declared.position.Pos.{Pos}
 use Rattle.type_definitions.specs.Types.{Table}
@@ -13,13 +13,14 @@ use Rattle.machine.specs.States.{Leak}
 use Rattle.machine.specs.Memory.{Peak}
 use Rattle.slot_heap.specs.Heaps.{Heap, words_at, written, allocated, released as freed}
 use Rattle.run_codes.specs.Codes.{Place, Fill, Checked, Pointer, MovedPointer, Copied, Moved, Waited, New, Default, Repeated, Both, Empty}
-use Rattle.run_codes.specs.Flat.{Got, Given, Stops, Broken, and_then, checked, some_words, repeated, kinds, spliced, Spot, InStack, InCell}
+use Rattle.run_codes.specs.Flat.{Got, Given, Stops, Broken, and_then, checked, some_words, repeated, kinds, spliced, have_kinds, are_pointers, Spot, InStack, InCell}
+use Rattle.handled_runs.specs.Fits.{are_slot_words}
 use Rattle.handled_runs.specs.Slots.{Move, Slots, word, spot, held, front}
-use Rattle.handled_runs.specs.Changes.{slot_values, written_all, cell_stored, stored, nulled, emptied, all_null, with_peak, without_cell, with_stack, moving, all_emptied, settled}
+use Rattle.handled_runs.specs.Changes.{slot_values, written_all, cell_stored, stored, nulled, cell_emptied, emptied, all_null, with_peak, without_cell, with_stack, moving, all_emptied, settled}
 use Rattle.handled_runs.specs.Leaks.{leaks_at}
 use Rattle.handled_runs.specs.Assigned.{Left, checked_at, assigned}
 use Rattle.handled_runs.specs.Released.{cell_at, named, released_at, released}
-use Rattle.handled_runs.specs.Values.{Outcome, Gives, Ends, Fails, reads, moves, Then, MakesCell, Makes, Fills}
+use Rattle.handled_runs.specs.Values.{Outcome, Gives, Ends, Fails, reads, moves, Then, MakesCell, MakesWhere, Makes, Fills}
 use Rattle.handled_steps.specs.States.{Outcome as Stepped, Goes, Ends as Ended, Wants, Fails as Failed}
 
 -- ---- what is kept
@@ -82,9 +83,17 @@ module _ (K : Heap → List Peak → List ℕ → Type 0) (writes : (m : Heap) (
   given_keeps s t keeps e = let same : s ≡ t = cc in subst Holds same keeps
 
   module _ (s : Slots) (keeps : Holds s) where
-    cell_keeps : (h o : ℕ) (vs : List Value) (x : Option (List Value)) → GivesHeld (cell_stored s h o vs x)
-    cell_keeps h o vs None t e = cc
-    cell_keeps h o vs (Some ws) t e = given_keeps (record s { heap = written_all s.heap h o vs }) t (written_keeps s.heap s.peaks s.sizes h o vs keeps) e
+    if_keeps : (b : Bool) (g : Got Slots) → GivesHeld g → GivesHeld (if b then g else Broken)
+    if_keeps true g on t e = on t e
+    if_keeps false g on t e = cc
+
+    heap_keeps : (b : Bool) (heap : Heap) → K heap s.peaks s.sizes → GivesHeld (if b then Given (record s { heap = heap }) else Broken)
+    heap_keeps b heap kept = if_keeps b (Given (record s { heap = heap })) (λ t e. given_keeps (record s { heap = heap }) t kept e)
+
+    cell_keeps : (h o : ℕ) (ks : List Kind) (zs : List ℤ) (x : Option (List Value)) → GivesHeld (cell_stored s h o ks zs x)
+    cell_keeps h o ks zs None t e = cc
+    cell_keeps h o ks zs (Some ws) t e =
+        heap_keeps (are_slot_words ks zs && have_kinds ks (drop o ws)) (written_all s.heap h o (slot_values ks zs)) (written_keeps s.heap s.peaks s.sizes h o (slot_values ks zs) keeps) t e
 
     stack_keeps : (zs : List ℤ) (b : Bool) → GivesHeld (if b then Given (with_stack s zs) else Broken)
     stack_keeps zs true t e = given_keeps (with_stack s zs) t keeps e
@@ -92,16 +101,22 @@ module _ (K : Heap → List Peak → List ℕ → Type 0) (writes : (m : Heap) (
 
     pub stored_keeps : (q : Spot) (ks : List Kind) (zs : List ℤ) → GivesHeld (stored s q ks zs)
     stored_keeps (InStack n) ks zs = stack_keeps (spliced n zs s.stack) (nat_le (n + length zs) (length s.stack))
-    stored_keeps (InCell h o) ks zs = cell_keeps h o (slot_values ks zs) (words_at s.heap.cells h)
+    stored_keeps (InCell h o) ks zs = cell_keeps h o ks zs (words_at s.heap.cells h)
 
     front_keeps : (n : ℕ) (gone : List ℕ) (g : Got (List ℤ)) → GivesHeld (and_then g (λ zs. Given (with_stack s (spliced n (all_null gone zs) s.stack))))
     front_keeps n gone (Given zs) t e = given_keeps (with_stack s (spliced n (all_null gone zs) s.stack)) t keeps e
     front_keeps n gone (Stops x) t e = cc
     front_keeps n gone Broken t e = cc
 
+    nulls_keep : (h o : ℕ) (ks : List Kind) (gone : List ℕ) (x : Option (List Value)) → GivesHeld (cell_emptied s h o ks gone x)
+    nulls_keep h o ks gone None t e = cc
+    nulls_keep h o ks gone (Some ws) t e =
+        heap_keeps (are_pointers ks gone && have_kinds ks (drop o ws)) (nulled s.heap h o gone) (nulled_keeps s.heap s.peaks s.sizes h o gone keeps) t e
+
     emptied_keeps : (q : Spot) (ks : List Kind) (gone : List ℕ) → GivesHeld (emptied s q ks gone)
-    emptied_keeps (InStack n) ks gone = front_keeps n gone (front ks (drop n s.stack))
-    emptied_keeps (InCell h o) ks gone = λ t e. given_keeps (record s { heap = nulled s.heap h o gone }) t (nulled_keeps s.heap s.peaks s.sizes h o gone keeps) e
+    emptied_keeps (InStack n) ks gone =
+        if_keeps (are_pointers ks gone) (and_then (front ks (drop n s.stack)) (λ zs. Given (with_stack s (spliced n (all_null gone zs) s.stack)))) (front_keeps n gone (front ks (drop n s.stack)))
+    emptied_keeps (InCell h o) ks gone = nulls_keep h o ks gone (words_at s.heap.cells h)
 
   all_keeps : (qs : List Move) (s : Slots) → Holds s → (t : Slots) → all_emptied qs s ≡ Given t → Holds t
   all_keeps [] s keeps t e = let same : s ≡ t = cc in subst Holds same keeps
@@ -143,10 +158,14 @@ module _ (before : Slots) (z : Keeping before) where
   then_keep Fails r P keeps so on = subst FillsMid (sym so) tt
 
   cell_makes : (b : Bool) (s : Slots) (ks : List Kind) (zs : List ℤ) (r : Outcome) → Mid z s → MakesCell b s ks zs r → FillsMid r
-  cell_makes true s ks zs (Gives us t) keeps (h, new, word, is, few) = subst (Mid z) (sym is) (z.makes s.heap s.peaks s.sizes h (slot_values ks zs) keeps)
+  cell_makes true s ks zs (Gives us t) keeps (h, new, less, word, is, few) = subst (Mid z) (sym is) (z.makes s.heap s.peaks s.sizes h (slot_values ks zs) keeps)
   cell_makes true s ks zs (Ends x t) keeps is = subst (Mid z) (sym is.1) keeps
   cell_makes true s ks zs Fails keeps is = tt
   cell_makes false s ks zs r keeps is = subst FillsMid (sym is) keeps
+
+  where_makes : (b : Bool) (P : Type 0) (r : Outcome) → MakesWhere b P r → (P → FillsMid r) → FillsMid r
+  where_makes true P r makes on = on makes
+  where_makes false P r makes on = subst FillsMid (sym makes) tt
 
   moves_keep : (s : Slots) → Mid z s → (g : Got Spot) (ks : List Kind) (gone : List ℕ) → FillsMid (moves s g ks gone)
   moves_keep s keeps g ks gone =
@@ -165,7 +184,9 @@ module _ (before : Slots) (z : Keeping before) where
   fill_mid table (Waited at n) s r keeps so = subst FillsMid (sym so) (reads_keep s keeps (some_words n (drop at s.waits)) (λ zs. Gives zs s) (λ zs e. keeps))
   fill_mid table (New v of) s r keeps (g, fills, so) =
       then_keep g r (λ zs t. Makes t (kinds table of) zs r) (fill_mid table v s g keeps fills) so
-      (λ zs t kept makes. cell_makes (nat_le (t.live + length zs) heap_words) t (kinds table of) zs r kept makes)
+      (λ zs t kept makes.
+      where_makes (are_slot_words (kinds table of) zs) (MakesCell (nat_le (t.live + length zs) heap_words) t (kinds table of) zs r) r makes
+      (cell_makes (nat_le (t.live + length zs) heap_words) t (kinds table of) zs r kept))
   fill_mid table (Default of) s r keeps so = subst FillsMid (sym so) keeps
   fill_mid table (Repeated v n) s r keeps (g, fills, so) =
       then_keep g r (λ zs t. r ≡ Gives (repeated n zs) t) (fill_mid table v s g keeps fills) so (λ zs t kept is. subst FillsMid (sym is) kept)

@@ -1,5 +1,5 @@
 -- The laws: whole runs are alike over both heaps, and what they give is the same.
-use Rattle.std.proofs.Common.{◌≡◌, refl, sym, ap, ◌∙◌, subst, ℕ, ◌+◌, Bool, true, false, nat_le, List, [], ◌∷◌, ◌++◌, length, Option, Some, None, if◌then◌else◌}
+use Rattle.std.proofs.Common.{◌≡◌, refl, sym, ap, ◌∙◌, subst, ℕ, ◌+◌, arith, Bool, true, false, nat_le, List, [], ◌∷◌, ◌++◌, length, Option, Some, None, if◌then◌else◌}
 use mathlib.Core.Logic.{◌⊎◌, inl, inr}
 use Rattle.spark_base.specs.declared.position.Pos.{Pos}
 use Rattle.type_definitions.specs.Types.{Table}
@@ -41,6 +41,7 @@ none_beside = record {
   rest = refl;
   cells = follows-none;
   numbered = λ n ws there. cc;
+  small = λ n. omega arith;
   names = tt;
   waiting_names = tt;
 }

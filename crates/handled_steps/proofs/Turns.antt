@@ -190,6 +190,7 @@ module _ (handles : List ℕ) (here : List Kind) (z : Both handles here) where
         rest = ap (λ n. drop n z.input) z.states.at;
         cells = is.cells;
         numbered = is.numbered;
+        small = is.small;
         names = is.names;
         waiting_names = held_names z.table handles (points.taken flat_turn) (taken slot_turn) taken_alike;
       }

@@ -1,8 +1,9 @@
 //! Programs that are laid out: the points of each subprogram, with the types, objects and scopes of
 //! the program.
 //!
-//! `Laid` keeps that its parts are the layout of a program that breaks no sentence on types and is
-//! within the limits (`specs/Layouts.antt`; `docs/FLOW.md`, "Points"). What is asked of control
+//! `Laid` keeps that its parts are the layout of the program of some files that break no rule of
+//! names and no sentence on types, and that it is within the limits (`specs/Layouts.antt`;
+//! `docs/FLOW.md`, "Points"). The files are the trees of texts. What is asked of control
 //! paths, effects, actuals and views is asked of it.
 #![tactic(auto)]
 

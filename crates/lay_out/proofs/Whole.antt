@@ -2,6 +2,7 @@
 use Rattle.std.proofs.Common.{◌≡◌, ℕ, List, [], ◌∷◌, ◌++◌, map, refl, sym, ap, ◌∙◌, Option, Some, None}
 use Rattle.spark_base.specs.declared.position.Pos.{Pos}
 use Rattle.ada_tree.specs.declared.unit.SourceUnit.{SourceUnit}
+use Rattle.source_trees.specs.Trees.{AreNamed}
 use Rattle.type_definitions.specs.Types.{Table}
 use Rattle.typing_steps.specs.Programs.{program_of}
 use Rattle.typed_tree.specs.declared.object.Object.{Object}
@@ -96,10 +97,13 @@ module _ (typed : Typed) (table : Table) (parts : ProgramParts) (objects : List 
       (objects_are ∙ ap (λ (q : ProgramParts). q.objects ++ map waiting_object made.types.items) parts_are)
 
   pub is_layout : lay_fault (flow_program typed.table (source typed)) ≡ None
-      → (files : List (List SourceUnit)) → IsTyped files typed.table (parts_of typed)
+      → (files : List (List SourceUnit)) → IsTyped files typed.table (parts_of typed) → AreNamed files
       → IsLayout (program_with table parts.rows objects parts.scopes made.subs parts.main)
-  is_layout none files is = record {
+  is_layout none files is named = record {
+    trees = files;
+    named = named;
     code = program_of files;
+    meant = refl;
     no_fault = is.no_fault;
     types = table_is ∙ is.types;
     source = source typed;

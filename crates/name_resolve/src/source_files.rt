@@ -1,5 +1,5 @@
 //! What each identifier of the files denotes, or the first rule of names that they break.
-ghost use Rattle.std.specs.Prelude.{◌≡◌, [], List, IfOk, OnOk, None};
+ghost use Rattle.std.specs.Prelude.{◌≡◌, ℕ, [], List, IfOk, OnOk, None};
 ghost use Rattle.std.specs.List.{flat_map};
 ghost use Rattle.name_events.specs.Outline.{source_events};
 ghost use Rattle.name_events.specs.Known.{Known};
@@ -7,6 +7,7 @@ ghost use Rattle.name_events.specs.KnownBehind.{known_behind_all};
 ghost use Rattle.name_events.specs.Denotes.{decl_infos, denotes as numbers_denoted, mentioned_from};
 ghost use Rattle.name_events.specs.Identified.{identified as all_identified, identified_from};
 ghost use Rattle.name_events.specs.Faults.{first_fault, name_fault};
+ghost use Rattle.source_trees.specs.Trees.{AreRead, AreNamed};
 ghost use Rattle.name_resolve.specs.Inputs.{trees_of};
 ghost use Rattle.name_resolve.specs.Judges.{Judges};
 ghost use Rattle.name_resolve.specs.OfEvents.{fault_of_events, identified_of_events, infos_of_events, numbers_of_events};
@@ -23,7 +24,7 @@ use name_events::{DeclInfo, Event, EventList, Identified};
 use spark_base::Listed;
 use std::alloc::{AllocError, Global};
 
-/// Files whose names have a meaning: no rule of names is broken in them.
+/// Files whose names have a meaning: the trees of some texts, in which no rule of names is broken.
 #[derive(Drop)]
 pub struct Resolved {
     /// The names of the files.
@@ -37,6 +38,7 @@ pub struct Resolved {
     /// For each identifier that uses, makes or completes a declaration, in the order of the text,
     /// its position and the number of the declaration in `decls`.
     pub identified: Vec<Identified>,
+    ghost named: { ∥ AreNamed (trees_of files.items) ∥₁ },
     ghost fault: { ∥ name_fault (trees_of files.items) ≡ None ∥₁ },
     ghost decls_are: { ∥ decls.items ≡ decl_infos (trees_of files.items) ∥₁ },
     ghost denotes_are: { ∥ denotes.items ≡ numbers_denoted (trees_of files.items) ∥₁ },
@@ -138,12 +140,13 @@ fn resolve_all(alloc: Global, events: &[Event]) -> Result<Meanings, NameRefusal>
 }
 
 /// What each identifier of the files denotes, or the first rule of names that they break, in the
-/// order of the text.
+/// order of the text. The files are the trees of some texts.
 pub fn resolve(
     alloc: Global,
     names: Vec<String>,
     files: Vec<Trees>,
 ) -> Result<Resolved, NameRefusal>
+    requires read { (texts : List (List ℕ)) × AreRead texts (trees_of files.items) }
     ensures fault { Judges result (name_fault (trees_of files.items)) }
     ensures decls { IfOk result (λ made. made.decls.items ≡ decl_infos (trees_of files.items)) }
     ensures denotes { IfOk result (λ made. made.denotes.items ≡ numbers_denoted (trees_of files.items)) }

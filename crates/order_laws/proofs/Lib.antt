@@ -5,6 +5,7 @@ pub mod Settled
 pub mod Numbers
 pub mod Parts
 pub mod Units
+pub mod Apart
 -- the package objects, and the main procedure
 pub mod First
 pub mod Mains

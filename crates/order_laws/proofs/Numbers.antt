@@ -30,7 +30,7 @@ module _ (s : Site) where
   abbrev pub numbers : List DeclaredObject → List ℕ
   numbers os = map (λ (o : DeclaredObject). object_number s o.number) os
 
-  numbers_both : (os us : List DeclaredObject) → numbers (os ++ us) ≡ numbers os ++ numbers us
+  pub numbers_both : (os us : List DeclaredObject) → numbers (os ++ us) ≡ numbers os ++ numbers us
   numbers_both [] us = refl
   numbers_both (o ∷ os) us = ap (λ xs. object_number s o.number ∷ xs) (numbers_both os us)
 

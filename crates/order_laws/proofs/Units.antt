@@ -179,7 +179,7 @@ module _ (units : List Code) where
     part = part_right (objects_in units b.home b.around b.next (SubBody b.front b.items b.stmts b.end)) all before b.part;
   }
 
-  body_of : (s site : Site) (h : Home) (a n m : ℕ) (front items stmts : Code) (end : Pos) → site.objects ≡ s.objects → are_declarations items && are_statements false stmts ≡ true
+  pub body_of : (s site : Site) (h : Home) (a n m : ℕ) (front items stmts : Code) (end : Pos) → site.objects ≡ s.objects → are_declarations items && are_statements false stmts ≡ true
       → (sub : TypedSub) → Has (typed_sub site n front items stmts end ∷ []) sub → IsBodyOf units s (objects_in units h a m (SubBody front items stmts end)) sub
   body_of s site h a n m front items stmts end same e sub (inr never) = absurd never
   body_of s site h a n m front items stmts end same e sub (inl is) = record {

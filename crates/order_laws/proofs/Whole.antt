@@ -47,6 +47,7 @@ use Rattle.order_laws.proofs.Mains.{main_unit, main_at, procedure_result}
 use Rattle.order_laws.proofs.Settled.{settled_from, starts, scalar_silent}
 use Rattle.order_laws.proofs.Parts.{number_of, part_numbers_once, part_numbers_within, part_object}
 use Rattle.order_laws.proofs.Units.{IsLocal, IsBodyOf, units_of, body_objects}
+use Rattle.order_laws.proofs.Apart.{units_apart}
 
 -- ---- kinds of objects
 
@@ -253,6 +254,12 @@ module _ (table : Table) (known : Known) (units : List Code) (written : (u : Cod
       outside : (o : Object) → o.«package» ≡ None → is_some o.«package» && not (is_state o.kind) ≡ false
       outside o none = ap (λ z. is_some z && not (is_state o.kind)) none
 
+  -- no object is one of two bodies
+  bodies_apart : Once (flat_map code.objects_of bodies)
+  bodies_apart =
+      let os = units_apart units site (record { known = known; identifier = None }) 1 1 units written in
+      subst Once (sym os.1) (part_numbers_once site all refl once os.0 os.2)
+
   -- ---- the package objects
 
   abbrev first : TypedSub
@@ -301,6 +308,7 @@ module _ (table : Table) (known : Known) (units : List Code) (written : (u : Cod
         unmoved = unmoved;
         bodies = each_is;
         local = λ sub has. record { own = (body_is sub has).1; formals = formals sub has; seen = seen sub has };
+        apart = bodies_apart;
         formed = λ sub has. (body_is sub has).2;
         number = there.0;
         main = sub;

@@ -18,9 +18,9 @@ use Rattle.owned_ways.proofs.Assigned.{kept_fact, is_false}
 use Rattle.owned_ways.proofs.Named.{longer}
 use Rattle.owned_ways.proofs.Dropped.{named_base, dropped, left}
 use Rattle.owned_loans.specs.Views.{Views, Around, expand, IsMovedBy, ExcusedBy, HasLoan, Viewed}
-use Rattle.owned_loans.proofs.Ways.{base_on, lifts, lifted_root, lifted_way}
+use Rattle.owned_loans.proofs.Ways.{base_on, home_or_foreign, lifts, lifted_root, lifted_way, InPart, part_root}
 use Rattle.owned_loans.proofs.Clear.{before_or_new, clear_same}
-use Rattle.owned_loans.proofs.Moves.{view_rooted, reached, view_on, as_sound, all_known}
+use Rattle.owned_loans.proofs.Moves.{view_rooted, reached, view_on, parts_on, moved_parts, as_sound, all_known}
 
 along_base : (w : Way) (p : List Step) → base_of (along w p) ≡ base_of w
 along_base w [] = refl
@@ -64,14 +64,21 @@ module _ (home : ℕ → ℕ) (observer : ℕ → Bool) (other : Around home) (v
         covered = sound.covered;
         known = all_known home observer other v t facts sound.known;
         clear = viewed.clear;
-        views = λ x w has. (let view = viewed.views x w has in
-            let root = view_rooted home observer other v s facts viewed.views x w has in
-            view_on home observer other v s t facts facts x w view (λ seen n loan. loan)
-            (drop_reaches s t (OfHand h) viewed.owned d w (OfCell (v.cell x)) (reached home observer other v s facts x w view)
-            (λ e. variable_hand root.0 root.1 h (sym root.2 ∙ e))));
+        views = (
+          λ x w has. (let view = viewed.views.0 x w has in
+              let root = view_rooted home observer other v s facts viewed.views x w has in
+              view_on home observer other v s t facts facts x w view (λ seen n loan. loan)
+              (drop_reaches s t (OfHand h) viewed.owned d w (OfCell (v.cell x)) (reached home observer other v s facts x w view)
+              (λ e. variable_hand root.0 root.1 h (sym root.2 ∙ e)))),
+          parts_on home observer other v s t viewed.views.1
+              (λ x p w has reach. (let root = (viewed.views.1 x p w has).begins in
+              drop_reaches s t (OfHand h) viewed.owned d w (OfCell (v.part_cell x p)) reach (λ e. variable_hand root.0 root.1 h (sym root.2 ∙ e)))),
+        );
         whole = viewed.whole;
         whole_away = viewed.whole_away;
         shown = viewed.shown;
+        whole_parts = viewed.whole_parts;
+        parts_away = viewed.parts_away;
         past = viewed.past;
         lends = viewed.lends;
         far = λ w n keeps. (let root = other.begins w n keeps in
@@ -86,10 +93,11 @@ module _ (home : ℕ → ℕ) (observer : ℕ → Bool) (other : Around home) (v
   same_variable f g x y e = cc
 
   -- a name that is rooted in no view with a value stands for itself
-  pub stands_itself : (u : Way) → Named home u → v.way (number_of u) ≡ None → expand v u ≡ u
-  stands_itself u named none = elim (lifts v u) [
+  pub stands_itself : (u : Way) → Named home u → v.way (number_of u) ≡ None → ((p : List Step) → v.part_way (number_of u) p ≡ None) → expand v u ≡ u
+  stands_itself u named none bare = elim (lifts v u) [
     | inl e ↦ e
-    | inr l ↦ (let is : Some l.way ≡ None = sym l.has ∙ ap v.way (sym (lifted_root v u l)) ∙ none in cc)
+    | inr (inr l) ↦ (let is : Some l.way ≡ None = sym l.has ∙ ap (λ z. v.part_way z l.steps) (sym (part_root v u l)) ∙ bare l.steps in cc)
+    | inr (inl l) ↦ (let is : Some l.way ≡ None = sym l.has ∙ ap v.way (sym (lifted_root v u l)) ∙ none in cc)
   ]
 
   -- A variable without a value as a view ends. No view begins there, and the observers that are left
@@ -127,10 +135,17 @@ module _ (home : ℕ → ℕ) (observer : ℕ → Bool) (other : Around home) (v
     ];
   }
     where
+      no_part_in : (u : Way) → IsMoved home facts u → InPart v u → ⊥
+      no_part_in u moved l =
+          let none : v.part_way l.object l.steps ≡ None =
+          ap (λ z. v.part_way z l.steps) (sym (part_root v u l)) ∙ moved_parts home observer other v s facts viewed u moved.1 l.steps in
+          let is : Some l.way ≡ None = sym l.has ∙ none in cc
+
       direct : (w : Way) → IsMovedBy home v facts w → base_of w ≡ variable x → IsMoved home facts w
       direct w (u, moved, same) here = elim (lifts v u) [
         | inl e ↦ subst (IsMoved home facts) (sym e ∙ same) moved
-        | inr l ↦ (
+        | inr (inr l) ↦ absurd (no_part_in u moved l)
+        | inr (inl l) ↦ (
             let base : base_of l.way ≡ variable x =
             sym (base_on l.way l.rest) ∙ ap base_of (sym (lifted_way v u l)) ∙ ap base_of same ∙ here in
             let is = begun x l.way base in absurd (roots l.object l.way l.has is.0 is.1))
@@ -180,7 +195,8 @@ module _ (home : ℕ → ℕ) (observer : ℕ → Bool) (other : Around home) (v
                   kept_fact act facts (Moved (name_of moved.0)) moved.1.1
                       (is_false (number_of moved.0 == x) (λ e. off (
                       let same = eqb-true (number_of moved.0) x e in
-                      ap base_of (sym moved.2 ∙ stands_itself moved.0 moved.1.0 (ap v.way same ∙ leaves.none))
+                      ap base_of (sym moved.2
+                      ∙ stands_itself moved.0 moved.1.0 (ap v.way same ∙ leaves.none) (moved_parts home observer other v s facts viewed moved.0 moved.1.1))
                       ∙ named_base home moved.0 moved.1.0 ∙ ap variable same))),
                 ),
                 moved.2,
@@ -189,31 +205,47 @@ module _ (home : ℕ → ℕ) (observer : ℕ → Bool) (other : Around home) (v
           ]
         ];
         clear = clear_same observer facts viewed.clear act refl;
-        views = λ y w has. (let view = viewed.views y w has in
-            let root = view_rooted home observer other v s facts viewed.views y w has in
-            let reaches = drop_reaches s t (OfVariable (home x) x) viewed.owned d w (OfCell (v.cell y)) (reached home observer other v s facts y w view)
-            (λ e. (let same = same_frame root.0 (home x) root.1 x (sym root.2 ∙ e) in elim root.3 [
-              | inl own ↦ leaves.roots y w has own (number_base w root.0 root.1 root.2 ∙ same.1)
-              | inr foreign ↦ (
-                  let here = same_frame foreign.0 (home x) foreign.1 x (sym foreign.2 ∙ e) in
-                  foreign.3 (here.0 ∙ ap home (sym here.1)))
-            ])) in
-            elim view [
-              | inr passed ↦ inr (record { begins = passed.begins; given = passed.given; alone = passed.alone; reaches = reaches })
-              | inl own ↦ inl (record {
-                named = own.named;
-                leads = own.leads;
-                begins = own.begins;
-                deep = own.deep;
-                plain = own.plain;
-                older = own.older;
-                lent = own_loan y w has own.named (observer y) refl own.lent;
-                reaches = reaches;
-              })
-            ]);
+        views = (
+          λ y w has. (let view = viewed.views.0 y w has in
+              let root = view_rooted home observer other v s facts viewed.views y w has in
+              let reaches = drop_reaches s t (OfVariable (home x) x) viewed.owned d w (OfCell (v.cell y)) (reached home observer other v s facts y w view)
+              (λ e. (let same = same_frame root.0 (home x) root.1 x (sym root.2 ∙ e) in elim root.3 [
+                | inl own ↦ leaves.roots y w has own (number_base w root.0 root.1 root.2 ∙ same.1)
+                | inr foreign ↦ (
+                    let here = same_frame foreign.0 (home x) foreign.1 x (sym foreign.2 ∙ e) in
+                    foreign.3 (here.0 ∙ ap home (sym here.1)))
+              ])) in
+              elim view [
+                | inr passed ↦ inr (record { begins = passed.begins; given = passed.given; alone = passed.alone; reaches = reaches })
+                | inl own ↦ inl (record {
+                  named = own.named;
+                  leads = own.leads;
+                  begins = own.begins;
+                  deep = own.deep;
+                  plain = own.plain;
+                  older = own.older;
+                  lent = own_loan y w has own.named (observer y) refl own.lent;
+                  reaches = reaches;
+                })
+              ]),
+          parts_on home observer other v s t viewed.views.1
+              (λ y p w has reach.
+              drop_reaches s t (OfVariable (home x) x) viewed.owned d w (OfCell (v.part_cell y p)) reach
+              (λ e. elim (home_or_foreign home w (viewed.views.1 y p w has).begins) [
+                | inr foreign ↦ (
+                    let here = same_frame foreign.0 (home x) foreign.1 x (sym foreign.2 ∙ e) in
+                    foreign.3 (here.0 ∙ ap home (sym here.1)))
+                | inl named ↦ (
+                    let (l, (k, at_home, under, lent), changed) = viewed.shown.1 y p w has named in
+                    let bases = sym (named_base home k at_home) ∙ sym (longer k w under).base ∙ e in
+                    leaves.unlent l (name_of k) lent (same_variable (home (number_of k)) (home x) (number_of k) x bases))
+              ])),
+        );
         whole = viewed.whole;
         whole_away = viewed.whole_away;
         shown = viewed.shown;
+        whole_parts = viewed.whole_parts;
+        parts_away = viewed.parts_away;
         past = viewed.past;
         lends = λ l n lent. (let old = viewed.lends l n lent in record {
           has = kept_fact act facts (Lent l n.root n) old.has

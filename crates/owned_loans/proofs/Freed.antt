@@ -15,10 +15,10 @@ use Rattle.owned_ways.proofs.Released.{released}
 use Rattle.owned_loans.specs.Views.{Views, Around, expand, ExcusedBy, Viewed}
 use Rattle.owned_loans.proofs.Meeting.{IsPlain, stands_base}
 use Rattle.owned_loans.proofs.Clear.{clear_same}
-use Rattle.owned_loans.proofs.Safe.{off_view}
+use Rattle.owned_loans.proofs.Safe.{off_view, off_parts}
 use Rattle.owned_loans.proofs.Others.{off_kept}
 use Rattle.owned_loans.proofs.Allowed.{loan_kept, free_unlent}
-use Rattle.owned_loans.proofs.Moves.{IsPlace, expand_under, reached, view_on, own_loan, lends_on}
+use Rattle.owned_loans.proofs.Moves.{IsPlace, expand_under, reached, view_on, parts_on, moved_parts, own_loan, lends_on}
 
 -- ---- what a release leaves
 
@@ -114,7 +114,7 @@ module _ (home : ℕ → ℕ) (observer : ℕ → Bool) (other : Around home) (v
               moved.1.0,
               kept_fact act facts (Moved (name_of moved.0)) moved.1.1
                   (is_false (covers (name_of k) (name_of moved.0)) (λ e. (
-                  let under = expand_under v k moved.0 place (covered_under home k moved.0 named moved.1.0 e) in
+                  let under = expand_under v k moved.0 place (moved_parts home observer other v s facts viewed moved.0 moved.1.1) (covered_under home k moved.0 named moved.1.0 e) in
                   let b = stuck s t at n step (expand v k) w l target n' r (subst (Under (expand v k)) moved.2 under) in
                   not_gone s t at n step b.0 (sym (ap t.word b.1) ∙ h)))),
             ),
@@ -122,13 +122,20 @@ module _ (home : ℕ → ℕ) (observer : ℕ → Bool) (other : Around home) (v
           ))
         ];
         clear = clear_same observer facts viewed.clear act refl;
-        views = λ x w has. (let view = viewed.views x w has in
-            view_on home observer other v s t facts (effect act facts) x w view (λ seen m. own_loan observer facts (effect act facts) (loan_kept act facts (λ l h z. refl)) seen x m)
-            (reaches_on s t at n step (expand v k) w (OfCell (v.cell x)) viewed.owned held target (reached home observer other v s facts x w view)
-            (λ past. off_view home observer other v s facts viewed k x w name (free_unlent facts k allowed) has past)));
+        views = (
+          λ x w has. (let view = viewed.views.0 x w has in
+              view_on home observer other v s t facts (effect act facts) x w view (λ seen m. own_loan observer facts (effect act facts) (loan_kept act facts (λ l h z. refl)) seen x m)
+              (reaches_on s t at n step (expand v k) w (OfCell (v.cell x)) viewed.owned held target (reached home observer other v s facts x w view)
+              (λ past. off_view home observer other v s facts viewed k x w name (free_unlent facts k allowed) has past))),
+          parts_on home observer other v s t viewed.views.1
+              (λ x p w has reach. reaches_on s t at n step (expand v k) w (OfCell (v.part_cell x p)) viewed.owned held target reach
+              (λ past. off_parts home observer other v s facts viewed k x p w name (free_unlent facts k allowed) has past)),
+        );
         whole = viewed.whole;
         whole_away = viewed.whole_away;
         shown = viewed.shown;
+        whole_parts = viewed.whole_parts;
+        parts_away = viewed.parts_away;
         past = viewed.past;
         lends = λ l m lent. lends_on observer v facts (effect act facts) (loan_kept act facts (λ l h z. refl)) l m (viewed.lends l m lent);
         far = λ w n' keeps. reaches_on s t at n step (expand v k) w (OfCell n') viewed.owned held target (viewed.far w n' keeps)

@@ -1,16 +1,16 @@
 -- Where the names of owners that two names stand for begin one another, one of the two names begins
 -- the other one, or it meets a loan of the other, or two loans meet.
-use Rattle.std.proofs.Common.{◌≡◌, refl, sym, ap, ◌∙◌, subst, ◌⊎◌, inl, inr, ℕ, Bool, true, false, List, zero, suc, ◌<◌, ◌≤◌, ◌+◌, nat_lt, ltb-true, ltb-false, arith, Some, None}
+use Rattle.std.proofs.Common.{◌≡◌, refl, sym, ap, ◌∙◌, subst, ◌⊎◌, inl, inr, ℕ, Bool, true, false, List, zero, suc, ◌<◌, ◌≤◌, ◌+◌, nat_lt, ltb-true, ltb-false, arith, Option, Some, None}
 use Rattle.std.proofs.Math.Nat.{eq-or-lt_of_le}
 use Rattle.place_names.specs.declared.fact.Fact.{Fact}
 use Rattle.place_names.specs.declared.rule.Loan.{Loan}
 use Rattle.place_names.specs.declared.rule.Loan.TheVariants.{Borrowed}
 use Rattle.place_names.specs.Names.{Name}
-use Rattle.owned_ways.specs.Ways.{OfVariable, OfRoot, Way, Object, All, View, Under, Named, base_of, name_of, number_of}
+use Rattle.owned_ways.specs.Ways.{Step, OfVariable, OfRoot, Way, Object, All, View, Under, Named, base_of, name_of, number_of}
 use Rattle.owned_ways.proofs.Named.{longer}
 use Rattle.owned_ways.proofs.Dropped.{named_base}
 use Rattle.owned_loans.specs.Views.{on, Views, expand, IsView, IsForeign, IsPassed, AreViews, AreShared}
-use Rattle.owned_loans.proofs.Ways.{Meet, beginnings, under_on, base_on, meets_on, meets_front, meet_base, home_or_foreign, root_on, on_under, named_on, on_named, expand_on, other_front, Lifted, lifts, lifted_root, lifted_way, next_of}
+use Rattle.owned_loans.proofs.Ways.{Meet, beginnings, under_on, base_on, meets_on, meets_front, meet_base, home_or_foreign, root_on, on_under, named_on, on_named, expand_on, other_front, Lifted, lifts, part_root, lifted_root, lifted_way, next_of}
 
 order : (a b : ℕ) → (a ≡ b) ⊎ ((a < b) ⊎ (b < a))
 order a b = by_less (nat_lt a b) refl
@@ -44,7 +44,22 @@ module _ (home : ℕ → ℕ) (observer : ℕ → Bool) (v : Views) (s : View) (
 
   -- a view that was taken from a name is one of the frame
   pub own_view : (x : ℕ) (w : Way) → v.way x ≡ Some w → Named home (v.up x) → IsView home observer v s facts x w
-  own_view x w has named = elim (views x w has) [ inl view ↦ view | inr passed ↦ absurd (passed.given named) ]
+  own_view x w has named = elim (views.0 x w has) [ inl view ↦ view | inr passed ↦ absurd (passed.given named) ]
+
+  -- no part goes on at a name that isn't rooted in an observer
+  pub no_part : (x : Way) → observer (number_of x) ≡ false → (p : List Step) → v.part_way (number_of x) p ≡ None
+  no_part x plain p = by_way (v.part_way (number_of x) p) refl
+    where
+      by_way : (o : Option Way) → v.part_way (number_of x) p ≡ o → v.part_way (number_of x) p ≡ None
+      by_way None e = e
+      by_way (Some w) e = absurd (true_false (observer (number_of x)) (views.1 (number_of x) p w e).sees plain)
+
+  pub plain_lifts : (x : Way) → IsPlain x → (expand v x ≡ x) ⊎ Lifted v x
+  plain_lifts x plain = elim (lifts v x) [
+    | inl e ↦ inl e
+    | inr (inl l) ↦ inr l
+    | inr (inr l) ↦ absurd (true_false (observer l.object) (views.1 l.object l.steps l.way l.has).sees (ap observer (sym (part_root v x l)) ∙ plain.1))
+  ]
 
   -- one step from a view to what it was taken from
   pub next : (x : Way) (l : Lifted v x) → IsView home observer v s facts l.object l.way → Named home x → Next x (next_of v x l) l.object
@@ -53,7 +68,7 @@ module _ (home : ℕ → ℕ) (observer : ℕ → Bool) (v : Views) (s : View) (
       named_on home (v.up l.object) l.rest view.named,
       ap observer (root_on (v.up l.object) l.rest) ∙ view.plain,
     );
-    same = expand_on v (v.up l.object) l.rest view.deep ∙ ap (λ z. on z l.rest) view.leads ∙ sym (lifted_way v x l);
+    same = expand_on v (v.up l.object) l.rest view.deep (inr (no_part (v.up l.object) view.plain)) ∙ ap (λ z. on z l.rest) view.leads ∙ sym (lifted_way v x l);
     less = λ e. subst (λ z. z < l.object) (sym (root_on (v.up l.object) l.rest)) (view.older e);
     loan = under_on (v.loan l.object) (v.up l.object) (on (v.up l.object) l.rest) view.begins (on_under (v.up l.object) l.rest);
   }
@@ -90,13 +105,13 @@ module _ (home : ℕ → ℕ) (observer : ℕ → Bool) (v : Views) (s : View) (
 
   stands_from : (n : ℕ) (x : Way) → number_of x < n → IsPlain x → IsOwn x ⊎ Held x
   stands_from zero x less plain = absurd (omega arith)
-  stands_from (suc n) x less plain = elim (lifts v x) [
+  stands_from (suc n) x less plain = elim (plain_lifts x plain) [
     | inl e ↦ inl (record {
       named = subst (Named home) (sym e) plain.0;
       most = (let same = ap number_of e in (omega arith));
       touches = λ k m. inl (subst (λ z. Meet z k) e m);
     })
-    | inr l ↦ (let root = lifted_root v x l in elim (views l.object l.way l.has) [
+    | inr l ↦ (let root = lifted_root v x l in elim (views.0 l.object l.way l.has) [
       | inl view ↦ (let on = next x l view plain.0 in
           let down = on.less (borrowed x l plain) in
           elim (stands_from n (next_of v x l) (omega arith) on.plain) [
@@ -198,7 +213,7 @@ module _ (home : ℕ → ℕ) (observer : ℕ → Bool) (v : Views) (s : View) (
     off_passed x plain b w has passed other meets = elim (stands x plain) [
       | inl own ↦ elim (home_or_foreign home w passed.begins) [
         | inr foreign ↦ absurd (own_off x w own foreign (meet_base (expand v x) w meets))
-        | inl named ↦ (let (l, (k, at_home, under, is), changed) = shown b w has passed.given named in (
+        | inl named ↦ (let (l, (k, at_home, under, is), changed) = shown.0 b w has passed.given named in (
           l,
           changed,
           record { place = k; named = at_home; under = under; lent_it = is; meets = own.touches k (meets_front k w (expand v x) under meets) },
@@ -212,6 +227,21 @@ module _ (home : ℕ → ℕ) (observer : ℕ → Bool) (v : Views) (s : View) (
         → Meet (expand v x) w → CrossesBy x b w
     off_seen x plain b w has passed sees meets = off_passed x plain b w has passed (λ o most no e. true_false (observer b) sees (ap observer (sym e) ∙ no)) meets
 
+    -- nor is it on the way of a part of a formal, but where it meets what is lent
+    pub off_part : (x : Way) → IsPlain x → (b : ℕ) (p : List Step) (w : Way) → v.part_way b p ≡ Some w → Meet (expand v x) w → (l : Loan) × Crosses x l w
+    off_part x plain b p w has meets =
+        let part = views.1 b p w has in
+        elim (stands x plain) [
+          | inl own ↦ elim (home_or_foreign home w part.begins) [
+            | inr foreign ↦ absurd (own_off x w own foreign (meet_base (expand v x) w meets))
+            | inl named ↦ (let (l, (k, at_home, under, is), changed) = shown.1 b p w has named in (
+              l,
+              record { place = k; named = at_home; under = under; lent_it = is; meets = own.touches k (meets_front k w (expand v x) under meets) },
+            ))
+          ]
+          | inr held ↦ absurd (part.apart held.object held.way held.has held.passed.given held.plain (meets_on held.way (expand v x) w held.under meets))
+        ]
+
     off_younger : (x : Way) → IsPlain x → (b : ℕ) (w : Way) → v.way b ≡ Some w → IsPassed home observer v s b w → number_of x < b
         → Meet (expand v x) w → CrossesBy x b w
     off_younger x plain b w has passed less meets = off_passed x plain b w has passed (λ o most no e. absurd (omega arith)) meets
@@ -222,7 +252,7 @@ module _ (home : ℕ → ℕ) (observer : ℕ → Bool) (v : Views) (s : View) (
 
     held_goes : (x : Way) (held : Held x) → Named home held.way → Goes x
     held_goes x held named =
-        let (l, (k, at_home, under, is), changed) = shown held.object held.way held.has held.passed.given named in
+        let (l, (k, at_home, under, is), changed) = shown.0 held.object held.way held.has held.passed.given named in
         (k, at_home, subst (λ z. lent z (name_of k)) (changed held.plain) is, under_on k held.way (expand v x) under held.under)
 
     -- a younger object that isn't lifted stands for nothing older, but what others have borrowed
@@ -243,10 +273,10 @@ module _ (home : ℕ → ℕ) (observer : ℕ → Bool) (v : Views) (s : View) (
     -- nor does a name through a view stand for the view
     off_lifted : (x y : Way) (l : Lifted v x) → IsPlain x → Named home y → number_of x ≡ number_of y → base_of (expand v x) ≡ base_of y
         → number_of (expand v x) ≡ number_of y → ⊥
-    off_lifted x y l plain named same base number = elim (views l.object l.way l.has) [
+    off_lifted x y l plain named same base number = elim (views.0 l.object l.way l.has) [
       | inr passed ↦ elim (home_or_foreign home l.way passed.begins) [
         | inr foreign ↦ not_foreign y l.way named foreign (sym base ∙ ap base_of (lifted_way v x l) ∙ base_on l.way l.rest)
-        | inl at_home ↦ (let (loan, (k, there, under, is), changed) = shown l.object l.way l.has passed.given at_home in
+        | inl at_home ↦ (let (loan, (k, there, under, is), changed) = shown.0 l.object l.way l.has passed.given at_home in
             no_place l.object l.way l.has loan k is
             (sym (longer k l.way under).root ∙ sym (root_on l.way l.rest) ∙ ap number_of (sym (lifted_way v x l)) ∙ number ∙ sym same ∙ lifted_root v x l))
       ]
@@ -291,12 +321,12 @@ module _ (home : ℕ → ℕ) (observer : ℕ → Bool) (v : Views) (s : View) (
     one_root x y px py same u =
         let root = (longer (expand v x) (expand v y) u).root in
         let base = (longer (expand v x) (expand v y) u).base in
-        elim (lifts v x) [
-          | inl e ↦ elim (lifts v y) [
+        elim (plain_lifts x px) [
+          | inl e ↦ elim (plain_lifts y py) [
             | inl f ↦ subst (λ z. Under z y) e (subst (Under (expand v x)) f u)
             | inr b ↦ absurd (off_lifted y x b py px.0 (sym same) (base ∙ ap base_of e) (root ∙ ap number_of e))
           ]
-          | inr a ↦ elim (lifts v y) [
+          | inr a ↦ elim (plain_lifts y py) [
             | inl f ↦ absurd (off_lifted x y a px py.0 same (sym base ∙ ap base_of f) (sym root ∙ ap number_of f))
             | inr b ↦ both_lifted x y a b px.0 py.0 (sym (lifted_root v x a) ∙ same ∙ lifted_root v y b) u
           ]
@@ -428,7 +458,7 @@ module _ (home : ℕ → ℕ) (observer : ℕ → Bool) (v : Views) (s : View) (
         elim (order (number_of x) (number_of y)) [
           | inl same ↦ inl (one_root x y px py same u)
           | inr z ↦ elim z [
-            | inl more ↦ elim (lifts v y) [
+            | inl more ↦ elim (plain_lifts y py) [
               | inl e ↦ (let (k, there, is, under) = off_itself x y px py.0 more (sym base ∙ ap base_of e) (sym root ∙ ap number_of e) in
                   inr (inr (inr (inr (inr (record {
                     place = k;
@@ -437,7 +467,7 @@ module _ (home : ℕ → ℕ) (observer : ℕ → Bool) (v : Views) (s : View) (
                     meets = inl (inr (subst (Under k) e (under_on k (expand v x) (expand v y) under u)));
                     through = under;
                   }))))))
-              | inr l ↦ (let at = lifted_root v y l in elim (views l.object l.way l.has) [
+              | inr l ↦ (let at = lifted_root v y l in elim (views.0 l.object l.way l.has) [
                 | inl view ↦ (let on = next y l view py.0 in
                     let down = on.less (borrowed y l py) in
                     lift_lower x y l view py more (meeting_from n x (next_of v y l) (omega arith) px on.plain (subst (Under (expand v x)) (sym on.same) u)))
@@ -452,7 +482,7 @@ module _ (home : ℕ → ℕ) (observer : ℕ → Bool) (v : Views) (s : View) (
                     }))))))
               ])
             ]
-            | inr more ↦ elim (lifts v x) [
+            | inr more ↦ elim (plain_lifts x px) [
               | inl e ↦ (let (k, there, is, under) = off_itself y x py px.0 more (base ∙ ap base_of e) (root ∙ ap number_of e) in
                   inr (inr (inr (inr (inl (record {
                     place = k;
@@ -461,7 +491,7 @@ module _ (home : ℕ → ℕ) (observer : ℕ → Bool) (v : Views) (s : View) (
                     meets = inl (beginnings x k (expand v y) (subst (λ z. Under z (expand v y)) e u) under);
                     through = under;
                   }))))))
-              | inr l ↦ (let at = lifted_root v x l in elim (views l.object l.way l.has) [
+              | inr l ↦ (let at = lifted_root v x l in elim (views.0 l.object l.way l.has) [
                 | inl view ↦ (let on = next x l view px.0 in
                     let down = on.less (borrowed x l px) in
                     lift_upper x y l view px more (meeting_from n (next_of v x l) y (omega arith) on.plain py (subst (λ z. Under z (expand v y)) (sym on.same) u)))

@@ -22,11 +22,11 @@ use Rattle.owned_ways.proofs.Assigned.{kept_fact, is_false, Apart, given_apart, 
 use Rattle.owned_ways.proofs.Moving.{Given, owner_before, keeps, owned_after, covered_after, known_after}
 use Rattle.owned_ways.proofs.Released.{freshly, fresh_on}
 use Rattle.owned_ways.proofs.Dropped.{named_base}
-use Rattle.owned_loans.specs.Views.{on, Views, Around, way_at, expand, expand_root, IsMovedBy, IsAway, ExcusedBy, AreClear, HasLoan, IsView, IsForeign, IsPassed, AreViews, IsLentToOthers, Viewed}
-use Rattle.owned_loans.proofs.Ways.{home_or_foreign}
-use Rattle.owned_loans.proofs.Meeting.{IsPlain, stands, stands_base}
+use Rattle.owned_loans.specs.Views.{on, Views, Around, way_at, expand, expand_root, expand_part, IsMovedBy, IsAway, ExcusedBy, AreClear, HasLoan, IsView, IsForeign, IsPassed, ArePartsSeen, AreViews, IsLentToOthers, Viewed}
+use Rattle.owned_loans.proofs.Ways.{home_or_foreign, part_none}
+use Rattle.owned_loans.proofs.Meeting.{IsPlain, no_part, stands, stands_base}
 use Rattle.owned_loans.proofs.Clear.{nothing_new, clear_move, clear_same}
-use Rattle.owned_loans.proofs.Safe.{off_view}
+use Rattle.owned_loans.proofs.Safe.{off_view, off_parts}
 use Rattle.owned_loans.proofs.Others.{off_kept, off_bare, clean_away}
 use Rattle.owned_loans.proofs.Allowed.{LoansStay, loan_kept, move_unlent, move_unmoved, write_unlent}
 
@@ -44,11 +44,11 @@ named_part home w (i ∷ p) n = named_part home w p n
 abbrev pub IsPlace : Views → Way → Type 0
 IsPlace v k = (r : Root) → k ≡ Object r → way_at v r ≡ None
 
-pub expand_under : (v : Views) (k w : Way) → IsPlace v k → Under k w → Under (expand v k) (expand v w)
-expand_under v k (Object r) place u = ap (expand v) u
-expand_under v k (Lost n) place u = ap (expand v) u
-expand_under v k (Into w i) place u = elim u [ inl e ↦ inl (ap (expand v) e) | inr u ↦ inr (expand_under v k w place u) ]
-expand_under v k (All (Object r)) place u = elim u [
+pub expand_under : (v : Views) (k w : Way) → IsPlace v k → ((p : List Step) → v.part_way (number_of w) p ≡ None) → Under k w → Under (expand v k) (expand v w)
+expand_under v k (Object r) place none u = ap (expand v) u
+expand_under v k (Lost n) place none u = ap (expand v) u
+expand_under v k (Into w i) place none u = elim u [ inl e ↦ inl (ap (expand v) e) | inr u ↦ inr (expand_under v k w place none u) ]
+expand_under v k (All (Object r)) place none u = elim u [
   | inl e ↦ subst (λ z. Under z (expand v (All (Object r)))) (sym (ap (expand v) e)) (self (expand v (All (Object r))))
   | inr e ↦ (let none = place r e in
       subst (λ z. Under (expand v k) (expand_root z r)) (sym none) (inr (ap (expand v) e)))
@@ -59,14 +59,15 @@ expand_under v k (All (Object r)) place u = elim u [
     self (Lost n) = refl
     self (Into w i) = inl refl
     self (All w) = inl refl
-expand_under v k (All (Lost n)) place u = elim u [ inl e ↦ inl (ap (expand v) e) | inr u ↦ inr (ap (expand v) u) ]
-expand_under v k (All (Into w i)) place u = elim u [
-  | inl e ↦ inl (ap (expand v) e)
-  | inr u ↦ inr (expand_under v k (Into w i) place u)
+expand_under v k (All (Lost n)) place none u = elim u [ inl e ↦ inl (ap (expand v) e) | inr u ↦ inr (ap (expand v) u) ]
+expand_under v k (All (Into w i)) place none u = elim u [
+  | inl e ↦ subst (λ z. Under z (expand v (All (Into w i)))) (sym (ap (expand v) e)) (under_itself (expand v (All (Into w i))))
+  | inr u ↦ subst (λ z. Under (expand v k) (expand_part z (expand v (Into w i)))) (sym (part_none v (Into w i) (inr none)))
+      (inr (expand_under v k (Into w i) place none u))
 ]
-expand_under v k (All (All w)) place u = elim u [
+expand_under v k (All (All w)) place none u = elim u [
   | inl e ↦ inl (ap (expand v) e)
-  | inr u ↦ inr (expand_under v k (All w) place u)
+  | inr u ↦ inr (expand_under v k (All w) place none u)
 ]
 
 abbrev hand_of : Way → ℕ
@@ -182,9 +183,16 @@ module _ (home : ℕ → ℕ) (observer : ℕ → Bool) (other : Around home) (v
   view_on s t facts facts' x w (inr passed) loans reaches =
       inr (record { begins = passed.begins; given = passed.given; alone = passed.alone; reaches = reaches })
 
+  -- Parts are seen in another state where their ways reach what they reached.
+  pub parts_on : (s t : View) → ArePartsSeen home observer v s
+      → ((x : ℕ) (p : List Step) (w : Way) → v.part_way x p ≡ Some w → Reaches s w (OfCell (v.part_cell x p)) → Reaches t w (OfCell (v.part_cell x p)))
+      → ArePartsSeen home observer v t
+  parts_on s t seen reaches x p w has =
+      let old = seen x p w has in record { begins = old.begins; sees = old.sees; apart = old.apart; reaches = reaches x p w has old.reaches }
+
   -- No way of a view goes past a place.
   abbrev pub Off : Way → Type 0
-  Off f = (x : ℕ) (w : Way) → v.way x ≡ Some w → Past f w → ⊥
+  Off f = ((x : ℕ) (w : Way) → v.way x ≡ Some w → Past f w → ⊥) × ((x : ℕ) (p : List Step) (w : Way) → v.part_way x p ≡ Some w → Past f w → ⊥)
 
   -- Nor does one of others.
   abbrev pub OffFar : Way → Type 0
@@ -227,12 +235,18 @@ module _ (home : ℕ → ℕ) (observer : ℕ → Bool) (other : Around home) (v
     known = known_after s t f k from to (ExcusedBy home v other facts) (ExcusedBy home v other facts') given viewed.known rooted clean
         (λ w moved apart. elim moved [ inl away ↦ inl (elim away [ inl m ↦ inl (stays w m apart) | inr o ↦ inr o ]) | inr o ↦ inr o ]) adds;
     clear = clear;
-    views = λ x w has. (let view = viewed.views x w has in
-        view_on s t facts facts' x w view (λ seen n. own_loan observer facts facts' loans seen x n)
-        (keeps s t f k from to given w (OfCell (v.cell x)) (reached s facts x w view) (λ p. off x w has p) (λ p. away x w has p)));
+    views = (
+      λ x w has. (let view = viewed.views.0 x w has in
+          view_on s t facts facts' x w view (λ seen n. own_loan observer facts facts' loans seen x n)
+          (keeps s t f k from to given w (OfCell (v.cell x)) (reached s facts x w view) (λ p. off.0 x w has p) (λ p. away.0 x w has p))),
+      parts_on s t viewed.views.1
+          (λ x p w has reach. keeps s t f k from to given w (OfCell (v.part_cell x p)) reach (λ past. off.1 x p w has past) (λ past. away.1 x p w has past)),
+    );
     whole = viewed.whole;
     whole_away = viewed.whole_away;
     shown = viewed.shown;
+    whole_parts = viewed.whole_parts;
+    parts_away = viewed.parts_away;
     past = viewed.past;
     lends = λ l n lent. lends_on observer v facts facts' loans l n (viewed.lends l n lent);
     far = λ w n held. keeps s t f k from to given w (OfCell n) (viewed.far w n held) (λ p. far_off w n held p) (λ p. far_away w n held p);
@@ -246,7 +260,7 @@ module _ (home : ℕ → ℕ) (observer : ℕ → Bool) (other : Around home) (v
   -- the way of each view begins at a variable
   pub view_rooted : (s : View) (facts : List Fact) (views : AreViews home observer v s facts) (x : ℕ) (w : Way) → v.way x ≡ Some w
       → (f : ℕ) × (y : ℕ) × (base_of w ≡ OfRoot (OfVariable f y)) × (Named home w ⊎ IsForeign home w)
-  view_rooted s facts views x w has = elim (views x w has) [
+  view_rooted s facts views x w has = elim (views.0 x w has) [
     | inl view ↦ elim (stands home observer v s facts views (v.up x) (view.named, view.plain)) [
       | inl own ↦ (let named = subst (Named home) view.leads own.named in (home (number_of w), number_of w, named_base home w named, inl named))
       | inr held ↦ (
@@ -258,8 +272,10 @@ module _ (home : ℕ → ℕ) (observer : ℕ → Bool) (other : Around home) (v
   ]
 
   pub hand_off : (s : View) (facts : List Fact) (views : AreViews home observer v s facts) (f : Way) → InHand f → Off f
-  hand_off s facts views f inhand x w has past =
-      (let root = view_rooted s facts views x w has in no_hand_base w (hand_under f w inhand (past_under f w past)) root.2)
+  hand_off s facts views f inhand = (
+    λ x w has past. (let root = view_rooted s facts views x w has in no_hand_base w (hand_under f w inhand (past_under f w past)) root.2),
+    λ x p w has past. no_hand_base w (hand_under f w inhand (past_under f w past)) (views.1 x p w has).begins.2,
+  )
 
   hand_far : (f : Way) → InHand f → OffFar f
   hand_far f inhand w n keeps past = far_hand home other f w n inhand keeps past
@@ -310,8 +326,10 @@ module _ (home : ℕ → ℕ) (observer : ℕ → Bool) (other : Around home) (v
         expand_along v u p,
       ))))
       (clear_move observer facts viewed.clear (name_of u) parts plain allowed)
-      (loan_kept act facts (λ l h m. refl))
-      (λ x w has past. off_view home observer other v s facts viewed u x w name unlent has past)
+      (loan_kept act facts (λ l h m. refl)) (
+        λ x w has past. off_view home observer other v s facts viewed u x w name unlent has past,
+        λ x p w has past. off_parts home observer other v s facts viewed u x p w name unlent has past,
+      )
       (hand_off s facts viewed.views k inhand) (λ w n keeps past. off_kept home observer other v s facts viewed u w n name unlent keeps past) (hand_far k inhand) (hand_bare k inhand)
 
   -- ---- from a hand to where no view's way goes: to another hand, or to a new variable or cell
@@ -324,6 +342,11 @@ module _ (home : ℕ → ℕ) (observer : ℕ → Bool) (other : Around home) (v
       (λ w under known. elim known [ inl h ↦ no_hand s facts viewed f w inhand under h | inr o ↦ spares w under o ])
       (λ w moved off. moved) (λ p gone. absurd (empty p gone)) viewed.clear (λ l h n has. has)
       (hand_off s facts viewed.views f inhand) away (hand_far f inhand) far_away bare_away
+
+  -- no part goes on at a moved name
+  pub moved_parts : (s : View) (facts : List Fact) → Viewed home observer other v s facts → (w : Way) → Has facts (Moved (name_of w)) → (p : List Step)
+      → v.part_way (number_of w) p ≡ None
+  moved_parts s facts viewed w moved p = no_part home observer v s facts viewed.views w (viewed.clear.owned (name_of w) moved) p
 
   -- ---- putting at a target
 
@@ -345,15 +368,18 @@ module _ (home : ℕ → ℕ) (observer : ℕ → Bool) (other : Around home) (v
           moved.1.0,
           kept_fact act facts (Moved (name_of moved.0)) moved.1.1
               (is_false (covers (name_of k) (name_of moved.0)) (λ e.
-              off (subst (Under (expand v k)) moved.2 (expand_under v k moved.0 place (covered_under home k moved.0 named moved.1.0 e))))),
+              off (subst (Under (expand v k)) moved.2
+              (expand_under v k moved.0 place (moved_parts s facts viewed moved.0 moved.1.1) (covered_under home k moved.0 named moved.1.0 e))))),
         ),
         moved.2,
       ))
       (λ p gone. absurd (empty p gone))
       (clear_same observer facts viewed.clear act refl)
       (loan_kept act facts (λ l h m. refl))
-      (hand_off s facts viewed.views f inhand)
-      (λ x w has past. off_view home observer other v s facts viewed k x w name (write_unlent facts k allowed) has past)
+      (hand_off s facts viewed.views f inhand) (
+        λ x w has past. off_view home observer other v s facts viewed k x w name (write_unlent facts k allowed) has past,
+        λ x p w has past. off_parts home observer other v s facts viewed k x p w name (write_unlent facts k allowed) has past,
+      )
       (hand_far f inhand) (λ w n keeps past. off_kept home observer other v s facts viewed k w n name (write_unlent facts k allowed) keeps past)
       (λ w l p bare q under. off_bare home observer other v s facts viewed k w l p q name (write_unlent facts k allowed) bare under)
 
@@ -377,10 +403,15 @@ module _ (home : ℕ → ℕ) (observer : ℕ → Bool) (other : Around home) (v
         whole = viewed.whole;
         whole_away = viewed.whole_away;
         shown = viewed.shown;
+        whole_parts = viewed.whole_parts;
+        parts_away = viewed.parts_away;
         past = viewed.past;
         lends = viewed.lends;
-        views = λ x w has. (let view = viewed.views x w has in
-            view_on s t facts facts x w view (λ seen n has. has) (fresh_on s t at fresh w (OfCell (v.cell x)) (reached s facts x w view)));
+        views = (
+          λ x w has. (let view = viewed.views.0 x w has in
+              view_on s t facts facts x w view (λ seen n has. has) (fresh_on s t at fresh w (OfCell (v.cell x)) (reached s facts x w view))),
+          parts_on s t viewed.views.1 (λ x p w has reach. fresh_on s t at fresh w (OfCell (v.part_cell x p)) reach),
+        );
         far = λ w n keeps. fresh_on s t at fresh w (OfCell n) (viewed.far w n keeps);
         bare = λ w l p bare q c held. elim (same_loc (part l (q ++ p)) at) [
           | inr other_one ↦ viewed.bare w l p bare q c (sym (fresh.off (part l (q ++ p)) other_one) ∙ held)
@@ -401,10 +432,15 @@ module _ (home : ℕ → ℕ) (observer : ℕ → Bool) (other : Around home) (v
         whole = viewed.whole;
         whole_away = viewed.whole_away;
         shown = viewed.shown;
+        whole_parts = viewed.whole_parts;
+        parts_away = viewed.parts_away;
         past = viewed.past;
         lends = viewed.lends;
-        views = λ x w has. (let view = viewed.views x w has in
-            view_on s t facts facts x w view (λ seen n has. has) (same_reaches s t same w (OfCell (v.cell x)) (reached s facts x w view)));
+        views = (
+          λ x w has. (let view = viewed.views.0 x w has in
+              view_on s t facts facts x w view (λ seen n has. has) (same_reaches s t same w (OfCell (v.cell x)) (reached s facts x w view))),
+          parts_on s t viewed.views.1 (λ x p w has reach. same_reaches s t same w (OfCell (v.part_cell x p)) reach),
+        );
         far = λ w n keeps. same_reaches s t same w (OfCell n) (viewed.far w n keeps);
         bare = λ w l p bare q c held. viewed.bare w l p bare q c (sym (same.word (part l (q ++ p))) ∙ held);
       }
@@ -421,11 +457,16 @@ module _ (home : ℕ → ℕ) (observer : ℕ → Bool) (other : Around home) (v
       | inr o ↦ inr o
     ];
     clear = nothing_new observer facts facts' back viewed.clear;
-    views = λ x w has. (let view = viewed.views x w has in
-        view_on s s facts facts' x w view (λ seen n. own_loan observer facts facts' (λ l h m. on (Lent l h m)) seen x n) (reached s facts x w view));
+    views = (
+      λ x w has. (let view = viewed.views.0 x w has in
+          view_on s s facts facts' x w view (λ seen n. own_loan observer facts facts' (λ l h m. on (Lent l h m)) seen x n) (reached s facts x w view)),
+      viewed.views.1,
+    );
     whole = viewed.whole;
     whole_away = viewed.whole_away;
     shown = viewed.shown;
+    whole_parts = viewed.whole_parts;
+    parts_away = viewed.parts_away;
     past = viewed.past;
     lends = λ l n lent. lends_on observer v facts facts' (λ k h m. on (Lent k h m)) l n (viewed.lends l n lent);
     far = viewed.far;

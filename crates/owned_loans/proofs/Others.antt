@@ -12,9 +12,9 @@ use Rattle.owned_ways.proofs.Locations.{past_under, under_itself, under_along}
 use Rattle.owned_ways.proofs.Named.{longer, under_leads}
 use Rattle.owned_ways.proofs.Dropped.{named_base}
 use Rattle.owned_loans.specs.Views.{Around, Views, expand, HasLoan, IsThrough, IsAway, IsView, Viewed}
-use Rattle.owned_loans.proofs.Ways.{Meet, lifted_way, flip, meets_on, meets_front, beginnings, under_on, on_under, meet_overlaps, Lifted, next_of}
+use Rattle.owned_loans.proofs.Ways.{Meet, InPart, in_part_way, lifted_way, flip, meets_on, meets_front, beginnings, under_on, on_under, meet_overlaps, Lifted, next_of}
 use Rattle.owned_loans.proofs.Meeting.{IsPlain, stands, next, IsOwn}
-use Rattle.owned_loans.proofs.Safe.{under_shorter, past_front, Open, OpenWhole, Unlent, Unborrowed, Unmoved, lent_fact, lent_itself, only_itself, seen_lent, open_way, open_above, seen_above, seen_way, clean_below, seen_below}
+use Rattle.owned_loans.proofs.Safe.{under_shorter, past_front, Open, OpenWhole, Unlent, Unborrowed, Unmoved, lent_fact, lent_itself, only_itself, seen_lent, open_way, open_above, seen_above, seen_way, clean_below, seen_below, part_above, part_below}
 
 -- what goes past a way goes past what begins it
 pub under_past : (a b w : Way) → Under a b → Past b w → Past a w
@@ -113,10 +113,16 @@ module _ (home : ℕ → ℕ) (observer : ℕ → Bool) (other : Around home) (v
         ]
 
     seen_through : (u : Way) (z : Lifted v u) → Named home u → observer z.object ≡ true → Meet w (expand v u) → ⊥
-    seen_through u z named is meets = elim (viewed.views z.object z.way z.has) [
+    seen_through u z named is meets = elim (viewed.views.0 z.object z.way z.has) [
       | inl view ↦ seen_own u z view named is meets
       | inr passed ↦ held_off z.object z.way z.has passed.given (expand v u) (subst (Under z.way) (sym (lifted_way v u z)) (on_under z.way z.rest)) meets
     ]
+
+    -- nor does one that goes through a part of a formal
+    part_through : (u : Way) (z : InPart v u) → Meet w (expand v u) → ⊥
+    part_through u z meets =
+        viewed.parts_away z.object z.steps z.way w z.has away
+        (meets_front z.way (expand v u) w (subst (Under z.way) (sym (in_part_way v u z)) (on_under z.way z.rest)) meets)
 
   -- ---- all of it
 
@@ -177,6 +183,15 @@ module _ (home : ℕ → ℕ) (observer : ℕ → Bool) (other : Around home) (v
   pub seen_above_away : (u w : Way) (l : Lifted v u) → Named home u → observer l.object ≡ true → Under w (expand v u) → IsAway home v other facts w → ⊥
   seen_above_away u w l named is above (inl moved) = seen_above home observer other v s facts viewed u w l named is above moved
   seen_above_away u w l named is above (inr away) = seen_through w away u l named is (inl above)
+
+  -- nor does it meet one through a part of a formal
+  pub part_above_away : (u w : Way) (l : InPart v u) → Under w (expand v u) → IsAway home v other facts w → ⊥
+  part_above_away u w l above (inl moved) = part_above home observer other v s facts viewed u w l above moved
+  part_above_away u w l above (inr away) = part_through w away u l (inl above)
+
+  pub part_away_below : (u w : Way) (l : InPart v u) → Under (expand v u) w → IsAway home v other facts w → ⊥
+  part_away_below u w l below (inl moved) = part_below home observer other v s facts viewed u w l below moved
+  part_away_below u w l below (inr away) = part_through w away u l (inr below)
 
   -- nor at or below a name that overlaps nothing moved or borrowed
   pub clean_away : (u w : Way) → IsName u → Unborrowed facts u → Unmoved facts u → Under (expand v u) w → IsAway home v other facts w → ⊥

@@ -10,14 +10,14 @@ use Rattle.place_names.specs.declared.fact.Fact.{Fact}
 use Rattle.place_names.specs.declared.fact.Fact.TheVariants.{Moved, Lent}
 use Rattle.place_names.specs.Names.{Name, overlaps, leads_to}
 use Rattle.place_names.proofs.Names.{overlaps-sym}
-use Rattle.owned_ways.specs.Ways.{OfVariable, OfRoot, Way, Object, Lost, Into, All, View, Under, Past, Named, IsMoved, base_of, name_of, number_of, sels_of, sel_of}
+use Rattle.owned_ways.specs.Ways.{Step, OfVariable, OfRoot, Way, Object, Lost, Into, All, View, Under, Past, Named, IsMoved, base_of, name_of, number_of, sels_of, sel_of}
 use Rattle.owned_ways.proofs.Locations.{past_under, not_past, under_itself}
 use Rattle.owned_ways.proofs.Named.{longer, under_leads}
 use Rattle.owned_ways.proofs.Dropped.{named_base}
 use Rattle.owned_loans.specs.Views.{Around, Views, expand, expand_root, IsThrough, IsMovedBy, HasLoan, IsView, IsPassed, Viewed}
 use Rattle.owned_loans.proofs.Clear.{overlaps_whole}
-use Rattle.owned_loans.proofs.Ways.{Meet, flip, lifted_way, on_under, meets_on, meets_front, beginnings, under_on, meet_overlaps, stands_alone, named_base_of, home_or_foreign, Lifted, next_of}
-use Rattle.owned_loans.proofs.Meeting.{IsPlain, next, not_foreign, off_seen, stands, Lends, MeetsLoan, Beside, Both, Lone, Meeting, meeting}
+use Rattle.owned_loans.proofs.Ways.{Meet, flip, lifted_way, on_under, meets_on, meets_front, beginnings, under_on, meet_overlaps, stands_alone, named_base_of, home_or_foreign, Lifted, next_of, InPart, in_part_way}
+use Rattle.owned_loans.proofs.Meeting.{IsPlain, no_part, next, not_foreign, off_seen, off_part, stands, Lends, MeetsLoan, Beside, Both, Lone, Meeting, meeting}
 
 -- what begins a way and isn't the way has a shorter name
 pub under_shorter : (t w : Way) → Under t w → (t ≡ w) ⊎ (length (sels_of t) < length (sels_of w))
@@ -131,6 +131,7 @@ module _ (home : ℕ → ℕ) (observer : ℕ → Bool) (other : Around home) (v
   -- it stands for itself
   pub lent_itself : (l : Loan) (k : Way) → other.lent l (name_of k) → (u : Way) → number_of u ≡ number_of k → expand v u ≡ u
   lent_itself l k lent u root = stands_alone v u (ap v.way root ∙ unviewed l (name_of k) lent)
+      (no_part home observer v s facts viewed.views u (ap observer root ∙ (viewed.lends l (name_of k) lent).plain))
 
   -- no borrower of the frame holds a loan that it meets
   pub lent_apart : (l : Loan) (k : Way) → other.lent l (name_of k) → (b : ℕ) → LendsIt b → Meet (v.loan b) k → ⊥
@@ -291,7 +292,7 @@ module _ (home : ℕ → ℕ) (observer : ℕ → Bool) (other : Around home) (v
 
   -- nothing that was moved begins a name through an observer, or lies above it
   pub seen_above : (u w : Way) (l : Lifted v u) → Named home u → observer l.object ≡ true → Under w (expand v u) → IsMovedBy home v facts w → ⊥
-  seen_above u w l named is above moved = elim (viewed.views l.object l.way l.has) [
+  seen_above u w l named is above moved = elim (viewed.views.0 l.object l.way l.has) [
     | inl view ↦ seen_way_own u w l view named is above moved
     | inr passed ↦ foreign_off u w l passed is (inl above) moved
   ]
@@ -357,10 +358,24 @@ module _ (home : ℕ → ℕ) (observer : ℕ → Bool) (other : Around home) (v
 
   -- nothing that was moved is, or lies in, what a name through an observer stands for
   pub seen_below : (u w : Way) (l : Lifted v u) → Named home u → observer l.object ≡ true → Under (expand v u) w → IsMovedBy home v facts w → ⊥
-  seen_below u w l named is under moved = elim (viewed.views l.object l.way l.has) [
+  seen_below u w l named is under moved = elim (viewed.views.0 l.object l.way l.has) [
     | inl view ↦ seen_below_own u w l view named is under moved
     | inr passed ↦ foreign_off u w l passed is (inr under) moved
   ]
+
+  -- nor does what a part of a formal designates, or what lies above or below it
+  part_off : (u w : Way) (l : InPart v u) → Meet w (expand v u) → IsMovedBy home v facts w → ⊥
+  part_off u w l meets (m, moved, same) =
+      let (loan, c) = off_part home observer v s facts viewed.views other.lent unviewed viewed.shown m (moved_plain m moved) l.object l.steps l.way l.has
+      (meets_front l.way (expand v u) (expand v m) (subst (Under l.way) (sym (in_part_way v u l)) (on_under l.way l.rest))
+      (subst (λ z. Meet z (expand v u)) (sym same) meets)) in
+      unmoved_loan m loan (number_of c.place) c.place moved (lent_fact loan c.place c.lent_it) (only_itself loan c.place m c.lent_it c.meets)
+
+  pub part_above : (u w : Way) (l : InPart v u) → Under w (expand v u) → IsMovedBy home v facts w → ⊥
+  part_above u w l above moved = part_off u w l (inl above) moved
+
+  pub part_below : (u w : Way) (l : InPart v u) → Under (expand v u) w → IsMovedBy home v facts w → ⊥
+  part_below u w l under moved = part_off u w l (inr under) moved
 
   -- names that don't overlap, of which no part is borrowed, stand for ways that don't meet
   pub apart_above : (u y : Way) → IsName u → IsName y → Unborrowed facts u → Unborrowed facts y → (overlaps (name_of u) (name_of y) ≡ true → ⊥)
@@ -403,13 +418,13 @@ module _ (home : ℕ → ℕ) (observer : ℕ → Bool) (other : Around home) (v
       → number_of u ≡ x → ⊥
   given_root x o w u has there passed base number = elim (home_or_foreign home u passed.begins) [
     | inr foreign ↦ not_foreign home observer v s facts viewed.views (Object (OfVariable (home x) x)) u refl foreign (sym base)
-    | inl named ↦ (let (l, (k, at_home, under, lent), changed) = viewed.shown o u there passed.given named in
+    | inl named ↦ (let (l, (k, at_home, under, lent), changed) = viewed.shown.0 o u there passed.given named in
         no_place x w has l k lent (sym (longer k u under).root ∙ number))
   ]
 
   -- the way of a borrower doesn't begin at the borrower
   not_itself : (x : ℕ) (w : Way) → v.way x ≡ Some w → observer x ≡ false → base_of w ≡ OfRoot (OfVariable (home x) x) → number_of w ≡ x → ⊥
-  not_itself x w has is base number = elim (viewed.views x w has) [
+  not_itself x w has is base number = elim (viewed.views.0 x w has) [
     | inr passed ↦ given_root x x w w has has passed base number
     | inl view ↦ (
         let plain : IsName (v.up x) = (view.named, view.plain) in
@@ -426,8 +441,8 @@ module _ (home : ℕ → ℕ) (observer : ℕ → Bool) (other : Around home) (v
   -- the way of a borrower of the frame whose way is named is rooted in an older object, or goes on from a place that
   -- others have borrowed
   pub root_before : (x : ℕ) (w : Way) → v.way x ≡ Some w → observer x ≡ false → Named home w → (number_of w < x) ⊎ IsThrough home other.lent Borrowed w
-  root_before x w has is named = elim (viewed.views x w has) [
-    | inr passed ↦ inr (let (l, (k, at_home, under, lent), changed) = viewed.shown x w has passed.given named in
+  root_before x w has is named = elim (viewed.views.0 x w has) [
+    | inr passed ↦ inr (let (l, (k, at_home, under, lent), changed) = viewed.shown.0 x w has passed.given named in
         (k, at_home, under, subst (λ z. other.lent z (name_of k)) (changed is) lent))
     | inl view ↦ (
         let less = view.older is in
@@ -437,7 +452,7 @@ module _ (home : ℕ → ℕ) (observer : ℕ → Bool) (other : Around home) (v
           | inr held ↦ inr (
               let at_home = named_base_of home held.way (number_of w)
               (sym (longer held.way (expand v (v.up x)) held.under).base ∙ ap base_of view.leads ∙ named_base home w named) in
-              let (l, (k, there, under, lent), changed) = viewed.shown held.object held.way held.has held.passed.given at_home in
+              let (l, (k, there, under, lent), changed) = viewed.shown.0 held.object held.way held.has held.passed.given at_home in
               (k, there, subst (Under k) view.leads (under_on k held.way (expand v (v.up x)) under held.under), subst (λ z. other.lent z (name_of k)) (changed held.plain) lent))
         ])
   ]
@@ -510,7 +525,7 @@ module _ (home : ℕ → ℕ) (observer : ℕ → Bool) (other : Around home) (v
   off_view u x w plain unlent has past = by_kind (observer x) refl
     where
       by_kind : (b : Bool) → observer x ≡ b → ⊥
-      by_kind true e = elim (viewed.views x w has) [
+      by_kind true e = elim (viewed.views.0 x w has) [
         | inl view ↦ off_observer u x w plain unlent view e past
         | inr passed ↦ (let (loan, changed, c) = off_seen home observer v s facts viewed.views other.lent unviewed viewed.shown u plain x w has passed e
             (inl (past_under (expand v u) w past)) in
@@ -518,3 +533,9 @@ module _ (home : ℕ → ℕ) (observer : ℕ → Bool) (other : Around home) (v
             (meet_overlaps c.place u (flip u c.place (only_itself loan c.place u c.lent_it c.meets))))
       ]
       by_kind false e = off_borrower u x w plain unlent has e past
+
+  pub off_parts : (u : Way) (x : ℕ) (p : List Step) (w : Way) → IsName u → Unlent facts u → v.part_way x p ≡ Some w → Past (expand v u) w → ⊥
+  off_parts u x p w plain unlent has past =
+      let (loan, c) = off_part home observer v s facts viewed.views other.lent unviewed viewed.shown u plain x p w has (inl (past_under (expand v u) w past)) in
+      unlent loan (number_of c.place) (name_of c.place) (lent_fact loan c.place c.lent_it)
+      (meet_overlaps c.place u (flip u c.place (only_itself loan c.place u c.lent_it c.meets)))

@@ -14,26 +14,34 @@ use Rattle.place_names.specs.declared.fact.Fact.{Fact}
 use Rattle.place_names.specs.declared.fact.Fact.TheVariants.{Moved, Lent}
 use Rattle.place_names.specs.Facts.{removes, effect}
 use Rattle.place_names.specs.Rules.{moved_or_lent}
-use Rattle.owned_ways.specs.Ways.{OfVariable, OfHand, OfRoot, OfCell, base_of, Way, Object, Lost, Into, All, View, Reaches, Under, Past, Named, number_of, name_of, Allows}
+use Rattle.owned_ways.specs.Ways.{Step, OfVariable, OfHand, OfRoot, OfCell, base_of, Way, Object, Lost, Into, All, View, Reaches, Under, Past, Named, number_of, name_of, Allows}
 use Rattle.owned_ways.proofs.Named.{longer}
 use Rattle.owned_ways.proofs.Assigned.{kept_fact}
 use Rattle.owned_ways.proofs.Locations.{under_itself}
-use Rattle.owned_loans.specs.Views.{Go, Views, Around, expand_root, expand, IsObject, AreClear, HasLoan, IsView, Viewed, Becomes, with_view, Unused, on, IsForeign, IsOuter, IsShared, IsPassed}
-use Rattle.owned_loans.proofs.Ways.{under_on, on_under, on_named, base_on, root_on, named_on, meets_front, on_deep, Lifted, lifted_way, next_of}
+use Rattle.owned_loans.specs.Views.{Go, Views, Around, expand_root, expand_part, inner_steps, part_from, ArePartsSeen, expand, IsObject, AreClear, HasLoan, IsView, Viewed, Becomes, with_view, Unused, on, IsForeign, IsOuter, IsShared, IsPassed}
+use Rattle.owned_loans.proofs.Ways.{under_on, on_under, on_named, base_on, root_on, named_on, meets_front, on_deep, Lifted, lifted_way, next_of, InPart, in_part_way}
 use Rattle.owned_loans.proofs.Meeting.{stands, own_off, own_view, next}
 use Rattle.owned_loans.proofs.Clear.{refused, clear_borrow, clear_observe, clear_same}
 use Rattle.owned_loans.proofs.Allowed.{LoansStay, loan_kept}
 use Rattle.owned_loans.proofs.Moves.{own_loan}
 
+part_same : (v t : Views) (b : ℕ) (o : Option Way) (loan up : Way) (n : ℕ) → Becomes v t b o loan up n → (w : Way) (p : List Step) → part_from t w p ≡ part_from v w p
+part_same v t b o loan up n c (Object (OfVariable f x)) p = c.part_ways x p
+part_same v t b o loan up n c (Object (OfHand h)) p = refl
+part_same v t b o loan up n c (Lost m) p = refl
+part_same v t b o loan up n c (Into w i) p = part_same v t b o loan up n c w p
+part_same v t b o loan up n c (All w) p = refl
+
 -- names that aren't rooted in the view stand for what they stood for
-expand_other : (v t : Views) (b : ℕ) (o : Option Way) (loan up : Way) (n : ℕ) → Becomes v t b o loan up n → (u : Way) → (number_of u ≡ b → ⊥) → expand t u ≡ expand v u
+pub expand_other : (v t : Views) (b : ℕ) (o : Option Way) (loan up : Way) (n : ℕ) → Becomes v t b o loan up n → (u : Way) → (number_of u ≡ b → ⊥) → expand t u ≡ expand v u
 expand_other v t b o loan up n c (Object r) off = refl
 expand_other v t b o loan up n c (Lost x) off = refl
 expand_other v t b o loan up n c (Into w i) off = ap (λ z. Into z i) (expand_other v t b o loan up n c w off)
 expand_other v t b o loan up n c (All (Object (OfVariable f x))) off = ap (λ z. expand_root z (OfVariable f x)) (c.ways x off)
 expand_other v t b o loan up n c (All (Object (OfHand h))) off = refl
 expand_other v t b o loan up n c (All (Lost x)) off = refl
-expand_other v t b o loan up n c (All (Into w i)) off = ap All (expand_other v t b o loan up n c (Into w i) off)
+expand_other v t b o loan up n c (All (Into w i)) off =
+    (λ j. expand_part (part_same v t b o loan up n c (Into w i) (inner_steps (Into w i)) j) (expand_other v t b o loan up n c (Into w i) off j))
 expand_other v t b o loan up n c (All (All w)) off = ap All (expand_other v t b o loan up n c (All w) off)
 
 -- What is asked of the way that a view gets.
@@ -140,10 +148,15 @@ module _ (home : ℕ → ℕ) (observer : ℕ → Bool) (other : Around home) (v
       ))
     ];
     clear = clear;
-    views = λ x w has. by_object x w has (x == b) refl;
+    views = (λ x w has. by_object x w has (x == b) refl, part_seen);
     whole = λ x w z has outer gone meets. by_root x w z has outer gone meets (x == b) refl;
     whole_away = λ x w z has given away meets. by_away x w z has given away meets (x == b) refl;
-    shown = λ x w has given named. by_shown x w has given named (x == b) refl;
+    shown = (
+      λ x w has given named. by_shown x w has given named (x == b) refl,
+      λ x p w has named. viewed.shown.1 x p w (sym (becomes.part_ways x p) ∙ has) named,
+    );
+    whole_parts = λ x p w z has. viewed.whole_parts x p w z (sym (becomes.part_ways x p) ∙ has);
+    parts_away = λ x p w z has. viewed.parts_away x p w z (sym (becomes.part_ways x p) ∙ has);
     past = λ x w has given plain k m keeps goes. not_past x w has given plain k m keeps goes (x == b) refl;
     lends = λ l m lent. (let old = viewed.lends l m lent in record {
       has = loans l m.root m old.has;
@@ -165,6 +178,26 @@ module _ (home : ℕ → ℕ) (observer : ℕ → Bool) (other : Around home) (v
         alone = λ plain. absurd (true_false (observer b) passed.sees plain);
         reaches = subst (λ z. Reaches s w (OfCell z)) (sym becomes.cell_is) passed.reaches;
       })
+
+      part_seen : ArePartsSeen home observer t s
+      part_seen x p w has =
+          let old = viewed.views.1 x p w (sym (becomes.part_ways x p) ∙ has) in record {
+            begins = old.begins;
+            sees = old.sees;
+            apart = λ y u there given plain meets. part_apart x p w (sym (becomes.part_ways x p) ∙ has) y u there given plain meets (y == b) refl;
+            reaches = subst (λ z. Reaches s w (OfCell z)) (sym (becomes.part_cells x p)) old.reaches;
+          }
+        where
+          part_apart : (x : ℕ) (p : List Step) (w : Way) → v.part_way x p ≡ Some w → (y : ℕ) (u : Way) → t.way y ≡ Some u → (Named home (t.up y) → ⊥) → observer y ≡ false
+              → Under u w ⊎ Under w u → (c : Bool) → (y == b) ≡ c → ⊥
+          part_apart x p w old y u there given plain meets false e =
+              let off : y ≡ b → ⊥ = λ same. (let is = eq-eqb y b same in cc) in
+              (viewed.views.1 x p w old).apart y u (sym (becomes.ways y off) ∙ there) (λ named. given (subst (Named home) (sym (becomes.ups y off)) named)) plain meets
+          part_apart x p w old y u there given plain meets true e = by_fit (fits u (sym becomes.way_is ∙ ap t.way (sym (eqb-true y b e)) ∙ there))
+            where
+              by_fit : FitsEither s facts' u → ⊥
+              by_fit (inl own) = given (subst (Named home) (sym (ap t.up (eqb-true y b e) ∙ becomes.up_is)) own.named)
+              by_fit (inr passed) = true_false (observer b) passed.sees (ap observer (sym (eqb-true y b e)) ∙ plain)
 
       -- what is taken from a view that was given is as whole
       fit_whole : (w z : Way) → FitsEither s facts' w → IsForeign home w ⊎ (Named home up → ⊥) → other.gone z → Under z w ⊎ Under w z → ⊥
@@ -214,7 +247,7 @@ module _ (home : ℕ → ℕ) (observer : ℕ → Bool) (other : Around home) (v
       ]
 
       by_shown : (x : ℕ) (w : Way) → t.way x ≡ Some w → (Named home (t.up x) → ⊥) → Named home w → (c : Bool) → (x == b) ≡ c → IsShared home other.lent (observer x) w
-      by_shown x w has given named false e = viewed.shown x w (old_way x w has e) (was_given x given e) named
+      by_shown x w has given named false e = viewed.shown.0 x w (old_way x w has e) (was_given x given e) named
       by_shown x w has given named true e = elim (new_fits x w has e) [
         | inl own ↦ absurd (new_given x given e own.named)
         | inr passed ↦ subst (λ c. IsShared home other.lent c w) (sym (ap observer (eqb-true x b e) ∙ passed.sees)) (passed.shown named)
@@ -228,7 +261,7 @@ module _ (home : ℕ → ℕ) (observer : ℕ → Bool) (other : Around home) (v
       by_object x w has false e =
           let off : x ≡ b → ⊥ = λ same. (let is = eq-eqb x b same in cc) in
           let old = sym (becomes.ways x off) ∙ has in
-          old_either s facts facts' fits x w off old (λ named. unused.untaken x w old named off) (viewed.views x w old) loans
+          old_either s facts facts' fits x w off old (λ named. unused.untaken x w old named off) (viewed.views.0 x w old) loans
 
   pub rebound : (s : View) (facts facts' : List Fact) → Viewed home observer other v s facts → Unused home other.lent v facts b
       → ((m : Name) → Has facts (Moved m) → Has facts' (Moved m)) → LoansStay facts facts' → AreClear observer facts'
@@ -239,6 +272,35 @@ module _ (home : ℕ → ℕ) (observer : ℕ → Bool) (other : Around home) (v
 
 same_way : (a b : Way) → Some a ≡ Some b → a ≡ b
 same_way a b e = cc
+
+-- No fact of what was moved is taken back, and no loan.
+pub record Leaves (observer : ℕ → Bool) (facts after_it : List Fact) : Type 0 where
+  pub moved : (m : Name) → Has facts (Moved m) → Has after_it (Moved m)
+  pub loans : LoansStay facts after_it
+  pub clear : AreClear observer after_it
+
+-- so it is in what lends
+module _ (observer : ℕ → Bool) (facts : List Fact) (clear : AreClear observer facts) where
+  pub observe_leaves : (b : ℕ) (m : Name) (seen : Bool) → Allows facts (Observe b m seen) → Leaves observer facts (effect (Observe b m seen) facts)
+  observe_leaves b m seen allowed = record {
+    moved = λ n has. kept_fact (Observe b m seen) facts (Moved n) has refl;
+    loans = loan_kept (Observe b m seen) facts (λ l h z. refl);
+    clear = clear_observe observer facts clear b m seen allowed;
+  }
+
+  pub borrow_leaves : (b : ℕ) (m : Name) → Allows facts (Borrow b m) → Leaves observer facts (effect (Borrow b m) facts)
+  borrow_leaves b m allowed = record {
+    moved = λ n has. kept_fact (Borrow b m) facts (Moved n) has refl;
+    loans = loan_kept (Borrow b m) facts (λ l h z. refl);
+    clear = clear_borrow observer facts clear b m allowed;
+  }
+
+  pub reborrow_leaves : (b : ℕ) (m : Name) → Leaves observer facts (effect (Reborrow b m) facts)
+  reborrow_leaves b m = record {
+    moved = λ n has. kept_fact (Reborrow b m) facts (Moved n) has refl;
+    loans = loan_kept (Reborrow b m) facts (λ l h z. refl);
+    clear = clear_same observer facts clear (Reborrow b m) refl;
+  }
 
 module _ (home : ℕ → ℕ) (observer : ℕ → Bool) (other : Around home) (v t : Views) (s : View) (facts : List Fact)
     (viewed : Viewed home observer other v s facts) where
@@ -318,7 +380,7 @@ module _ (home : ℕ → ℕ) (observer : ℕ → Bool) (other : Around home) (v
         sees = observes;
         begins = (passed.begins.0, passed.begins.1, ap base_of stands ∙ base_on l.way l.rest ∙ passed.begins.2);
         given = λ named. passed.given (on_named home (v.up l.object) l.rest named);
-        alone = λ x z has plain given meets. elim (viewed.views x z has) [
+        alone = λ x z has plain given meets. elim (viewed.views.0 x z has) [
           | inl view ↦ given view.named
           | inr first ↦ first.alone plain l.object l.way l.has (λ same. true_false (observer l.object) sees (ap observer same ∙ plain)) passed.given
               (meets_front l.way w z under meets)
@@ -326,32 +388,57 @@ module _ (home : ℕ → ℕ) (observer : ℕ → Bool) (other : Around home) (v
         reaches = (designates w e).1;
         whole = λ z gone meets. viewed.whole l.object l.way z l.has (inr passed.given) gone (meets_front l.way w z under meets);
         whole_away = λ z away meets. viewed.whole_away l.object l.way z l.has passed.given away (meets_front l.way w z under meets);
-        shown = λ named. (let (loan, (k, at_home, above, lent), changed) = viewed.shown l.object l.way l.has passed.given
+        shown = λ named. (let (loan, (k, at_home, above, lent), changed) = viewed.shown.0 l.object l.way l.has passed.given
             (on_named home l.way l.rest (subst (Named home) stands named)) in
             (loan, (k, at_home, under_on k l.way w above under, lent), λ plain. absurd (true_false true refl plain)));
       }
 
-  -- an observer of what the frame was given takes a loan, which serves for nothing
-  pub observed_passed : (b : ℕ) (o : Option Way) (m : Name) (k : Way) (n : ℕ) (l : Lifted v k) → IsPassed home observer v s l.object l.way → observer l.object ≡ true
-      → Becomes v t b o (v.loan l.object) (next_of v k l) n → observer b ≡ true → LeadsTo o k n → (seen : Bool) → Allows facts (Observe b m seen)
-      → Viewed home observer other t s (effect (Observe b m seen) facts)
-  observed_passed b o m k n l passed sees becomes observes designates seen allowed =
-      let act : Act = Observe b m seen in
-      rebound_any home observer other v t b o (v.loan l.object) (next_of v k l) n becomes s facts (effect act facts) viewed (observer_unused b observes)
-      (stays act (λ z. refl)) (loan_kept act facts (λ l h z. refl)) (clear_observe observer facts viewed.clear b m seen allowed)
-      (λ w e. inr (passed_on b o k n l passed sees becomes observes designates w e))
+  -- one of what the frame was given needs no loan
+  seen_passed : (b : ℕ) (o : Option Way) (k : Way) (n : ℕ) (l : Lifted v k) → IsPassed home observer v s l.object l.way → observer l.object ≡ true
+      → Becomes v t b o (v.loan l.object) (next_of v k l) n → observer b ≡ true → LeadsTo o k n → (after_it : List Fact) → Leaves observer facts after_it
+      → Viewed home observer other t s after_it
+  seen_passed b o k n l passed sees becomes observes designates after_it leaves =
+      rebound_any home observer other v t b o (v.loan l.object) (next_of v k l) n becomes s facts after_it viewed (observer_unused b observes)
+      leaves.moved leaves.loans leaves.clear (λ w e. inr (passed_on b o k n l passed sees becomes observes designates w e))
+
+  -- what an observer sees of what a part of a formal designates
+  part_on : (b : ℕ) (o : Option Way) (k : Way) (n : ℕ) (l : InPart v k) → (becomes : Becomes v t b o (Lost 0) (Lost 0) n) → observer b ≡ true → LeadsTo o k n
+      → (w : Way) → o ≡ Some w → FitsPassed home observer other v t b o (Lost 0) (Lost 0) n becomes s w
+  part_on b o k n l becomes observes designates w e =
+      let part = viewed.views.1 l.object l.steps l.way l.has in
+      let stands : w ≡ on l.way l.rest = (designates w e).0 ∙ in_part_way v k l in
+      let under : Under l.way w = subst (Under l.way) (sym stands) (on_under l.way l.rest) in
+      record {
+        sees = observes;
+        begins = (part.begins.0, part.begins.1, ap base_of stands ∙ base_on l.way l.rest ∙ part.begins.2);
+        given = λ named. named;
+        alone = λ x z has plain given meets. elim (viewed.views.0 x z has) [
+          | inl view ↦ given view.named
+          | inr first ↦ part.apart x z has first.given plain (meets_front l.way w z under meets)
+        ];
+        reaches = (designates w e).1;
+        whole = λ z gone meets. viewed.whole_parts l.object l.steps l.way z l.has gone (meets_front l.way w z under meets);
+        whole_away = λ z away meets. viewed.parts_away l.object l.steps l.way z l.has away (meets_front l.way w z under meets);
+        shown = λ named. (let (loan, (k, at_home, above, lent), changed) = viewed.shown.1 l.object l.steps l.way l.has
+            (on_named home l.way l.rest (subst (Named home) stands named)) in
+            (loan, (k, at_home, under_on k l.way w above under, lent), λ plain. absurd (true_false true refl plain)));
+      }
+
+  pub seen_part : (b : ℕ) (o : Option Way) (k : Way) (n : ℕ) (l : InPart v k) → Becomes v t b o (Lost 0) (Lost 0) n → observer b ≡ true
+      → LeadsTo o k n → (after_it : List Fact) → Leaves observer facts after_it → Viewed home observer other t s after_it
+  seen_part b o k n l becomes observes designates after_it leaves =
+      rebound_any home observer other v t b o (Lost 0) (Lost 0) n becomes s facts after_it viewed (observer_unused b observes)
+      leaves.moved leaves.loans leaves.clear (λ w e. inr (part_on b o k n l becomes observes designates w e))
 
   -- what another observer sees: its loan serves
-  own_again : (b : ℕ) (o : Option Way) (m : Name) (k : Way) (n : ℕ) (l : Lifted v k) → IsView home observer v s facts l.object l.way → observer l.object ≡ true
+  own_again : (b : ℕ) (o : Option Way) (k : Way) (n : ℕ) (l : Lifted v k) → IsView home observer v s facts l.object l.way → observer l.object ≡ true
       → Becomes v t b o (v.loan l.object) (next_of v k l) n → observer b ≡ true → Named home k → LeadsTo o k n
-      → (seen : Bool) → Allows facts (Observe b m seen) → Viewed home observer other t s (effect (Observe b m seen) facts)
-  own_again b o m k n l view sees becomes observes named designates seen allowed =
-      let act : Act = Observe b m seen in
+      → (after_it : List Fact) → Leaves observer facts after_it → Viewed home observer other t s after_it
+  own_again b o k n l view sees becomes observes named designates after_it leaves =
       let on = next home observer v s facts viewed.views k l view named in
       let loan = subst (λ z. HasLoan observer z l.object facts (name_of (v.loan l.object))) sees view.lent in
-      rebound home observer other v t b o (v.loan l.object) (next_of v k l) n becomes s facts (effect act facts) viewed (observer_unused b observes)
-      (stays act (λ z. refl)) (loan_kept act facts (λ l h z. refl))
-      (clear_observe observer facts viewed.clear b m seen allowed)
+      rebound home observer other v t b o (v.loan l.object) (next_of v k l) n becomes s facts after_it viewed (observer_unused b observes)
+      leaves.moved leaves.loans leaves.clear
       (λ w e. record {
         named = on.plain.0;
         leads = on.same ∙ sym (designates w e).0;
@@ -359,17 +446,18 @@ module _ (home : ℕ → ℕ) (observer : ℕ → Bool) (other : Around home) (v
         deep = on_deep (v.up l.object) l.rest view.deep;
         plain = on.plain.1;
         older = λ is. absurd (true_false (observer b) observes is);
-        lent = subst (λ z. HasLoan observer z b (effect act facts) (name_of (v.loan l.object))) (sym observes)
-            (loan.0, kept_fact act facts (Lent Observed loan.0 (name_of (v.loan l.object))) loan.1 refl, loan.2);
+        lent = subst (λ z. HasLoan observer z b after_it (name_of (v.loan l.object))) (sym observes)
+            (loan.0, leaves.loans Observed loan.0 (name_of (v.loan l.object)) loan.1, loan.2);
         reaches = (designates w e).1;
       })
 
-  pub observed_again : (b : ℕ) (o : Option Way) (m : Name) (k : Way) (n : ℕ) (l : Lifted v k) → observer l.object ≡ true
+  -- an object that only sees gets what another one sees
+  pub seen_again : (b : ℕ) (o : Option Way) (k : Way) (n : ℕ) (l : Lifted v k) → observer l.object ≡ true
       → Becomes v t b o (v.loan l.object) (next_of v k l) n → observer b ≡ true → Named home k → LeadsTo o k n
-      → (seen : Bool) → Allows facts (Observe b m seen) → Viewed home observer other t s (effect (Observe b m seen) facts)
-  observed_again b o m k n l sees becomes observes named designates seen allowed = elim (viewed.views l.object l.way l.has) [
-    | inl view ↦ own_again b o m k n l view sees becomes observes named designates seen allowed
-    | inr passed ↦ observed_passed b o m k n l passed sees becomes observes designates seen allowed
+      → (after_it : List Fact) → Leaves observer facts after_it → Viewed home observer other t s after_it
+  seen_again b o k n l sees becomes observes named designates after_it leaves = elim (viewed.views.0 l.object l.way l.has) [
+    | inl view ↦ own_again b o k n l view sees becomes observes named designates after_it leaves
+    | inr passed ↦ seen_passed b o k n l passed sees becomes observes designates after_it leaves
   ]
 
   -- no name that is rooted in an object that is reborrowed was moved, or is lent
@@ -443,6 +531,8 @@ becomes_with v b o loan up n = record {
   loans = λ y off. ap (λ c. if c then loan else v.loan y) (differs y b off);
   ups = λ y off. ap (λ c. if c then up else v.up y) (differs y b off);
   cells = λ y off. ap (λ c. if c then n else v.cell y) (differs y b off);
+  part_ways = λ y p. refl;
+  part_cells = λ y p. refl;
 }
   where
     differs : (y b : ℕ) → (y ≡ b → ⊥) → (y == b) ≡ false

@@ -1,10 +1,10 @@
 -- How ways go on, and the names of owners that names through views stand for.
 use Rattle.std.proofs.Common.{◌≡◌, refl, sym, ap, ◌∙◌, subst, ◌⊎◌, inl, inr, ℕ, ◌==◌, eqb-true, eq-eqb, Bool, true, false, List, [], ◌∷◌, length, suc, ◌+◌, arith, Option, Some, None}
 use Rattle.place_names.specs.Names.{overlaps}
-use Rattle.owned_ways.specs.Ways.{Root, OfVariable, OfHand, OfRoot, Way, Object, Lost, Into, All, Under, Named, base_of, number_of, name_of}
+use Rattle.owned_ways.specs.Ways.{Step, Root, OfVariable, OfHand, OfRoot, Way, Object, Lost, Into, All, Under, Named, along, base_of, number_of, name_of}
 use Rattle.owned_ways.proofs.Locations.{depth, under_depth, under_itself}
 use Rattle.owned_ways.proofs.Named.{longer, under_overlaps, under_front}
-use Rattle.owned_loans.specs.Views.{Go, Part, Down, go, on, Views, expand_root, way_at, expand, IsObject, IsForeign}
+use Rattle.owned_loans.specs.Views.{Go, Part, Down, go, on, Views, expand_root, expand_part, inner_steps, part_from, part_at, way_at, expand, IsObject, IsForeign}
 
 -- ---- beginnings of ways
 
@@ -135,16 +135,45 @@ on_deep w (g ∷ r) d = go_deep g (on w r)
 
 -- ---- what names stand for
 
-pub expand_go : (v : Views) (g : Go) (w : Way) → (IsObject w → ⊥) → expand v (go g w) ≡ go g (expand v w)
-expand_go v (Part i) w d = refl
-expand_go v Down (Object r) d = absurd (d tt)
-expand_go v Down (Lost n) d = refl
-expand_go v Down (Into w i) d = refl
-expand_go v Down (All w) d = refl
+-- A way goes through a number.
+abbrev pub IsDeep : Way → Type 0
+IsDeep (Object r) = ⊥
+IsDeep (Lost n) = ⊥
+IsDeep (Into w i) = IsDeep w
+IsDeep (All w) = Unit {0}
 
-pub expand_on : (v : Views) (w : Way) (r : List Go) → (IsObject w → ⊥) → expand v (on w r) ≡ on (expand v w) r
-expand_on v w [] d = refl
-expand_on v w (g ∷ r) d = expand_go v g (on w r) (on_deep w r d) ∙ ap (go g) (expand_on v w r d)
+-- No part with a way goes on at a name: it goes through a number, or its object has none.
+abbrev pub HasNoPart : Views → Way → Type 0
+HasNoPart v w = IsDeep w ⊎ ((p : List Step) → v.part_way (number_of w) p ≡ None)
+
+none_from : (v : Views) (w : Way) (p : List Step) → HasNoPart v w → part_from v w p ≡ None
+none_from v (Object (OfVariable f x)) p none = elim none [ inl deep ↦ absurd deep | inr bare ↦ bare p ]
+none_from v (Object (OfHand h)) p none = refl
+none_from v (Lost n) p none = refl
+none_from v (Into w i) p none = none_from v w p none
+none_from v (All w) p none = refl
+
+pub part_none : (v : Views) (w : Way) → HasNoPart v w → part_at v w ≡ None
+part_none v w none = none_from v w (inner_steps w) none
+
+go_none : (v : Views) (g : Go) (w : Way) → HasNoPart v w → HasNoPart v (go g w)
+go_none v (Part i) w none = none
+go_none v Down w none = inl tt
+
+on_none : (v : Views) (w : Way) (r : List Go) → HasNoPart v w → HasNoPart v (on w r)
+on_none v w [] none = none
+on_none v w (g ∷ r) none = go_none v g (on w r) (on_none v w r none)
+
+pub expand_go : (v : Views) (g : Go) (w : Way) → (IsObject w → ⊥) → HasNoPart v w → expand v (go g w) ≡ go g (expand v w)
+expand_go v (Part i) w d none = refl
+expand_go v Down (Object r) d none = absurd (d tt)
+expand_go v Down (Lost n) d none = refl
+expand_go v Down (Into w i) d none = ap (λ z. expand_part z (expand v (Into w i))) (part_none v (Into w i) none)
+expand_go v Down (All w) d none = refl
+
+pub expand_on : (v : Views) (w : Way) (r : List Go) → (IsObject w → ⊥) → HasNoPart v w → expand v (on w r) ≡ on (expand v w) r
+expand_on v w [] d none = refl
+expand_on v w (g ∷ r) d none = expand_go v g (on w r) (on_deep w r d) (on_none v w r none) ∙ ap (go g) (expand_on v w r d none)
 
 -- a name rooted in a view with a value
 pub record Lifted (v : Views) (x : Way) : Type 0 where
@@ -165,20 +194,107 @@ further v g x l = record {
   has = l.has;
 }
 
+-- a name that goes through a part of a formal
+pub record InPart (v : Views) (x : Way) : Type 0 where
+  pub frame : ℕ
+  pub object : ℕ
+  pub steps : List Step
+  pub rest : List Go
+  pub way : Way
+  pub is : x ≡ on (All (along (Object (OfVariable frame object)) steps)) rest
+  pub has : v.part_way object steps ≡ Some way
+  pub deep : steps ≡ [] → ⊥
+
+abbrev pub further_in : (v : Views) (g : Go) (x : Way) → InPart v x → InPart v (go g x)
+further_in v g x l = record {
+  frame = l.frame;
+  object = l.object;
+  steps = l.steps;
+  rest = g ∷ l.rest;
+  way = l.way;
+  is = ap (go g) l.is;
+  has = l.has;
+  deep = l.deep;
+}
+
 at_root : (v : Views) (r : Root) (o : Option Way) → way_at v r ≡ o → (expand v (All (Object r)) ≡ All (Object r)) ⊎ Lifted v (All (Object r))
 at_root v r None e = inl (ap (λ z. expand_root z r) e)
 at_root v (OfVariable f x) (Some w) e = inr (record { frame = f; object = x; rest = []; way = w; is = refl; has = e })
 at_root v (OfHand h) (Some w) e = cc
 
--- each name stands for itself, or is rooted in a view with a value
-pub lifts : (v : Views) (x : Way) → (expand v x ≡ x) ⊎ Lifted v x
+-- a name with a part is that of an object, with its steps
+pub part_found : (v : Views) (w : Way) (p : List Step) (o : Way) → part_from v w p ≡ Some o
+    → (f : ℕ) × (x : ℕ) × (w ≡ along (Object (OfVariable f x)) (inner_steps w)) × (v.part_way x p ≡ Some o)
+part_found v (Object (OfVariable f x)) p o e = (f, x, refl, e)
+part_found v (Object (OfHand h)) p o e = cc
+part_found v (Lost n) p o e = cc
+part_found v (Into w i) p o e = (let rest = part_found v w p o e in (rest.0, rest.1, ap (λ z. Into z i) rest.2, rest.3))
+part_found v (All w) p o e = cc
+
+-- each name stands for itself, or is rooted in a view with a value, or goes through a part
+abbrev pub Lifts : Views → Way → Type 0
+Lifts v x = (expand v x ≡ x) ⊎ (Lifted v x ⊎ InPart v x)
+
+further_on : (v : Views) (g : Go) (x : Way) → (expand v x ≡ x → expand v (go g x) ≡ go g x) → Lifts v x → Lifts v (go g x)
+further_on v g x same (inl e) = inl (same e)
+further_on v g x same (inr (inl l)) = inr (inl (further v g x l))
+further_on v g x same (inr (inr l)) = inr (inr (further_in v g x l))
+
+pub lifts : (v : Views) (x : Way) → Lifts v x
 lifts v (Object r) = inl refl
 lifts v (Lost n) = inl refl
-lifts v (Into w i) = elim (lifts v w) [ inl e ↦ inl (ap (λ z. Into z i) e) | inr l ↦ inr (further v (Part i) w l) ]
-lifts v (All (Object r)) = at_root v r (way_at v r) refl
+lifts v (Into w i) = further_on v (Part i) w (λ e. ap (λ z. Into z i) e) (lifts v w)
+lifts v (All (Object r)) = elim (at_root v r (way_at v r) refl) [ inl e ↦ inl e | inr l ↦ inr (inl l) ]
 lifts v (All (Lost n)) = inl refl
-lifts v (All (Into w i)) = elim (lifts v (Into w i)) [ inl e ↦ inl (ap All e) | inr l ↦ inr (further v Down (Into w i) l) ]
-lifts v (All (All w)) = elim (lifts v (All w)) [ inl e ↦ inl (ap All e) | inr l ↦ inr (further v Down (All w) l) ]
+lifts v (All (Into w i)) = by_part (lifts v (Into w i)) (part_at v (Into w i)) refl
+  where
+    by_part : Lifts v (Into w i) → (o : Option Way) → part_at v (Into w i) ≡ o → Lifts v (All (Into w i))
+    by_part front None e = further_on v Down (Into w i) (λ same. ap (λ z. expand_part z (expand v (Into w i))) e ∙ ap All same) front
+    by_part front (Some o) e =
+        let found = part_found v (Into w i) (inner_steps (Into w i)) o e in
+        inr (inr (record {
+          frame = found.0;
+          object = found.1;
+          steps = inner_steps (Into w i);
+          rest = [];
+          way = o;
+          is = ap All found.2;
+          has = found.3;
+          deep = λ none. cc;
+        }))
+lifts v (All (All w)) = further_on v Down (All w) (λ e. ap All e) (lifts v (All w))
+
+along_inner : (f x : ℕ) (p : List Step) → inner_steps (along (Object (OfVariable f x)) p) ≡ p
+along_inner f x [] = refl
+along_inner f x (i ∷ p) = ap (λ z. i ∷ z) (along_inner f x p)
+
+along_from : (v : Views) (f x : ℕ) (p q : List Step) → part_from v (along (Object (OfVariable f x)) p) q ≡ v.part_way x q
+along_from v f x [] q = refl
+along_from v f x (i ∷ p) q = along_from v f x p q
+
+-- what a part designates
+pub part_is : (v : Views) (f x : ℕ) (p : List Step) → part_at v (along (Object (OfVariable f x)) p) ≡ v.part_way x p
+part_is v f x p = along_from v f x p (inner_steps (along (Object (OfVariable f x)) p)) ∙ ap (v.part_way x) (along_inner f x p)
+
+pub expand_in : (v : Views) (f x : ℕ) (p : List Step) (w : Way) → (p ≡ [] → ⊥) → v.part_way x p ≡ Some w → expand v (All (along (Object (OfVariable f x)) p)) ≡ w
+expand_in v f x [] w deep has = absurd (deep refl)
+expand_in v f x (i ∷ p) w deep has =
+    ap (λ z. expand_part z (expand v (along (Object (OfVariable f x)) (i ∷ p)))) (part_is v f x (i ∷ p) ∙ has)
+
+along_number : (w : Way) (p : List Step) → number_of (along w p) ≡ number_of w
+along_number w [] = refl
+along_number w (i ∷ p) = along_number w p
+
+pub part_root : (v : Views) (x : Way) (l : InPart v x) → number_of x ≡ l.object
+part_root v x l =
+    ap number_of l.is ∙ root_on (All (along (Object (OfVariable l.frame l.object)) l.steps)) l.rest
+    ∙ along_number (Object (OfVariable l.frame l.object)) l.steps
+
+pub in_part_way : (v : Views) (x : Way) (l : InPart v x) → expand v x ≡ on l.way l.rest
+in_part_way v x l =
+    ap (expand v) l.is
+    ∙ expand_on v (All (along (Object (OfVariable l.frame l.object)) l.steps)) l.rest (λ d. d) (inl tt)
+    ∙ ap (λ z. on z l.rest) (expand_in v l.frame l.object l.steps l.way l.deep l.has)
 
 pub lifted_root : (v : Views) (x : Way) (l : Lifted v x) → number_of x ≡ l.object
 lifted_root v x l = ap number_of l.is ∙ root_on (All (Object (OfVariable l.frame l.object))) l.rest
@@ -186,7 +302,7 @@ lifted_root v x l = ap number_of l.is ∙ root_on (All (Object (OfVariable l.fra
 pub lifted_way : (v : Views) (x : Way) (l : Lifted v x) → expand v x ≡ on l.way l.rest
 lifted_way v x l =
     ap (expand v) l.is
-    ∙ expand_on v (All (Object (OfVariable l.frame l.object))) l.rest (λ d. d)
+    ∙ expand_on v (All (Object (OfVariable l.frame l.object))) l.rest (λ d. d) (inl tt)
     ∙ ap (λ z. on z l.rest) (ap (λ z. expand_root z (OfVariable l.frame l.object)) l.has)
 
 -- its name in terms of what the view was taken from
@@ -194,10 +310,11 @@ abbrev pub next_of : (v : Views) (x : Way) → Lifted v x → Way
 next_of v x l = on (v.up l.object) l.rest
 
 -- a name that is rooted in no view with a value stands for itself
-pub stands_alone : (v : Views) (u : Way) → v.way (number_of u) ≡ None → expand v u ≡ u
-stands_alone v u none = elim (lifts v u) [
+pub stands_alone : (v : Views) (u : Way) → v.way (number_of u) ≡ None → ((p : List Step) → v.part_way (number_of u) p ≡ None) → expand v u ≡ u
+stands_alone v u none bare = elim (lifts v u) [
   | inl e ↦ e
-  | inr l ↦ (let is : Some l.way ≡ None = sym l.has ∙ ap v.way (sym (lifted_root v u l)) ∙ none in cc)
+  | inr (inl l) ↦ (let is : Some l.way ≡ None = sym l.has ∙ ap v.way (sym (lifted_root v u l)) ∙ none in cc)
+  | inr (inr l) ↦ (let is : Some l.way ≡ None = sym l.has ∙ ap (λ z. v.part_way z l.steps) (sym (part_root v u l)) ∙ bare l.steps in cc)
 ]
 
 -- a way that begins at a variable of the frame is named

@@ -28,12 +28,15 @@ on w (g ∷ r) = go g (on w r)
 
 -- The borrowers and observers of a frame, by their objects. One with a value has a way: a name of
 -- the cell that it holds, rooted in an owner. `up` names that cell by an owner or an older
--- borrower, and goes through the place of the loan.
+-- borrower, and goes through the place of the loan. A formal that owns nothing may have parts that
+-- designate cells, each with a way and a cell of its own; the steps to a part come last one first.
 pub record Views : Type 0 where
   pub way : ℕ → Option Way
   pub loan : ℕ → Way
   pub up : ℕ → Way
   pub cell : ℕ → ℕ
+  pub part_way : ℕ → List Step → Option Way
+  pub part_cell : ℕ → List Step → ℕ
 
 -- What a view designates is named by its way; what another object designates, by the object.
 abbrev pub expand_root : Option Way → Root → Way
@@ -44,6 +47,26 @@ abbrev pub way_at : Views → Root → Option Way
 way_at v (OfVariable f x) = v.way x
 way_at v (OfHand h) = None
 
+-- What a part designates is named by its way, if it has one.
+abbrev pub expand_part : Option Way → Way → Way
+expand_part None w = All w
+expand_part (Some w) other = w
+
+-- The way of a part of a variable: the steps of a name that goes through no number.
+abbrev pub inner_steps : Way → List Step
+inner_steps (Into w i) = i ∷ inner_steps w
+inner_steps _ = []
+
+abbrev pub part_from : Views → Way → List Step → Option Way
+part_from v (Object (OfVariable f x)) p = v.part_way x p
+part_from v (Object (OfHand h)) p = None
+part_from v (Lost n) p = None
+part_from v (Into w i) p = part_from v w p
+part_from v (All w) p = None
+
+abbrev pub part_at : Views → Way → Option Way
+part_at v w = part_from v w (inner_steps w)
+
 -- The name of an owner for a name that may be rooted in a view.
 abbrev pub expand : Views → Way → Way
 expand v (Object r) = Object r
@@ -51,7 +74,7 @@ expand v (Lost n) = Lost n
 expand v (Into w i) = Into (expand v w) i
 expand v (All (Object r)) = expand_root (way_at v r) r
 expand v (All (Lost n)) = All (Lost n)
-expand v (All (Into w i)) = All (expand v (Into w i))
+expand v (All (Into w i)) = expand_part (part_at v (Into w i)) (expand v (Into w i))
 expand v (All (All w)) = All (expand v (All w))
 
 abbrev pub IsObject : Way → Type 0
@@ -157,13 +180,26 @@ IsOuter home v x w = IsForeign home w ⊎ (Named home (v.up x) → ⊥)
 abbrev pub IsShared : (ℕ → ℕ) → (Loan → Name → Type 0) → Bool → Way → Type 0
 IsShared home lent sees w = (l : Loan) × IsThrough home lent l w × (sees ≡ false → l ≡ Borrowed)
 
--- So it is of the views that were given and lead to what the frame has names for.
+-- So it is of the views that were given and lead to what the frame has names for, and of the parts of formals that do.
 abbrev pub AreShared : (ℕ → ℕ) → (ℕ → Bool) → (Loan → Name → Type 0) → Views → Type 0
 AreShared home observer lent v =
-    (x : ℕ) (w : Way) → v.way x ≡ Some w → (Named home (v.up x) → ⊥) → Named home w → IsShared home lent (observer x) w
+    ((x : ℕ) (w : Way) → v.way x ≡ Some w → (Named home (v.up x) → ⊥) → Named home w → IsShared home lent (observer x) w)
+    × ((x : ℕ) (p : List Step) (w : Way) → v.part_way x p ≡ Some w → Named home w → IsShared home lent true w)
+
+-- A part of a formal that owns nothing, which designates what belongs to another frame, or to a package. Nothing
+-- is changed through it, and what is changed through another view that was given doesn't meet its way.
+pub record IsPartSeen (home : ℕ → ℕ) (observer : ℕ → Bool) (v : Views) (s : View) (x : ℕ) (p : List Step) (w : Way) : Type 0 where
+  pub begins : (f : ℕ) × (y : ℕ) × (base_of w ≡ OfRoot (OfVariable f y))
+  pub sees : observer x ≡ true
+  pub apart : (y : ℕ) (u : Way) → v.way y ≡ Some u → (Named home (v.up y) → ⊥) → observer y ≡ false → Under u w ⊎ Under w u → ⊥
+  pub reaches : Reaches s w (OfCell (v.part_cell x p))
+
+abbrev pub ArePartsSeen : (ℕ → ℕ) → (ℕ → Bool) → Views → View → Type 0
+ArePartsSeen home observer v s = (x : ℕ) (p : List Step) (w : Way) → v.part_way x p ≡ Some w → IsPartSeen home observer v s x p w
 
 abbrev pub AreViews : (ℕ → ℕ) → (ℕ → Bool) → Views → View → List Fact → Type 0
-AreViews home observer v s facts = (x : ℕ) (w : Way) → v.way x ≡ Some w → IsView home observer v s facts x w ⊎ IsPassed home observer v s x w
+AreViews home observer v s facts =
+    ((x : ℕ) (w : Way) → v.way x ≡ Some w → IsView home observer v s facts x w ⊎ IsPassed home observer v s x w) × ArePartsSeen home observer v s
 
 -- A place that is lent to others is a part of an object that is no view. The facts know the loan as
 -- one of that object.
@@ -183,8 +219,10 @@ pub record Viewed (home : ℕ → ℕ) (observer : ℕ → Bool) (other : Around
   -- nothing that is gone for others meets what a view of theirs sees
   pub whole : (x : ℕ) (w z : Way) → v.way x ≡ Some w → IsOuter home v x w → other.gone z → Under z w ⊎ Under w z → ⊥
   pub whole_away : (x : ℕ) (w z : Way) → v.way x ≡ Some w → (Named home (v.up x) → ⊥) → other.away z → Under z w ⊎ Under w z → ⊥
-  -- what a view that was given sees, and the frame has names for, is lent
+  -- what a view that was given sees, or a part of a formal, and the frame has names for, is lent
   pub shown : AreShared home observer other.lent v
+  pub whole_parts : (x : ℕ) (p : List Step) (w z : Way) → v.part_way x p ≡ Some w → other.gone z → Under z w ⊎ Under w z → ⊥
+  pub parts_away : (x : ℕ) (p : List Step) (w z : Way) → v.part_way x p ≡ Some w → other.away z → Under z w ⊎ Under w z → ⊥
   -- no view of others goes by what is changed through a view that was given
   pub past : (x : ℕ) (w : Way) → v.way x ≡ Some w → (Named home (v.up x) → ⊥) → observer x ≡ false
       → (k : Way) (n : ℕ) → other.kept k n → Past w k → ⊥
@@ -201,6 +239,7 @@ pub record ViewedAlone (home : ℕ → ℕ) (observer : ℕ → Bool) (other : A
   pub clear : AreClear observer facts
   pub views : AreViews home observer v s facts
   pub whole : (x : ℕ) (w z : Way) → v.way x ≡ Some w → IsOuter home v x w → other.gone z → Under z w ⊎ Under w z → ⊥
+  pub whole_parts : (x : ℕ) (p : List Step) (w z : Way) → v.part_way x p ≡ Some w → other.gone z → Under z w ⊎ Under w z → ⊥
 
 -- ---- a view gets a value
 
@@ -214,6 +253,8 @@ pub record Becomes (v t : Views) (b : ℕ) (way : Option Way) (loan up : Way) (c
   pub loans : (y : ℕ) → (y ≡ b → ⊥) → t.loan y ≡ v.loan y
   pub ups : (y : ℕ) → (y ≡ b → ⊥) → t.up y ≡ v.up y
   pub cells : (y : ℕ) → (y ≡ b → ⊥) → t.cell y ≡ v.cell y
+  pub part_ways : (y : ℕ) (p : List Step) → t.part_way y p ≡ v.part_way y p
+  pub part_cells : (y : ℕ) (p : List Step) → t.part_cell y p ≡ v.part_cell y p
 
 abbrev pub with_view : Views → ℕ → Option Way → Way → Way → ℕ → Views
 with_view v b way loan up cell = record {
@@ -221,6 +262,8 @@ with_view v b way loan up cell = record {
   loan = λ y. if y == b then loan else v.loan y;
   up = λ y. if y == b then up else v.up y;
   cell = λ y. if y == b then cell else v.cell y;
+  part_way = v.part_way;
+  part_cell = v.part_cell;
 }
 
 -- No name of a moved place is rooted in an object, nor is a place that is lent to others, and no

@@ -1,11 +1,15 @@
 -- The subprograms of the layout are those of the typed program, by their numbers.
 use Rattle.std.proofs.Common.{◌≡◌, refl, sym, ap, ◌∙◌, subst, ◌⊎◌, inl, inr, ℕ, suc, ◌+◌, ◌≤◌, List, [], ◌∷◌, ◌++◌, length, arith}
+use Rattle.std.specs.Prelude.{flat_map}
 use Rattle.spark_base.specs.Lists.{Has}
+use Rattle.spark_base.proofs.Lists.{Has-append_left, Has-append_right}
 use Rattle.typed_tree.specs.Programs.{TypedSub}
 use Rattle.flow_paths.specs.Objects.{Typing}
 use Rattle.flow_paths.specs.Prep.{Setting}
 use Rattle.flow_paths.specs.Laid.{NamedSub, numbers_from, sub_temporaries, named_sub, named_subs, elaborated, all_named}
 use Rattle.soundness.specs.Sound.{IsNamedSub}
+use Rattle.scope_laws.specs.Code.{Once, objects_of}
+use Rattle.scope_laws.proofs.Lists.{once_right, once_apart}
 use Rattle.ready_laws.specs.InOrder.{IsSub}
 
 -- The temporaries of a subprogram, from a number on.
@@ -66,3 +70,31 @@ one_named subs n a b (front, rest, is, long) (front', rest', is', long') = align
     aligned (x ∷ front) [] e long = cc
     aligned (x ∷ front) (y ∷ front') e long =
         (let tails : front ++ a ∷ rest ≡ front' ++ b ∷ rest' = cc in aligned front front' tails (omega (arith, long)))
+
+-- ---- by objects
+
+flat_has : {A B : Type 0} (f : A → List B) (xs : List A) (x : A) (y : B) → Has xs x → Has (f x) y → Has (flat_map f xs) y
+flat_has f [] x y has there = absurd has
+flat_has f (z ∷ xs) x y (inl same) there = Has-append_left (f z) (flat_map f xs) y (subst (λ w. Has (f w) y) (sym same) there)
+flat_has f (z ∷ xs) x y (inr has) there = Has-append_right (f z) (flat_map f xs) y (flat_has f xs x y has there)
+
+named_objects : (s : Typing) (n : ℕ) (subs : List TypedSub) → flat_map (λ (z : NamedSub). objects_of z.sub) (named_subs s n subs) ≡ flat_map objects_of subs
+named_objects s n [] = refl
+named_objects s n (sub ∷ rest) = ap (λ xs. objects_of sub ++ xs) (named_objects s (n + length (sub_temporaries s sub)) rest)
+
+-- If no object is one of two subprograms, one object has one subprogram.
+pub object_named : (s : Typing) (n : ℕ) (subs : List TypedSub) → Once (flat_map objects_of subs) → (a b : NamedSub) → Has (named_subs s n subs) a
+    → Has (named_subs s n subs) b → (x : ℕ) → Has (objects_of a.sub) x → Has (objects_of b.sub) x → a ≡ b
+object_named s n subs once a b in_a in_b x one other = by (named_subs s n subs) (subst Once (sym (named_objects s n subs)) once) in_a in_b
+  where
+    objects : NamedSub → List ℕ
+    objects z = objects_of z.sub
+
+    by : (all : List NamedSub) → Once (flat_map objects all) → Has all a → Has all b → a ≡ b
+    by [] once in_a in_b = absurd in_a
+    by (c ∷ all) once (inl same) (inl alike) = sym same ∙ alike
+    by (c ∷ all) once (inl same) (inr in_b) =
+        absurd (once_apart (objects c) (flat_map objects all) x once (subst (λ z. Has (objects z) x) (sym same) one) (flat_has objects all b x in_b other))
+    by (c ∷ all) once (inr in_a) (inl alike) =
+        absurd (once_apart (objects c) (flat_map objects all) x once (subst (λ z. Has (objects z) x) (sym alike) other) (flat_has objects all a x in_a one))
+    by (c ∷ all) once (inr in_a) (inr in_b) = by all (once_right (objects c) (flat_map objects all) once) in_a in_b

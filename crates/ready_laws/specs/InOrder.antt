@@ -1,6 +1,6 @@
 -- What is asked of a typed program, subprogram by subprogram, so that it is ready. Nothing here speaks of
 -- points, paths or facts.
-use Rattle.std.specs.Prelude.{◌≡◌, ℕ, suc, ◌≤◌, ◌<◌, Bool, true, false, not, ◌&&◌, List, ◌∷◌, ◌++◌, length, Option, Some, None, is_some}
+use Rattle.std.specs.Prelude.{◌≡◌, ℕ, suc, ◌≤◌, ◌<◌, Bool, true, false, not, ◌&&◌, List, ◌∷◌, ◌++◌, flat_map, length, Option, Some, None, is_some}
 use Rattle.std.specs.List.{list_all}
 use Rattle.spark_base.specs.Lists.{Has}
 use Rattle.type_definitions.specs.Types.{Table, full, is_scalar, is_owning}
@@ -63,7 +63,9 @@ pub record IsInOrder (table : Table) (program : TypedProgram) : Type 0 where
   pub unmoved : names_no_owner (typing_of table program) first.body ≡ true
   pub bodies : (sub : TypedSub) → Has program.subs sub → IsBody (typing_of table program) sub
   pub local : (sub : TypedSub) → Has rest sub → IsLocal (typing_of table program) sub
-  -- in the others each exit stands in a loop
+  -- no object is one of two of the others
+  pub apart : Once (flat_map objects_of rest)
+  -- in these each exit stands in a loop
   pub formed : (sub : TypedSub) → Has rest sub → is_formed false sub.body ≡ true
   -- the main procedure is one of them
   pub number : ℕ

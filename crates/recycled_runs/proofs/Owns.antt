@@ -31,14 +31,15 @@ use Rattle.soundness.proofs.Points.{frame_in, flow_at}
 use Rattle.soundness.proofs.Passing.{signature_is}
 use Rattle.soundness.proofs.Typings.{flow_agrees, formal_same}
 use Rattle.typed_laws.specs.Needed.{Leads, IsPlace, IsFine}
-use Rattle.viewed_soundness.specs.Holds.{is_given, sees_only, is_fixed, AllKeep, IsAccess}
+use Rattle.viewed_soundness.specs.Holds.{is_bundle, is_given, is_fixed, AllKeep, IsAccess}
 use Rattle.viewed_soundness.proofs.Evaluated.{keep_both}
-use Rattle.viewed_steps.specs.Ready.{IsReady, IsActualTo, AreActualsTo}
+use Rattle.viewed_steps.specs.Ready.{IsReady, IsActualTo, AreActualsTo, AreUnobserved}
 use Rattle.viewed_steps.proofs.Standing as standing
 use Rattle.viewed_steps.proofs.Views.{AreAccess}
 use Rattle.recycled_runs.proofs.Walks.{GoesThrough}
 use Rattle.recycled_runs.proofs.Targets.{IsOwnName, IsNameOf, IsOwnActual, AreOwnActuals}
 use Rattle.recycled_runs.proofs.Checks.{IsOwnIn, OwnsNames}
+use Rattle.viewed_steps.specs.Seeing.{sees_in}
 
 -- ---- lists
 
@@ -72,6 +73,10 @@ no_end false false n e given end = cc
 opposed : (b : Bool) → b ≡ true → b ≡ false → ⊥
 opposed b e f = (let no : true ≡ false = sym e ∙ f in cc)
 
+no_first : (a b : Bool) → a || b ≡ false → a ≡ false
+no_first true b e = cc
+no_first false b e = refl
+
 given_first : (a b : Bool) → a ≡ true → a || b ≡ true
 given_first true b e = refl
 given_first false b e = cc
@@ -103,40 +108,53 @@ begins_through s y u path access leads more = absurd leads
 
 -- ---- actuals
 
-module _ (s : Typing) (formals_are : AreAccess s) where
+-- What is changed through has no parts that see.
+bare_of : (s : Typing) (sees : ℕ → Bool) → ((x : ℕ) → is_bundle s x ≡ true → sees x ≡ true) → (y : ℕ) → sees y ≡ false → is_bundle s y ≡ false
+bare_of s sees bundles y changes = by (is_bundle s y) refl
+  where
+    by : (b : Bool) → is_bundle s y ≡ b → b ≡ false
+    by false e = refl
+    by true e = absurd (opposed (sees y) (bundles y e) changes)
+
+module _ (s : Typing) (sees : ℕ → Bool) (formals_are : AreAccess s) (bundles : (x : ℕ) → is_bundle s x ≡ true → sees x ≡ true) where
   -- What goes through none is rooted in an owner.
   abbrev IsOwnEnd : TypedTree → Type 0
   IsOwnEnd e = goes_through_none e ≡ true → (y : ℕ) → Has (root_of e) y → is_view_formal s y ≡ false
 
-  out_own : (e : TypedTree) (t : ℕ) → IsPlace s e t → (is_scalar (full s.table t) ≡ true) ⊎ IsOwnEnd e → (owning access : Bool) → IsOwnActual s (passing_by mode.Out owning access) e
+  abbrev IsChanged : TypedTree → Type 0
+  IsChanged e = (y : ℕ) → Has (root_of e) y → sees y ≡ false
+
+  out_own : (e : TypedTree) (t : ℕ) → IsPlace s e t → (is_scalar (full s.table t) ≡ true) ⊎ IsOwnEnd e → IsChanged e → (owning access : Bool)
+      → IsOwnActual s (passing_by mode.Out owning access) e
   unfolding goes_through_none selectors
-  out_own (Name p y path u) t place (inl scalar) owning access = inr (subst (λ k. is_scalar (full s.table k) ≡ true) (sym place.1) scalar)
-  out_own (Name p y path u) t place (inr own) owning access = inl (place.0, by (is_view_formal s y) refl)
+  out_own (Name p y path u) t place (inl scalar) changes owning access = inr (subst (λ k. is_scalar (full s.table k) ≡ true) (sym place.1) scalar)
+  out_own (Name p y path u) t place (inr own) changes owning access = inl (place.0, by (is_view_formal s y) refl)
     where
       by : (b : Bool) → is_view_formal s y ≡ b → (is_view_formal s y ≡ false) ⊎ GoesThrough path
       by false plain = inl plain
-      by true view = inr (begins_through s y u path (formals_are y view).0 place.0 (λ same. opposed (is_view_formal s y) view (own (ap goes_through_none same) y (inl refl))))
-  out_own _ t place own owning access = absurd place
+      by true view = inr (begins_through s y u path ((formals_are y view).0 (bare_of s sees bundles y (changes y (inl refl)))) place.0 (λ same. opposed (is_view_formal s y) view (own (ap goes_through_none same) y (inl refl))))
+  out_own _ t place own changes owning access = absurd place
 
-  actual_own : (x : ℕ) (m : Mode) (owning access : Bool) (e : TypedTree) → IsActualTo s x m e → IsOwnActual s (passing_by m owning access) e
-  actual_own x mode.In true access e is = tt
-  actual_own x mode.In false access e is = tt
-  actual_own x mode.Out owning access e is = out_own e is.0 is.1 is.3 owning access
-  actual_own x mode.InOut owning access e is = tt
+  actual_own : (x : ℕ) (m : Mode) (owning access : Bool) (e : TypedTree) → IsActualTo s x m e → (is_in m ≡ false → IsChanged e) → IsOwnActual s (passing_by m owning access) e
+  actual_own x mode.In true access e is changes = tt
+  actual_own x mode.In false access e is changes = tt
+  actual_own x mode.Out owning access e is changes = out_own e is.0 is.1 is.3 (changes refl) owning access
+  actual_own x mode.InOut owning access e is changes = tt
 
-  actuals_own : (procedure : Bool) (formals : List ℕ) (e : TypedTree) → AreActualsTo s formals e → AreOwnActuals s (map (passing s procedure) formals) e
-  actuals_own procedure (x ∷ formals) (More e rest) are =
-      (actual_own x (object_at s x).mode (is_owning s.table (object_at s x).of) _ e are.0, actuals_own procedure formals rest are.1)
-  actuals_own procedure [] e are = tt
-  actuals_own procedure (x ∷ formals) e are = tt
+  actuals_own : (procedure : Bool) (formals : List ℕ) (e : TypedTree) → AreActualsTo s formals e → AreUnobserved s sees formals e → AreOwnActuals s (map (passing s procedure) formals) e
+  actuals_own procedure (x ∷ formals) (More e rest) are changes =
+      (actual_own x (object_at s x).mode (is_owning s.table (object_at s x).of) _ e are.0 changes.0, actuals_own procedure formals rest are.1 changes.1)
+  actuals_own procedure [] e are changes = tt
+  actuals_own procedure (x ∷ formals) e are changes = tt
 
   traversed_own : (ways : List Passing) (e : TypedTree) → AreOwnActuals s ways e → AreOwnActuals s (first_traversed ways) e
   traversed_own [] e are = are
   traversed_own (way ∷ ways) (More e rest) are = (tt, are.1)
   traversed_own (way ∷ ways) e are = tt
 
-  all_own : (sub : Signature) (e : TypedTree) → AreActualsTo s sub.formals e → AreOwnActuals s (passings s sub) e
-  all_own sub e are = by (traverses s.table sub.result) (map (passing s (not (is_some sub.result))) sub.formals) (actuals_own (not (is_some sub.result)) sub.formals e are)
+  all_own : (sub : Signature) (e : TypedTree) → AreActualsTo s sub.formals e → AreUnobserved s sees sub.formals e → AreOwnActuals s (passings s sub) e
+  all_own sub e are changes =
+      by (traverses s.table sub.result) (map (passing s (not (is_some sub.result))) sub.formals) (actuals_own (not (is_some sub.result)) sub.formals e are changes)
     where
       by : (b : Bool) (ways : List Passing) → AreOwnActuals s ways e → AreOwnActuals s (if b then first_traversed ways else ways) e
       by true ways are = traversed_own ways e are
@@ -145,6 +163,9 @@ module _ (s : Typing) (formals_are : AreAccess s) where
 -- ---- all names
 
 module _ (table : Table) (typed : TypedProgram) (effects : Effects) (ready : IsReady table typed effects) where
+  abbrev sees : ℕ → Bool
+  sees = sees_in (flow_program table typed)
+
   abbrev program : FlowProgram
   program = flow_program table typed
 
@@ -158,16 +179,16 @@ module _ (table : Table) (typed : TypedProgram) (effects : Effects) (ready : IsR
   formals_are = standing.in_formals table typed effects [] ready
 
   -- a formal that owns nothing isn't written itself
-  through : (y u : ℕ) (path : TypedTree) → is_view_formal s y ≡ true → is_fixed s (name_of y path) ≡ false → Leads s (object_at s y).of path u → GoesThrough path
+  through : (y u : ℕ) (path : TypedTree) → is_view_formal s y ≡ true → is_fixed s sees (name_of y path) ≡ false → Leads s (object_at s y).of path u → GoesThrough path
   unfolding selectors
   through y u path view free leads =
-      begins_through s y u path (formals_are y view).0 leads
-      (λ same. no_end (sees_only s y) (is_given s y) _ free (given_first (is_view_formal s y) _ view) (ap (λ p. is_nil (name_of y p).sels) same))
+      begins_through s y u path ((formals_are y view).0 (bare_of s sees (standing.bundle_sees table typed effects [] ready) y (no_first (sees y) _ free))) leads
+      (λ same. no_end (sees y) (is_given s y) _ free (given_first (is_view_formal s y) _ view) (ap (λ p. is_nil (name_of y p).sels) same))
 
-  written_free : (target e : TypedTree) (p : Pos) (y u : ℕ) (path : TypedTree) → target ≡ Name p y path u → AllKeep (is_fixed s) (acts (stored_acts own target e)) → is_fixed s (name_of y path) ≡ false
+  written_free : (target e : TypedTree) (p : Pos) (y u : ℕ) (path : TypedTree) → target ≡ Name p y path u → AllKeep (is_fixed s sees) (acts (stored_acts own target e)) → is_fixed s sees (name_of y path) ≡ false
   written_free target e p y u path is keep =
-      (keep_both (is_fixed s) (acts (before_write own target e)) (act.Write (name_of y path) ∷ [])
-      (subst (AllKeep (is_fixed s)) (ap (λ z. acts (before_write own target e ++ z)) (λ j. naming (written (is j)) act.Write) ∙ acts_on (before_write own target e) (record { pos = p; act = act.Write (name_of y path) } ∷ [])) keep)).1.0
+      (keep_both (is_fixed s sees) (acts (before_write own target e)) (act.Write (name_of y path) ∷ [])
+      (subst (AllKeep (is_fixed s sees)) (ap (λ z. acts (before_write own target e ++ z)) (λ j. naming (written (is j)) act.Write) ∙ acts_on (before_write own target e) (record { pos = p; act = act.Write (name_of y path) } ∷ [])) keep)).1.0
 
   own_formal : (y : ℕ) → is_view_formal s y ≡ true → is_formal own y ≡ true
   own_formal y view = sym (formal_same s own (flow_agrees table typed) y) ∙ first_true (is_formal s y) (is_in (object_at s y).mode) (first_true (is_in_formal s y) (is_owning s.table (object_at s y).of) view)
@@ -178,7 +199,7 @@ module _ (table : Table) (typed : TypedProgram) (effects : Effects) (ready : IsR
   no_variable object_kind.TextIo e = refl
   no_variable k e = refl
 
-  target_free : (pos p : Pos) (y u : ℕ) (path e : TypedTree) → is_view_formal s y ≡ true → AllKeep (is_fixed s) (acts (assigned_to own pos (whole (Name p y path u)) (Name p y path u) e)) → is_fixed s (name_of y path) ≡ false
+  target_free : (pos p : Pos) (y u : ℕ) (path e : TypedTree) → is_view_formal s y ≡ true → AllKeep (is_fixed s sees) (acts (assigned_to own pos (whole (Name p y path u)) (Name p y path u) e)) → is_fixed s sees (name_of y path) ≡ false
   target_free pos p y u path e view keep = by path keep (λ kept. written_free (Name p y path u) e p y u path refl kept)
     where
       plain : is_variable (object_at own y).kind ≡ false
@@ -190,15 +211,15 @@ module _ (table : Table) (typed : TypedProgram) (effects : Effects) (ready : IsR
       observes : is_observer own y ≡ false
       observes = ap (λ b. b && is_observing (view_of own y)) plain
 
-      by : (path : TypedTree) → AllKeep (is_fixed s) (acts (assigned_to own pos (whole (Name p y path u)) (Name p y path u) e))
-          → (AllKeep (is_fixed s) (acts (stored_acts own (Name p y path u) e)) → is_fixed s (name_of y path) ≡ false) → is_fixed s (name_of y path) ≡ false
+      by : (path : TypedTree) → AllKeep (is_fixed s sees) (acts (assigned_to own pos (whole (Name p y path u)) (Name p y path u) e))
+          → (AllKeep (is_fixed s sees) (acts (stored_acts own (Name p y path u) e)) → is_fixed s sees (name_of y path) ≡ false) → is_fixed s sees (name_of y path) ≡ false
       by NoMore keep on =
-          on (subst (λ b. AllKeep (is_fixed s) (acts (if b then source_acts own e (observe own y) else stored_acts own (Name p y NoMore u) e))) observes
-          (subst (λ b. AllKeep (is_fixed s) (acts (if b then index_acts own e ++ reborrow (target_pos pos (written (Name p y NoMore u))) y (source e)
+          on (subst (λ b. AllKeep (is_fixed s sees) (acts (if b then source_acts own e (observe own y) else stored_acts own (Name p y NoMore u) e))) observes
+          (subst (λ b. AllKeep (is_fixed s sees) (acts (if b then index_acts own e ++ reborrow (target_pos pos (written (Name p y NoMore u))) y (source e)
           else (if is_observer own y then source_acts own e (observe own y) else stored_acts own (Name p y NoMore u) e)))) borrows keep))
       by path keep on = on keep
 
-  target_own : (pos : Pos) (target e : TypedTree) (t : ℕ) → IsPlace s target t → AllKeep (is_fixed s) (acts (assigned_to own pos (whole target) target e)) → IsOwnName s target
+  target_own : (pos : Pos) (target e : TypedTree) (t : ℕ) → IsPlace s target t → AllKeep (is_fixed s sees) (acts (assigned_to own pos (whole target) target e)) → IsOwnName s target
   target_own pos (Name p y path u) e t place keep = (place.0, by (is_view_formal s y) refl)
     where
       by : (b : Bool) → is_view_formal s y ≡ b → (is_view_formal s y ≡ false) ⊎ GoesThrough path
@@ -217,11 +238,14 @@ module _ (table : Table) (typed : TypedProgram) (effects : Effects) (ready : IsR
   point_own sub in_program q in_sub named in_named p in_points is (Assign target e) instr =
       let fine = subst (IsFine s sub.result) instr (ready.accepted.fine sub in_program q in_sub) in
       let here : p.instr ≡ Assign target e = ap (λ (z : FlowPoint). z.instr) (sym is) ∙ instr in
-      let keep = subst (λ (z : FlowPoint). AllKeep (is_fixed s) (acts z.acts)) is (ready.orderly.kept sub in_program q in_sub) in
-      target_own p.pos target e fine.0 fine.1 (subst (λ i. AllKeep (is_fixed s) (acts (acts_of (frame_in own named) p.pos i))) here keep)
+      let keep = subst (λ (z : FlowPoint). AllKeep (is_fixed s sees) (acts z.acts)) is (ready.orderly.kept sub in_program q in_sub) in
+      target_own p.pos target e fine.0 fine.1 (subst (λ i. AllKeep (is_fixed s sees) (acts (acts_of (frame_in own named) p.pos i))) here keep)
   point_own sub in_program q in_sub named in_named p in_points is (Call n e result) instr =
       let called = ready.called sub in_program q in_sub n e result instr in
-      all_own s formals_are (sub_at s n) e (subst (λ (z : Signature). AreActualsTo s z.formals e) (sym (signature_is program n)) called.actuals_stay)
+      all_own s sees formals_are (standing.bundle_sees table typed effects [] ready) (sub_at s n) e
+      (subst (λ (z : Signature). AreActualsTo s z.formals e) (sym (signature_is program n)) called.actuals_stay)
+      (subst (λ (z : Signature). AreUnobserved s sees z.formals e) (sym (signature_is program n))
+      ((ready.orderly.points named in_named p in_points).copied n e result (ap (λ (z : FlowPoint). z.instr) (sym is) ∙ instr)))
   point_own sub in_program q in_sub named in_named p in_points is (Release e) instr =
       let fine = subst (IsFine s sub.result) instr (ready.accepted.fine sub in_program q in_sub) in name_is e fine.0 fine.2
   point_own sub in_program q in_sub named in_named p in_points is (EndScope x) instr =

@@ -1,8 +1,7 @@
 //! Lines and statuses of how runs end.
 use code_rows::Exception;
-use reuse_heap::Trap;
+use executor::{Ending, Ran};
 use run_command::{ending_line, ending_status};
-use run_results::{Ending, Ran};
 use spark_base::Pos;
 use std::test::Fail;
 
@@ -14,7 +13,7 @@ const POS: Pos = Pos {
 
 /// Each row: an ending, how many leak checks failed, the line with a budget of 100 steps, and the
 /// status.
-const ROWS: [(Ending, u64, &str, u8); 8] = [
+const ROWS: [(Ending, u64, &str, u8); 6] = [
     (Ending::Normal, 0, "", 0),
     (Ending::Normal, 1, "", 5),
     (
@@ -37,18 +36,6 @@ const ROWS: [(Ending, u64, &str, u8); 8] = [
     ),
     (Ending::Spent, 0, "steps spent: 100\n", 4),
     (Ending::Spent, 1, "steps spent: 100\n", 4),
-    (
-        Ending::Trapped(Trap::Touched, POS),
-        0,
-        "m.adb:16:29: trapped Touched\n",
-        20,
-    ),
-    (
-        Ending::Trapped(Trap::Twice, POS),
-        1,
-        "m.adb:16:29: trapped Twice\n",
-        20,
-    ),
 ];
 
 #[test]

@@ -1,5 +1,5 @@
 -- Fronts of what a run writes and answers.
-use Rattle.std.proofs.Common.{◌≡◌, ◌≤◌, ◌<◌, ◌∙◌, ap, ℕ, Bool, true, false, nat_le, List, [], ◌++◌, length, sym, subst, Option, None, Some, IfSome, Result, Ok, Err, OnErr, Vec, if◌then◌else◌, arith}
+use Rattle.std.proofs.Common.{◌≡◌, ◌≤◌, ◌<◌, ◌∙◌, ap, ℕ, Bool, true, false, nat_le, List, [], length, sym, subst, Option, None, Some, IfSome, Result, Ok, Err, OnErr, Vec, if◌then◌else◌, arith}
 use Rattle.std.specs.declared.alloc.Global.{Global}
 use Rattle.std.specs.Io.KnownBytes.{Appends}
 use Rattle.std.proofs.KnownBytes.{Appends-trans}
@@ -7,8 +7,8 @@ use Rattle.spark_base.specs.declared.limits.TheConstants.{INPUT_BYTES}
 use Rattle.spark_base.specs.Outside.{AppendsPrefix}
 use Rattle.flow_paths.specs.Laid.{FlowProgram}
 use Rattle.machine.specs.Run.{Run, run}
-use Rattle.run_results.specs.declared.ran.Ran.{Ran}
-use Rattle.run_results.specs.Results.{ending_of}
+use Rattle.executor.specs.declared.ran.Ran.{Ran}
+use Rattle.executor.specs.Results.{ending_of}
 use Rattle.run_results.specs.Lines.{leak_lines}
 use Rattle.run_results.proofs.Fronts.{none_front, all_front, front_more, front_after}
 use Rattle.whole_runs.specs.Tellings.{Sinks, HaveFronts}

@@ -30,4 +30,4 @@ run_answer files program input budget =
 
 -- The statuses of a run that ended.
 abbrev pub IsEnded : ℕ → Type 0
-IsEnded status = Has (0 ∷ 3 ∷ 4 ∷ 5 ∷ 20 ∷ []) status
+IsEnded status = Has (0 ∷ 3 ∷ 4 ∷ 5 ∷ []) status

@@ -1,14 +1,13 @@
 //! How a run ends, as a line and a status.
 ghost use Rattle.std.specs.Prelude.{◌≡◌, ◌++◌, [], ◌∷◌, codes, IfOk, map, string_bytes};
 ghost use Rattle.std.specs.Fmt.{decimal};
-ghost use Rattle.code_rows.specs.Stops.{exception_of, trap_of};
-ghost use Rattle.run_results.specs.Results.{ending_of};
+ghost use Rattle.code_rows.specs.Stops.{exception_of};
+ghost use Rattle.executor.specs.Results.{ending_of};
 ghost use Rattle.spark_base.specs.Positions as positions;
 ghost use Rattle.run_command.specs.Endings as spec;
 
 use code_rows::Exception;
-use reuse_heap::Trap;
-use run_results::{Ending, Ran};
+use executor::{Ending, Ran};
 use spark_base::Pos;
 use std::alloc::{AllocError, Global};
 
@@ -22,16 +21,6 @@ fn exception_name(exception: Exception) -> &'static str
         Exception::StorageError => "Storage_Error",
         Exception::DataError => "Data_Error",
         Exception::EndError => "End_Error",
-    }
-}
-
-/// The name of a trap.
-fn trap_name(trap: Trap) -> &'static str
-    ensures { result.now ≡ spec.trap_name (trap_of trap) }
-{
-    match trap {
-        Trap::Touched => "Touched",
-        Trap::Twice => "Twice",
     }
 }
 
@@ -76,7 +65,6 @@ pub fn ending_line(
             line_at(alloc, files, pos, "raised", exception_name(exception))
         }
         Ending::Spent => Ok(format!(in alloc; "steps spent: {budget}\n")?.into_bytes()),
-        Ending::Trapped(trap, pos) => line_at(alloc, files, pos, "trapped", trap_name(trap)),
     }
 }
 
@@ -89,6 +77,5 @@ pub fn ending_status(ran: &Ran) -> u8
         Ending::Normal => 5,
         Ending::Raised { .. } => 3,
         Ending::Spent => 4,
-        Ending::Trapped(_, _) => 20,
     }
 }

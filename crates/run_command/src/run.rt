@@ -61,8 +61,7 @@ fn refuse_input<K: Sink>(err: &mut K) -> Result<u8, RunFault>
 
 /// Runs an accepted program on all of the input, within a budget of steps, and gives the status
 /// (`docs/TOOL.md`, "Order of work"): 0 or 5 at the end of the main procedure, 3 at an exception, 4
-/// where the steps are spent, 20 at a touch of a freed cell, and 10 where the input is too large and
-/// nothing is run.
+/// where the steps are spent, and 10 where the input is too large and nothing is run.
 pub fn run_program<S: Source, K: Sink>(
     alloc: Global,
     program: &AcceptedProgram,

@@ -1,12 +1,13 @@
 //! From programs that are laid out to programs that may be run.
 //!
-//! `lower_ready` lowers a `Laid` program as `lower` of `program_lowering` does, and gives it only where what the
-//! laws on runs ask of a program holds: `HasTypes` and `HasFrames` of `run_points`. What a `Laid` keeps says
-//! nothing of positions, and identifiers with one position have one number. So what rests on that is tested:
-//! that no type has itself in it (by ranks, `specs/Ranks.antt` of `table_laws`), that formals are different and
-//! belong to no package, and that what is called has points (`specs/Tests.antt`). `is_ready` tells whether a
-//! program passes: for one that does (`IsReady`) it says so, unless there is too little memory. A program that
-//! fails a test gives `Memory`.
+//! `lower_ready` lowers a `Laid` program as `lower` of `program_lowering` does, and gives it only
+//! where what the laws on runs ask of a program holds: `HasTypes` and `HasFrames` of `run_points`.
+//! That it holds of the program of texts follows from where identifiers stand, by laws that stand
+//! far above this crate (`tested_files`). So it is tested here: that no type has itself in it (by
+//! ranks, `specs/Ranks.antt` of `table_laws`), that formals are different and belong to no package,
+//! and that what is called has points (`specs/Tests.antt`). `is_ready` tells whether a program
+//! passes: for one that does (`IsReady`) it says so, unless there is too little memory. A program
+//! that fails a test gives `Memory`.
 //! Time and memory are linear in the table of types and in the points.
 #![tactic(auto)]
 

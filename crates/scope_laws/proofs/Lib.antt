@@ -23,3 +23,4 @@ pub mod Lone
 pub mod Fitted
 pub mod Followed
 pub mod Begun
+pub mod Values

@@ -11,7 +11,7 @@ use Rattle.flow_paths.specs.Laid.{FlowProgram, flow_typing, flow_program}
 use Rattle.soundness.proofs.Typings.{Agree, flow_agrees, formal_same}
 use Rattle.ready_laws.specs.InOrder.{IsSub}
 use Rattle.order_laws.specs.Orderly.{typed_of, typing_in, bodies_of}
-use Rattle.sound_files.specs.Class.{IsScalarAt}
+use Rattle.viewed_steps.specs.Sound.{IsScalarObject}
 use Rattle.sound_files.proofs.Functions.{FunctionsTakeIn}
 use Rattle.sound_files.proofs.Classes.{signature_at, signature_same, signature_there, mode_same}
 
@@ -64,5 +64,5 @@ module _ (p : Program) where
       ]
 
   -- The main procedure has none.
-  pub main_there : (n : ℕ) (sub : TypedSub) → IsSub (bodies_of p) n sub → sub.formals ≡ [] → (x : ℕ) → Has (sub_at wide (suc n)).formals x → IsScalarAt wide x
+  pub main_there : (n : ℕ) (sub : TypedSub) → IsSub (bodies_of p) n sub → sub.formals ≡ [] → (x : ℕ) → Has (sub_at wide (suc n)).formals x → IsScalarObject wide x
   main_there n sub stands none x has = absurd (subst (λ fs. Has fs x) (ap (λ (z : Signature). z.formals) (signature_there p n sub stands) ∙ none) has)

@@ -12,10 +12,9 @@ use Rattle.typed_tree.specs.Expressions.{Site, object_number}
 use Rattle.typed_tree.specs.Statements.{scope_count}
 use Rattle.typed_tree.specs.Programs.{TypedSub, DeclaredObject, Home, formals_of, front_formals, local, in_package, package_text, objects_in, program_objects, placed, subs_in, over_units, site_of, typed_program}
 use Rattle.flow_paths.specs.Objects.{Typing, Signature, sub_at, is_named_access, view_of}
-use Rattle.flow_paths.specs.Acts.{gives_variable}
 use Rattle.flow_paths.specs.Laid.{FlowProgram, signature, flow_typing, flow_program}
 use Rattle.soundness.proofs.Typings.{Agree, flow_agrees}
-use Rattle.viewed_soundness.specs.Holds.{is_of_procedure, is_first, lends_first, is_exclusive}
+use Rattle.viewed_soundness.specs.Holds.{is_of_procedure, is_exclusive}
 use Rattle.scope_laws.specs.Code.{Once}
 use Rattle.order_laws.specs.Orderly.{typed_of, typing_in, bodies_of}
 use Rattle.order_laws.proofs.Numbers.{numbers, formals_same}
@@ -109,7 +108,7 @@ units_part all h a n s (u ∷ rest) =
 
 -- ---- tests
 
-any_from : {A : Type 0} (test : A → Bool) (xs : List A) → list_any test xs ≡ true → (x : A) × Has xs x × (test x ≡ true)
+pub any_from : {A : Type 0} (test : A → Bool) (xs : List A) → list_any test xs ≡ true → (x : A) × Has xs x × (test x ≡ true)
 any_from test [] is = (let no : false ≡ true = is in cc)
 any_from {A = A} test (y ∷ xs) is = by (test y) refl is (λ h. any_from test xs h)
   where
@@ -125,18 +124,13 @@ and_second : (a b : Bool) → a && b ≡ true → b ≡ true
 and_second true b e = e
 and_second false b e = cc
 
-none_of : (a b c : Bool) → (b ≡ true → ⊥) → (c ≡ true → ⊥) → (a && b) || c ≡ false
-none_of a true c none other = absurd (none refl)
-none_of a b true none other = absurd (other refl)
-none_of true false false none other = refl
-none_of false false false none other = refl
+none_of : (a b : Bool) → (b ≡ true → ⊥) → a && b ≡ false
+none_of true true none = absurd (none refl)
+none_of true false none = refl
+none_of false b none = refl
 
 listed : (xs : List ℕ) (x : ℕ) → list_any (λ y. y == x) xs ≡ true → Has xs x
 listed xs x is = (let found = any_from (λ y. y == x) xs is in subst (Has xs) (eqb-true found.0 x found.2) found.1)
-
-first_has : (xs : List ℕ) (x : ℕ) → is_first x xs ≡ true → Has xs x
-first_has [] x is = (let no : false ≡ true = is in cc)
-first_has (y ∷ xs) x is = inl (eqb-true y x is)
 
 no_result : (r : Option ℕ) (t : ℕ) → not (is_some r) ≡ true → r ≡ Some t → ⊥
 no_result None t none is = cc
@@ -192,19 +186,14 @@ module _ (p : Program) (once : Once (map (λ (o : DeclaredObject). o.number) (pr
   got (g ∷ gs) zero = inr (inl refl)
   got (g ∷ gs) (suc n) = elim (got gs n) [ inl none ↦ inl none | inr found ↦ inr (inr found) ]
 
-  -- Nothing is changed through a formal of a function, but through the first one of a function that gives a borrower.
-  pub functions_see : (n t x : ℕ) → (sub_at wide n).result ≡ Some t → Has (sub_at wide n).formals x → lends_first wide x (sub_at wide n) ≡ false
-      → is_exclusive wide x ≡ false
-  functions_see n t x is has lends =
-      none_of (is_named_access (view_of wide x)) (list_any (is_of_procedure x) wide.subs) (list_any (lends_first wide x) wide.subs)
+  -- Nothing is changed through a formal of a function.
+  pub functions_see : (n t x : ℕ) → (sub_at wide n).result ≡ Some t → Has (sub_at wide n).formals x → is_exclusive wide x ≡ false
+  functions_see n t x is has =
+      none_of (is_named_access (view_of wide x)) (list_any (is_of_procedure x) wide.subs)
       (λ any. (let found = any_from (is_of_procedure x) wide.subs any in
       let none = and_first (not (is_some (found.0).result)) (list_any (λ y. y == x) (found.0).formals) found.2 in
       let listed_there = listed (found.0).formals x (and_second (not (is_some (found.0).result)) (list_any (λ y. y == x) (found.0).formals) found.2) in
       no_result (found.0).result t none (ap (λ (z : Signature). z.result) (sym (same found.0 found.1 listed_there)) ∙ is)))
-      (λ any. (let found = any_from (lends_first wide x) wide.subs any in
-      let first = first_has (found.0).formals x (and_second (gives_variable wide (found.0).result) (is_first x (found.0).formals) found.2) in
-      let no : true ≡ false = sym found.2 ∙ ap (lends_first wide x) (sym (same found.0 found.1 first)) ∙ lends in
-      cc))
     where
       mine : Has wide.subs (sub_at wide n)
       mine = elim (got wide.subs n) [

@@ -1,10 +1,11 @@
 -- The trees of texts (docs/LANGUAGE.md, "Grammar").
-use Rattle.std.specs.Prelude.{◌≡◌, ℕ, List, [], ◌∷◌, Ok, map}
+use Rattle.std.specs.Prelude.{◌≡◌, ℕ, List, [], ◌∷◌, Ok, map, None}
 use Rattle.spark_base.specs.declared.limits.TheConstants.{TOKENS}
 use Rattle.ada_lexer.specs.Tokens.{Cut}
 use Rattle.token_reading.specs.Spelled.{Spelled, told_as}
 use Rattle.ada_tree.specs.declared.unit.SourceUnit.{SourceUnit}
 use Rattle.ada_tree.specs.Refusals.{IsTreeOf}
+use Rattle.name_events.specs.Faults.{name_fault}
 use Rattle.source_trees.specs.Cuts.{all_tokens}
 
 -- What a token is to the grammar.
@@ -24,3 +25,9 @@ pub record AreRead (texts : List (List ℕ)) (trees : List (List SourceUnit)) : 
   pub cuts : List (List Cut)
   pub cut : all_tokens 0 TOKENS texts ≡ Ok cuts
   pub parsed : AreTreesOf cuts trees
+
+-- The trees of some texts, which break no rule of names.
+pub record AreNamed (trees : List (List SourceUnit)) : Type 0 where
+  pub texts : List (List ℕ)
+  pub read : AreRead texts trees
+  pub named : name_fault trees ≡ None

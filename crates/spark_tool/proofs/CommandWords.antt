@@ -16,6 +16,7 @@ use Rattle.spark_tool.specs.declared.stop.Stop.{Stop}
 use Rattle.spark_tool.specs.Answers.{answer_for}
 use Rattle.tool_answers.specs.Product.{Finding, Ends, Passes, Lists, ends, planned, listed, Answers, usage, check, check_answer, leaks, run, run_answer_of, make, made, Checks, missing, misused, unread, fixed_answer, selftest, made_names, made_source, test_answer}
 use Rattle.tool_answers.specs.Reading.{Sources, Missing, sources}
+use Rattle.answered_runs.proofs.Headline.{found_untrapped}
 use Rattle.spark_tool.specs.Refusals.{Gives, IsFor}
 
 -- each file of a command is an operand, and may be opened
@@ -54,7 +55,8 @@ pub run_gives : (stored : Option (List (List ℕ × List ℕ))) (names : List (L
     → IfSome stored (λ files. (stats : Bool) → Gives files (Some (Run names budget stats)) done)
 run_gives None names budget finding done checks is = tt
 run_gives (Some files) names budget finding done checks is =
-    λ stats input. subst (λ (a : Answer). Answers files input (Some (Run names budget stats)) a) (sym (is input)) (run names budget stats finding checks)
+    λ stats input. subst (λ (a : Answer). Answers files input (Some (Run names budget stats)) a) (sym (is input))
+    (run names budget stats finding checks (found_untrapped names (sources files 0 SOURCE_BYTES names) budget input finding checks))
 
 pub list_gives : (stored : Option (List (List ℕ × List ℕ))) (names : List (List ℕ)) (finding : Finding) (done : Outcome)
     → IfSome stored (λ files. Checks names (sources files 0 SOURCE_BYTES names) finding)
@@ -103,7 +105,7 @@ run_unread : (stored : Option (List (List ℕ × List ℕ))) (command : Option C
 run_unread None command names budget stats same gone = absurd gone
 run_unread (Some files) command names budget stats same gone =
     λ input. subst (λ (c : Option Command). Answers files input c unread) (sym same)
-    (run names budget stats (Ends unread) (subst (λ (s : Sources). Checks names s (Ends unread)) (sym gone) missing))
+    (run names budget stats (Ends unread) (subst (λ (s : Sources). Checks names s (Ends unread)) (sym gone) missing) tt)
 
 pub check_fault : {Rose : Type 0} (stored : Option (List (List ℕ × List ℕ))) (command : Option Command) (names : List (List ℕ)) → command ≡ Some (Check names)
     → Rose ⊎ IsSomeAnd stored (λ files. sources files 0 SOURCE_BYTES names ≡ Missing)

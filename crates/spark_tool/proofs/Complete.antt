@@ -1,12 +1,12 @@
 -- An answer is the one that is defined, also where no count rose, and what was written where a
 -- write failed.
-use Rattle.std.proofs.Common.{◌≡◌, ◌≢◌, ◌⊎◌, inl, inr, ℕ, Bool, true, false, refl, sym, ◌∙◌, subst, List, [], ◌∷◌, ◌++◌, Option, None, Some, IfSome, IsSomeAnd}
+use Rattle.std.proofs.Common.{◌≡◌, ◌≢◌, ◌⊎◌, inl, inr, ℕ, Bool, true, false, refl, sym, subst, List, [], Option, None, Some, IfSome, IsSomeAnd}
 use Rattle.std.specs.Io.KnownBytes.{Appends, Keeps}
 use Rattle.std.proofs.KnownBytes.{Appends-nil, Appends-kept}
 use Rattle.spark_base.specs.Outside.{AppendsPrefix}
 use Rattle.run_command.specs.Answers.{Answer, Tells, TellsFront}
 use Rattle.tool_answers.specs.Product.{Product, unread}
-use Rattle.accepted_runs.proofs.Headline.{run_soundly}
+use Rattle.answered_runs.proofs.Headline.{run_soundly}
 use Rattle.spark_tool.specs.Promises.{Delivers, DeliversFront, DeliversNoMore, HasInput}
 use Rattle.spark_tool.specs.Stops.{stop_status}
 use Rattle.spark_tool.specs.declared.stop.Stop.{Stop}

@@ -1,5 +1,5 @@
 -- One answer is defined for the words and the files.
-use Rattle.std.proofs.Common.{◌≡◌, ℕ, Bool, refl, sym, ap, ◌∙◌, subst, List, [], ◌∷◌, ◌++◌, All, Option, None, Some, Ok, Err}
+use Rattle.std.proofs.Common.{◌≡◌, ℕ, refl, sym, ap, ◌∙◌, subst, List, [], ◌∷◌, ◌++◌, All, Option, None, Some, Ok, Err}
 use Rattle.spark_base.specs.declared.position.Pos.{Pos}
 use Rattle.spark_base.specs.declared.limits.TheConstants.{SOURCE_BYTES, TOKENS}
 use Rattle.ada_lexer.specs.Positions.{first_position}
@@ -277,7 +277,7 @@ told : (stored : List (List ℕ × List ℕ)) (input : List ℕ) (command : Opti
     → Told stored input command answer
 told stored input _ _ usage = refl
 told stored input _ _ (check names found checks) = (found, says names (sources stored 0 SOURCE_BYTES names) found checks, refl)
-told stored input _ _ (run names budget stats found checks) = (found, says names (sources stored 0 SOURCE_BYTES names) found checks, refl)
+told stored input _ _ (run names budget stats found checks untrapped) = (found, says names (sources stored 0 SOURCE_BYTES names) found checks, refl)
 told stored input _ _ (leaks names found answer checks lists) =
     (found, says names (sources stored 0 SOURCE_BYTES names) found checks, is_listed names found answer lists)
 told stored input _ _ (make n) = refl

@@ -1,13 +1,13 @@
 -- What is written and answered, by what a command does.
-use Rattle.std.proofs.Common.{◌≡◌, ◌≢◌, ◌⊎◌, ◌<◌, inl, inr, ℕ, Bool, true, false, refl, sym, subst, List, [], ◌∷◌, Option, None, Some, Result, Ok, Err, IfSome, IfOk, OnErr, arith}
+use Rattle.std.proofs.Common.{◌≡◌, ◌≢◌, ◌⊎◌, ◌<◌, inl, inr, ℕ, Bool, true, refl, sym, subst, List, [], ◌∷◌, Option, None, Some, Result, Ok, Err, IfSome, IfOk, OnErr, arith}
 use Rattle.spark_base.specs.Lists.{Has}
 use Rattle.command_words.specs.Words.{Command, Check, Run, Leaks, Make, Selftest}
-use Rattle.run_command.specs.Answers.{Answer, Tells, TellsFront}
+use Rattle.run_command.specs.Answers.{Answer, Tells}
 use Rattle.spark_tool.specs.declared.finding.Outcome.{Outcome}
 use Rattle.spark_tool.specs.declared.stop.Stop.{Stop}
 use Rattle.spark_tool.specs.declared.stop.Stop.TheVariants.{Read, Write, Memory}
 use Rattle.spark_tool.specs.Answers.{answer_for}
-use Rattle.tool_answers.specs.Commands.{command_of, reads_files, runs}
+use Rattle.tool_answers.specs.Commands.{reads_files, runs}
 use Rattle.tool_answers.specs.Product.{Answers, Product}
 use Rattle.spark_tool.specs.Promises.{IsUnrun, HasInput, Delivers}
 use Rattle.spark_tool.specs.Refusals.{Gives}

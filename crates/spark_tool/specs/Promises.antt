@@ -2,17 +2,17 @@
 use Rattle.std.specs.Prelude.{◌≡◌, ℕ, List, Bool, true, false, Option, Some, [], ◌∷◌}
 use Rattle.spark_base.specs.Lists.{Has}
 use Rattle.run_command.specs.Answers.{Answer, Tells, TellsFront}
-use Rattle.accepted_runs.specs.Headline.{IsRunSoundly}
+use Rattle.answered_runs.specs.Headline.{IsRunSoundly}
 use Rattle.tool_answers.specs.Product.{Product}
 
 -- The statuses of an answer: done; rejected; refused; the ends of a run by an exception, by its
--- budget and after a leak; misused; an input that is too large; the end of a run by a trap.
+-- budget and after a leak; misused; an input that is too large.
 abbrev pub IsRegular : ℕ → Type 0
-IsRegular status = Has (0 ∷ 1 ∷ 2 ∷ 3 ∷ 4 ∷ 5 ∷ 6 ∷ 10 ∷ 20 ∷ []) status
+IsRegular status = Has (0 ∷ 1 ∷ 2 ∷ 3 ∷ 4 ∷ 5 ∷ 6 ∷ 10 ∷ []) status
 
 -- The statuses of the program: those of an answer, and a read fault, a write fault, out of memory.
 abbrev pub IsStatus : ℕ → Type 0
-IsStatus status = Has (0 ∷ 1 ∷ 2 ∷ 3 ∷ 4 ∷ 5 ∷ 6 ∷ 7 ∷ 8 ∷ 9 ∷ 10 ∷ 20 ∷ []) status
+IsStatus status = Has (0 ∷ 1 ∷ 2 ∷ 3 ∷ 4 ∷ 5 ∷ 6 ∷ 7 ∷ 8 ∷ 9 ∷ 10 ∷ []) status
 
 -- Those with which nothing was run, and nothing goes to the first output.
 abbrev pub IsUnrun : ℕ → Type 0
@@ -24,7 +24,7 @@ HasInput true left input = left ≡ Some input
 HasInput false left input = Unit {0}
 
 -- Both streams got the bytes of the one answer that is defined, and its status was answered. What was run, it ran
--- soundly, if it is of the class.
+-- soundly.
 pub record Delivers (stored : List (List ℕ × List ℕ)) (input : List ℕ) (words : List (List ℕ)) (out new_out err new_err : Option (List ℕ)) (status : ℕ) : Type 0 where
   pub answer : Answer
   pub defined : Product stored input words answer

@@ -106,6 +106,7 @@ fn copied(alloc: Global, names: &[String]) -> Result<Vec<String>, AllocError>
 
 /// The files with the meaning of their names.
 fn resolved(alloc: Global, names: &[String], trees: Vec<Trees>) -> Result<Resolved, NameRefusal>
+    requires read { (texts : List (List ℕ)) × AreRead texts (trees_of trees.items) }
     ensures fault { resolving.Judges result (name_fault (trees_of trees.items)) }
     ensures files { IfOk result (λ made. trees_of made.files.items ≡ trees_of trees.items) }
     ensures named { IfOk result (λ made. map string_bytes made.names.items ≡ map string_bytes names.now) }
@@ -116,6 +117,7 @@ fn resolved(alloc: Global, names: &[String], trees: Vec<Trees>) -> Result<Resolv
 
 /// What is found of the trees of the named files.
 fn check_trees(alloc: Global, names: &[String], trees: Vec<Trees>) -> Result<Finding, Stop>
+    requires read { (texts : List (List ℕ)) × AreRead texts (trees_of trees.items) }
     ensures finding { IfOk result (λ finding. (texts : List (List ℕ)) → AreRead texts (trees_of trees.items)
         → Checks (map string_bytes names.now) (Texts texts) (finding_of finding)) }
     ensures named { IfOk result (IsNamed (map string_bytes names.now)) }

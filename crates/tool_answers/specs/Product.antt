@@ -1,5 +1,5 @@
 -- What a command writes and answers (docs/TOOL.md, "Order of work").
-use Rattle.std.specs.Prelude.{◌≡◌, ℕ, Bool, List, [], ◌∷◌, length, nat_le, codes, Option, None, Some, is_some, Ok, Err, if◌then◌else◌}
+use Rattle.std.specs.Prelude.{◌≡◌, ℕ, Bool, true, List, [], ◌∷◌, length, nat_le, codes, Option, None, Some, is_some, Ok, Err, if◌then◌else◌}
 use Rattle.spark_base.specs.declared.position.Pos.{Pos}
 use Rattle.spark_base.specs.declared.limits.TheConstants.{SOURCE_BYTES, TOKENS}
 use Rattle.ada_lexer.specs.declared.refusal.LexRefusal.{LexRefusal}
@@ -32,6 +32,8 @@ use Rattle.rule_reports.specs.declared.code.Code.TheVariants.{S1, L1, L2, L3, L4
 use Rattle.rule_reports.specs.Lines.{refusal_line, report_lines, leak_plan_lines, accepted_line, usage_line}
 use Rattle.prog_maker.specs.Texts.{program_text}
 use Rattle.command_words.specs.Words.{Command, Check, Run, Leaks, Make, Selftest}
+use Rattle.machine.specs.Run.{run as run_of}
+use Rattle.soundness.specs.Sound.{IsTrap}
 use Rattle.run_command.specs.Answers.{Answer}
 use Rattle.run_command.specs.Runs.{run_answer}
 use Rattle.self_test.specs.Summaries.{test_line}
@@ -181,6 +183,12 @@ run_answer_of names budget input (Ends answer) = answer
 run_answer_of names budget input (Rejects main lines) = with_main names main (rejected lines)
 run_answer_of names budget input (Passes program) = with_main names (is_some program.main) (run_answer names program input budget)
 
+-- The run of the program that is found doesn't end in a trap.
+abbrev pub IsUntrapped : ℕ → List ℕ → Finding → Type 0
+IsUntrapped budget input (Ends answer) = Unit {0}
+IsUntrapped budget input (Rejects main lines) = Unit {0}
+IsUntrapped budget input (Passes program) = is_some program.main ≡ true → IsTrap (run_of program input budget).ending → ⊥
+
 -- What `leaks` answers. The plan is the same whatever subprograms read and write.
 pub data Lists (names : List (List ℕ)) : Finding → Answer → Type 0 where
   ends : (answer : Answer) → Lists names (Ends answer) answer
@@ -213,7 +221,7 @@ pub data Answers (stored : List (List ℕ × List ℕ)) (input : List ℕ) : Opt
       → Answers stored input (Some (Check names)) (check_answer finding)
   -- run FILE..
   run : (names : List (List ℕ)) (budget : ℕ) (stats : Bool) (finding : Finding) → Checks names (sources stored 0 SOURCE_BYTES names) finding
-      → Answers stored input (Some (Run names budget stats)) (run_answer_of names budget input finding)
+      → IsUntrapped budget input finding → Answers stored input (Some (Run names budget stats)) (run_answer_of names budget input finding)
   -- leaks FILE..
   leaks : (names : List (List ℕ)) (finding : Finding) (answer : Answer) → Checks names (sources stored 0 SOURCE_BYTES names) finding
       → Lists names finding answer → Answers stored input (Some (Leaks names)) answer

@@ -2,6 +2,7 @@
 ghost use Rattle.std.specs.Prelude.{◌≡◌, ◌<◌, List, length};
 ghost use Rattle.std.specs.List.{All as Each};
 ghost use Rattle.ada_tree.specs.declared.unit.SourceUnit.{SourceUnit};
+ghost use Rattle.source_trees.specs.Trees.{AreNamed};
 ghost use Rattle.type_sizes.specs.Limits.{AreWithin};
 ghost use Rattle.type_rules.specs.Typed.{IsTyped};
 
@@ -32,7 +33,8 @@ pub struct Typed {
     ghost bodies: { Each (λ b. b.body < length rows.1) subs },
     ghost within: { AreWithin table },
     ghost typed: { ∥ ((files : List (List SourceUnit))
-        × IsTyped files table (record { rows = rows; objects = objects; scopes = scopes; subs = subs; main = main })) ∥₁ },
+        × IsTyped files table (record { rows = rows; objects = objects; scopes = scopes; subs = subs; main = main })
+        × AreNamed files) ∥₁ },
 }
 
 impl Drop for Typed {

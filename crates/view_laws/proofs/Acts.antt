@@ -27,7 +27,7 @@ use Rattle.flow_paths.specs.Instructions as instruction
 use Rattle.flow_paths.specs.Objects.{Typing, passing_by, is_named_access, object_at, is_formal, is_variable, is_borrower, is_observer, is_borrowing, is_observing, is_anonymous, view_of, traverses}
 use Rattle.flow_paths.specs.Names.{Written, name_of, selectors, written, first, source, whole, has_call}
 use Rattle.flow_paths.specs.Acts.{acts_in, acts_of, used, placed, naming, observe, reborrow, target_pos, index_acts, source_acts, assigned_to, stored_acts, declared_acts, returned_acts, gives_variable, actual_act, actual_acts}
-use Rattle.flow_paths.specs.Views.{changes, lends}
+use Rattle.flow_paths.specs.Views.{changes, lends, holds_loans}
 use Rattle.machine.specs.Words.{component_type, element_of, no_component}
 use Rattle.machine.specs.Owners.{is_in}
 use Rattle.soundness.specs.Typed.{OwnsByShape}
@@ -204,14 +204,14 @@ module _ (s : Typing) (own_law : OwnsByShape s.table) (parts_named : PartsAreNam
   no_selector t NoMore u leads e = leads
   no_selector t _ u leads e = absurd leads
 
-  -- ---- observers
+  -- ---- borrowers and observers
 
-  pub not_observer : (x : ℕ) → is_anonymous (view_of s x) ≡ false → is_observer s x ≡ false
-  not_observer x plain = by (is_observer s x) refl
+  holds_none : (x : ℕ) → is_anonymous (view_of s x) ≡ false → holds_loans s x ≡ false
+  holds_none x plain = by (is_variable (object_at s x).kind) (is_borrowing (view_of s x)) (is_observing (view_of s x)) plain
     where
-      by : (b : Bool) → is_observer s x ≡ b → b ≡ false
-      by true e = absurd (true_false (is_anonymous (view_of s x)) (observer_anonymous s x e) plain)
-      by false e = refl
+      by : (v b o : Bool) → b || o ≡ false → (v && b) || (v && o) ≡ false
+      by true b o e = e
+      by false b o e = refl
 
   owning_plain : (t : ℕ) → is_owning s.table t ≡ true → is_anonymous (full s.table t) ≡ false
   owning_plain t owns = by (is_anonymous (full s.table t)) refl
@@ -233,12 +233,12 @@ module _ (s : Typing) (own_law : OwnsByShape s.table) (parts_named : PartsAreNam
   abbrev IsOnOne : List ℕ → Fact → Type 0
   IsOnOne xs f = Has xs (place f).root × Lasts s (object_at s (place f).root).of
 
-  -- The facts that an act adds are so; what it changes is rooted in one of these objects, which is no observer if it changes it
+  -- The facts that an act adds are so; what it changes is rooted in one of these objects, which is no borrower or observer if it changes it
   -- as a whole; and so is what it lends for writing.
   abbrev pub IsGood : List ℕ → Act → Type 0
   IsGood xs a =
       ((f : Fact) → Has (adds a) f → IsOnOne xs f)
-      × ((m : PlaceName) → changes a ≡ Some m → Has xs m.root × (m.sels ≡ [] → is_observer s m.root ≡ false))
+      × ((m : PlaceName) → changes a ≡ Some m → Has xs m.root × (m.sels ≡ [] → holds_loans s m.root ≡ false))
       × ((m : PlaceName) → lends a ≡ Some m → Has xs m.root)
 
   abbrev pub AreGood : List Placed → List ℕ → Type 0
@@ -286,10 +286,10 @@ module _ (s : Typing) (own_law : OwnsByShape s.table) (parts_named : PartsAreNam
 
   -- what a whole object changes
   changed_whole : (x : ℕ) (steps : TypedTree) (u : ℕ) (m : PlaceName) → Leads s (object_at s x).of steps u → is_anonymous (full s.table u) ≡ false
-      → name_of x steps ≡ m → m.sels ≡ [] → is_observer s m.root ≡ false
+      → name_of x steps ≡ m → m.sels ≡ [] → holds_loans s m.root ≡ false
   changed_whole x steps u m leads plain same none =
       let whole : (object_at s x).of ≡ u = no_selector (object_at s x).of steps u leads (ap (λ (z : PlaceName). z.sels) same ∙ none) in
-      ap (λ (z : PlaceName). is_observer s z.root) (sym same) ∙ not_observer x (ap (λ t. is_anonymous (full s.table t)) whole ∙ plain)
+      ap (λ (z : PlaceName). holds_loans s z.root) (sym same) ∙ holds_none x (ap (λ t. is_anonymous (full s.table t)) whole ∙ plain)
 
   used_good : (x : ℕ) (steps : TypedTree) (t : ℕ) → Leads s (object_at s x).of steps t → IsGood (x ∷ roots steps) (used s (name_of x steps) t)
   used_good x steps t leads = by (is_owning s.table t) refl
@@ -540,7 +540,7 @@ module _ (s : Typing) (own_law : OwnsByShape s.table) (parts_named : PartsAreNam
     no_view x stored no_borrower none anonymous =
         elim (either (is_borrowing (view_of s x)) (is_observing (view_of s x)) anonymous) [
           | inl borrows ↦ true_false (is_borrower s x) (ap (λ b. b && is_borrowing (view_of s x)) (local x stored anonymous) ∙ borrows) no_borrower
-          | inr sees ↦ true_false (is_observer s x) (ap (λ b. b && is_observing (view_of s x)) (local x stored anonymous) ∙ sees) none
+          | inr sight ↦ true_false (is_observer s x) (ap (λ b. b && is_observing (view_of s x)) (local x stored anonymous) ∙ sight) none
         ]
 
     given : (want : ℕ) (e : TypedTree) → (is_anonymous (full s.table want) ≡ true → ⊥) → Source s want e → Gives s want e
@@ -562,7 +562,7 @@ module _ (s : Typing) (own_law : OwnsByShape s.table) (parts_named : PartsAreNam
         by false false e f = first_given (object_at s x).of v (no_view x (inl (v, here)) e f) fine
 
     stored_good : (p : Pos) (x : ℕ) (steps : TypedTree) (t u : ℕ) (e : TypedTree) → Leads s (object_at s x).of steps t → Gives s u e
-        → ((m : PlaceName) → name_of x steps ≡ m → m.sels ≡ [] → is_observer s m.root ≡ false)
+        → ((m : PlaceName) → name_of x steps ≡ m → m.sels ≡ [] → holds_loans s m.root ≡ false)
         → AreGood (stored_acts s (Name p x steps t) e) (roots e ++ roots (Name p x steps t))
     unfolding roots
     stored_good p x steps t u e leads gives plain =
@@ -611,7 +611,7 @@ module _ (s : Typing) (own_law : OwnsByShape s.table) (parts_named : PartsAreNam
         by false false b_is c_is =
             stored_good p x NoMore t u e leads
             (given u e (λ anonymous. no_view x (inr (p, t, e, here)) b_is c_is (ap (λ z. is_anonymous (full s.table z)) (leads ∙ same) ∙ anonymous)) origin)
-            (λ m is none. ap (λ (z : PlaceName). is_observer s z.root) (sym is) ∙ c_is)
+            (λ m is none. ap (λ (z : PlaceName). holds_loans s z.root) (sym is) ∙ (λ j. b_is j || c_is j))
     assigned_good pos p x (Component k rest) t u e here leads same silent origin =
         part_good p x (Component k rest) t u e (λ none. cc) (λ none. cc) leads same origin
     assigned_good pos p x (Element index low high rest) t u e here leads same silent origin =
@@ -722,7 +722,7 @@ module _ (s : Typing) (own_law : OwnsByShape s.table) (parts_named : PartsAreNam
       named_kind (inl scalar) = scalar_named s.table (object_at s x).of scalar
       named_kind (inr (inl (back, own))) = own
       named_kind (inr (inr (inr plain))) = plain.2
-      named_kind (inr (inr (inl (shown, access)))) =
+      named_kind (inr (inr (inl shown))) =
           absurd (in_mode (object_at s x).mode copied (both_second (is_formal s x) (is_in (object_at s x).mode) (given_formal s x shown)))
 
   -- what a formal is shown is read, or lent

@@ -32,6 +32,7 @@ use Rattle.viewed_steps.proofs.Views.{AreUnseen}
 use Rattle.view_laws.specs.Program.{IsPassedTo, ArePassedTo}
 use Rattle.view_laws.specs.InOrder.{NamesSource}
 use Rattle.view_laws.proofs.Acts.{AreGood, instruction_good, reads_good, copies_good}
+use Rattle.viewed_steps.specs.Seeing.{sees_in}
 
 -- Formals of a function whose result is of no anonymous access type, or of a procedure, are of none.
 abbrev pub IsPlainCall : FlowProgram → ℕ → Type 0
@@ -81,6 +82,9 @@ module _ (s : Typing) (owns : OwnsByShape s.table) (parts_named : PartsAreNamed 
   values_read (x ∷ formals) actuals unseen passed = values_are_read s owns procedure parts_named (x ∷ formals) actuals unseen passed
 
 module _ (program : FlowProgram) (owns : OwnsByShape program.table) (parts_named : PartsAreNamed program.table) where
+  abbrev sees : ℕ → Bool
+  sees = sees_in program
+
   -- A call reads what its actuals name, and what is copied back to is no observer.
   plain_good : (result : Option ℕ) (kept xs : List ℕ) (pos : Pos) (n : ℕ) (actuals : TypedTree) (t : Option ℕ) → IsViewCall program owns n actuals → IsPlainCall program n
       → ((y : ℕ) → Has (roots actuals) y → Has xs y) → AreGood (flow_typing program) owns parts_named (acts_of (record { typing = flow_typing program; result = result; roots = kept }) pos (Call n actuals t)) xs
@@ -104,17 +108,17 @@ module _ (program : FlowProgram) (owns : OwnsByShape program.table) (parts_named
       let s : Typing = flow_typing program in
       let ways = is_traversing program n through.f through.traversed in
       let c : TraversalCall = record { pos = pos; name_pos = through.q; root = through.y; path = through.path; of = through.u; others = through.more } in
-      let stays : ArePassedTo s (through.f ∷ ways.rest) (More (first_actual s owns c) through.more) =
-      subst (λ z. ArePassedTo s z (More (first_actual s owns c) through.more)) ways.formals (subst (ArePassedTo s (sub_of program n).formals) through.actuals_are call.actuals_stay) in
-      let values : List Placed = index_acts s (first_actual s owns c) ++ actual_values s (map (way_to s owns false) ways.rest) through.more in
+      let stays : ArePassedTo s (through.f ∷ ways.rest) (More (first_actual s sees owns c) through.more) =
+      subst (λ z. ArePassedTo s z (More (first_actual s sees owns c) through.more)) ways.formals (subst (ArePassedTo s (sub_of program n).formals) through.actuals_are call.actuals_stay) in
+      let values : List Placed = index_acts s (first_actual s sees owns c) ++ actual_values s (map (way_to s owns false) ways.rest) through.more in
       let copies : List Placed = actual_acts (map (way_to s owns false) ways.rest) through.more in
       subst (λ z. AreGood s owns parts_named z xs)
       (λ j. actual_values s (sym ways.ways j) (sym through.actuals_are j) ++ actual_acts (sym ways.ways j) (sym through.actuals_are j))
       (λ a has. elim (Has-append_cases values copies a has) [
-        | inl value ↦ reads_good s owns parts_named values xs (both_reads (index_acts s (first_actual s owns c)) (actual_values s (map (way_to s owns false) ways.rest) through.more)
-            (index_reads s owns (first_actual s owns c) through.u (through.leads, refl)) (values_read s owns parts_named false ways.rest through.more through.unseen stays.1)) a value
+        | inl value ↦ reads_good s owns parts_named values xs (both_reads (index_acts s (first_actual s sees owns c)) (actual_values s (map (way_to s owns false) ways.rest) through.more)
+            (index_reads s owns (first_actual s sees owns c) through.u (through.leads, refl)) (values_read s owns parts_named false ways.rest through.more through.unseen stays.1)) a value
         | inr copy ↦ copies_good s owns parts_named false ways.rest through.more xs (λ x there. call.kinds x (subst (λ z. Has z x) (sym ways.formals) (inr there))) stays.1
-            (λ y there. named y (subst (λ z. Has (roots z) y) (sym through.actuals_are) (Has-append_right (roots (first_actual s owns c)) (roots through.more) y there))) a copy
+            (λ y there. named y (subst (λ z. Has (roots z) y) (sym through.actuals_are) (Has-append_right (roots (first_actual s sees owns c)) (roots through.more) y there))) a copy
       ])
 
   call_good : (result : Option ℕ) (kept xs : List ℕ) (pos : Pos) (n : ℕ) (actuals : TypedTree) (t : Option ℕ) → IsViewCall program owns n actuals

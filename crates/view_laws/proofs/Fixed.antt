@@ -1,8 +1,5 @@
--- What is changed or borrowed may be: it isn't named through an observer, and where it is rooted in a formal that owns nothing, that is
--- one of the subprogram itself which it may change through.
-use Rattle.std.specs.Prelude.{IsTrue}
-use Rattle.std.specs.List.{list_any}
-use Rattle.std.proofs.Common.{◌≡◌, refl, sym, ap, ◌∙◌, subst, ◌⊎◌, inl, inr, ℕ, Bool, true, false, not, ◌&&◌, ◌||◌, ◌==◌, ◌<◌, eq-eqb, arith, List, [], ◌∷◌, ◌++◌, map, length, Option, Some, is_some}
+-- What is changed or lent may be: it isn't named through what only sees.
+use Rattle.std.proofs.Common.{◌≡◌, refl, sym, ap, ◌∙◌, subst, inl, inr, ℕ, Bool, true, false, not, ◌&&◌, ◌||◌, ◌<◌, arith, List, [], ◌∷◌, map, length, Option, Some, is_some}
 use Rattle.spark_base.specs.declared.position.Pos.{Pos}
 use Rattle.spark_base.specs.Lists.{Has}
 use Rattle.spark_base.proofs.Lists.{Has-append_left, Has-append_right, Has-map, Has-map_from}
@@ -12,26 +9,23 @@ use Rattle.place_names.specs.declared.act.Mode.{Mode}
 use Rattle.place_names.specs.declared.act.Mode.TheVariants as mode
 use Rattle.place_names.specs.declared.act.Placed.{Placed}
 use Rattle.place_names.specs.declared.rule.Rule.TheVariants as rule
-use Rattle.place_names.specs.declared.selector.Sel.{Sel}
 use Rattle.place_names.specs.declared.selector.Sel.TheVariants as sel
 use Rattle.place_names.specs.Names.{Name as PlaceName, extend}
 use Rattle.type_definitions.specs.declared.table.Shape.{Shape}
 use Rattle.type_definitions.specs.declared.table.Shape.TheVariants as shape
 use Rattle.type_definitions.specs.Types.{Table, shape_of, is_nil, is_owning}
 use Rattle.type_definitions.specs.Types as types
-use Rattle.typed_tree.specs.declared.object.ObjectKind.{ObjectKind}
-use Rattle.typed_tree.specs.declared.object.ObjectKind.TheVariants as object_kind
 use Rattle.typed_tree.specs.Trees.{TypedTree, Name, Component, Designated, Element, NoMore, More}
 use Rattle.typed_tree.specs.Programs.{TypedProgram}
 use Rattle.flow_paths.specs.declared.report.Effects.{Effects}
 use Rattle.flow_paths.specs.Instructions.{Call, Input}
-use Rattle.flow_paths.specs.Objects.{Typing, Signature, passing_by, passings, object_at, sub_at, is_variable, is_borrower, is_borrowing, traverses, is_formal, is_formal_kind, is_named_access, is_observer, is_anonymous, is_package_object, has_scope_end, view_of}
+use Rattle.flow_paths.specs.Objects.{Typing, Signature, passing_by, passings, object_at, sub_at, is_borrower, is_formal, is_named_access, is_observer, is_anonymous, is_package_object, has_scope_end, view_of}
 use Rattle.flow_paths.specs.Names.{selectors, name_of}
-use Rattle.flow_paths.specs.Acts.{placed, acts_in, acts_of, gives_variable, actual_values, actual_act, actual_acts}
+use Rattle.flow_paths.specs.Acts.{placed, acts_in, acts_of, actual_values, actual_act, actual_acts}
 use Rattle.flow_paths.specs.Points.{NamedPoint, FlowPoint}
-use Rattle.flow_paths.specs.Laid.{FlowSub, FlowProgram, NamedSub, signature, kept_roots, sub_facts, flow_sub, typing_of, flow_typing, flow_program, flow_named}
+use Rattle.flow_paths.specs.Laid.{FlowSub, FlowProgram, NamedSub, kept_roots, sub_facts, flow_sub, typing_of, flow_typing, flow_program, flow_named}
 use Rattle.flow_paths.specs.Reports.{on_views}
-use Rattle.flow_paths.specs.Views.{changes, lends, ConstantView, of_observer, of_formal, in_function, changed, lent, MayBorrow, directly, through, is_function, is_in_mode, has_selector, traversed_of, text_report}
+use Rattle.flow_paths.specs.Views.{changes, lends, ConstantView, holds_loans, of_observer, of_formal, in_function, of_borrower, changed, lent, MayBorrow, directly, through, is_function, is_in_mode, has_selector, text_report}
 use Rattle.machine.specs.States.{sub_of}
 use Rattle.machine.specs.Owners.{is_in, is_in_formal}
 use Rattle.soundness.specs.Ready.{root_of}
@@ -39,99 +33,42 @@ use Rattle.viewed_steps.specs.Ready.{IsOwnPlace, IsActualTo, AreActualsTo, AreUn
 use Rattle.viewed_steps.proofs.Called.{way_to, passes_to}
 use Rattle.soundness.specs.Seen.{is_view_formal}
 use Rattle.soundness.proofs.Points.{flow_at}
-use Rattle.typed_laws.specs.Needed.{Leads, IsPlace, IsFine}
+use Rattle.soundness.proofs.Typings.{package_same}
+use Rattle.typed_laws.specs.Needed.{Leads, IsPlace}
 use Rattle.soundness.specs.Sound.{goes_through_none}
-use Rattle.viewed_soundness.specs.Holds.{is_given, is_of_procedure, is_first, is_exclusive, lends_first, sees_only, is_fixed, KeepsObserved, AllKeep}
+use Rattle.viewed_soundness.specs.Holds.{is_given, is_exclusive, sees_only, is_fixed, KeepsObserved, AllKeep}
+use Rattle.viewed_steps.specs.Seeing.{sees_in}
+use Rattle.viewed_steps.proofs.Sees.{kind_seen}
 use Rattle.scope_laws.specs.Order.{named_in}
 use Rattle.view_laws.specs.Program.{IsPassedTo, ArePassedTo, IsViewProgram}
-use Rattle.view_laws.proofs.Calls.{IsPlainCall, IsThroughCall, point_good}
+use Rattle.view_laws.proofs.Calls.{IsPlainCall, IsThroughCall}
 use Rattle.viewed_steps.proofs.Followed.{is_traversing}
 use Rattle.soundness.proofs.Passing.{signature_is}
-use Rattle.view_laws.proofs.Reports.{unchanged, not_observed}
 use Rattle.view_laws.proofs.Scoped as scoped
 use Rattle.view_laws.proofs.Valued as valued
 use Rattle.view_laws.proofs.Own as own_formals
+use Rattle.view_laws.proofs.Changed as acted
+use Rattle.view_laws.proofs.Changed.{both_first, both_second, seen_one, or_first, nil_is, flipped, some_more, both, by_true, outer, may_change}
+use Rattle.view_laws.proofs.Sees.{borrower_anonymous}
+use Rattle.view_laws.proofs.Back.{goes_back}
 
 -- ---- tests
 
-bool_cases : (b : Bool) → (b ≡ true) ⊎ (b ≡ false)
-bool_cases true = inl refl
-bool_cases false = inr refl
+or_left : (a b : Bool) → a ≡ true → a || b ≡ true
+or_left a b e = ap (λ z. z || b) e
 
-nil_is : (xs : List Sel) → is_nil xs ≡ true → xs ≡ []
-nil_is [] e = refl
-nil_is (x ∷ xs) e = cc
+or_right : (a b : Bool) → b ≡ true → a || b ≡ true
+or_right true b e = refl
+or_right false b e = e
 
-both_first : (a b : Bool) → a && b ≡ true → a ≡ true
-both_first true b e = refl
-both_first false b e = cc
-
-both_second : (a b : Bool) → a && b ≡ true → b ≡ true
-both_second true b e = e
-both_second false b e = cc
-
-either_one : (a b : Bool) → a || b ≡ true → (a ≡ true) ⊎ (b ≡ true)
-either_one true b e = inl refl
-either_one false b e = inr e
-
-fixed_none : (observes given exclusive whole : Bool) → observes ≡ false → (given ≡ true → (exclusive ≡ true) × (whole ≡ false))
-    → (observes || (given && not exclusive)) || (given && whole) ≡ false
-fixed_none true given exclusive whole none other = cc
-fixed_none false false exclusive whole none other = refl
-fixed_none false true exclusive whole none other =
-    (let two = other refl in ap (λ b. not b || whole) two.0 ∙ two.1)
-
-seen_none : (observes given exclusive : Bool) → observes ≡ false → (given ≡ true → exclusive ≡ true) → observes || (given && not exclusive) ≡ false
-seen_none true given exclusive none other = cc
-seen_none false false exclusive none other = refl
-seen_none false true exclusive none other = ap not (other refl)
-
-pub any_there : {A : Type 0} (test : A → Bool) (xs : List A) (x : A) → Has xs x → test x ≡ true → list_any test xs ≡ true
-any_there test [] x has is = absurd has
-any_there test (y ∷ xs) x (inl same) is = ap (λ b. b || list_any test xs) (ap test same ∙ is)
-any_there test (y ∷ xs) x (inr has) is = or_right (test y) (list_any test xs) (any_there test xs x has is)
-  where
-    or_right : (a b : Bool) → b ≡ true → a || b ≡ true
-    or_right true b e = refl
-    or_right false b e = e
-
-no_truth : {A : Type 0} → IsTrue false → A
-no_truth h = (let no : false ≡ true = h in cc)
-
-outer : (a b c : Bool) → IsTrue (a && b) → IsTrue (a && (b || c))
-outer true true c h = h
-outer true false c h = no_truth h
-outer false b c h = no_truth h
-
-flipped : (b : Bool) → not b ≡ true → b ≡ false
-flipped true e = cc
-flipped false e = refl
-
-by_true : (b : Bool) → (b ≡ true → ⊥) → b ≡ false
-by_true true none = absurd (none refl)
-by_true false none = refl
-
-both : (a b : Bool) → a ≡ true → b ≡ true → a && b ≡ true
-both a b e f = ap (λ z. z && b) e ∙ f
-
-some_more : (xs : List Sel) (x : Sel) → not (is_nil (xs ++ x ∷ [])) ≡ true
-some_more [] x = refl
-some_more (y ∷ xs) x = refl
+fixed_none : (sees given whole : Bool) → sees ≡ false → (given ≡ true → whole ≡ false) → sees || (given && whole) ≡ false
+fixed_none true given whole none other = cc
+fixed_none false false whole none other = refl
+fixed_none false true whole none other = other refl
 
 no_borrow : (s : Typing) (sub : FlowSub) (a : Act) (k : PlaceName) (how : Mode) (owning access : Bool) → MayBorrow s sub a → a ≡ act.Actual k how owning access → ⊥
 no_borrow s sub _ k how owning access (directly h f m gives traversed root) is = cc
 no_borrow s sub _ k how owning access (through h f m gives traversed borrows only) is = cc
-
--- a formal of mode `in` that is changed, or through which something is borrowed, in no function
-may_change : (formal inn access whole function : Bool) → formal ≡ true → inn ≡ true
-    → (IsTrue (not function && (formal && (inn && (not access || not whole)))) → ⊥) → (IsTrue (function && formal) → ⊥)
-    → (function ≡ false) × (access ≡ true) × (whole ≡ true)
-may_change true true true true false is also none never = (refl, refl, refl)
-may_change true true true false false is also none never = absurd (none refl)
-may_change true true false whole false is also none never = absurd (none refl)
-may_change true true access whole true is also none never = absurd (never refl)
-may_change true false access whole function is also none never = cc
-may_change false inn access whole function is also none never = cc
 
 all_keep : (fixed : PlaceName → Bool) (acts : List Placed) → ((a : Placed) → Has acts a → (m : PlaceName) → changes a.act ≡ Some m → fixed m ≡ false)
     → ((a : Placed) → Has acts a → (k m : PlaceName) (how : Mode) (owning access : Bool) → a.act ≡ act.Actual k how owning access → lends a.act ≡ Some m
@@ -153,32 +90,6 @@ all_keep fixed (a ∷ acts) h g =
     one (act.Actual m mode.InOut owning access) h g = tt
     one _ h g = tt
 
-any_second : (a b : Bool) → b ≡ true → a || b ≡ true
-any_second true b e = refl
-any_second false b e = e
-
-no_kind : (k : ObjectKind) → is_variable k ≡ true → is_formal_kind k ≡ true → ⊥
-no_kind object_kind.Variable is other = cc
-no_kind _ is other = cc
-
-first_there : (xs : List ℕ) (b : Bool) (f x : ℕ) → traversed_of b xs ≡ Some f → f ≡ x → is_first x xs ≡ true
-first_there (y ∷ xs) true f x e same = (let one : y ≡ f = cc in eq-eqb y x (one ∙ same))
-first_there [] true f x e same = cc
-first_there xs false f x e same = cc
-
--- a formal that a traversal function may borrow from is changed through
-borrow_exclusive : (s : Typing) (sub : FlowSub) (a : Act) (x : ℕ) (m : PlaceName) → MayBorrow s sub a → a ≡ act.Borrow x m → is_formal s m.root ≡ true
-    → Has s.subs (record { formals = sub.formals; result = sub.result }) → is_exclusive s m.root ≡ false → ⊥
-borrow_exclusive s sub _ x m (directly h f k gives traversed root) is formal there none =
-    let same : k ≡ m = cc in
-    let lends_it : lends_first s m.root (record { formals = sub.formals; result = sub.result }) ≡ true =
-    both (gives_variable s sub.result) (is_first m.root sub.formals) gives (first_there sub.formals (traverses s.table sub.result) f m.root traversed (sym root ∙ ap (λ (z : PlaceName). z.root) same)) in
-    (let no : true ≡ false = sym (any_second (is_named_access (view_of s m.root) && list_any (is_of_procedure m.root) s.subs) (list_any (lends_first s m.root) s.subs)
-    (any_there (lends_first s m.root) s.subs (record { formals = sub.formals; result = sub.result }) there lends_it)) ∙ none in cc)
-borrow_exclusive s sub _ x m (through h f k gives traversed borrows only) is formal there none =
-    let same : k ≡ m = cc in
-    no_kind (object_at s m.root).kind (both_first (is_variable (object_at s m.root).kind) (is_borrowing (view_of s m.root)) (subst (λ (z : PlaceName). is_borrower s z.root ≡ true) same borrows)) formal
-
 -- ---- programs
 
 module _ (table : Table) (typed : TypedProgram) (effects : Effects) (given : IsViewProgram table typed effects) where
@@ -191,21 +102,8 @@ module _ (table : Table) (typed : TypedProgram) (effects : Effects) (given : IsV
   abbrev own : Typing
   own = typing_of table typed
 
-  given_formal : (x : ℕ) → is_given s x ≡ true → is_in_formal s x ≡ true
-  given_formal x is = elim (either_one (is_view_formal s x) (is_in_formal s x && is_anonymous (view_of s x)) is) [
-    | inl shown ↦ both_first (is_in_formal s x) (is_owning s.table (object_at s x).of) shown
-    | inr view ↦ both_first (is_in_formal s x) (is_anonymous (view_of s x)) view
-  ]
-
-  given_lasts : (x : ℕ) → is_given s x ≡ true → has_scope_end s x ≡ true
-  given_lasts x is = elim (either_one (is_view_formal s x) (is_in_formal s x && is_anonymous (view_of s x)) is) [
-    | inl shown ↦ ap (λ b. b || is_anonymous (view_of s x)) (both_second (is_in_formal s x) (is_owning s.table (object_at s x).of) shown)
-    | inr view ↦ by (is_owning s.table (object_at s x).of) (both_second (is_in_formal s x) (is_anonymous (view_of s x)) view)
-  ]
-    where
-      by : (b : Bool) → is_anonymous (view_of s x) ≡ true → b || is_anonymous (view_of s x) ≡ true
-      by true e = refl
-      by false e = e
+  abbrev sees : ℕ → Bool
+  sees = sees_in program
 
   -- ---- a point
 
@@ -228,87 +126,86 @@ module _ (table : Table) (typed : TypedProgram) (effects : Effects) (given : IsV
     abbrev acts_here : Typing → List Placed
     acts_here z = acts_of (record { typing = z; result = named.sub.result; roots = kept }) p.pos p.instr
 
-    fine_there : IsFine s named.sub.result p.instr
-    fine_there = scoped.fine_there table typed effects given named has p there
-
     act_there : (a : Placed) → Has (acts_here s) a → Has at.acts a
-    act_there a h = subst (λ ps. Has ps a) (scoped.acts_same table typed effects given named has p there named.sub.result kept) h
+    act_there = acted.act_there table typed effects given named has p there
 
-    -- what is changed is named, and no observer if it is changed as a whole
-    changed_named : (a : Placed) → Has at.acts a → (m : PlaceName) → changes a.act ≡ Some m → Has (named_in p.instr) m.root × (m.sels ≡ [] → is_observer s m.root ≡ false)
-    changed_named a h m e =
-        (point_good program given.owns given.parts_named p.instr (given.stored sub in_program at in_sub) named.sub.result kept p.pos fine_there
-        (scoped.plainly table typed effects given sub in_program at in_sub) (scoped.source_there table typed effects given named has p there) a
-        (subst (λ ps. Has ps a) (sym (scoped.acts_same table typed effects given named has p there named.sub.result kept)) h)).1 m e
-
-    lent_named : (a : Placed) → Has at.acts a → (m : PlaceName) → lends a.act ≡ Some m → Has (named_in p.instr) m.root
-    lent_named a h m e =
-        (point_good program given.owns given.parts_named p.instr (given.stored sub in_program at in_sub) named.sub.result kept p.pos fine_there
-        (scoped.plainly table typed effects given sub in_program at in_sub) (scoped.source_there table typed effects given named has p there) a
-        (subst (λ ps. Has ps a) (sym (scoped.acts_same table typed effects given named has p there named.sub.result kept)) h)).2 m e
-
-    changed_plain : (a : Placed) → Has at.acts a → (m : PlaceName) → changes a.act ≡ Some m → is_observer s m.root ≡ false
-    changed_plain a h m e = elim (bool_cases (is_nil m.sels)) [
-      | inl empty ↦ (changed_named a h m e).1 (nil_is m.sels empty)
-      | inr some ↦ unchanged program effects given.accepted.no_reports sub in_program at in_sub a h m e (ap not some)
-    ]
-
-    pub signature_here : Has s.subs (signature named.sub)
-    signature_here = subst (λ subs. Has subs (signature named.sub)) (sym (scoped.alike table typed effects given).subs) (Has-map signature typed.subs named.sub sub_there)
+    -- A formal that may be changed through doesn't see.
+    plain_formal : (m : PlaceName) → Has (named_in p.instr) m.root → is_observer s m.root ≡ false
+        → (is_given s m.root ≡ true → (is_function sub ≡ false) × (is_named_access (view_of s m.root) ≡ true)) → sees_only s m.root ≡ false
+    plain_formal m names none changes_it = by (sees_only s m.root) refl
       where
-        sub_there : Has typed.subs named.sub
-        sub_there = elim (valued.where_is table typed effects given named has) [
-          | inl e ↦ subst (λ (z : NamedSub). Has typed.subs z.sub) e (subst (λ subs. Has subs given.order.first) (sym given.order.subs) (inl refl))
-          | inr inside ↦ (let body = valued.body table typed effects given named has inside in
-              subst (λ (z : NamedSub). Has typed.subs z.sub) body.4 (scoped.in_subs table typed effects given body.0 body.1))
-        ]
+        by : (b : Bool) → sees_only s m.root ≡ b → b ≡ false
+        by false e = refl
+        by true only =
+            (let one = seen_one (is_observer s m.root) (is_given s m.root) (is_exclusive s m.root) none only in
+            let found = changes_it one.0 in
+            let no : false ≡ true = sym one.1 ∙ acted.own_exclusive table typed effects given named has p there m.root names one.0 found.0 found.1 in cc)
 
-    -- a formal of the program that a procedure names, of a named access type, is changed through
-    own_exclusive : (x : ℕ) → Has (named_in p.instr) x → is_given s x ≡ true → is_function sub ≡ false → is_named_access (view_of s x) ≡ true → is_exclusive s x ≡ true
-    own_exclusive x names is procedure access = elim (valued.where_is table typed effects given named has) [
-      | inl e ↦ absurd (scoped.names_none table typed effects given named e p there x names (given_lasts x is))
-      | inr inside ↦ (
-          let body = valued.body table typed effects given named has inside in
-          let formal : Has named.sub.formals x = own_formals.formals_own table typed effects given named has inside p there x names
-          (both_first (is_formal s x) (is_in (object_at s x).mode) (given_formal x is)) in
-          let mine : Has own.subs (signature named.sub) =
-          subst (λ (z : NamedSub). Has own.subs (signature z.sub)) body.4
-          (Has-map signature typed.subs body.0 (scoped.in_subs table typed effects given body.0 body.1)) in
-          let lends : is_of_procedure x (signature named.sub) ≡ true =
-          ap (λ b. not b && list_any (λ y. y == x) named.sub.formals) procedure
-          ∙ any_there (λ y. y == x) named.sub.formals x formal (eq-eqb x x refl) in
-          let any : list_any (is_of_procedure x) s.subs ≡ true =
-          ap (list_any (is_of_procedure x)) (scoped.alike table typed effects given).subs ∙ any_there (is_of_procedure x) own.subs (signature named.sub) mine lends in
-          ap (λ b. (b && list_any (is_of_procedure x) s.subs) || list_any (lends_first s x) s.subs) access
-          ∙ ap (λ b. b || list_any (lends_first s x) s.subs) any)
+    -- A borrower that sees goes back to a formal, so a name through it is a constant view.
+    constant_borrower : (m : PlaceName) → Has (named_in p.instr) m.root → is_borrower s m.root ≡ true → sees m.root ≡ true → has_selector m ≡ true → ConstantView s sub m
+    constant_borrower m names borrower seen some = elim (valued.where_is table typed effects given named has) [
+      | inl e ↦ absurd (scoped.names_none table typed effects given named e p there m.root names (lasts m.root (borrower_anonymous s m.root borrower)))
+      | inr inside ↦ elim (own_formals.objects_own table typed effects given named has inside p there m.root names) [
+        | inl outer ↦ absurd (
+            let no : false ≡ true =
+            sym (scoped.local table typed effects given m.root (borrower_anonymous s m.root borrower)) ∙ package_same s own (scoped.alike table typed effects given) m.root ∙ outer in cc)
+        | inr object ↦ (
+            let back = goes_back table typed effects given m.root seen borrower named inside object in
+            of_borrower back.1 (both (is_function sub) (is_borrower s m.root && has_selector m) back.0 (both (is_borrower s m.root) (has_selector m) borrower some)) back.2
+            (or_left (is_formal s back.1) (is_package_object s back.1) back.3))
+      ]
     ]
-
-    -- a formal of mode `in` that is changed is changed through
-    changed_formal : (a : Placed) → Has at.acts a → (m : PlaceName) → changes a.act ≡ Some m → is_given s m.root ≡ true
-        → (is_function sub ≡ false) × (is_named_access (view_of s m.root) ≡ true) × (has_selector m ≡ true)
-    changed_formal a h m e is =
-        let formal = given_formal m.root is in
-        may_change (is_formal s m.root) (is_in_mode (object_at s m.root).mode) (is_named_access (view_of s m.root)) (has_selector m) (is_function sub)
-        (both_first (is_formal s m.root) (is_in (object_at s m.root).mode) formal)
-        (both_second (is_formal s m.root) (is_in (object_at s m.root).mode) formal) (λ view. no_view (of_formal view))
-        (λ view. no_view (in_function (outer (is_function sub) (is_formal s m.root) (is_package_object s m.root) view)))
       where
+        lasts : (x : ℕ) → is_anonymous (view_of s x) ≡ true → has_scope_end s x ≡ true
+        lasts x anonymous = or_right (is_owning s.table (object_at s x).of) (is_anonymous (view_of s x)) anonymous
+
+    -- What only sees does so by itself, or is a borrower.
+    unseen : (m : PlaceName) → sees_only s m.root ≡ false → (is_borrower s m.root ≡ true → sees m.root ≡ true → ⊥) → sees m.root ≡ false
+    unseen m plain none = by (sees m.root) refl
+      where
+        by : (b : Bool) → sees m.root ≡ b → b ≡ false
+        by false e = refl
+        by true is = absurd (elim (kind_seen program m.root is) [
+          | inl only ↦ (let no : false ≡ true = sym plain ∙ only in cc)
+          | inr borrower ↦ none borrower is
+        ])
+
+    -- So what is changed isn't fixed.
+    pub unfixed : (a : Placed) → Has at.acts a → (m : PlaceName) → changes a.act ≡ Some m → is_fixed s sees m ≡ false
+    unfixed a h m e =
+        fixed_none (sees m.root) (is_given s m.root) (is_nil m.sels)
+        (unseen m (plain_formal m names.0 (acted.changed_plain table typed effects given named has p there a h m e) (λ is. (let found = formal is in (found.0, found.1))))
+        (λ borrower is. no_view (constant_borrower m names.0 borrower is (some borrower))))
+        (λ is. flipped (is_nil m.sels) (formal is).2)
+      where
+        names : Has (named_in p.instr) m.root × (m.sels ≡ [] → holds_loans s m.root ≡ false)
+        names = acted.changed_named table typed effects given named has p there a h m e
+
+        formal : is_given s m.root ≡ true → (is_function sub ≡ false) × (is_named_access (view_of s m.root) ≡ true) × (has_selector m ≡ true)
+        formal = acted.changed_formal table typed effects given named has p there a h m e
+
         no_view : ConstantView s sub m → ⊥
         no_view view = given.accepted.no_reports.complete (text_report a.pos rule.V1 m) (on_views sub in_program (changed at a m (in_sub, h) e view))
 
-    -- So what is changed isn't fixed.
-    pub unfixed : (a : Placed) → Has at.acts a → (m : PlaceName) → changes a.act ≡ Some m → is_fixed s m ≡ false
-    unfixed a h m e =
-        fixed_none (is_observer s m.root) (is_given s m.root) (is_exclusive s m.root) (is_nil m.sels) (changed_plain a h m e)
-        (λ is. (let found = changed_formal a h m e is in
-        (own_exclusive m.root (changed_named a h m e).0 is found.0 found.1, flipped (is_nil m.sels) found.2)))
+        some : is_borrower s m.root ≡ true → has_selector m ≡ true
+        some borrower = by (is_nil m.sels) refl
+          where
+            by : (b : Bool) → is_nil m.sels ≡ b → not b ≡ true
+            by false e = refl
+            by true empty = (let no : true ≡ false = sym borrower ∙ or_first (is_borrower s m.root) (is_observer s m.root) (names.1 (nil_is m.sels empty)) in cc)
 
     -- nor is what a call of a procedure lends
     pub unlent : (a : Placed) → Has at.acts a → (k m : PlaceName) (how : Mode) (owning access : Bool) → a.act ≡ act.Actual k how owning access → lends a.act ≡ Some m
-        → is_fixed s (extend m (sel.Deref ∷ [])) ≡ false
+        → is_fixed s sees (extend m (sel.Deref ∷ [])) ≡ false
     unlent a h k m how owning access is e =
-        fixed_none (is_observer s m.root) (is_given s m.root) (is_exclusive s m.root) (is_nil (extend m (sel.Deref ∷ [])).sels) unseen through
+        fixed_none (sees m.root) (is_given s m.root) (is_nil (extend m (sel.Deref ∷ [])).sels)
+        (unseen m (plain_formal m names unseen_there (λ is. (let found = lends_it is in (found.0, found.1))))
+        (λ borrower seen. no_view (constant_borrower (extend m (sel.Deref ∷ [])) names borrower seen some)))
+        (λ is. flipped (is_nil (extend m (sel.Deref ∷ [])).sels) (lends_it is).2)
       where
+        names : Has (named_in p.instr) m.root
+        names = acted.lent_named table typed effects given named has p there a h m e
+
         no_view : ConstantView s sub (extend m (sel.Deref ∷ [])) → ⊥
         no_view view =
             given.accepted.no_reports.complete (text_report a.pos rule.V1 m)
@@ -317,83 +214,46 @@ module _ (table : Table) (typed : TypedProgram) (effects : Effects) (given : IsV
         some : has_selector (extend m (sel.Deref ∷ [])) ≡ true
         some = some_more m.sels sel.Deref
 
-        unseen : is_observer s m.root ≡ false
-        unseen = by_true (is_observer s m.root) (λ sees. no_view (of_observer (both (is_observer s m.root) (has_selector (extend m (sel.Deref ∷ []))) sees some)))
+        unseen_there : is_observer s m.root ≡ false
+        unseen_there = by_true (is_observer s m.root) (λ sight. no_view (of_observer (both (is_observer s m.root) (has_selector (extend m (sel.Deref ∷ []))) sight some)))
 
-        through : is_given s m.root ≡ true → (is_exclusive s m.root ≡ true) × (is_nil (extend m (sel.Deref ∷ [])).sels ≡ false)
-        through is_one =
-            let formal = given_formal m.root is_one in
-            let found = may_change (is_formal s m.root) (is_in_mode (object_at s m.root).mode) (is_named_access (view_of s m.root)) (has_selector (extend m (sel.Deref ∷ []))) (is_function sub)
+        lends_it : is_given s m.root ≡ true → (is_function sub ≡ false) × (is_named_access (view_of s m.root) ≡ true) × (has_selector (extend m (sel.Deref ∷ [])) ≡ true)
+        lends_it is_one =
+            let formal = acted.given_formal table typed effects given m.root is_one in
+            may_change (is_formal s m.root) (is_in_mode (object_at s m.root).mode) (is_named_access (view_of s m.root)) (has_selector (extend m (sel.Deref ∷ []))) (is_function sub)
             (both_first (is_formal s m.root) (is_in (object_at s m.root).mode) formal)
             (both_second (is_formal s m.root) (is_in (object_at s m.root).mode) formal) (λ view. no_view (of_formal view))
-            (λ view. no_view (in_function (outer (is_function sub) (is_formal s m.root) (is_package_object s m.root) view))) in
-            (own_exclusive m.root (lent_named a h m e) is_one found.0 found.1, flipped (is_nil (extend m (sel.Deref ∷ [])).sels) found.2)
+            (λ view. no_view (in_function (outer (is_function sub) (is_formal s m.root) (is_package_object s m.root) view)))
 
-    -- nor what a borrower is declared with is seen alone
-    pub lendable : ((y : ℕ) → Has named.sub.formals y → is_formal s y ≡ true) → (x : ℕ) (m : PlaceName) (q : Pos) → Has at.acts (placed q (act.Borrow x m)) → Has (named_in p.instr) m.root → sees_only s m.root ≡ false
-    lendable formals_here x m q h names =
-        seen_none (is_observer s m.root) (is_given s m.root) (is_exclusive s m.root)
-        (not_observed program effects given.accepted.no_reports sub in_program formals_here at in_sub (placed q (act.Borrow x m)) h x m refl) through_it
-      where
-        through_it : is_given s m.root ≡ true → is_exclusive s m.root ≡ true
-        through_it is_one = by (is_exclusive s m.root) refl
-          where
-            formal : is_formal s m.root ≡ true
-            formal = both_first (is_formal s m.root) (is_in (object_at s m.root).mode) (given_formal m.root is_one)
-
-            by : (b : Bool) → is_exclusive s m.root ≡ b → is_exclusive s m.root ≡ true
-            by true is = is
-            by false is = absurd (refused (may_change (is_formal s m.root) (is_in_mode (object_at s m.root).mode) (is_named_access (view_of s m.root))
-                (has_selector (extend m (sel.Deref ∷ []))) (is_function sub) formal
-                (both_second (is_formal s m.root) (is_in (object_at s m.root).mode) (given_formal m.root is_one)) (λ view. no_view (of_formal view))
-                (λ view. no_view (in_function (outer (is_function sub) (is_formal s m.root) (is_package_object s m.root) view)))))
-              where
-                no_may : MayBorrow s sub (act.Borrow x m) → ⊥
-                no_may may = borrow_exclusive s sub (act.Borrow x m) x m may refl formal (signature_here) is
-
-                no_view : ConstantView s sub (extend m (sel.Deref ∷ [])) → ⊥
-                no_view view = given.accepted.no_reports.complete (text_report q rule.V1 m) (on_views sub in_program (lent at (placed q (act.Borrow x m)) m (in_sub, h) refl view no_may))
-
-                refused : (is_function sub ≡ false) × (is_named_access (view_of s m.root) ≡ true) × (has_selector (extend m (sel.Deref ∷ [])) ≡ true) → ⊥
-                refused found = (let no : false ≡ true = sym is ∙ own_exclusive m.root names is_one found.0 found.1 in cc)
-
-    pub read_plain : (q : Pos) (x w : ℕ) (path : TypedTree) → p.instr ≡ Input (Name q x path w) → sees_only s x ≡ false
+    pub read_plain : (q : Pos) (x w : ℕ) (path : TypedTree) → p.instr ≡ Input (Name q x path w) → sees x ≡ false
     read_plain q x w path is =
         let a : Placed = placed q (act.Actual (name_of x path) mode.Out false false) in
         let h : Has (acts_here s) a =
         subst (λ i. Has (acts_of (record { typing = s; result = named.sub.result; roots = kept }) p.pos i) a) (sym is)
         (Has-append_right (acts_in s path) (a ∷ []) a (inl refl)) in
-        first (sees_only s x) (is_given s x && is_nil (name_of x path).sels) (unfixed a (act_there a h) (name_of x path) refl)
-      where
-        first : (a b : Bool) → a || b ≡ false → a ≡ false
-        first true b e = cc
-        first false b e = refl
+        or_first (sees x) (is_given s x && is_nil (name_of x path).sels) (unfixed a (act_there a h) (name_of x path) refl)
 
     -- ---- what is copied back to
 
-    first_false : (a b : Bool) → a || b ≡ false → a ≡ false
-    first_false true b e = cc
-    first_false false b e = refl
-
-    changed_open : (a : Placed) → Has at.acts a → (m : PlaceName) → changes a.act ≡ Some m → sees_only s m.root ≡ false
-    changed_open a h m e = first_false (sees_only s m.root) (is_given s m.root && is_nil m.sels) (unfixed a h m e)
+    changed_open : (a : Placed) → Has at.acts a → (m : PlaceName) → changes a.act ≡ Some m → sees m.root ≡ false
+    changed_open a h m e = or_first (sees m.root) (is_given s m.root && is_nil m.sels) (unfixed a h m e)
 
     one_open : (m : Mode) (owning access : Bool) → is_in m ≡ false → (e : TypedTree) → ((a : Placed) → Has (actual_act (passing_by m owning access) e) a → Has at.acts a)
-        → (y : ℕ) → Has (root_of e) y → sees_only s y ≡ false
+        → (y : ℕ) → Has (root_of e) y → sees y ≡ false
     one_open mode.In owning access back e acts y root = cc
     one_open mode.Out owning access back (Name q z steps t) acts y (inl same) =
-        subst (λ k. sees_only s k ≡ false) same
+        subst (λ k. sees k ≡ false) same
         (changed_open (placed q (act.Actual (name_of z steps) mode.Out owning access)) (acts _ (inl refl)) (name_of z steps) refl)
     one_open mode.Out owning access back (Name q z steps t) acts y (inr none) = absurd none
     one_open mode.Out owning access back e acts y root = absurd root
     one_open mode.InOut owning access back (Name q z steps t) acts y (inl same) =
-        subst (λ k. sees_only s k ≡ false) same
+        subst (λ k. sees k ≡ false) same
         (changed_open (placed q (act.Actual (name_of z steps) mode.InOut owning access)) (acts _ (inl refl)) (name_of z steps) refl)
     one_open mode.InOut owning access back (Name q z steps t) acts y (inr none) = absurd none
     one_open mode.InOut owning access back e acts y root = absurd root
 
     all_open : (procedure : Bool) (formals : List ℕ) (actuals : TypedTree)
-        → ((a : Placed) → Has (actual_acts (map (way_to s given.owns procedure) formals) actuals) a → Has at.acts a) → AreUnobserved s formals actuals
+        → ((a : Placed) → Has (actual_acts (map (way_to s given.owns procedure) formals) actuals) a → Has at.acts a) → AreUnobserved s sees formals actuals
     all_open procedure (x ∷ formals) (More e rest) acts = (
       λ back. one_open (object_at s x).mode (is_owning s.table (object_at s x).of) (procedure && is_named_access (view_of s x)) back e
           (λ a h. acts a (Has-append_left (actual_act (way_to s given.owns procedure x) e) (actual_acts (map (way_to s given.owns procedure) formals) rest) a h)),
@@ -417,7 +277,7 @@ module _ (table : Table) (typed : TypedProgram) (effects : Effects) (given : IsV
         given.modes n ways.of (ap (λ (z : Signature). z.result) (signature_is program n) ∙ ways.result) x
         (subst (λ (z : Signature). Has z.formals x) (sym (signature_is program n)) has)
 
-    none_open : (formals : List ℕ) (actuals : TypedTree) → ((x : ℕ) → Has formals x → (object_at s x).mode ≡ mode.In) → AreUnobserved s formals actuals
+    none_open : (formals : List ℕ) (actuals : TypedTree) → ((x : ℕ) → Has formals x → (object_at s x).mode ≡ mode.In) → AreUnobserved s sees formals actuals
     none_open (x ∷ formals) (More e rest) modes =
         ((λ back. (let no : true ≡ false = sym (ap is_in (modes x (inl refl))) ∙ back in cc)), none_open formals rest (λ y has. modes y (inr has)))
     none_open [] actuals modes = tt
@@ -430,7 +290,7 @@ module _ (table : Table) (typed : TypedProgram) (effects : Effects) (given : IsV
     none_back (x ∷ formals) actuals modes passed = passed
 
     -- It isn't rooted in what only sees.
-    pub unobserved : (n : ℕ) (actuals : TypedTree) (result : Option ℕ) → p.instr ≡ Call n actuals result → AreUnobserved s (sub_of program n).formals actuals
+    pub unobserved : (n : ℕ) (actuals : TypedTree) (result : Option ℕ) → p.instr ≡ Call n actuals result → AreUnobserved s sees (sub_of program n).formals actuals
     unobserved n actuals result is = elim (scoped.plainly table typed effects given sub in_program at in_sub n actuals result is).passes [
       | inl plain ↦ all_open (not (is_some (sub_of program n).result)) (sub_of program n).formals actuals (λ a h. call_acts n actuals result is plain a h)
       | inr goes ↦ none_open (sub_of program n).formals actuals (through_modes n actuals goes)
@@ -456,7 +316,7 @@ module _ (table : Table) (typed : TypedProgram) (effects : Effects) (given : IsV
     root_own z steps u leads none y (inr never) a h e = absurd never
     root_own z steps u leads none y (inl same) a h e =
         subst (λ k. is_view_formal s k ≡ false) same (by_true (is_view_formal s z) (λ view.
-        (let found = changed_formal a h (name_of z steps) e (ap (λ b. b || (is_in_formal s z && is_anonymous (view_of s z))) view) in
+        (let found = acted.changed_formal table typed effects given named has p there a h (name_of z steps) e (ap (λ b. b || (is_in_formal s z && is_anonymous (view_of s z))) view) in
         let access = unnamed_access (shape_of s.table (object_at s z).of) found.1 in
         no_part z steps u leads access.0 access.1 access.2 access.3 none found.2)))
 
@@ -496,13 +356,13 @@ module _ (table : Table) (typed : TypedProgram) (effects : Effects) (given : IsV
     ]
 
   -- Nothing is moved, written or freed through an observer, or through a formal that owns nothing and isn't changed through.
-  pub all_kept : (sub : FlowSub) → Has program.subs sub → (p : FlowPoint) → Has sub.points p → AllKeep (is_fixed s) (map (λ (a : Placed). a.act) p.acts)
+  pub all_kept : (sub : FlowSub) → Has program.subs sub → (p : FlowPoint) → Has sub.points p → AllKeep (is_fixed s sees) (map (λ (a : Placed). a.act) p.acts)
   unfolding flow_program
   all_kept sub has p there =
       let named = Has-map_from (flow_sub own) (flow_named table typed) sub has in
       let q = Has-map_from (λ (z : NamedPoint). flow_at own named.0 z) (named.0).points p (subst (λ (z : FlowSub). Has z.points p) (sym named.2) there) in
-      subst (λ (z : FlowPoint). AllKeep (is_fixed s) (map (λ (a : Placed). a.act) z.acts)) q.2
-      (all_keep (is_fixed s) (flow_at own named.0 q.0).acts (λ a h m e. unfixed named.0 named.1 q.0 q.1 a h m e)
+      subst (λ (z : FlowPoint). AllKeep (is_fixed s sees) (map (λ (a : Placed). a.act) z.acts)) q.2
+      (all_keep (is_fixed s sees) (flow_at own named.0 q.0).acts (λ a h m e. unfixed named.0 named.1 q.0 q.1 a h m e)
       (λ a h k m how owning access is e. unlent named.0 named.1 q.0 q.1 a h k m how owning access is e))
 
   -- What is copied back to is in an object that is no formal of mode `in`.

@@ -12,7 +12,13 @@ pub mod Valued
 pub mod Waiting
 pub mod Scoped
 pub mod Own
-pub mod Fixed
 pub mod Points
+-- what only sees, and what it keeps
+pub mod Borrowing
+pub mod Sees
+pub mod Changed
+pub mod Back
+pub mod Fixed
+-- all of it
 pub mod Traversals
 pub mod Ready

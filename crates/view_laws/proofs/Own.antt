@@ -1,5 +1,5 @@
--- The formals that the instructions of a body name are its own.
-use Rattle.std.proofs.Common.{◌≡◌, refl, sym, ◌∙◌, subst, inl, inr, ℕ, Bool, true, false, not, ◌||◌}
+-- What the instructions of a body name is of a package, or its own.
+use Rattle.std.proofs.Common.{◌≡◌, sym, ◌∙◌, subst, ◌⊎◌, inl, inr, ℕ, Bool, true, false}
 use Rattle.std.specs.Prelude.{filter}
 use Rattle.spark_base.specs.Lists.{Has}
 use Rattle.spark_base.proofs.Lists.{Has-append_cases, Has-filter}
@@ -23,10 +23,6 @@ use Rattle.view_laws.proofs.Scoped as scoped
 use Rattle.view_laws.proofs.Valued as valued
 use Rattle.view_laws.proofs.Formals.{has_within}
 
-or_second : (a b : Bool) → a ≡ true → not a || b ≡ true → b ≡ true
-or_second true b is e = e
-or_second false b is e = cc
-
 module _ (table : Table) (typed : TypedProgram) (effects : Effects) (given : IsViewProgram table typed effects) (named : NamedSub)
     (has : Has (flow_named table typed) named) (inside : Has (valued.bodies table typed effects given) named) where
   abbrev s : Typing
@@ -38,42 +34,35 @@ module _ (table : Table) (typed : TypedProgram) (effects : Effects) (given : IsV
   body : IsOfBody own given.order.rest named
   body = valued.body table typed effects given named has inside
 
-  -- if it is a formal, it is one of the body
-  abbrev IsOwn : ℕ → Type 0
-  IsOwn x = is_formal s x ≡ true → Has (body.0).formals x
-
-  object_own : (x : ℕ) → Has (objects_of (body.0)) x → IsOwn x
-  object_own x object formal = elim (Has-append_cases (body.0).formals (declared_within (body.0).body) x object) [
-    | inl first ↦ first
-    | inr declared ↦ absurd (
-        let no : false ≡ true =
-        sym (given.views.declared (body.0) (scoped.in_subs table typed effects given (body.0) (body.1)) x declared)
-        ∙ sym (formal_same s own (scoped.alike table typed effects given) x) ∙ formal in cc)
-  ]
-
-  -- what lasts: no formal, or one of the body
+  -- what lasts: the objects of the body
   abbrev keep : ℕ → Bool
-  keep x = not (is_formal s x) || is_within x (body.0).formals
-
-  kept_own : (x : ℕ) → IsOwn x → keep x ≡ true
-  kept_own x is_own = by (is_formal s x) refl
-    where
-      by : (b : Bool) → is_formal s x ≡ b → not b || is_within x (body.0).formals ≡ true
-      by false none = refl
-      by true formal = has_within x (body.0).formals (is_own formal)
-
-  own_kept : (x : ℕ) → keep x ≡ true → IsOwn x
-  own_kept x kept formal = within_has x (body.0).formals (or_second (is_formal s x) (is_within x (body.0).formals) formal kept)
+  keep x = is_within x (objects_of (body.0))
 
   kept_there : (p : NamedPoint) → Has named.points p → IsKept (is_package_object own) keep p
   kept_there p there =
       all_has (IsKept (is_package_object own) keep) (sub_points (setting_from own (body.2) (body.0)) (body.0)) p
-      (sub_kept (is_package_object own) keep (setting_from own (body.2) (body.0)) (body.0) (λ x object. kept_own x (object_own x object)) (given.order.local (body.0) (body.1)).seen)
+      (sub_kept (is_package_object own) keep (setting_from own (body.2) (body.0)) (body.0) (λ x object. has_within x (objects_of (body.0)) object)
+      (given.order.local (body.0) (body.1)).seen)
       (subst (λ (z : NamedSub). Has z.points p) (sym (body.4)) there)
 
-  pub formals_own : (p : NamedPoint) → Has named.points p → (x : ℕ) → Has (named_in p.instr) x → is_formal s x ≡ true → Has named.sub.formals x
-  formals_own p there x names formal = elim (seen_has (is_package_object own) (filter keep p.scope) (named_in p.instr) x (kept_there p there) names) [
-    | inl outer ↦ absurd (
-        let no : false ≡ true = sym (given.views.apart x (sym (formal_same s own (scoped.alike table typed effects given) x) ∙ formal)) ∙ outer in cc)
-    | inr within ↦ subst (λ (z : NamedSub). Has z.sub.formals x) (body.4) (own_kept x (Has-filter keep p.scope x (within_has x (filter keep p.scope) within)).1 formal)
+  -- What its instructions name is an object of a package, or one of its own.
+  pub objects_own : (p : NamedPoint) → Has named.points p → (x : ℕ) → Has (named_in p.instr) x → (is_package_object own x ≡ true) ⊎ Has (objects_of named.sub) x
+  objects_own p there x names = elim (seen_has (is_package_object own) (filter keep p.scope) (named_in p.instr) x (kept_there p there) names) [
+    | inl outer ↦ inl outer
+    | inr within ↦ inr (subst (λ (z : NamedSub). Has (objects_of z.sub) x) (body.4)
+        (within_has x (objects_of (body.0)) (Has-filter keep p.scope x (within_has x (filter keep p.scope) within)).1))
   ]
+
+  pub formals_own : (p : NamedPoint) → Has named.points p → (x : ℕ) → Has (named_in p.instr) x → is_formal s x ≡ true → Has named.sub.formals x
+  formals_own p there x names formal = elim (objects_own p there x names) [
+    | inl outer ↦ absurd (let no : false ≡ true = sym (given.views.apart x mine) ∙ outer in cc)
+    | inr object ↦ elim (Has-append_cases named.sub.formals (declared_within named.sub.body) x object) [
+      | inl first ↦ first
+      | inr declared ↦ absurd (
+          let there_too : Has (declared_within (body.0).body) x = subst (λ (z : NamedSub). Has (declared_within z.sub.body) x) (sym (body.4)) declared in
+          let no : false ≡ true = sym (given.views.declared (body.0) (scoped.in_subs table typed effects given (body.0) (body.1)) x there_too) ∙ mine in cc)
+    ]
+  ]
+    where
+      mine : is_formal own x ≡ true
+      mine = sym (formal_same s own (scoped.alike table typed effects given) x) ∙ formal

@@ -23,7 +23,7 @@ use Rattle.flow_paths.specs.declared.report.Effects.{Effects}
 use Rattle.flow_paths.specs.Instructions.{Instruction, Declare, Assign, EndScope}
 use Rattle.flow_paths.specs.Objects.{traverses, sub_at, Typing, object_at, is_variable, is_borrower, is_observer, is_borrowing, is_observing, is_anonymous, is_formal, is_package_object, has_scope_end, view_of}
 use Rattle.flow_paths.specs.Names.{first, name_of, written, source}
-use Rattle.flow_paths.specs.Acts.{placed, observe, reborrow, target_pos, index_acts, source_acts, assigned_to, stored_acts, declared_acts, acts_in, acts_of}
+use Rattle.flow_paths.specs.Acts.{placed, observe, reborrow, target_pos, index_acts, source_acts, assigned_to, stored_acts, acts_in, acts_of}
 use Rattle.flow_paths.specs.Points.{PointName, same_place, same_point, NamedPoint, FlowPoint}
 use Rattle.flow_paths.specs.Laid.{FlowSub, FlowProgram, NamedSub, declared_within, unnumbered, number_in, kept_roots, sub_facts, flow_sub, typing_of, flow_typing, flow_program, flow_named}
 use Rattle.flow_paths.specs.Scopes.{Differ, is_last, is_within, is_ready, brought, scope_behind, taken}
@@ -33,7 +33,6 @@ use Rattle.soundness.proofs.Points.{flow_at, next_there}
 use Rattle.soundness.proofs.Typings.{package_same, formal_same}
 use Rattle.soundness.proofs.Waits.{drop_none}
 use Rattle.typed_laws.specs.Needed.{Leads, FirstSource, IsFine}
-use Rattle.viewed_soundness.specs.Holds.{sees_only}
 use Rattle.machine.specs.Owners.{is_in, is_in_formal}
 use Rattle.soundness.specs.Seen.{is_view_formal}
 use Rattle.scope_laws.proofs.Begun.{Begins, sub_begun, package_begun}
@@ -52,7 +51,6 @@ use Rattle.view_laws.proofs.Acts.{source_lasts, leads_lasts}
 use Rattle.view_laws.proofs.Reports.{observed_encloses, reborrowed_own}
 use Rattle.view_laws.proofs.Enclosing.{enclosing_less}
 use Rattle.view_laws.proofs.Scoped as scoped
-use Rattle.view_laws.proofs.Fixed as fixed
 use Rattle.view_laws.proofs.Valued as valued
 use Rattle.viewed_steps.specs.Awaited.{is_held}
 use Rattle.view_laws.proofs.Same as same
@@ -135,13 +133,6 @@ name_root q y path u xs = inl refl
 
 -- ---- acts of views
 
-borrow_there : (s : Typing) (x : ℕ) (q : Pos) (y : ℕ) (path : TypedTree) (u : ℕ) → is_borrower s x ≡ true
-    → Has (declared_acts s x (More (Name q y path u) NoMore)) (placed q (act.Borrow x (name_of y path)))
-borrow_there s x q y path u is =
-    subst (λ b. Has (if b then source_acts s (Name q y path u) (act.Borrow x)
-    else (if is_observer s x then source_acts s (Name q y path u) (observe s x) else acts_in s (More (Name q y path u) NoMore))) (placed q (act.Borrow x (name_of y path)))) (sym is)
-    (Has-append_right (acts_in s path) (placed q (act.Borrow x (name_of y path)) ∷ []) (placed q (act.Borrow x (name_of y path))) (inl refl))
-
 observe_there : (s : Typing) (pos q : Pos) (x w : ℕ) (r : Pos) (y : ℕ) (path : TypedTree) (u : ℕ) → is_borrower s x ≡ false → is_observer s x ≡ true
     → Has (assigned_to s pos (Some x) (Name q x NoMore w) (Name r y path u)) (placed r (observe s x (name_of y path)))
 observe_there s pos q x w r y path u none sees =
@@ -171,13 +162,6 @@ call_root r n q y path u more rest = inl refl
 call_first : (r : Pos) (n : ℕ) (q : Pos) (y : ℕ) (path : TypedTree) (u : ℕ) (more : TypedTree) (xs : List ℕ) → Has (roots (CallIn r n (More (Name q y path u) more)) ++ xs) y
 unfolding roots
 call_first r n q y path u more xs = inl refl
-
-pub borrow_called : (s : Typing) (x : ℕ) (r : Pos) (n : ℕ) (q : Pos) (y : ℕ) (path : TypedTree) (u : ℕ) (more : TypedTree) → is_borrower s x ≡ true
-    → Has (declared_acts s x (More (CallIn r n (More (Name q y path u) more)) NoMore)) (placed q (act.Borrow x (name_of y path)))
-borrow_called s x r n q y path u more is =
-    let e : TypedTree = CallIn r n (More (Name q y path u) more) in
-    subst (λ b. Has (if b then source_acts s e (act.Borrow x) else (if is_observer s x then source_acts s e (observe s x) else acts_in s (More e NoMore))) (placed q (act.Borrow x (name_of y path)))) (sym is)
-    (inl refl)
 
 observe_called : (s : Typing) (pos q : Pos) (x w : ℕ) (r : Pos) (n : ℕ) (k : Pos) (y : ℕ) (path : TypedTree) (u : ℕ) (more : TypedTree) → is_borrower s x ≡ false → is_observer s x ≡ true
     → Has (assigned_to s pos (Some x) (Name q x NoMore w) (CallIn r n (More (Name k y path u) more))) (placed k (observe s x (name_of y path)))
@@ -438,22 +422,14 @@ module _ (table : Table) (typed : TypedProgram) (effects : Effects) (given : IsV
       lasts_here : (x : ℕ) → IsStoredAt p.instr x → is_anonymous (view_of s x) ≡ true → is_temporary_object s x ≡ false
       lasts_here x stored anonymous = scoped.variable_lasts table typed effects given x (stored_here x stored anonymous)
 
-      older_there : (x : ℕ) (q : Pos) (y : ℕ) (path : TypedTree) (u : ℕ) → is_anonymous (view_of s x) ≡ true → is_observer own x || nat_lt y x ≡ true
-          → p.instr ≡ Declare x (More (Name q y path u) NoMore) → is_observer s x ≡ false → (sees_only s y ≡ false) × (y < x)
-      older_there x q y path u anonymous test is none = (
-        fixed.lendable table typed effects given named has p there formals_known x (name_of y path) q
-            (act_has (Declare x (More (Name q y path u) NoMore)) is (placed q (act.Borrow x (name_of y path)))
-            (borrow_there s x q y path u (borrows x (stored_here x (inl (More (Name q y path u) NoMore, is)) anonymous) anonymous none)))
-            (subst (λ i. Has (named_in i) y) (sym is) (first_root q y path u NoMore)),
-        ltb-true y x (or_other (is_observer own x) (nat_lt y x) (sym (observer_same x) ∙ none) test),
-      )
+      older_there : (x y : ℕ) → is_observer own x || nat_lt y x ≡ true → is_observer s x ≡ false → y < x
+      older_there x y test none = ltb-true y x (or_other (is_observer own x) (nat_lt y x) (sym (observer_same x) ∙ none) test)
 
       -- What a view is declared with.
       abbrev IsDeclaredWith : ℕ → TypedTree → Type 0
       IsDeclaredWith x e =
           (q : Pos) × (y : ℕ) × (path : TypedTree) × (u : ℕ) × (v : TypedTree) × (e ≡ More v NoMore)
-          × IsSourceName s (object_at s x).of v q y path u × Outlives p.scope y x
-          × (is_observer s x ≡ false → (sees_only s y ≡ false) × (y < x))
+          × IsSourceName s (object_at s x).of v q y path u × Outlives p.scope y x × (is_observer s x ≡ false → y < x)
 
       declared_named : (x : ℕ) (e : TypedTree) → p.instr ≡ Declare x e → is_anonymous (view_of s x) ≡ true → is_call (first e) ≡ false → IsDeclaredWith x e
       declared_named x e is anonymous silent =
@@ -473,7 +449,7 @@ module _ (table : Table) (typed : TypedProgram) (effects : Effects) (given : IsV
             inl refl,
             outlives found.1 x (subst (λ i. Has (named_in i) found.1) (sym whole_is) (first_root found.0 found.1 found.2 found.3 NoMore))
                 (source_lasts s given.owns given.parts_named (object_at s x).of found.0 found.1 found.2 found.3 anonymous fine.1) (around_declared x e is found.1),
-            older_there x found.0 found.1 found.2 found.3 anonymous found.5 whole_is,
+            older_there x found.1 found.5,
           )
 
       -- with what a traversal function gives
@@ -492,23 +468,14 @@ module _ (table : Table) (typed : TypedProgram) (effects : Effects) (given : IsV
             e_is,
             inr (t.pos, t.sub, t.others, refl, take.1),
             outlives t.root x names (leads_lasts s given.owns given.parts_named (object_at s t.root).of t.path t.of t.leads t.lasts) (around_declared x e is t.root),
-            λ none. (
-              fixed.lendable table typed effects given named has p there formals_known x (name_of t.root t.path) t.name_pos
-                  (act_has (Declare x (More call NoMore)) whole_is (placed t.name_pos (act.Borrow x (name_of t.root t.path)))
-                  (borrow_called s x t.pos t.sub t.name_pos t.root t.path t.of t.others (borrows x (stored_here x (inl (e, is)) anonymous) anonymous none)))
-                  names,
-              ltb-true t.root x (or_other (is_observer own x) (nat_lt t.root x) (sym (observer_same x) ∙ none)
-                  (rooted_second (is_anonymous (view_of own x)) (traverses own.table (sub_at own t.sub).result) (is_observer own x || nat_lt t.root x)
-                  (sym (anonymous_same x (lasts_here x (inl (e, is)) anonymous)) ∙ anonymous)
-                  (sym (ap (fits own) whole_is) ∙ above.declared x (More call NoMore) whole_is))),
-            ),
+            older_there x t.root (rooted_second (is_anonymous (view_of own x)) (traverses own.table (sub_at own t.sub).result) (is_observer own x || nat_lt t.root x)
+                (sym (anonymous_same x (lasts_here x (inl (e, is)) anonymous)) ∙ anonymous) (sym (ap (fits own) whole_is) ∙ above.declared x (More call NoMore) whole_is)),
           )
 
       -- where a view is declared
       pub declared_there : (x : ℕ) (e : TypedTree) → p.instr ≡ Declare x e → is_anonymous (view_of s x) ≡ true
           → (q : Pos) × (y : ℕ) × (path : TypedTree) × (u : ℕ) × (v : TypedTree) × (e ≡ More v NoMore)
-          × IsSourceName s (object_at s x).of v q y path u × Outlives p.scope y x
-          × (is_observer s x ≡ false → (sees_only s y ≡ false) × (y < x))
+          × IsSourceName s (object_at s x).of v q y path u × Outlives p.scope y x × (is_observer s x ≡ false → y < x)
       declared_there x e is anonymous = elim (subst (NamesSource s) is (source_there named has p there) anonymous) [
         | inl silent ↦ declared_named x e is anonymous silent
         | inr traversed ↦ declared_called x e is anonymous traversed

@@ -3,7 +3,7 @@
 use Rattle.std.proofs.Common.{◌≡◌, refl, sym, ap, ◌∙◌, ◌⊎◌, inl, inr, ℕ, suc, true, false, List, map}
 use Rattle.spark_base.specs.Lists.{Has}
 use Rattle.type_definitions.specs.Types.{Table}
-use Rattle.typed_tree.specs.Trees.{TypedTree, Name, NoMore}
+use Rattle.typed_tree.specs.Trees.{TypedTree, Name, NoMore, More}
 use Rattle.typed_tree.specs.Programs.{TypedProgram}
 use Rattle.flow_paths.specs.declared.report.Effects.{Effects}
 use Rattle.flow_paths.specs.Instructions.{Instruction, Declare, Assign, EndScope}
@@ -13,7 +13,7 @@ use Rattle.flow_paths.specs.Laid.{FlowProgram, NamedSub, number_in, flow_typing,
 use Rattle.machine.specs.States.{sub_of}
 use Rattle.soundness.specs.Sound.{IsAtPoint, RunIsSound}
 use Rattle.viewed_steps.specs.Sound.{IsViewClass}
-use Rattle.viewed_steps.specs.Ready.{AreOrderly, ViewsAreOrderly, IsReady}
+use Rattle.viewed_steps.specs.Ready.{IsSource, AreOrderly, ViewsAreOrderly, IsReady}
 use Rattle.viewed_steps.proofs.Main.{ready_sound}
 use Rattle.viewed_steps.specs.Sound.{IsStoredAt}
 use Rattle.soundness.proofs.Points.{flow_at}
@@ -25,6 +25,7 @@ use Rattle.view_laws.proofs.Scoped as scoped
 use Rattle.view_laws.proofs.Traversals as traversals
 use Rattle.view_laws.proofs.Waiting as waiting
 use Rattle.view_laws.proofs.Points as points
+use Rattle.view_laws.proofs.Sees as sights
 use Rattle.view_laws.proofs.Fixed as fixed
 
 no_assign : (i : Instruction) (x : ℕ) (v target e : TypedTree) → i ≡ Declare x v → i ≡ Assign target e → ⊥
@@ -69,13 +70,35 @@ module _ (table : Table) (typed : TypedProgram) (effects : Effects) (given : IsV
         read = fixed.read_plain table typed effects given named has p there;
         copied = fixed.unobserved table typed effects given named has p there;
         ended = λ y x is within other. absurd (no_end p.instr found.0 found.1 y found.2 is);
-        followed = λ y x is q follows within sees alike. absurd (no_end p.instr found.0 found.1 y found.2 is);
+        followed = λ y x is q follows within sight alike. absurd (no_end p.instr found.0 found.1 y found.2 is);
       }
+
+  -- a borrower sees just if what it is declared from does, which is no observer
+  declared_there : (named : NamedSub) → Has (flow_named table typed) named → scoped.OfBody table typed effects given named → (p : NamedPoint)
+      → Has named.points p → (x : ℕ) (e : TypedTree) → p.instr ≡ Declare x e → is_anonymous (view_of s x) ≡ true → IsSource program p.scope x e
+  declared_there named has body p there x e is anonymous =
+      let d = points.declared_there table typed effects given named has body p there x e is anonymous in
+      let whole : p.instr ≡ Declare x (More d.4 NoMore) = is ∙ ap (Declare x) d.5 in (
+        d.0,
+        d.1,
+        d.2,
+        d.3,
+        d.4,
+        d.5,
+        d.6,
+        d.7,
+        λ none. (
+            let borrows = points.borrows table typed effects given x (variables_there named has p there x (inl (inl (e, is))) anonymous) anonymous none in (
+              sights.source_plain table typed effects given named has p there body x d.4 whole borrows d.0 d.1 d.2 d.3 d.6,
+              sights.sees_alike table typed effects given named has p there x d.4 whole borrows d.0 d.1 d.2 d.3 d.6,
+              d.8 none,
+            )),
+      )
 
   body_orderly : (named : NamedSub) → (has : Has (flow_named table typed) named) → scoped.OfBody table typed effects given named → (p : NamedPoint)
       → Has named.points p → AreOrderly program p (Follows named p)
   body_orderly named has body p there = record {
-    declared = points.declared_there table typed effects given named has body p there;
+    declared = declared_there named has body p there;
     variables = variables_there named has p there;
     begun = points.begins_plain table typed effects given named has p there;
     over = points.ends_plain table typed effects given named has p there;
@@ -118,7 +141,6 @@ module _ (table : Table) (typed : TypedProgram) (effects : Effects) (given : IsV
     parts_named = given.parts_named;
     formals = given.formals;
     functions = given.functions;
-    lends = given.lends;
     modes = given.modes;
     procedures = given.procedures;
   }

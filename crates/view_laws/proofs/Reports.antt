@@ -31,11 +31,11 @@ by_true false none = refl
 
 -- a view is a borrower or an observer
 one_kind : (v : View) → is_borrowing v ≡ true → is_observing v ≡ true → ⊥
-one_kind (view.Access d true true) borrows sees = cc
-one_kind (view.Access d true false) borrows sees = cc
-one_kind (view.Access d false true) borrows sees = cc
-one_kind (view.Access d false false) borrows sees = cc
-one_kind _ borrows sees = cc
+one_kind (view.Access d true true) borrows sight = cc
+one_kind (view.Access d true false) borrows sight = cc
+one_kind (view.Access d false true) borrows sight = cc
+one_kind (view.Access d false false) borrows sight = cc
+one_kind _ borrows sight = cc
 
 no_kind : (k : ObjectKind) → is_variable k ≡ true → is_formal_kind k ≡ true → ⊥
 no_kind object_kind.Variable is other = cc
@@ -70,27 +70,27 @@ module _ (program : FlowProgram) (effects : Effects) (accepted : AreReports prog
       → is_observer s m.root ≡ false
   unchanged p point a has m e parted =
       by_true (is_observer s m.root)
-      (λ sees. accepted.complete (text_report a.pos rule.V1 m)
-      (on_views sub there (changed p a m (point, has) e (of_observer (both (is_observer s m.root) (has_selector m) sees parted)))))
+      (λ sight. accepted.complete (text_report a.pos rule.V1 m)
+      (on_views sub there (changed p a m (point, has) e (of_observer (both (is_observer s m.root) (has_selector m) sight parted)))))
 
   -- V1: what is borrowed isn't named through an observer.
   pub not_observed : ((x : ℕ) → Has sub.formals x → is_formal s x ≡ true) → (p : FlowPoint) → Has sub.points p → (a : Placed) → Has p.acts a → (h : ℕ) (m : PlaceName)
       → a.act ≡ act.Borrow h m → is_observer s m.root ≡ false
   not_observed formals p point a has h m e =
       by_true (is_observer s m.root)
-      (λ sees. accepted.complete (text_report a.pos rule.V1 m)
+      (λ sight. accepted.complete (text_report a.pos rule.V1 m)
       (on_views sub there (lent p a m (point, has) (ap lends e)
-      (of_observer (both (is_observer s m.root) (has_selector (extend m (sel.Deref ∷ []))) sees (some_more m.sels sel.Deref)))
-      (λ may. never sees (subst (λ z. MayBorrow s sub z) e may)))))
+      (of_observer (both (is_observer s m.root) (has_selector (extend m (sel.Deref ∷ []))) sight (some_more m.sels sel.Deref)))
+      (λ may. never sight (subst (λ z. MayBorrow s sub z) e may)))))
     where
       never : is_observer s m.root ≡ true → MayBorrow s sub (act.Borrow h m) → ⊥
-      never sees (directly h' f m' gives traversed root) =
+      never sight (directly h' f m' gives traversed root) =
           no_kind (object_at s f).kind
-          (first (is_variable (object_at s f).kind) (is_observing (view_of s f)) (subst (λ z. is_observer s z ≡ true) root sees))
+          (first (is_variable (object_at s f).kind) (is_observing (view_of s f)) (subst (λ z. is_observer s z ≡ true) root sight))
           (formals f (has_first sub.formals (traverses s.table sub.result) f traversed))
-      never sees (through h' f m' gives traversed borrows only) =
+      never sight (through h' f m' gives traversed borrows only) =
           one_kind (view_of s m.root) (second (is_variable (object_at s m.root).kind) (is_borrowing (view_of s m.root)) borrows)
-          (second (is_variable (object_at s m.root).kind) (is_observing (view_of s m.root)) sees)
+          (second (is_variable (object_at s m.root).kind) (is_observing (view_of s m.root)) sight)
 
   -- V2: what an observer is assigned lasts as long as it does.
   pub observed_encloses : (p : FlowPoint) → Has sub.points p → (at : Pos) (h : ℕ) (m : PlaceName) (from : Bool)

@@ -6,7 +6,6 @@ use Rattle.std.specs.List.{AllByRecursion}
 use Rattle.spark_base.specs.declared.position.Pos.{Pos}
 use Rattle.spark_base.specs.Lists.{Has}
 use Rattle.spark_base.proofs.Lists.{Has-map, Has-map_from, Has-append_left, Has-append_right}
-use Rattle.place_names.specs.declared.act.Mode.{Mode}
 use Rattle.place_names.specs.declared.act.Mode.TheVariants as mode
 use Rattle.machine.specs.Owners.{is_in, is_in_formal}
 use Rattle.place_names.specs.declared.act.Act.{Act}
@@ -43,7 +42,7 @@ use Rattle.soundness.specs.Ready.{AreScoped, AreNew, AreElaborated, AreReturning
 use Rattle.soundness.proofs.Points.{IsLaid, flow_at}
 use Rattle.soundness.proofs.Typings.{Agree, flow_agrees, instruction_same, package_same}
 use Rattle.soundness.proofs.Contents.{bool_cases}
-use Rattle.soundness.proofs.Passing.{plain_type, signature_there, signature_is as signature_of}
+use Rattle.soundness.proofs.Passing.{signature_there, signature_is as signature_of}
 use Rattle.scope_laws.specs.Alone.{GivesScalar, GivesOwnless, GivesNamed, GivesSeen}
 use Rattle.scope_laws.proofs.Followed.{IsFollowed, sub_followed}
 use Rattle.scope_laws.proofs.Given.{Takes, sub_given}
@@ -63,12 +62,11 @@ use Rattle.ready_laws.proofs.Ready.{seen_has}
 use Rattle.typed_laws.specs.Needed.{IsFine}
 use Rattle.viewed_steps.specs.Awaited.{is_held}
 use Rattle.viewed_soundness.specs.Holds.{IsAccess, is_given}
-use Rattle.viewed_soundness.proofs.Names.{true_false, both_no}
-use Rattle.viewed_soundness.proofs.Outcomes.{named_plain}
-use Rattle.viewed_steps.specs.Ready.{AreDifferent, IsAccessAs, IsSeen as IsSeenBy, is_shown_type}
-use Rattle.viewed_steps.specs.Sound.{IsKindOfFormal, IsStoredAt}
+use Rattle.viewed_soundness.proofs.ViewKinds.{true_false}
+use Rattle.viewed_steps.specs.Ready.{AreDifferent, IsAccessAs, IsSeen as IsSeenBy}
+use Rattle.viewed_steps.specs.Sound.{IsStoredAt}
 use Rattle.viewed_steps.proofs.Followed.{is_traversing}
-use Rattle.viewed_steps.proofs.Views.{given_formal, given_type, scalar_unseen}
+use Rattle.viewed_steps.proofs.Views.{given_type}
 use Rattle.view_laws.specs.InOrder.{no_views, is_rooted_in, IsTraversed, NamesSource, fits}
 use Rattle.view_laws.specs.Program.{IsPassedTo, ArePassedTo, IsViewProgram}
 use Rattle.view_laws.proofs.Passing as passing
@@ -227,10 +225,11 @@ module _ (table : Table) (typed : TypedProgram) (effects : Effects) (given : IsV
   -- the first formal of a traversal function
   pub first_there : (n : ℕ) → traverses s.table (sub_of program n).result ≡ true
       → (f : ℕ) × (rest : List ℕ) × ((sub_of program n).formals ≡ f ∷ rest) × (is_given s f ≡ true) × (traversed_formal s (sub_of program n) ≡ Some f)
+      × IsAccess s f
   first_there n gives =
       let found = given.first n (ap (traverses s.table) (result_same n) ∙ gives) in
       let formals_are : (sub_of program n).formals ≡ found.0 ∷ found.1 = sym (formals_same n) ∙ found.2 in
-      (found.0, found.1, formals_are, found.3, (λ j. traversed_of (gives j) (formals_are j)))
+      (found.0, found.1, formals_are, found.3, (λ j. traversed_of (gives j) (formals_are j)), found.4)
 
   -- a formal of an anonymous access type is one
   pub firsts_there : (n x : ℕ) → Has (sub_of program n).formals x → is_anonymous (view_of s x) ≡ true → traversed_formal s (sub_of program n) ≡ Some x
@@ -239,22 +238,6 @@ module _ (table : Table) (typed : TypedProgram) (effects : Effects) (given : IsV
 
   some_same : (a b : ℕ) → Some a ≡ Some b → a ≡ b
   some_same a b is = cc
-
-  -- an access formal's type
-  access_of : (f : ℕ) → IsKindOfFormal s f → is_given s f ≡ true → IsAccess s f
-  access_of f (inl plain) is_one =
-      absurd (true_false (is_shown_type s f) (given_type s f is_one)
-      (both_no (is_owning s.table (object_at s f).of) (is_anonymous (view_of s f)) (plain_type s given.owns (object_at s f).of plain) (scalar_unseen s f plain)))
-  access_of f (inr (inl (back, own_type))) is_one = absurd (back (in_mode (object_at s f).mode (and_second (is_formal s f) (is_in (object_at s f).mode) (given_formal s f is_one))))
-    where
-      in_mode : (m : Mode) → is_in m ≡ true → m ≡ mode.In
-      in_mode mode.In e = refl
-      in_mode mode.Out e = cc
-      in_mode mode.InOut e = cc
-  access_of f (inr (inr (inl shown))) is_one = shown.1
-  access_of f (inr (inr (inr plain))) is_one =
-      absurd (true_false (is_shown_type s f) (given_type s f is_one)
-      (both_no (is_owning s.table (object_at s f).of) (is_anonymous (view_of s f)) plain.1 (named_plain s.table (object_at s f).of plain.2)))
 
   access_type_lasts : (u d : ℕ) (c n : Bool) → shape_of s.table u ≡ shape.Access d c n → is_owning s.table u || is_anonymous (full s.table u) ≡ true
   access_type_lasts u d c n is =
@@ -299,7 +282,7 @@ module _ (table : Table) (typed : TypedProgram) (effects : Effects) (given : IsV
         let in_mode : (object_at s f).mode ≡ mode.In =
         given.modes n ways.of (result_same n ∙ ways.result) f (subst (λ z. Has z f) (sym (formals_same n ∙ ways.formals)) (inl refl)) in
         let seen : IsSeenBy s f (Name named.0 named.1 named.2 named.3) = (subst (λ z. IsPassedTo s f z (Name named.0 named.1 named.2 named.3)) in_mode passed.0).1 (given_type s f first.3) in
-        let access = access_of f (given.formals f (known_formals f (subst (λ z. Has z f) (sym first.2) (inl refl)))) first.3 in record {
+        let access = first.5 in record {
           f = f;
           traversed = first.4;
           unseen = λ x others. by_kind x (is_anonymous (view_of s x)) refl (λ anonymous. differ.0 x others

@@ -10,21 +10,20 @@ use Rattle.typed_tree.specs.Trees.{TypedTree, Name, Call as CallIn, Null, NoMore
 use Rattle.typed_tree.specs.Programs.{TypedSub, TypedProgram}
 use Rattle.flow_paths.specs.declared.report.Effects.{Effects}
 use Rattle.flow_paths.specs.Instructions.{Instruction, Declare, Assign, Call, Hold}
-use Rattle.flow_paths.specs.Acts.{gives_variable}
-use Rattle.flow_paths.specs.Objects.{Typing, is_named_access, is_anonymous, is_borrower, is_variable, is_package_object, traverses, view_of, object_at, sub_at, is_formal}
+use Rattle.flow_paths.specs.Objects.{Typing, is_named_access, is_anonymous, is_variable, traverses, view_of, object_at, sub_at, is_formal}
 use Rattle.flow_paths.specs.Views.{traversed_of}
 use Rattle.flow_paths.specs.Points.{FlowPoint}
 use Rattle.flow_paths.specs.Laid.{FlowSub, FlowProgram, typing_of, flow_typing, flow_program}
 use Rattle.machine.specs.States.{sub_of}
 use Rattle.soundness.specs.Typed.{OwnsByShape}
 use Rattle.typed_laws.specs.Needed.{Matches, IsPlace}
-use Rattle.soundness.specs.Sound.{Accepted, Uses}
+use Rattle.soundness.specs.Sound.{Accepted}
 use Rattle.scope_laws.specs.Alone.{ResultsFit}
 use Rattle.ready_laws.specs.InOrder.{IsInOrder, AreAnswered, AreStill, ArePassed}
 use Rattle.soundness.specs.Seen.{is_view_formal}
-use Rattle.viewed_soundness.specs.Holds.{PartsAreNamed, is_given, is_exclusive, lends_first}
+use Rattle.viewed_soundness.specs.Holds.{IsAccess, PartsAreNamed, is_given, is_exclusive}
 use Rattle.viewed_steps.specs.Traversals.{GivesView, IsSourceName}
-use Rattle.viewed_steps.specs.Sound.{IsScalarObject, IsKindOfFormal, IsStoredAt, LendsApart}
+use Rattle.viewed_steps.specs.Sound.{IsScalarObject, IsKindOfFormal, IsStoredAt}
 use Rattle.viewed_steps.specs.Ready.{IsActualTo}
 use Rattle.view_laws.specs.InOrder.{AreViewsInOrder}
 
@@ -53,31 +52,19 @@ TraversesNames program =
     → p.instr ≡ Call n actuals result → traverses program.table (sub_of program n).result ≡ true
     → (q : Pos) × (y : ℕ) × (path : TypedTree) × (u : ℕ) × (more : TypedTree) × (actuals ≡ More (Name q y path u) more)
 
--- One that gives a borrower doesn't use the package object that this name is rooted in.
-abbrev pub SparesPackages : FlowProgram → Effects → Type 0
-SparesPackages program effects =
-    (sub : FlowSub) → Has program.subs sub → (p : FlowPoint) → Has sub.points p → (n : ℕ) (actuals : TypedTree) (result : Option ℕ)
-    → p.instr ≡ Call n actuals result → gives_variable (flow_typing program) (sub_at (flow_typing program) n).result ≡ true
-    → (q : Pos) (y : ℕ) (path : TypedTree) (u : ℕ) (more : TypedTree) → actuals ≡ More (Name q y path u) more
-    → is_package_object (flow_typing program) y ≡ true → Uses effects n y → ⊥
-
--- What one gives is taken by a view, or returned by another one; a borrower is taken by a borrower.
+-- What one gives is taken by a view, or returned by another one.
 abbrev pub TakesView : Typing → Option ℕ → Instruction → Type 0
 TakesView s result (Declare x (More (CallIn q n a) rest)) =
-    traverses s.table (sub_at s n).result ≡ true
-    → (is_anonymous (view_of s x) ≡ true) × GivesView s n (object_at s x).of × (gives_variable s (sub_at s n).result ≡ true → is_borrower s x ≡ true)
+    traverses s.table (sub_at s n).result ≡ true → (is_anonymous (view_of s x) ≡ true) × GivesView s n (object_at s x).of
 TakesView s result (Assign target (CallIn q n a)) =
     traverses s.table (sub_at s n).result ≡ true
     → (r : Pos) × (x : ℕ) × (u : ℕ) × (target ≡ Name r x NoMore u) × (is_anonymous (view_of s x) ≡ true) × GivesView s n (object_at s x).of
-    × (gives_variable s (sub_at s n).result ≡ true → is_borrower s x ≡ true)
-TakesView s result (Hold (More (CallIn q n a) rest)) =
-    traverses s.table (sub_at s n).result ≡ true
-    → (traverses s.table result ≡ true) × (gives_variable s (sub_at s n).result ≡ true → gives_variable s result ≡ true)
+TakesView s result (Hold (More (CallIn q n a) rest)) = traverses s.table (sub_at s n).result ≡ true → traverses s.table result ≡ true
 TakesView s result i = Unit {0}
 
 -- It is accepted and typed, and anonymous access types are those of objects and results alone. What functions give is of
 -- scalar types; or it stands alone. Formals are of the four kinds, those of functions of mode `in`, and nothing is changed
--- through these but through the first one of a function that gives a borrower; and its subprograms and views are in order.
+-- through these; and its subprograms and views are in order.
 pub record IsViewProgram (table : Table) (typed : TypedProgram) (effects : Effects) : Type 0 where
   pub accepted : Accepted table typed effects
   pub owns : OwnsByShape (flow_program table typed).table
@@ -88,22 +75,21 @@ pub record IsViewProgram (table : Table) (typed : TypedProgram) (effects : Effec
   pub functions : (n t : ℕ) → (sub_at (flow_typing (flow_program table typed)) n).result ≡ Some t → (x : ℕ)
       → Has (sub_at (flow_typing (flow_program table typed)) n).formals x → is_formal (flow_typing (flow_program table typed)) x ≡ true
       → is_given (flow_typing (flow_program table typed)) x ≡ true
-      → lends_first (flow_typing (flow_program table typed)) x (sub_at (flow_typing (flow_program table typed)) n) ≡ false
       → is_exclusive (flow_typing (flow_program table typed)) x ≡ false
-  pub lends : LendsApart (flow_program table typed)
   pub modes : (n t : ℕ) → (sub_at (flow_typing (flow_program table typed)) n).result ≡ Some t → (x : ℕ)
       → Has (sub_at (flow_typing (flow_program table typed)) n).formals x → (object_at (flow_typing (flow_program table typed)) x).mode ≡ mode.In
   pub procedures : (n : ℕ) → (sub_at (flow_typing (flow_program table typed)) n).result ≡ None → (x : ℕ)
       → Has (sub_at (flow_typing (flow_program table typed)) n).formals x → is_formal (flow_typing (flow_program table typed)) x ≡ true
-      → is_view_formal (flow_typing (flow_program table typed)) x ≡ true → is_named_access (view_of (flow_typing (flow_program table typed)) x) ≡ true
-  -- formals of anonymous access types are the first ones of traversal functions, whose first formals see
+      → is_view_formal (flow_typing (flow_program table typed)) x ≡ true → IsAccess (flow_typing (flow_program table typed)) x
+      → is_named_access (view_of (flow_typing (flow_program table typed)) x) ≡ true
+  -- formals of anonymous access types are the first ones of traversal functions, whose first formals are of access types and see
   pub firsts : (n x : ℕ) → Has (sub_at (flow_typing (flow_program table typed)) n).formals x → is_anonymous (view_of (flow_typing (flow_program table typed)) x) ≡ true
       → traversed_of (traverses (flow_program table typed).table (sub_at (flow_typing (flow_program table typed)) n).result)
       (sub_at (flow_typing (flow_program table typed)) n).formals ≡ Some x
   pub first : (n : ℕ) → traverses (flow_program table typed).table (sub_at (flow_typing (flow_program table typed)) n).result ≡ true
       → (f : ℕ) × (rest : List ℕ) × ((sub_at (flow_typing (flow_program table typed)) n).formals ≡ f ∷ rest) × (is_given (flow_typing (flow_program table typed)) f ≡ true)
+      × IsAccess (flow_typing (flow_program table typed)) f
   pub traverse : TraversesNames (flow_program table typed)
-  pub spared : SparesPackages (flow_program table typed) effects
   pub take : (sub : FlowSub) → Has (flow_program table typed).subs sub → (p : FlowPoint) → Has sub.points p
       → TakesView (flow_typing (flow_program table typed)) sub.result p.instr
   pub returned : (sub : FlowSub) → Has (flow_program table typed).subs sub → (p : FlowPoint) → Has sub.points p → (e last : TypedTree) → p.instr ≡ Hold (More e last)

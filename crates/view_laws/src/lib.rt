@@ -2,6 +2,6 @@
 //! readers.
 //!
 //! What acts move is rooted in an object that the instruction names, whose scope ends at a point; and
-//! by rule V1 no act changes what is named through an observer (`proofs/Acts.antt`, `Kept`). Nothing
-//! here runs.
+//! by rule V1 no act changes what is named through an object that only sees (`proofs/Fixed.antt`).
+//! Nothing here runs.
 #![tactic(auto)]

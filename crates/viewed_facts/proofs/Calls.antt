@@ -1,5 +1,4 @@
 -- What is called moved stays so in calls and their ends: it is in no place that a call takes.
-use Rattle.viewed_soundness.specs.Holds.{sees_only}
 use Rattle.std.proofs.Common.{◌≡◌, sym, ap, ◌∙◌, subst, ◌⊎◌, inl, inr, ℕ, suc, ◌<◌, Bool, true, false, List, [], ◌∷◌, length, append-nil, arith, if◌then◌else◌}
 use Rattle.spark_base.specs.Lists.{Has}
 use Rattle.place_names.specs.declared.fact.Fact.{Fact}
@@ -132,19 +131,19 @@ lower (h ∷ older) (f ∷ outer) (frame, deep, others) g (inr has) = (let less 
 
 -- ---- the places that a call took
 
-module _ (s : Typing) (depth : ℕ) (facts : List Fact) (name : Way) (named : Named (home s depth) name) (plain_name : sees_only s (number_of name) ≡ false)
+module _ (s : Typing) (sees : ℕ → Bool) (depth : ℕ) (facts : List Fact) (name : Way) (named : Named (home s depth) name) (plain_name : sees (number_of name) ≡ false)
     (unlent : (l : Loan) (h : ℕ) (n : PlaceName) → Has facts (Lent l h n) → overlaps n (name_of name) ≡ true → ⊥)
     (cleared : (n : PlaceName) → Has facts (Moved n) → covers (name_of name) n ≡ true → ⊥) where
   -- Nothing is where the name leads that the frame moved, by a name without an element. What others have lent has other roots than it,
   -- and than what the frame moved or borrowed.
-  pub passed_clean : (v : Views) (view : View) (views : AreViews (home s depth) (sees_only s) v view facts) → AreClear (sees_only s) facts
-      → (lent : Loan → PlaceName → Type 0) → ((l : Loan) (n : PlaceName) → lent l n → v.way n.root ≡ None) → AreShared (home s depth) (sees_only s) lent v
+  pub passed_clean : (v : Views) (view : View) (views : AreViews (home s depth) sees v view facts) → AreClear sees facts
+      → (lent : Loan → PlaceName → Type 0) → ((l : Loan) (n : PlaceName) → lent l n → v.way n.root ≡ None) → AreShared (home s depth) sees lent v
       → ((n : PlaceName) → lent Borrowed n → n.root ≡ number_of name → ⊥)
       → ((m : PlaceName) → Has facts (Moved m) → (n : PlaceName) → lent Borrowed n → m.root ≡ n.root → ⊥)
       → ((b : ℕ) (m : PlaceName) → Has facts (Lent Borrowed b m) → (n : PlaceName) → lent Borrowed n → m.root ≡ n.root → ⊥)
       → (w : Way) → IsDefiniteBy (home s depth) v facts w → Under (expand v name) w → ⊥
   passed_clean v view views clear lent none shown spared own_moved own_borrowed w (m, moved, plain, same) under =
-      elim (meeting (home s depth) (sees_only s) v view facts views lent none shown name m (named, plain_name) (moved.0, clear.owned (name_of m) moved.1)
+      elim (meeting (home s depth) sees v view facts views lent none shown name m (named, plain_name) (moved.0, clear.owned (name_of m) moved.1)
       (subst (Under (expand v name)) (sym same) under)) [
         | inl below ↦ cleared (name_of m) moved.1 (under_covers name m below plain)
         | inr more ↦ elim more [
@@ -171,8 +170,8 @@ module _ (s : Typing) (depth : ℕ) (facts : List Fact) (name : Way) (named : Na
         ]
       ]
     where
-      loan_there : (b : ℕ) → Lends (home s depth) (sees_only s) v view facts views b → Has facts (Lent Borrowed b (name_of (v.loan b)))
-      loan_there b l = subst (λ z. HasLoan (sees_only s) z b facts (name_of (v.loan b))) l.2 l.3.lent
+      loan_there : (b : ℕ) → Lends (home s depth) sees v view facts views b → Has facts (Lent Borrowed b (name_of (v.loan b)))
+      loan_there b l = subst (λ z. HasLoan sees z b facts (name_of (v.loan b))) l.2 l.3.lent
 
       met_root : (a b : Way) → Meet a b → number_of a ≡ number_of b
       met_root a b (inl under) = sym (longer a b under).root

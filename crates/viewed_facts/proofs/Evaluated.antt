@@ -35,24 +35,25 @@ use Rattle.soundness.proofs.Stays.{Quiet, One}
 use Rattle.soundness.proofs.Evaluated.{Keeps, regrouped}
 use Rattle.owned_loans.specs.Views.{Around, Views, expand}
 use Rattle.owned_loans.proofs.Allowed.{read_open, move_open}
-use Rattle.viewed_soundness.specs.Holds.{is_fixed, IsOwners, IsNamed, PartsAreNamed, KeepsObserved, AllKeep, sees_only}
+use Rattle.viewed_soundness.specs.Holds.{is_fixed, IsOwners, IsNamed, PartsAreNamed, KeepsObserved, AllKeep, Seeing}
 use Rattle.viewed_soundness.proofs.Stays.{Goes, no_selectors, taking, steps_taking, waited_quiet, name_on}
 use Rattle.viewed_soundness.proofs.Evaluated.{keep_both, matches_named, Ready, GivenOn, live_trunk, checked_on, blank_ready, evaluated_on, part_named}
 use Rattle.viewed_facts.specs.Exact.{IsExact}
 use Rattle.viewed_facts.proofs.Memories.{taken_exact, made_exact}
 use Rattle.viewed_soundness.proofs.Spared.{gone_off}
-use Rattle.viewed_soundness.proofs.Names.{free_sees, free_formal, changed_owners}
+use Rattle.viewed_soundness.proofs.Names.{changed_owners}
+use Rattle.viewed_soundness.proofs.ViewKinds.{free_sees, free_formal}
 
-module _ (h : Here) (settled : IsSettled h.typing.table) (leaks : List Leak) (waits : List (List machine.Word)) (other : Around (home h.typing h.frame))
+module _ (h : Here) (sees : ℕ → Bool) (seeing : Seeing h.typing sees) (settled : IsSettled h.typing.table) (leaks : List Leak) (waits : List (List machine.Word)) (other : Around (home h.typing h.frame))
     (alone : (w : Way) → IsNear h.frame w → other.gone w → ⊥) (keeps : Keeps h.typing)
     (index_law : IndexLaw) (own_law : OwnsByShape h.typing.table)
     (v : Views) (parts_named : PartsAreNamed h.typing.table)
     (elsewhere : Way → Type 0) (away : (w : Way) → elsewhere w → IsAway h.typing h.frame other w) where
   abbrev ReadyIn : Memory → List Waiting → List Fact → Type 0
-  ReadyIn m hands facts = Ready h settled leaks waits other alone keeps index_law own_law v parts_named m hands facts
+  ReadyIn m hands facts = Ready h sees seeing settled leaks waits other alone keeps index_law own_law v parts_named m hands facts
 
   abbrev GivenIn : List (List machine.Word) → ℕ → List Waiting → List Fact → Evaluated (List machine.Word) → Type 0
-  GivenIn on want hands facts x = GivenOn h settled leaks waits other alone keeps index_law own_law v parts_named on want hands facts x
+  GivenIn on want hands facts x = GivenOn h sees seeing settled leaks waits other alone keeps index_law own_law v parts_named on want hands facts x
 
   abbrev Exact : Memory → List Fact → Type 0
   Exact m facts = IsExact h.typing (home h.typing h.frame) v elsewhere m facts
@@ -98,7 +99,7 @@ module _ (h : Here) (settled : IsSettled h.typing.table) (leaks : List Leak) (wa
 
   -- what a place has is taken, where its type owns
   owner_exact : (on : List (List machine.Word)) (m : Memory) (hands : List Waiting) (facts : List Fact) (u : Way) (t : ℕ) → ReadyIn m hands facts → Exact m facts
-      → Named (home h.typing h.frame) u → sees_only h.typing (number_of u) ≡ false
+      → Named (home h.typing h.frame) u → sees (number_of u) ≡ false
       → ((l : Loc) → Reaches (seen h.typing m hands leaks) (expand v u) l → IsOwners h.typing (expand v u))
       → is_owning h.typing.table t ≡ true → Allows facts (act.Move (ways.name_of u) (parts h.typing.table t))
       → (x : Evaluated Place) → Walked h.typing settled hands leaks m on (expand v u) t x
@@ -109,9 +110,9 @@ module _ (h : Here) (settled : IsSettled h.typing.table) (leaks : List Leak) (wa
       (Done (words_of h.typing m k) (if b then record { memory = moved_out h.typing k m; waits = on } else record { memory = m; waits = on })))
       (sym (ap (is_owning h.typing.table) of ∙ owns))
       (subst (λ z. Exact (moved_out h.typing k m) (effect (act.Move (ways.name_of u) (parts h.typing.table z)) facts)) of
-      (taken_exact h.typing settled (home h.typing h.frame) (sees_only h.typing) other v elsewhere apart m hands leaks facts k l u ready.viewed
-      (λ w under o. gone_off h.typing h.frame other v (seen h.typing m hands leaks) facts ready.viewed alone u w named plain (inr under) o) ready.kept spot named plain reaches
-      (live_trunk h settled leaks waits other alone keeps index_law own_law v parts_named m hands ready.viewed.owned (expand v u) l
+      (taken_exact h.typing settled (home h.typing h.frame) sees other v elsewhere apart m hands leaks facts k l u ready.viewed
+      (λ w under o. gone_off h.typing sees h.frame other v (seen h.typing m hands leaks) facts ready.viewed alone u w named plain (inr under) o) ready.kept spot named plain reaches
+      (live_trunk h sees seeing settled leaks waits other alone keeps index_law own_law v parts_named m hands ready.viewed.owned (expand v u) l
       (owners l reaches) reaches)
       (subst (λ z. Allows facts (act.Move (ways.name_of u) (parts h.typing.table z))) (sym of) allowed) exact)))
   owner_exact on m hands facts u t ready exact named plain owners owns allowed (Raises e n) is = tt
@@ -130,7 +131,7 @@ module _ (h : Here) (settled : IsSettled h.typing.table) (leaks : List Leak) (wa
 
   -- a name that is moved, or read
   name_exact : (on : List (List machine.Word)) (x : ℕ) (steps : TypedTree) (t : ℕ) (m : Memory) (hands : List Waiting) (facts : List Fact) (ready : ReadyIn m hands facts)
-      → Exact m facts → Allows facts (used h.typing (name_of x steps) t) → KeepsObserved (is_fixed h.typing) (used h.typing (name_of x steps) t)
+      → Exact m facts → Allows facts (used h.typing (name_of x steps) t) → KeepsObserved (is_fixed h.typing sees) (used h.typing (name_of x steps) t)
       → (way : List run.Step) → Goes h.typing.table (object_at h.typing x).of t steps way
       → (b : Bool) → is_owning h.typing.table t ≡ b
       → ExactTo (effect (used h.typing (name_of x steps) t) facts)
@@ -145,27 +146,27 @@ module _ (h : Here) (settled : IsSettled h.typing.table) (leaks : List Leak) (wa
       }) in
       let moves : Allows facts (act.Move (ways.name_of u) (parts h.typing.table t)) =
       subst (λ z. Allows facts (act.Move z (parts h.typing.table t))) (sym called) (subst (Allows facts) is mine) in
-      let free : is_fixed h.typing (name_of x steps) ≡ false = subst (KeepsObserved (is_fixed h.typing)) is keep in
-      let plain : sees_only h.typing x ≡ false = free_sees h.typing (name_of x steps) free in
-      let where_ = name_on h settled hands leaks m waits other facts v ready.kept ready.viewed ready.holds alone
-      (live_trunk h settled leaks waits other alone keeps index_law own_law v parts_named m hands ready.viewed.owned) index_law own_law parts_named
+      let free : is_fixed h.typing sees (name_of x steps) ≡ false = subst (KeepsObserved (is_fixed h.typing sees)) is keep in
+      let plain : sees x ≡ false = free_sees h.typing sees (name_of x steps) free in
+      let where_ = name_on h sees seeing settled hands leaks m waits other facts v ready.kept ready.viewed ready.holds alone
+      (live_trunk h sees seeing settled leaks waits other alone keeps index_law own_law v parts_named m hands ready.viewed.owned) index_law own_law parts_named
       on x steps t way goes (λ w named same. move_open facts w (parts h.typing.table t)
       (subst (λ z. Allows facts (act.Move z (parts h.typing.table t))) (called ∙ sym same) moves)) in
       subst (λ z. ExactTo (effect z facts) (followed_by (walked h.typing way (variable_place h x) (record { memory = m; waits = on })) (held_or_taken h AsValue)))
       (ap (λ z. act.Move z (parts h.typing.table t)) called ∙ sym is)
       (owner_exact on m hands facts u t ready exact (named_along (home h.typing h.frame) way (Object (OfVariable (home h.typing h.frame x) x)) refl)
-      (ap (sees_only h.typing) (number_along way (Object (OfVariable (home h.typing h.frame x) x))) ∙ plain)
-      (changed_owners h settled hands leaks m on other facts v ready.kept ready.viewed ready.holds alone
-      (live_trunk h settled leaks waits other alone keeps index_law own_law v parts_named m hands ready.viewed.owned) x t way
-      (λ formal none. free_formal h.typing (name_of x steps) free formal (no_selectors h.typing.table (object_at h.typing x).of t steps way goes none)) goes.lead) owns moves
+      (ap sees (number_along way (Object (OfVariable (home h.typing h.frame x) x))) ∙ plain)
+      (changed_owners h sees seeing settled hands leaks m on other facts v ready.kept ready.viewed ready.holds alone
+      (live_trunk h sees seeing settled leaks waits other alone keeps index_law own_law v parts_named m hands ready.viewed.owned) x t way plain
+      (λ formal none. free_formal h.typing sees (name_of x steps) free formal (no_selectors h.typing.table (object_at h.typing x).of t steps way goes none)) goes.lead) owns moves
       (walked h.typing way (variable_place h x) (record { memory = m; waits = on })) where_)
   name_exact on x steps t m hands facts ready exact mine keep way goes false owns =
       let u : Way = way_along way (Object (OfVariable (home h.typing h.frame x) x)) in
       let is : used h.typing (name_of x steps) t ≡ act.Read (name_of x steps) =
       ap (λ b. if b then act.Move (name_of x steps) (parts h.typing.table t) else act.Read (name_of x steps)) owns in
       let reads : Allows facts (act.Read (name_of x steps)) = subst (Allows facts) is mine in
-      let where_ = name_on h settled hands leaks m waits other facts v ready.kept ready.viewed ready.holds alone
-      (live_trunk h settled leaks waits other alone keeps index_law own_law v parts_named m hands ready.viewed.owned) index_law own_law parts_named
+      let where_ = name_on h sees seeing settled hands leaks m waits other facts v ready.kept ready.viewed ready.holds alone
+      (live_trunk h sees seeing settled leaks waits other alone keeps index_law own_law v parts_named m hands ready.viewed.owned) index_law own_law parts_named
       on x steps t way goes (λ w named same. read_open facts w (subst (λ z. Allows facts (act.Read z)) (sym same) reads)) in
       subst (λ z. ExactTo z (followed_by (walked h.typing way (variable_place h x) (record { memory = m; waits = on })) (held_or_taken h AsValue)))
       (sym (ap (λ z. effect z facts) is ∙ read_effect (name_of x steps) facts))
@@ -180,7 +181,7 @@ module _ (h : Here) (settled : IsSettled h.typing.table) (leaks : List Leak) (wa
       by_test : (b : Bool) → ExactTo facts
           (if b then Done (machine.Cell (suc (length k.memory.cells)) ∷ []) (record k { memory = with_new_cell t ws k.memory }) else Raises StorageError k)
       by_test true =
-          made_exact h.typing settled (home h.typing h.frame) (sees_only h.typing) other v elsewhere apart k.memory (record { of = t; words = ws } ∷ hands) leaks t ws facts
+          made_exact h.typing settled (home h.typing h.frame) sees other v elsewhere apart k.memory (record { of = t; words = ws } ∷ hands) leaks t ws facts
           ready.viewed exact
       by_test false = tt
   allocated_exact on t hands facts (Raises e k) given exact = tt
@@ -201,8 +202,8 @@ module _ (h : Here) (settled : IsSettled h.typing.table) (leaks : List Leak) (wa
       (facts : List Fact) → ReadyIn m hands facts → AllowsAll facts (acts (acts_in h.typing e)) → Exact m facts
       → ExactTo (after (acts (acts_in h.typing e)) facts) (evaluate h AsValue e (record { memory = m; waits = before }))
   scalar_exact e stays before on takes m hands facts ready allowed exact =
-      let q = taking h settled hands leaks m waits other facts v ready.kept ready.viewed ready.holds alone
-      (live_trunk h settled leaks waits other alone keeps index_law own_law v parts_named m hands ready.viewed.owned) index_law own_law parts_named
+      let q = taking h sees seeing settled hands leaks m waits other facts v ready.kept ready.viewed ready.holds alone
+      (live_trunk h sees seeing settled leaks waits other alone keeps index_law own_law v parts_named m hands ready.viewed.owned) index_law own_law parts_named
       AsValue e stays before on takes allowed in
       quiet_on on m One facts (after (acts (acts_in h.typing e)) facts) (evaluate h AsValue e (record { memory = m; waits = before })) q.0 q.1 exact
 
@@ -211,7 +212,7 @@ module _ (h : Here) (settled : IsSettled h.typing.table) (leaks : List Leak) (wa
 
     pub exact_on : (e : TypedTree) (want : ℕ) → Gives h.typing want e → GivesPlainly h.typing e → (before on : List (List machine.Word))
         → Takes (waiting e) before on → (m : Memory) (hands : List Waiting) (facts : List Fact)
-        → ReadyIn m hands facts → AllowsAll facts (acts (acts_in h.typing e)) → IsNamed h.typing.table want → AllKeep (is_fixed h.typing) (acts (acts_in h.typing e))
+        → ReadyIn m hands facts → AllowsAll facts (acts (acts_in h.typing e)) → IsNamed h.typing.table want → AllKeep (is_fixed h.typing sees) (acts (acts_in h.typing e))
         → Exact m facts → ExactTo (after (acts (acts_in h.typing e)) facts) (evaluate h AsValue e (record { memory = m; waits = before }))
     exact_on (Number n) want scalar calls before on takes m hands facts ready allowed own keep exact = exact
     exact_on (Literal n) want scalar calls before on takes m hands facts ready allowed own keep exact = exact
@@ -228,12 +229,12 @@ module _ (h : Here) (settled : IsSettled h.typing.table) (leaks : List Leak) (wa
     exact_on (Name p x steps t) want (lead, fits) calls before on takes m hands facts ready allowed own keep exact =
         let now : Now = record { memory = m; waits = before } in
         let name : PlaceName = name_of x steps in
-        let live = live_trunk h settled leaks waits other alone keeps index_law own_law v parts_named m hands ready.viewed.owned in
+        let live = live_trunk h sees seeing settled leaks waits other alone keeps index_law own_law v parts_named m hands ready.viewed.owned in
         let each = allows_both facts (acts (acts_in h.typing steps)) (used h.typing name t ∷ [])
         (subst (AllowsAll facts) (acts_append (acts_in h.typing steps) (record { pos = p; act = used h.typing name t } ∷ [])) allowed) in
-        let kept_names = keep_both (is_fixed h.typing) (acts (acts_in h.typing steps)) (used h.typing name t ∷ [])
-        (subst (AllKeep (is_fixed h.typing)) (acts_append (acts_in h.typing steps) (record { pos = p; act = used h.typing name t } ∷ [])) keep) in
-        let inner = steps_taking h settled hands leaks m waits other facts v ready.kept ready.viewed ready.holds alone live index_law own_law parts_named
+        let kept_names = keep_both (is_fixed h.typing sees) (acts (acts_in h.typing steps)) (used h.typing name t ∷ [])
+        (subst (AllKeep (is_fixed h.typing sees)) (acts_append (acts_in h.typing steps) (record { pos = p; act = used h.typing name t } ∷ [])) keep) in
+        let inner = steps_taking h sees seeing settled hands leaks m waits other facts v ready.kept ready.viewed ready.holds alone live index_law own_law parts_named
         (object_at h.typing x).of t steps lead before on takes each.0 in
         let mine : Allows facts (used h.typing name t) = subst (λ z. Allows z (used h.typing name t)) inner.1 each.1.0 in
         let whole : after (acts (acts_in h.typing steps ++ record { pos = p; act = used h.typing name t } ∷ [])) facts ≡ effect (used h.typing name t) facts =
@@ -250,18 +251,18 @@ module _ (h : Here) (settled : IsSettled h.typing.table) (leaks : List Leak) (wa
         let one = calls.0 in
         let taken_there = takes_as (waiting e + waiting rest) (waiting e) before on alone_there takes in
         let mine = subst (λ z. AllowsAll facts (acts z)) acts_same allowed in
-        let names = subst (λ z. AllKeep (is_fixed h.typing) (acts z)) acts_same keep in
+        let names = subst (λ z. AllKeep (is_fixed h.typing sees) (acts z)) acts_same keep in
         let of = matches_named h.typing.table d t fits (parts_named.designated want d c n is) in
         let behind : List Fact = after (acts (acts_in h.typing e)) facts in
-        let given = evaluated_on h settled leaks waits other alone keeps index_law own_law v parts_named e t gives one before on taken_there m hands facts ready mine of names in
+        let given = evaluated_on h sees seeing settled leaks waits other alone keeps index_law own_law v parts_named e t gives one before on taken_there m hands facts ready mine of names in
         let inner = exact_on e t gives one before on taken_there m hands facts ready mine of names exact in
         subst (λ z. ExactTo (after (acts z) facts) (followed_by (followed_by (evaluate h AsValue e now) (checked h t)) (allocated t))) (sym acts_same)
         (allocated_exact on t hands behind (followed_by (evaluate h AsValue e now) (checked h t))
-        (checked_on h settled leaks waits other alone keeps index_law own_law v parts_named on t t hands behind (evaluate h AsValue e now) given)
+        (checked_on h sees seeing settled leaks waits other alone keeps index_law own_law v parts_named on t t hands behind (evaluate h AsValue e now) given)
         (checked_exact t behind (evaluate h AsValue e now) inner))
     exact_on (New t NoMore) want (d, c, n, is, fits, none) calls before on takes m hands facts ready allowed own keep exact =
         allocated_exact on t hands facts (Done (default h.typing.table t) (record { memory = m; waits = before })) (
-          blank_ready h settled leaks waits other alone keeps index_law own_law v parts_named m hands facts t (default h.typing.table t) (none_default h.typing.table t) ready,
+          blank_ready h sees seeing settled leaks waits other alone keeps index_law own_law v parts_named m hands facts t (default h.typing.table t) (none_default h.typing.table t) ready,
           keeps.lengths t,
           takes_zero before on takes,
         ) exact
@@ -278,15 +279,15 @@ module _ (h : Here) (settled : IsSettled h.typing.table) (leaks : List Leak) (wa
     -- the result of a function waits
     exact_on (Call p sub actuals) want gives calls before on takes m hands facts ready allowed own keep exact =
         quiet_on on m One facts facts (run.waited (record { memory = m; waits = before }))
-        (waited_quiet h settled hands leaks m waits other facts v ready.kept ready.viewed ready.holds alone
-        (live_trunk h settled leaks waits other alone keeps index_law own_law v parts_named m hands ready.viewed.owned) index_law own_law parts_named before on takes) refl exact
+        (waited_quiet h sees seeing settled hands leaks m waits other facts v ready.kept ready.viewed ready.holds alone
+        (live_trunk h sees seeing settled leaks waits other alone keeps index_law own_law v parts_named m hands ready.viewed.owned) index_law own_law parts_named before on takes) refl exact
     exact_on e want gives calls before on takes m hands facts ready allowed own keep exact = absurd gives
 
     -- the parts of an aggregate from the i-th on
     pub parts_exact : (es : TypedTree) (t i : ℕ) → GivesParts h.typing t i es → GivesPlainly h.typing es
         → is_record (shape_of h.typing.table t) || is_array (shape_of h.typing.table t) ≡ true
         → (before on : List (List machine.Word)) → Takes (waiting es) before on → (m : Memory) (hands : List Waiting) (facts : List Fact)
-        → ReadyIn m hands facts → AllowsAll facts (acts (acts_in h.typing es)) → AllKeep (is_fixed h.typing) (acts (acts_in h.typing es)) → Exact m facts
+        → ReadyIn m hands facts → AllowsAll facts (acts (acts_in h.typing es)) → AllKeep (is_fixed h.typing sees) (acts (acts_in h.typing es)) → Exact m facts
         → ExactTo (after (acts (acts_in h.typing es)) facts) (parts_of h t i es (record { memory = m; waits = before }))
     parts_exact (More e rest) t i gives calls made before on takes m hands facts ready allowed keep exact =
         let now : Now = record { memory = m; waits = before } in
@@ -295,15 +296,15 @@ module _ (h : Here) (settled : IsSettled h.typing.table) (leaks : List Leak) (wa
         let two = takes_both (waiting e) (waiting rest) before on takes in
         let each = allows_both facts (acts (acts_in h.typing e)) (acts (acts_in h.typing rest))
         (subst (AllowsAll facts) (acts_append (acts_in h.typing e) (acts_in h.typing rest)) allowed) in
-        let names = keep_both (is_fixed h.typing) (acts (acts_in h.typing e)) (acts (acts_in h.typing rest))
-        (subst (AllKeep (is_fixed h.typing)) (acts_append (acts_in h.typing e) (acts_in h.typing rest)) keep) in
+        let names = keep_both (is_fixed h.typing sees) (acts (acts_in h.typing e)) (acts (acts_in h.typing rest))
+        (subst (AllKeep (is_fixed h.typing sees)) (acts_append (acts_in h.typing e) (acts_in h.typing rest)) keep) in
         let of = part_named h.typing.table parts_named t i sh refl made in
         let between : List Fact = after (acts (acts_in h.typing e)) facts in
         let behind : List Fact = after (acts (acts_in h.typing rest)) between in
         let next : List machine.Word → Now → Evaluated (List machine.Word) =
         (λ ws now. followed_by (parts_of h t (suc i) rest now) (λ more now. Done (ws ++ more) now)) in
-        let given = checked_on h settled leaks waits other alone keeps index_law own_law v parts_named two.0 u u hands between (evaluate h AsValue e now)
-        (evaluated_on h settled leaks waits other alone keeps index_law own_law v parts_named e u gives.0 calls.0 before two.0 two.1 m hands facts ready each.0 of names.0) in
+        let given = checked_on h sees seeing settled leaks waits other alone keeps index_law own_law v parts_named two.0 u u hands between (evaluate h AsValue e now)
+        (evaluated_on h sees seeing settled leaks waits other alone keeps index_law own_law v parts_named e u gives.0 calls.0 before two.0 two.1 m hands facts ready each.0 of names.0) in
         let first = checked_exact u between (evaluate h AsValue e now) (exact_on e u gives.0 calls.0 before two.0 two.1 m hands facts ready each.0 of names.0 exact) in
         subst (λ z. ExactTo z (followed_by (evaluate h AsValue e now) (λ ws now. followed_by (checked h u ws now) next)))
         (sym (ap (λ z. after z facts) (acts_append (acts_in h.typing e) (acts_in h.typing rest))

@@ -30,7 +30,7 @@ use Rattle.soundness.specs.Typed.{OwnsByShape}
 use Rattle.soundness.proofs.Scalars.{acts}
 use Rattle.owned_loans.specs.Views.{Around, Views, Viewed}
 use Rattle.owned_loans.proofs.Taken.{reborrow_unused}
-use Rattle.viewed_soundness.specs.Holds.{PartsAreNamed}
+use Rattle.viewed_soundness.specs.Holds.{PartsAreNamed, Seeing}
 use Rattle.viewed_soundness.proofs.Outcomes.{IsGood}
 use Rattle.viewed_soundness.proofs.Lends.{Sees, Puts, put_at, stored_as}
 use Rattle.viewed_steps.proofs.Ended.{view_kinds}
@@ -71,7 +71,7 @@ reborrowed_acts s pos r q p n x y u of path more is =
     ap (λ b. if b then index_acts s (call_tree q n p y path u more) ++ reborrow (acts_target_pos pos (written (Name r x NoMore of))) x (source (call_tree q n p y path u more))
     else (if is_observer s x then source_acts s (call_tree q n p y path u more) (observe s x) else stored_acts s (Name r x NoMore of) (call_tree q n p y path u more))) is
 
-module _ (t : Turn) (settled : IsSettled (typing t).table) (own_law : OwnsByShape (typing t).table) (other : Around (home (typing t) (length t.outer)))
+module _ (t : Turn) (sees : ℕ → Bool) (seeing : Seeing (typing t) sees) (settled : IsSettled (typing t).table) (own_law : OwnsByShape (typing t).table) (other : Around (home (typing t) (length t.outer)))
     (alone : (w : Way) → IsNear (length t.outer) w → other.gone w → ⊥) (in_formals : AreAccess (typing t))
     (v : Views) (parts_named : PartsAreNamed (typing t).table) (may : ℕ → ℕ → Type 0)
     (frames : t.state.frames ≡ t.frame ∷ t.outer) (none : taken t.point.instr ≡ 0)
@@ -92,10 +92,10 @@ module _ (t : Turn) (settled : IsSettled (typing t).table) (own_law : OwnsByShap
   at ws = record { memory = t.state.memory; waits = ws }
 
   abbrev Good : List Fact → Type 0
-  Good facts = IsGood t settled own_law other alone v parts_named may frames none v facts t.state
+  Good facts = IsGood t sees seeing settled own_law other alone v parts_named may frames none v facts t.state
 
   abbrev ExactHere : List Fact → Outcome → Type 0
-  ExactHere facts outcome = ExactOn t settled own_law other alone in_formals v parts_named may frames none elsewhere away Excused facts [] outcome
+  ExactHere facts outcome = ExactOn t sees seeing settled own_law other alone in_formals v parts_named may frames none elsewhere away Excused facts [] outcome
 
   -- it is taken from where it waits
   takes_it : (q : Pos) (n : ℕ) (p : Pos) (y : ℕ) (path : TypedTree) (u : ℕ) (more : TypedTree) (z : machine.Word)
@@ -104,8 +104,8 @@ module _ (t : Turn) (settled : IsSettled (typing t).table) (own_law : OwnsByShap
   takes_it q n p y path u more z = refl
 
   module _ (q : Pos) (n : ℕ) (p : Pos) (y : ℕ) (path : TypedTree) (u : ℕ) (more : TypedTree) (x d : ℕ) (z : machine.Word) (facts : List Fact)
-      (looks : Sees t settled own_law other alone v parts_named may frames none x d)
-      (good : IsGood t settled own_law other alone v parts_named may frames none v facts t.state)
+      (looks : Sees t sees seeing settled own_law other alone v parts_named may frames none x d)
+      (good : IsGood t sees seeing settled own_law other alone v parts_named may frames none v facts t.state)
       (exact : IsExact (typing t) (home (typing t) (length t.outer)) v elsewhere t.state.memory facts) (variable : is_variable (object_at (typing t) x).kind ≡ true) where
     abbrev call : TypedTree
     call = call_tree q n p y path u more
@@ -128,13 +128,13 @@ module _ (t : Turn) (settled : IsSettled (typing t).table) (own_law : OwnsByShap
     declares_it a same moves =
         subst (λ b. ExactHere (after (acts b) facts) (steps.evaluated t (taken_by t of call (at ((z ∷ []) ∷ []))) (λ ws m. goes t (declared depth x ws m) 0))) (sym same)
         (subst (λ b. ExactHere (effect (a (name_of y path)) facts) (steps.evaluated t b (λ ws m. goes t (declared depth x ws m) 0))) (sym word_taken) (
-          view_stored t settled own_law other alone in_formals v parts_named may frames none elsewhere away Excused depth x (z ∷ []) looks.anonymous facts
+          view_stored t sees seeing settled own_law other alone in_formals v parts_named may frames none elsewhere away Excused depth x (z ∷ []) looks.anonymous facts
               (effect (a (name_of y path)) facts) good (moves_nothing (a (name_of y path)) facts moves) exact,
           tt,
         ))
 
     abbrev PutsHere : Pos → Pos → Outcome
-    PutsHere pos r = Puts t settled own_law other alone v parts_named may frames none pos r x of (taken_by t of call (at ((z ∷ []) ∷ [])))
+    PutsHere pos r = Puts t sees seeing settled own_law other alone v parts_named may frames none pos r x of (taken_by t of call (at ((z ∷ []) ∷ [])))
 
     puts_it : (pos pos' r : Pos) (a : PlaceName → Act) (k : Pos)
         → assigned_to s pos (Some x) (Name r x NoMore of) call ≡ record { pos = k; act = a (name_of y path) } ∷ [] → MovesNone a
@@ -143,10 +143,10 @@ module _ (t : Turn) (settled : IsSettled (typing t).table) (own_law : OwnsByShap
         let place : Place = run.variable_place (here t) x in
         let facts' : List Fact = effect (a (name_of y path)) facts in
         subst (λ b. ExactHere (after (acts b) facts) (PutsHere pos' r)) (sym same)
-        (subst (λ b. ExactHere facts' (Puts t settled own_law other alone v parts_named may frames none pos' r x of b)) (sym word_taken)
-        (subst (ExactHere facts') (sym (put_at t settled own_law other alone v parts_named may frames none pos' r x of (z ∷ []) now))
-        (subst (λ b. ExactHere facts' (leaking_goes (checks_at s pos' m place) (goes t b 0))) (sym (stored_as t settled own_law other alone v parts_named may frames none x d facts looks good z)) (
-          view_stored t settled own_law other alone in_formals v parts_named may frames none elsewhere away Excused depth x (z ∷ []) looks.anonymous facts facts' good
+        (subst (λ b. ExactHere facts' (Puts t sees seeing settled own_law other alone v parts_named may frames none pos' r x of b)) (sym word_taken)
+        (subst (ExactHere facts') (sym (put_at t sees seeing settled own_law other alone v parts_named may frames none pos' r x of (z ∷ []) now))
+        (subst (λ b. ExactHere facts' (leaking_goes (checks_at s pos' m place) (goes t b 0))) (sym (stored_as t sees seeing settled own_law other alone v parts_named may frames none x d facts looks good z)) (
+          view_stored t sees seeing settled own_law other alone in_formals v parts_named may frames none elsewhere away Excused depth x (z ∷ []) looks.anonymous facts facts' good
               (moves_nothing (a (name_of y path)) facts moves) exact,
           tt,
         ))))
@@ -165,10 +165,10 @@ module _ (t : Turn) (settled : IsSettled (typing t).table) (own_law : OwnsByShap
       where
         by_kind : (b : Bool) → is_observer s x ≡ b → ExactHere (after (acts (declared_acts s x (More call NoMore))) facts)
             (steps.evaluated t (taken_by t of call (at ((z ∷ []) ∷ []))) (λ ws m. goes t (declared depth x ws m) 0))
-        by_kind true sees =
+        by_kind true sight =
             declares_it (observe s x)
-            (ap (λ b. if b then source_acts s call (act.Borrow x) else (if is_observer s x then source_acts s call (observe s x) else acts_in s (More call NoMore))) (observer_only s x sees)
-            ∙ ap (λ b. if b then source_acts s call (observe s x) else acts_in s (More call NoMore)) sees)
+            (ap (λ b. if b then source_acts s call (act.Borrow x) else (if is_observer s x then source_acts s call (observe s x) else acts_in s (More call NoMore))) (observer_only s x sight)
+            ∙ ap (λ b. if b then source_acts s call (observe s x) else acts_in s (More call NoMore)) sight)
             (observes_none (is_observer s y))
         by_kind false borrows =
             declares_it (act.Borrow x)
@@ -180,11 +180,11 @@ module _ (t : Turn) (settled : IsSettled (typing t).table) (own_law : OwnsByShap
     given_put pos pos' r = by_kind (is_observer s x) refl
       where
         by_kind : (b : Bool) → is_observer s x ≡ b → ExactHere (after (acts (assigned_to s pos (Some x) (Name r x NoMore of) call)) facts) (PutsHere pos' r)
-        by_kind true sees =
+        by_kind true sight =
             let target : TypedTree = Name r x NoMore of in
             puts_it pos pos' r (observe s x) p
             (ap (λ b. if b then index_acts s call ++ reborrow (acts_target_pos pos (written target)) x (source call)
-            else (if is_observer s x then source_acts s call (observe s x) else stored_acts s target call)) (observer_only s x sees)
-            ∙ ap (λ b. if b then source_acts s call (observe s x) else stored_acts s target call) sees)
+            else (if is_observer s x then source_acts s call (observe s x) else stored_acts s target call)) (observer_only s x sight)
+            ∙ ap (λ b. if b then source_acts s call (observe s x) else stored_acts s target call) sight)
             (observes_none (is_observer s y))
         by_kind false borrows = puts_it pos pos' r (act.Reborrow x) r (reborrowed_acts s pos r q p n x y u of path more (is_one borrows)) (λ k has. absurd has)

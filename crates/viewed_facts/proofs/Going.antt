@@ -1,6 +1,6 @@
 -- Each step of a sound state whose facts are exact leads to such a state, in a program that is ready.
-use Rattle.viewed_soundness.specs.Holds.{is_view, sees_only}
-use Rattle.std.proofs.Common.{◌<◌, ◌≡◌, refl, sym, ◌∙◌, subst, ◌⊎◌, inl, inr, ℕ, suc, true, false, List, [], ◌∷◌, length, arith, Some, None, ap, if◌then◌else◌}
+use Rattle.viewed_soundness.specs.Holds.{is_view}
+use Rattle.std.proofs.Common.{◌<◌, ◌≡◌, refl, sym, ◌∙◌, subst, ◌⊎◌, inl, inr, ℕ, suc, true, false, List, [], ◌∷◌, length, arith, Some, None, ap, if◌then◌else◌, Bool}
 use Rattle.spark_base.specs.Lists.{Has}
 use Rattle.place_names.specs.declared.fact.Fact.{Fact}
 use Rattle.place_names.specs.declared.fact.Fact.TheVariants.{Moved}
@@ -52,9 +52,13 @@ use Rattle.exact_facts.proofs.Memories.{same_reach}
 use Rattle.viewed_facts.proofs.Steps.{based_variable}
 use Rattle.viewed_steps.proofs.Roots.{FromGiven}
 use Rattle.soundness.proofs.Contents.{bool_cases}
-use Rattle.viewed_soundness.proofs.Names.{true_false}
+use Rattle.viewed_soundness.proofs.ViewKinds.{true_false}
+use Rattle.viewed_steps.specs.Seeing.{sees_in}
 
 module _ (table : Table) (typed : TypedProgram) (effects : Effects) (input : List ℕ) (ready : IsReady table typed effects) where
+  abbrev sees : ℕ → Bool
+  sees = sees_in (flow_program table typed)
+
   abbrev program : FlowProgram
   program = flow_program table typed
 
@@ -288,7 +292,7 @@ module _ (table : Table) (typed : TypedProgram) (effects : Effects) (input : Lis
         (subst (Has (written_by effects next.stage.frame.sub)) (sym root ∙ ap (λ (z : PlaceName). z.root) (sym name_is)) written))
 
     abbrev Given_to : Way → Type 0
-    Given_to to = FromGiven (home s low) (sees_only s) next.views (view_here s state) their_facts waits.views to
+    Given_to to = FromGiven (home s low) sees next.views (view_here s state) their_facts waits.views to
 
     -- so it is where a place begins that was taken, or it was lent to the frame
     spared_to : (to : Way) → Has next.stage.returns to → (y : ℕ) → base_of to ≡ OfRoot (OfVariable (home s low y) y)
@@ -305,7 +309,7 @@ module _ (table : Table) (typed : TypedProgram) (effects : Effects) (input : Lis
     free_to to has =
         let by = waits.names to has in
         subst (IsFree table typed effects unmoved_stage local state low (h ∷ others) between_low) by.leads
-        (free_name table typed effects unmoved_stage local state low (h ∷ others) between_low next.views (view_here s state) their_facts waits.views (waiting.3).0 waiting.2 by.name by.called by.plain
+        (free_name table typed effects unmoved_stage local state low (h ∷ others) between_low next.views (view_here s state) their_facts waits.views (waiting.3).0 (waiting.2).0 by.name by.called by.plain
         (λ y base. elim (spared_to to has y (ap base_of (sym by.leads) ∙ base)) [
           | inl none ↦ inl none
           | inr given ↦ inr (subst Given_to (sym by.leads) given)
@@ -319,7 +323,7 @@ module _ (table : Table) (typed : TypedProgram) (effects : Effects) (input : Lis
     mine_clear : (to : Way) → Has next.stage.returns to → (w : Way) → Definite next w → Under to w → ⊥
     mine_clear to has w definite under =
         let by = waits.names to has in
-        passed_clean s low their_facts by.name by.called by.plain by.unlent by.cleared next.views (view_here s state)
+        passed_clean s sees low their_facts by.name by.called by.plain by.unlent by.cleared next.views (view_here s state)
         waits.views waits.clear (LentBy program effects (h ∷ others)) (λ l n lent. no_way n.root lent.5 (next.views.way n.root) refl) (waiting.3).1
         (λ n lent root. written_spared n.root (subst (Has (written_by effects next.stage.frame.sub)) (sym root) (by.written (ap (is_package_object s) (sym root) ∙ lent.5))) Borrowed n lent refl)
         (λ m moved n lent root. apart.own_moved m moved Borrowed n lent root)
@@ -377,7 +381,8 @@ module _ (table : Table) (typed : TypedProgram) (effects : Effects) (input : Lis
   abbrev AreClearThen : Stage → Views → Type 0
   AreClearThen top later =
       ((x : ℕ) (w : Way) → later.way x ≡ Some w → is_view s x ≡ true)
-      × ((n : PlaceName) → Has (facts_then top) (Moved n) → sees_only s n.root ≡ false)
+      × ((n : PlaceName) → Has (facts_then top) (Moved n) → sees n.root ≡ false)
+      × ((x : ℕ) (p : List Step) (w : Way) → later.part_way x p ≡ Some w → sees x ≡ true)
 
   module _ (state : State) (top : Stage) (below : ViewStage) (more_frames : List ViewStage) (rest : List Frame) (named : NamedSub) (p : NamedPoint)
       (frames : state.frames ≡ top.frame ∷ (below.stage.frame ∷ rest)) (deep : top.depth ≡ suc (length rest))
@@ -386,31 +391,31 @@ module _ (table : Table) (typed : TypedProgram) (effects : Effects) (input : Lis
       (awaiting : AreAwaited table typed None (top ∷ stages_of (below ∷ more_frames)))
       (of_sub : IsNamedSub (flow_named table typed) top.frame.sub named) (at_point : IsAtPoint named.points top.frame.next p)
       (path : ControlPath (path_points program effects (sub_of program top.frame.sub)) top.before top.frame.next) (views : Views)
-      (viewed_before : ViewedAlone (home s (suc (length rest))) (sees_only s) (known_gone (home s (suc (length rest))) (GoneElsewhere program effects (below ∷ more_frames))) views
+      (viewed_before : ViewedAlone (home s (suc (length rest))) sees (known_gone (home s (suc (length rest))) (GoneElsewhere program effects (below ∷ more_frames))) views
       (view_here s state) (facts_of program effects top))
-      (kept : Kept s state.memory (waiting_in state)) (scope : InScope s state.memory (suc (length rest)) (lasting_of s p.scope)) (holds : HoldsAt s (suc (length rest)) views state.memory p)
+      (kept : Kept s state.memory (waiting_in state)) (scope : InScope s state.memory (suc (length rest)) (lasting_of s p.scope)) (holds : HoldsAt s sees (suc (length rest)) views state.memory p)
       (placed_before : ArePlaced program (suc (length rest)) (facts_of program effects top) views p.scope × IsBeyond program effects (suc (length rest)) views (below ∷ more_frames)) (above : NoneAbove s (suc (length rest)) state.memory
       × HasTraversals table typed (view_here s state) (record { stage = top; views = views; cells = [] } ∷ (below ∷ more_frames)))
       (exact_before : Told (seen s state.memory [] []) (IsDefiniteOf program effects (record { stage = top; views = views; cells = [] } ∷ (below ∷ more_frames)))) where
     main_told : (next : State) → step program input state ≡ Goes next → (later : Views) → AreClearThen top later → Stays (suc (length rest)) p.instr views later
         → Told (seen s next.memory [] []) (Here (suc (length rest)) later (facts_then top) (below ∷ more_frames))
-    main_told next goes later (only, clear) (inr (y, is, left)) =
+    main_told next goes later (only, clear, parts) (inr (y, is, left)) =
         subst (λ (z : FlowSub). Told (seen s next.memory [] []) (Here (suc (length rest)) later (facts_before (path_points program effects z) (top.frame.next ∷ top.before)) (below ∷ more_frames)))
-        (sym (sub_there table typed top.frame.sub named of_sub)) (told_left table typed effects input ready state top below more_frames rest named p frames deep stages running awaiting of_sub at_point path views viewed_before kept scope holds placed_before above exact_before y is next goes later only left)
-    main_told next goes later (only, clear) (inl (calls, end, going, turned)) =
+        (sym (sub_there table typed top.frame.sub named of_sub)) (told_left table typed effects input ready state top below more_frames rest named p frames deep stages running awaiting of_sub at_point path views viewed_before kept scope holds placed_before above exact_before y is next goes later only parts left)
+    main_told next goes later (only, clear, parts) (inl (calls, end, going, turned)) =
         subst (λ (z : FlowSub). Told (seen s next.memory [] []) (Here (suc (length rest)) later (facts_before (path_points program effects z) (top.frame.next ∷ top.before)) (below ∷ more_frames)))
         (sym (sub_there table typed top.frame.sub named of_sub))
-        (told_next table typed effects input ready state top below more_frames rest named p frames deep stages running awaiting of_sub at_point path views viewed_before kept scope holds placed_before above exact_before going calls end next goes later only
+        (told_next table typed effects input ready state top below more_frames rest named p frames deep stages running awaiting of_sub at_point path views viewed_before kept scope holds placed_before above exact_before going calls end next goes later only parts
         (λ n has. clear n (subst (λ (z : FlowSub). Has (facts_before (path_points program effects z) (top.frame.next ∷ top.before)) (Moved n))
         (sym (sub_there table typed top.frame.sub named of_sub)) has)) turned)
 
   step_told : (state : State) (top : Stage) (views : Views) (older : List ViewStage) (fs : List Frame) → state.frames ≡ fs → AreStages (top ∷ stages_of older) fs
       → IsRunning table typed effects state (record { stage = top; views = views; cells = [] }) older → AreAwaited table typed None (top ∷ stages_of older)
       → ControlPath (path_points program effects (sub_of program top.frame.sub)) top.before top.frame.next
-      → ViewedAlone (home s top.depth) (sees_only s) (known_gone (home s top.depth) (GoneElsewhere program effects older)) views (view_here s state) (facts_of program effects top)
+      → ViewedAlone (home s top.depth) sees (known_gone (home s top.depth) (GoneElsewhere program effects older)) views (view_here s state) (facts_of program effects top)
       → Kept s state.memory (waiting_in state)
       → (named : NamedSub) → IsNamedSub (flow_named table typed) top.frame.sub named → (p : NamedPoint) → IsAtPoint named.points top.frame.next p
-      → InScope s state.memory top.depth (lasting_of s p.scope) → HoldsAt s top.depth views state.memory p → ArePlaced program top.depth (facts_of program effects top) views p.scope × IsBeyond program effects top.depth views older
+      → InScope s state.memory top.depth (lasting_of s p.scope) → HoldsAt s sees top.depth views state.memory p → ArePlaced program top.depth (facts_of program effects top) views p.scope × IsBeyond program effects top.depth views older
       → NoneAbove s top.depth state.memory × HasTraversals table typed (view_here s state) (record { stage = top; views = views; cells = [] } ∷ older)
       → Told (seen s state.memory [] []) (IsDefiniteOf program effects (record { stage = top; views = views; cells = [] } ∷ older))
       → (next : State) → step program input state ≡ Goes next → (later : Views) → AreClearThen top later → Stays top.depth p.instr views later
@@ -421,8 +426,8 @@ module _ (table : Table) (typed : TypedProgram) (effects : Effects) (input : Lis
       next goes later clear stays =
       subst (λ d. Told (seen s next.memory [] []) (Here d later (facts_then top) (below ∷ more))) (sym deep)
       (main_told state top below more rest named p (is ∙ (λ j. sym frame j ∷ (sym around_frame j ∷ rest))) deep (refl, deeper, others) running awaiting of_sub at_point path views
-      (subst (λ d. ViewedAlone (home s d) (sees_only s) (known_gone (home s d) (GoneElsewhere program effects (below ∷ more))) views (view_here s state) (facts_of program effects top)) deep well) kept
-      (subst (λ d. InScope s state.memory d (lasting_of s p.scope)) deep scope) (subst (λ d. HoldsAt s d views state.memory p) deep holds)
+      (subst (λ d. ViewedAlone (home s d) sees (known_gone (home s d) (GoneElsewhere program effects (below ∷ more))) views (view_here s state) (facts_of program effects top)) deep well) kept
+      (subst (λ d. InScope s state.memory d (lasting_of s p.scope)) deep scope) (subst (λ d. HoldsAt s sees d views state.memory p) deep holds)
       (subst (λ d. ArePlaced program d (facts_of program effects top) views p.scope × IsBeyond program effects d views (below ∷ more)) deep there)
       (subst (λ d. NoneAbove s d state.memory) deep above.0, above.1) exact next goes later clear (subst (λ d. Stays d p.instr views later) deep stays))
   step_told state top views (below ∷ more) [] is stages running awaiting path well kept named of_sub p at_point scope holds there above exact next goes later clear stays = absurd stages
@@ -434,7 +439,7 @@ module _ (table : Table) (typed : TypedProgram) (effects : Effects) (input : Lis
   own_low state sound w (u, moved, plain, leads) =
       subst (λ z. (f : ℕ) × (x : ℕ) × (base_of z ≡ OfRoot (OfVariable f x)) × (f < suc sound.top.depth)) leads
       (lies_low s sound.top.depth (expand sound.views u)
-      (elim (stands (home s sound.top.depth) (sees_only s) sound.views (view_here s state) (facts_of program effects sound.top) sound.viewed.views u
+      (elim (stands (home s sound.top.depth) sees sound.views (view_here s state) (facts_of program effects sound.top) sound.viewed.views u
       (moved.0, sound.viewed.clear.owned (name_of u) moved.1)) [
         | inl own ↦ inl own.named
         | inr held ↦ same_lies s sound.top.depth (expand sound.views u) held.way (longer held.way (expand sound.views u) held.under).base
@@ -459,6 +464,7 @@ module _ (table : Table) (typed : TypedProgram) (effects : Effects) (input : Lis
             sound.at_point sound.scope sound.holds (sound.placed, sound.past) (sound.none_above, sound.traversals) exact after_step is (leads.0).views (
               (leads.0).holds.only,
               λ n has. (leads.0).viewed.clear.owned n (subst (λ z. Has z (Moved n)) (sym (facts_onward sound.top (leads.0).top on)) has),
+              λ x p w has. (leads.0).holds.parts.looks x ((leads.0).holds.parts.only x p w has),
             ) stays)
             leads.1,
       )

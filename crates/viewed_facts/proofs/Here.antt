@@ -1,7 +1,7 @@
 -- The innermost frame at a point, in a sound state whose facts are exact: what it knows with the frames around it, and
 -- what all frames have after its step.
-use Rattle.viewed_soundness.specs.Holds.{is_view, sees_only}
-use Rattle.std.proofs.Common.{◌≡◌, refl, sym, ap, ◌∙◌, subst, inl, inr, ℕ, suc, true, false, List, [], ◌∷◌, ◌++◌, map, drop, length, append_assoc, Some, None, take}
+use Rattle.viewed_soundness.specs.Holds.{is_view}
+use Rattle.std.proofs.Common.{◌≡◌, refl, sym, ap, ◌∙◌, subst, inl, inr, ℕ, suc, true, false, List, [], ◌∷◌, ◌++◌, map, drop, length, append_assoc, Some, None, take, Bool}
 use Rattle.spark_base.specs.Lists.{Has}
 use Rattle.spark_base.specs.declared.position.Pos.{Pos}
 use Rattle.spark_base.proofs.Lists.{Has-append_left}
@@ -57,8 +57,12 @@ use Rattle.viewed_facts.specs.Exact.{IsDefiniteBy, IsDefiniteOf, IsExact}
 use Rattle.viewed_facts.proofs.Frames.{elsewhere as moved_elsewhere, IsDefiniteHere, beside_told, apart_told, definite_gone}
 use Rattle.viewed_steps.proofs.Views.{AreAccess}
 use Rattle.viewed_facts.proofs.Steps.{IsAway}
+use Rattle.viewed_steps.specs.Seeing.{sees_in}
 
 module _ (table : Table) (typed : TypedProgram) (effects : Effects) (input : List ℕ) (ready : IsReady table typed effects) where
+  abbrev sees : ℕ → Bool
+  sees = sees_in (flow_program table typed)
+
   abbrev program : FlowProgram
   program = flow_program table typed
 
@@ -85,9 +89,9 @@ module _ (table : Table) (typed : TypedProgram) (effects : Effects) (input : Lis
       (awaiting : AreAwaited table typed None (top ∷ stages_of (below ∷ more_frames)))
       (of_sub : IsNamedSub (flow_named table typed) top.frame.sub named) (at_point : IsAtPoint named.points top.frame.next p)
       (path : ControlPath (path_points program effects (sub_of program top.frame.sub)) top.before top.frame.next) (views : Views)
-      (viewed_before : ViewedAlone (home s (suc (length rest))) (sees_only s) (known_gone (home s (suc (length rest))) (GoneElsewhere program effects (below ∷ more_frames))) views
+      (viewed_before : ViewedAlone (home s (suc (length rest))) sees (known_gone (home s (suc (length rest))) (GoneElsewhere program effects (below ∷ more_frames))) views
       (view_here s state) (facts_of program effects top))
-      (kept : Kept s state.memory (waiting_in state)) (scope : InScope s state.memory (suc (length rest)) (lasting_of s p.scope)) (holds : HoldsAt s (suc (length rest)) views state.memory p)
+      (kept : Kept s state.memory (waiting_in state)) (scope : InScope s state.memory (suc (length rest)) (lasting_of s p.scope)) (holds : HoldsAt s sees (suc (length rest)) views state.memory p)
       (placed_before : ArePlaced program (suc (length rest)) (facts_of program effects top) views p.scope × IsBeyond program effects (suc (length rest)) views (below ∷ more_frames)) (above : NoneAbove s (suc (length rest)) state.memory
       × HasTraversals table typed (view_here s state) (record { stage = top; views = views; cells = [] } ∷ (below ∷ more_frames)))
       (exact_before : Told (seen s state.memory [] []) (IsDefiniteOf program effects (record { stage = top; views = views; cells = [] } ∷ (below ∷ more_frames)))) where
@@ -134,7 +138,7 @@ module _ (table : Table) (typed : TypedProgram) (effects : Effects) (input : Lis
     abbrev pub facts_now : List Fact
     facts_now = own_facts ++ around
 
-    abbrev pub viewed : Viewed (home s depth) (sees_only s) other views (view_here s state) facts_now
+    abbrev pub viewed : Viewed (home s depth) sees other views (view_here s state) facts_now
     viewed = innermost.viewed table typed effects input ready state top below more_frames rest named p frames deep stages running awaiting of_sub at_point path views viewed_before kept scope holds placed_before above
 
     abbrev pub home_frame : (x : ℕ) → is_package_object s x ≡ false → home s depth x ≡ depth
@@ -198,7 +202,7 @@ module _ (table : Table) (typed : TypedProgram) (effects : Effects) (input : Lis
     abbrev pub easy : Turn
     easy = eased at
 
-    abbrev pub viewed_easy : Plain → Viewed (home s depth) (sees_only s) other views (view_here s easy.state) facts_now × Kept s state.memory (waiting_in easy.state)
+    abbrev pub viewed_easy : Plain → Viewed (home s depth) sees other views (view_here s easy.state) facts_now × Kept s state.memory (waiting_in easy.state)
     viewed_easy = innermost.viewed_easy table typed effects input ready state top below more_frames rest named p frames deep stages running awaiting of_sub at_point path views viewed_before kept scope holds placed_before above
 
     -- the acts of the point are those of its instruction, and then what is called

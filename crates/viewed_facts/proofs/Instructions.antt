@@ -28,7 +28,7 @@ use Rattle.machine.specs.States.{Waiting, Leak, Outcome, Goes, Ends}
 use Rattle.machine.specs.Step.{Turn, typing, here, Stored, first_value, taken_by, goes, leaking_goes, target_pos}
 use Rattle.machine.specs.Step as steps
 use Rattle.machine.specs.Owners.{waiting_in}
-use Rattle.owned_ways.specs.Ways.{OfVariable, OfRoot, Way, Object, Empty, Held, View, Under, Named, IsSame, after, AllowsAll, number_of, name_of as way_name, base_of}
+use Rattle.owned_ways.specs.Ways.{Step, IsMoved, OfVariable, OfRoot, Way, Object, Empty, Held, View, Under, Named, IsSame, after, AllowsAll, number_of, name_of as way_name, base_of}
 use Rattle.owned_ways.proofs.Named.{longer}
 use Rattle.owned_ways.proofs.Dropped.{named_base}
 use Rattle.part_offsets.specs.Parts.{IsSettled}
@@ -43,8 +43,8 @@ use Rattle.soundness.proofs.Stays.{Quiet, One}
 use Rattle.soundness.proofs.Numbers.{index_law}
 use Rattle.soundness.proofs.Lasting.{keeps}
 use Rattle.owned_loans.specs.Views.{Around, Views, expand, Viewed}
-use Rattle.viewed_soundness.specs.Holds.{is_fixed, IsNamed, PartsAreNamed, AllKeep, sees_only, is_view}
-use Rattle.viewed_soundness.proofs.Names.{true_false}
+use Rattle.viewed_soundness.specs.Holds.{is_fixed, IsNamed, PartsAreNamed, AllKeep, is_view, Seeing}
+use Rattle.viewed_soundness.proofs.ViewKinds.{true_false}
 use Rattle.viewed_soundness.proofs.Evaluated.{Given}
 use Rattle.viewed_soundness.proofs.Viewing.{view_leaf, view_unseen}
 use Rattle.viewed_soundness.proofs.Outcomes.{named_plain, not_views, IsGood, scalar_taken}
@@ -61,9 +61,9 @@ use Rattle.viewed_facts.proofs.Evaluated.{ExactTo, checked_exact, exact_on}
 use Rattle.viewed_facts.proofs.Stored.{StoresExact, assigned_exact}
 use Rattle.viewed_facts.proofs.Checks.{place_holds}
 use Rattle.viewed_steps.proofs.Views.{AreAccess, same_named, view_cases}
-use Rattle.owned_loans.proofs.Meeting.{stands}
+use Rattle.owned_loans.proofs.Meeting.{no_part, stands}
 
-module _ (t : Turn) (settled : IsSettled (typing t).table) (own_law : OwnsByShape (typing t).table) (other : Around (home (typing t) (length t.outer)))
+module _ (t : Turn) (sees : ℕ → Bool) (seeing : Seeing (typing t) sees) (settled : IsSettled (typing t).table) (own_law : OwnsByShape (typing t).table) (other : Around (home (typing t) (length t.outer)))
     (alone : (w : Way) → IsNear (length t.outer) w → other.gone w → ⊥) (in_formals : AreAccess (typing t))
     (v : Views) (parts_named : PartsAreNamed (typing t).table) (may : ℕ → ℕ → Type 0)
     (frames : t.state.frames ≡ t.frame ∷ t.outer) (none : taken t.point.instr ≡ 0)
@@ -84,7 +84,7 @@ module _ (t : Turn) (settled : IsSettled (typing t).table) (own_law : OwnsByShap
   now = record { memory = t.state.memory; waits = [] }
 
   abbrev Good : List Fact → Type 0
-  Good facts = IsGood t settled own_law other alone v parts_named may frames none v facts t.state
+  Good facts = IsGood t sees seeing settled own_law other alone v parts_named may frames none v facts t.state
 
   abbrev Exact : Memory → List Fact → Type 0
   Exact n facts = IsExact s (home s depth) v elsewhere n facts
@@ -97,7 +97,7 @@ module _ (t : Turn) (settled : IsSettled (typing t).table) (own_law : OwnsByShap
   at ws = record { memory = t.state.memory; waits = ws }
 
   abbrev ExactTo_here : List Fact → Evaluated (List machine.Word) → Type 0
-  ExactTo_here facts y = ExactTo (here t) settled t.state.leaks [] other alone (keeps s settled own_law) index_law own_law v parts_named elsewhere away facts y
+  ExactTo_here facts y = ExactTo (here t) sees seeing settled t.state.leaks [] other alone (keeps s settled own_law) index_law own_law v parts_named elsewhere away facts y
 
   -- Facts are exact where the step goes on, and of these leak checks none fails that is excused.
   abbrev pub ExactOn : List Fact → List LeakSpot → Outcome → Type 0
@@ -117,7 +117,7 @@ module _ (t : Turn) (settled : IsSettled (typing t).table) (own_law : OwnsByShap
       → AllowsAll facts (acts (acts_in s e)) → Exact m facts → (f : List machine.Word → Memory → Outcome) → ((vs : List machine.Word) → ExactOn facts [] (f vs m))
       → ExactOn (after (acts (acts_in s e)) facts) [] (steps.evaluated t (value (here t) e (at ws)) f)
   value_on ws e stays takes facts good allowed exact f next =
-      let q = scalar_taken t settled own_law other alone v parts_named may frames none ws e stays takes facts good allowed in
+      let q = scalar_taken t sees seeing settled own_law other alone v parts_named may frames none ws e stays takes facts good allowed in
       subst (λ z. ExactOn z [] (steps.evaluated t (value (here t) e (at ws)) f)) (sym q.1)
       (quiet_on One facts exact (value (here t) e (at ws)) q.0 f (λ vs one. next vs))
 
@@ -135,7 +135,7 @@ module _ (t : Turn) (settled : IsSettled (typing t).table) (own_law : OwnsByShap
 
   pub then_stored : (name : PlaceName) (u : ℕ) (before facts : List Fact) (pos pos' : Pos) (count : ℕ) → Knows Excused pos' name count before (parts s.table u)
       → (y : Evaluated Stored)
-      → StoresExact (here t) settled t.state.leaks [] other alone (keeps s settled own_law) index_law own_law v parts_named elsewhere away Excused name u before facts y
+      → StoresExact (here t) sees seeing settled t.state.leaks [] other alone (keeps s settled own_law) index_law own_law v parts_named elsewhere away Excused name u before facts y
       → ExactOn facts (map (spot pos' name count) (parts s.table u))
       (steps.evaluated t y (λ (st : Stored) n. leaking_goes (checks_at s pos n st.place) (goes t (stored s st.place st.words n) 0)))
   then_stored name u before facts pos pos' count known (Done st n) given = (given.0, given.1 pos pos' count known)
@@ -151,7 +151,7 @@ module _ (t : Turn) (settled : IsSettled (typing t).table) (own_law : OwnsByShap
 
   pub assign_on : (ws mid : List (List machine.Word)) (p : Pos) (x u : ℕ) (path e : TypedTree) → IsNamed s.table u → Gives s u e → Leads s (object_at s x).of path u
       → GivesPlainly s e → Takes (waits_in e) ws mid → Takes (waits_in path) mid [] → (facts : List Fact) → Good facts
-      → AllowsAll facts (acts (stored_acts s (Name p x path u) e)) → AllKeep (is_fixed s) (acts (stored_acts s (Name p x path u) e))
+      → AllowsAll facts (acts (stored_acts s (Name p x path u) e)) → AllKeep (is_fixed s sees) (acts (stored_acts s (Name p x path u) e))
       → Exact m facts
       → (count : ℕ) → Knows Excused p (name_of x path) count (after (acts (acts_in s e ++ acts_in s path)) facts) (parts s.table u)
       → ExactOn (after (acts (stored_acts s (Name p x path u) e)) facts) (map (spot p (name_of x path) count) (parts s.table u))
@@ -165,17 +165,17 @@ module _ (t : Turn) (settled : IsSettled (typing t).table) (own_law : OwnsByShap
       (sym (named_plain s.table u named))
       (then_stored (name_of x path) u (after (acts (acts_in s e ++ acts_in s path)) facts) (after (acts (stored_acts s target e)) facts) (target_pos t target) p count known
       (followed_by (followed_by (evaluate h AsValue e (at ws)) (checked h u)) (found_at target))
-      (assigned_exact h settled t.state.leaks [] other alone (keeps s settled own_law) index_law own_law v parts_named elsewhere away Excused ws mid [] p x u path e named gives lead
+      (assigned_exact h sees seeing settled t.state.leaks [] other alone (keeps s settled own_law) index_law own_law v parts_named elsewhere away Excused ws mid [] p x u path e named gives lead
       calls takes takes' m hands facts (record { viewed = good.viewed; kept = good.kept; holds = good.holds }) allowed keep exact))
 
   -- ---- a variable is declared that no fact speaks of
 
   abbrev Speaks_not : ℕ → List Fact → Type 0
   Speaks_not x facts =
-      IsUnmoved t settled own_law other alone in_formals v parts_named may frames none x facts × IsFree t settled own_law other alone in_formals v parts_named may frames none x
+      IsUnmoved t sees seeing settled own_law other alone in_formals v parts_named may frames none x facts × IsFree t sees seeing settled own_law other alone in_formals v parts_named may frames none x
 
   abbrev Given_here : ℕ → List Fact → Evaluated (List machine.Word) → Type 0
-  Given_here u facts y = Given (here t) settled t.state.leaks [] other alone (keeps s settled own_law) index_law own_law v parts_named u hands facts y
+  Given_here u facts y = Given (here t) sees seeing settled t.state.leaks [] other alone (keeps s settled own_law) index_law own_law v parts_named u hands facts y
 
   same_frame : (f x g y : ℕ) → OfRoot (OfVariable f x) ≡ OfRoot (OfVariable g y) → f ≡ g
   same_frame f x g y e = cc
@@ -191,7 +191,7 @@ module _ (t : Turn) (settled : IsSettled (typing t).table) (own_law : OwnsByShap
       same_frame (home s depth (number_of k)) (number_of k) depth x (sym (named_base (home s depth) k named) ∙ sym begins_lent.base ∙ begins_there.base) in
       free l (way_name k) lent root (sym at_home ∙ ap (home s depth) root)
 
-  unspoken : (x : ℕ) (facts : List Fact) (z : View) → Viewed (home s depth) (sees_only s) other v z facts → Speaks_not x facts
+  unspoken : (x : ℕ) (facts : List Fact) (z : View) → Viewed (home s depth) sees other v z facts → Speaks_not x facts
       → (w : Way) → IsDefinite (home s depth) v elsewhere facts w → Under (Object (OfVariable depth x)) w → ⊥
   unspoken x facts z viewed (unmoved, free) w (inr e) under = elim (away w e.1) [
     | inl far ↦ far.0 (near_under depth (Object (OfVariable depth x)) w under (inr refl))
@@ -200,13 +200,13 @@ module _ (t : Turn) (settled : IsSettled (typing t).table) (own_law : OwnsByShap
   unspoken x facts z viewed (unmoved, free) w (inl d) under =
       let begins_there = longer (Object (OfVariable depth x)) w under in
       let root : number_of (expand v d.0) ≡ x = ap number_of d.3 ∙ begins_there.root in
-      elim (stands (home s depth) (sees_only s) v z facts viewed.views d.0 (d.1.0, viewed.clear.owned (way_name d.0) d.1.1)) [
+      elim (stands (home s depth) sees v z facts viewed.views d.0 (d.1.0, viewed.clear.owned (way_name d.0) d.1.1)) [
         | inr held ↦ elim (home_or_foreign (home s depth) held.way held.passed.begins) [
           | inr foreign ↦ (free.0 held.object held.way held.has).0 foreign
               (same_frame foreign.0 foreign.1 depth x
               (sym foreign.2 ∙ sym (longer held.way (expand v d.0) held.under).base ∙ ap base_of d.3 ∙ begins_there.base))
           | inl at_home ↦ (
-              let (loan, (k, named, begins_it, lent), changed) = viewed.shown held.object held.way held.has held.passed.given at_home in
+              let (loan, (k, named, begins_it, lent), changed) = viewed.shown.0 held.object held.way held.has held.passed.given at_home in
               off_lent x loan k w named (subst (Under k) d.3 (under_on k held.way (expand v d.0) begins_it held.under)) lent free.1 under)
         ]
         | inl own ↦ (
@@ -214,7 +214,7 @@ module _ (t : Turn) (settled : IsSettled (typing t).table) (own_law : OwnsByShap
             let at_home : home s depth x ≡ depth =
             ap (home s depth) (sym begins_there.root)
             ∙ same_frame (home s depth (number_of w)) (number_of w) depth x (sym (named_base (home s depth) w named) ∙ begins_there.base) in
-            elim (stands_root v d.0) [
+            elim (stands_root v d.0 (no_part (home s depth) sees v z facts viewed.views d.0 (viewed.clear.owned (way_name d.0) d.1.1))) [
               | inl e ↦ unmoved (way_name d.0) d.1.1 (sym e ∙ root) (sym at_home)
               | inr (y, k, has, e, base) ↦ (free.0 y k has).1 (same_named (home s depth) k w (sym base ∙ ap base_of d.3) named) at_home (sym e ∙ root)
             ])
@@ -223,7 +223,7 @@ module _ (t : Turn) (settled : IsSettled (typing t).table) (own_law : OwnsByShap
   pub then_declared : (x : ℕ) → is_view_formal s x ≡ false → (facts : List Fact) (y : Evaluated (List machine.Word)) → Given_here (object_at s x).of facts y → ExactTo_here facts y → Speaks_not x facts
       → ExactOn facts [] (steps.evaluated t y (λ ws n. goes t (declared depth x ws n) 0))
   then_declared x owner facts (Done ws n) (ready, long, same) exact none_said = (
-    declared_exact s settled (home s depth) (sees_only s) other v elsewhere apart n.memory (record { of = (object_at s x).of; words = ws }) hands t.state.leaks facts depth x
+    declared_exact s settled (home s depth) sees other v elsewhere apart n.memory (record { of = (object_at s x).of; words = ws }) hands t.state.leaks facts depth x
         t.point.pos ready.viewed ready.kept owner long (alike s.table settled (object_at s x).of (object_at s x).of (inl refl))
         (unspoken x facts (seen s n.memory (record { of = (object_at s x).of; words = ws } ∷ hands) t.state.leaks) ready.viewed none_said) exact,
     tt,
@@ -233,19 +233,19 @@ module _ (t : Turn) (settled : IsSettled (typing t).table) (own_law : OwnsByShap
 
   -- what it is declared with
   pub source_exact : (ws : List (List machine.Word)) (u : ℕ) (e : TypedTree) → IsNamed s.table u → Source s u e → GivesPlainly s e → Takes (waits_in e) ws []
-      → (facts : List Fact) → Good facts → AllowsAll facts (acts (acts_in s e)) → AllKeep (is_fixed s) (acts (acts_in s e)) → Exact m facts
+      → (facts : List Fact) → Good facts → AllowsAll facts (acts (acts_in s e)) → AllKeep (is_fixed s sees) (acts (acts_in s e)) → Exact m facts
       → ExactTo_here (after (acts (acts_in s e)) facts) (taken_by t u e (at ws))
   source_exact ws u e named (inl (view, is)) calls takes facts good allowed keep exact = absurd (true_false (is_anonymous (full s.table u)) view (named_plain s.table u named))
   source_exact ws u e named (inr gives) calls takes facts good allowed keep exact =
       subst (λ b. ExactTo_here (after (acts (acts_in s e)) facts) (if b then viewed (here t) e (at ws) else followed_by (value (here t) e (at ws)) (checked (here t) u)))
       (sym (named_plain s.table u named))
-      (checked_exact (here t) settled t.state.leaks [] other alone (keeps s settled own_law) index_law own_law v parts_named elsewhere away u
+      (checked_exact (here t) sees seeing settled t.state.leaks [] other alone (keeps s settled own_law) index_law own_law v parts_named elsewhere away u
       (after (acts (acts_in s e)) facts) (evaluate (here t) AsValue e (at ws))
-      (exact_on (here t) settled t.state.leaks [] other alone (keeps s settled own_law) index_law own_law v parts_named elsewhere away e u gives calls ws [] takes
+      (exact_on (here t) sees seeing settled t.state.leaks [] other alone (keeps s settled own_law) index_law own_law v parts_named elsewhere away e u gives calls ws [] takes
       m hands facts (record { viewed = good.viewed; kept = good.kept; holds = good.holds }) allowed named keep exact))
 
   first_exact : (ws : List (List machine.Word)) (u : ℕ) (e : TypedTree) → IsNamed s.table u → FirstSource s u e → GivesPlainly s e → Takes (waits_in e) ws []
-      → (facts : List Fact) → Good facts → AllowsAll facts (acts (acts_in s e)) → AllKeep (is_fixed s) (acts (acts_in s e)) → Exact m facts
+      → (facts : List Fact) → Good facts → AllowsAll facts (acts (acts_in s e)) → AllKeep (is_fixed s sees) (acts (acts_in s e)) → Exact m facts
       → ExactTo_here (after (acts (acts_in s e)) facts) (first_value t u e (at ws))
   unfolding GivesPlainly acts_in initial waits_in
   first_exact ws u (More e rest) named (last, gives) calls takes facts good allowed keep exact =
@@ -253,14 +253,14 @@ module _ (t : Turn) (settled : IsSettled (typing t).table) (own_law : OwnsByShap
       let alone_there : waits_in e + waits_in rest ≡ waits_in e = ap (λ z. waits_in e + waits_in z) last ∙ nothing_more (waits_in e) in
       subst (λ z. ExactTo_here (after (acts z) facts) (taken_by t u e (at ws))) (sym same)
       (source_exact ws u e named gives calls.0 (takes_as (waits_in e + waits_in rest) (waits_in e) ws [] alone_there takes)
-      facts good (subst (λ z. AllowsAll facts (acts z)) same allowed) (subst (λ z. AllKeep (is_fixed s) (acts z)) same keep) exact)
+      facts good (subst (λ z. AllowsAll facts (acts z)) same allowed) (subst (λ z. AllKeep (is_fixed s sees) (acts z)) same keep) exact)
   first_exact ws u NoMore named gives calls takes facts good allowed keep exact = exact
   first_exact ws u e named gives calls takes facts good allowed keep exact = absurd gives
 
   -- An object is declared that isn't a view. No fact after the evaluation names it.
   pub declare_on : (ws : List (List machine.Word)) (x : ℕ) (e : TypedTree) → IsNamed s.table (object_at s x).of → is_view_formal s x ≡ false → FirstSource s (object_at s x).of e
       → GivesPlainly s e → Takes (waits_in e) ws [] → (facts : List Fact)
-      → Good facts → AllowsAll facts (acts (declared_acts s x e)) → AllKeep (is_fixed s) (acts (declared_acts s x e))
+      → Good facts → AllowsAll facts (acts (declared_acts s x e)) → AllKeep (is_fixed s sees) (acts (declared_acts s x e))
       → Speaks_not x (after (acts (declared_acts s x e)) facts) → Exact m facts
       → ExactOn (after (acts (declared_acts s x e)) facts) [] (steps.evaluated t (first_value t (object_at s x).of e (at ws)) (λ ws n. goes t (declared depth x ws n) 0))
   declare_on ws x e named owner gives calls takes facts good allowed keep none_said exact =
@@ -270,10 +270,10 @@ module _ (t : Turn) (settled : IsSettled (typing t).table) (own_law : OwnsByShap
       (if is_observer s x then source_acts s (first e) (observe s x) else acts_in s e)) kinds.0
       ∙ ap (λ b. if b then source_acts s (first e) (observe s x) else acts_in s e) kinds.1 in
       let allows = subst (λ z. AllowsAll facts (acts z)) same allowed in
-      let keep_there = subst (λ z. AllKeep (is_fixed s) (acts z)) same keep in
+      let keep_there = subst (λ z. AllKeep (is_fixed s sees) (acts z)) same keep in
       subst (λ z. ExactOn (after (acts z) facts) [] (steps.evaluated t (first_value t (object_at s x).of e (at ws)) (λ ws n. goes t (declared depth x ws n) 0))) (sym same)
       (then_declared x owner (after (acts (acts_in s e)) facts) (first_value t (object_at s x).of e (at ws))
-      (first_given t settled own_law other alone in_formals v parts_named may frames none ws (object_at s x).of e named gives calls takes facts good allows keep_there)
+      (first_given t sees seeing settled own_law other alone in_formals v parts_named may frames none ws (object_at s x).of e named gives calls takes facts good allows keep_there)
       (first_exact ws (object_at s x).of e named gives calls takes facts good allows keep_there exact)
       (subst (λ z. Speaks_not x (after (acts z) facts)) same none_said))
 
@@ -281,18 +281,18 @@ module _ (t : Turn) (settled : IsSettled (typing t).table) (own_law : OwnsByShap
 
   pub same_exact : (next : Memory) (facts : List Fact) → Good facts → IsSame (seen s m hands t.state.leaks) (seen s next hands t.state.leaks) → Exact m facts → Exact next facts
   same_exact next facts good same exact =
-      exact_from s settled (home s depth) (sees_only s) other v elsewhere apart (seen s next hands t.state.leaks) next hands facts
-      (definite_variable (home s depth) (sees_only s) other v elsewhere apart (seen s m hands t.state.leaks) facts good.viewed) (λ l. refl)
-      (told_still (home s depth) (sees_only s) other v elsewhere apart (seen s m hands t.state.leaks) (seen s next hands t.state.leaks) IsPlaced facts good.viewed
+      exact_from s settled (home s depth) sees other v elsewhere apart (seen s next hands t.state.leaks) next hands facts
+      (definite_variable (home s depth) sees other v elsewhere apart (seen s m hands t.state.leaks) facts good.viewed) (λ l. refl)
+      (told_still (home s depth) sees other v elsewhere apart (seen s m hands t.state.leaks) (seen s next hands t.state.leaks) IsPlaced facts good.viewed
       (λ g y. tt) (keeps_placed (seen s m hands t.state.leaks) (seen s next hands t.state.leaks) (λ l n placed held. sym (same.word l) ∙ held))
-      (λ l placed gone. same.word l ∙ gone) (told_seen s settled (home s depth) (sees_only s) other v elsewhere apart m hands t.state.leaks facts good.viewed exact))
+      (λ l placed gone. same.word l ∙ gone) (told_seen s settled (home s depth) sees other v elsewhere apart m hands t.state.leaks facts good.viewed exact))
 
   -- the variable of a view gets a word, and nothing is moved
   pub view_stored : (f x : ℕ) (ws : List machine.Word) → is_anonymous (view_of s x) ≡ true → (facts facts' : List Fact) → Good facts
       → ((n : PlaceName) → Has facts' (Moved n) → Has facts (Moved n)) → Exact m facts → Exact (declared f x ws m) facts'
   view_stored f x ws view facts facts' good less exact =
-      told_fewer (home s depth) (sees_only s) other v elsewhere apart (seen s (declared f x ws m) [] []) facts facts' less
-      (same_exact (declared f x ws m) facts good (view_unseen s settled m hands t.state.leaks f x ws view) exact)
+      told_fewer (home s depth) sees other v elsewhere apart (seen s (declared f x ws m) [] []) facts facts' less
+      (same_exact (declared f x ws m) facts good (view_unseen s sees settled m hands t.state.leaks f x ws view) exact)
 
   -- a view is declared, from a source that changes nothing
   pub view_declared : (P : List machine.Word → Type 0) (x : ℕ) → is_anonymous (view_of s x) ≡ true → (facts facts' : List Fact) → Good facts
@@ -316,33 +316,35 @@ module _ (t : Turn) (settled : IsSettled (typing t).table) (own_law : OwnsByShap
       let no_number : Empty ≡ Held c = sym none ∙ held in cc
 
   -- `mine`: the object is one of the frame
-  pub end_scope_checked : (x : ℕ) → (facts : List Fact) → Viewed (home s depth) (sees_only s) other v (seen s m hands t.state.leaks) facts
+  pub end_scope_checked : (x : ℕ) → (facts : List Fact) → Viewed (home s depth) sees other v (seen s m hands t.state.leaks) facts
       → Exact m facts → (pos : Pos) (count : ℕ) → Knows Excused pos (object x) count facts (parts s.table (object_at s x).of)
       → NoneFails Excused (map (spot pos (object x) count) (parts s.table (object_at s x).of)) (checks_at s t.point.pos m (variable_place (here t) x))
   end_scope_checked x facts viewed exact pos count known =
       place_holds s settled (home s depth) v elsewhere m hands t.state.leaks facts
-      (definite_variable (home s depth) (sees_only s) other v elsewhere apart (seen s m hands t.state.leaks) facts viewed) exact
+      (definite_variable (home s depth) sees other v elsewhere apart (seen s m hands t.state.leaks) facts viewed) exact
       (variable_place (here t) x) (OfRoot (OfVariable (home s depth x) x)) (Object (OfVariable (home s depth x) x))
       (record { base = refl; made = tt; at = refl; there = refl; of = inl refl }) refl refl Excused t.point.pos pos count known
 
   pub end_scope_exact : (left : Views) (x : ℕ) (borrower : Bool) → is_view_formal s x ≡ false → home s depth x ≡ depth → (facts : List Fact)
-      → Viewed (home s depth) (sees_only s) other v (seen s m hands t.state.leaks) facts → ((l : Loan) (n : PlaceName) → other.lent l n → n.root ≡ x → ⊥)
-      → ((y : ℕ) (w : Way) → v.way y ≡ Some w → is_view s y ≡ true)
+      → Viewed (home s depth) sees other v (seen s m hands t.state.leaks) facts → ((l : Loan) (n : PlaceName) → other.lent l n → n.root ≡ x → ⊥)
+      → ((y : ℕ) (w : Way) → v.way y ≡ Some w → is_view s y ≡ true) → ((y : ℕ) (p : List Step) (w : Way) → left.part_way y p ≡ Some w → sees y ≡ true)
       → ((y : ℕ) (w : Way) → left.way y ≡ Some w → (v.way y ≡ Some w) × (Named (home s depth) w → number_of w ≡ x → ⊥)) → Exact m facts
       → IsExact s (home s depth) left elsewhere (undeclared depth x m) (effect (act.EndScope x borrower) facts)
-  end_scope_exact left x borrower owner mine facts viewed unlent only was exact =
+  end_scope_exact left x borrower owner mine facts viewed unlent only parts was exact =
       let checks = checks_made s.table settled (content s m hands (OfRoot (OfVariable (home s depth x) x))) [] (object_at s x).of t.point.pos t.state.leaks refl
       (ap not owner) (alike s.table settled (object_at s x).of (object_at s x).of (inl refl)) in
       subst (λ f. IsExact s (home s depth) left elsewhere (undeclared f x m) (effect (act.EndScope x borrower) facts)) mine
-      (ended_exact s settled (home s depth) (sees_only s) other v elsewhere apart m hands t.state.leaks _ facts left x borrower viewed unlent checks was
+      (ended_exact s settled (home s depth) sees other v elsewhere apart m hands t.state.leaks _ facts left x borrower viewed unlent checks parts was
       (λ y w n has. view_empty m hands t.state.leaks (home s depth y) y (only y w has) n) exact)
 
   -- ---- views with other ways
 
   -- where each view has the way that it had, or no moved name is rooted in it
   pub turned_exact : (n : Memory) (turned : Views) (facts : List Fact) → ((x : ℕ) (w : Way) → v.way x ≡ Some w → is_view s x ≡ true)
+      → ((x : ℕ) (p : List Step) (w : Way) → v.part_way x p ≡ Some w → sees x ≡ true) → ((x : ℕ) (p : List Step) (w : Way) → turned.part_way x p ≡ Some w → sees x ≡ true)
+      → ((u : Way) → IsMoved (home s depth) facts u → sees (number_of u) ≡ false)
       → ((x : ℕ) (w : Way) → turned.way x ≡ Some w → (v.way x ≡ Some w) ⊎ ((name : PlaceName) → Has facts (Moved name) → name.root ≡ x → ⊥))
       → Exact n facts → IsExact s (home s depth) turned elsewhere n facts
-  turned_exact n turned facts only turns exact =
-      told_turned (home s depth) (sees_only s) other v elsewhere apart (seen s n [] []) turned facts turns
+  turned_exact n turned facts only seen_before seen_then plain_moved turns exact =
+      told_turned (home s depth) sees other v elsewhere apart (seen s n [] []) turned facts seen_before seen_then plain_moved turns
       (λ x w c has. view_empty n [] [] (home s depth x) x (only x w has) c) exact

@@ -49,7 +49,7 @@ use Rattle.soundness.proofs.Loops.{scalar_same}
 use Rattle.owned_loans.specs.Views.{Around, Views, expand}
 use Rattle.owned_loans.proofs.Allowed.{write_open}
 use Rattle.owned_ways.specs.Ways.{Loc}
-use Rattle.viewed_soundness.specs.Holds.{PartsAreNamed, sees_only, IsOwners}
+use Rattle.viewed_soundness.specs.Holds.{PartsAreNamed, IsOwners, Seeing}
 use Rattle.viewed_soundness.proofs.Names.{Starts as StartsAt, changed_owners}
 use Rattle.viewed_soundness.proofs.Stays.{Goes as GoesAlong, name_quiet, taking, steps_taking}
 use Rattle.viewed_soundness.proofs.Evaluated.{Ready, live_trunk, blank_ready}
@@ -61,7 +61,7 @@ use Rattle.viewed_facts.proofs.Memories.{stored_exact}
 use Rattle.viewed_facts.proofs.Instructions.{ExactOn, same_exact}
 use Rattle.viewed_steps.proofs.Views.{AreAccess, scalar_no_view, formal_view}
 
-module _ (t : Turn) (settled : IsSettled (typing t).table) (own_law : OwnsByShape (typing t).table) (other : Around (home (typing t) (length t.outer)))
+module _ (t : Turn) (sees : ℕ → Bool) (seeing : Seeing (typing t) sees) (settled : IsSettled (typing t).table) (own_law : OwnsByShape (typing t).table) (other : Around (home (typing t) (length t.outer)))
     (alone : (w : Way) → IsNear (length t.outer) w → other.gone w → ⊥) (in_formals : AreAccess (typing t))
     (v : Views) (parts_named : PartsAreNamed (typing t).table) (may : ℕ → ℕ → Type 0)
     (frames : t.state.frames ≡ t.frame ∷ t.outer) (none : taken t.point.instr ≡ 0)
@@ -82,13 +82,13 @@ module _ (t : Turn) (settled : IsSettled (typing t).table) (own_law : OwnsByShap
   now = record { memory = t.state.memory; waits = [] }
 
   abbrev Good : List Fact → Type 0
-  Good facts = IsGood t settled own_law other alone v parts_named may frames none v facts t.state
+  Good facts = IsGood t sees seeing settled own_law other alone v parts_named may frames none v facts t.state
 
   abbrev Exact : Memory → List Fact → Type 0
   Exact n facts = IsExact s (home s depth) v elsewhere n facts
 
   abbrev ExactHere : List Fact → Outcome → Type 0
-  ExactHere facts outcome = ExactOn t settled own_law other alone in_formals v parts_named may frames none elsewhere away Excused facts [] outcome
+  ExactHere facts outcome = ExactOn t sees seeing settled own_law other alone in_formals v parts_named may frames none elsewhere away Excused facts [] outcome
 
   away_from : (w : Way) → elsewhere w → IsOthers (home s depth) other w
   away_from w e = of_others s depth other w (away w e)
@@ -108,13 +108,13 @@ module _ (t : Turn) (settled : IsSettled (typing t).table) (own_law : OwnsByShap
       let all : List Slot = variable_slots s f x m.variables in
       let slots : List Slot = take 0 all ++ fresh value ++ drop (0 + length (fresh value)) all in
       let next : Memory = stored s k value m in (
-        same_exact t settled own_law other alone in_formals v parts_named may frames none elsewhere away Excused next facts good
+        same_exact t sees seeing settled own_law other alone in_formals v parts_named may frames none elsewhere away Excused next facts good
             (scalar_same s settled m hands t.state.leaks f x scalar next.variables (λ g y ne. put_other s f x g y ne slots m.variables)) exact,
         tt,
       )
   next_by x scalar facts good exact ws None =
       let next : Memory = undeclared depth x m in (
-        same_exact t settled own_law other alone in_formals v parts_named may frames none elsewhere away Excused next facts good
+        same_exact t sees seeing settled own_law other alone in_formals v parts_named may frames none elsewhere away Excused next facts good
             (scalar_same s settled m hands t.state.leaks depth x scalar next.variables (λ g y ne. removed_other s depth x g y ne m.variables)) exact,
         tt,
       )
@@ -130,7 +130,7 @@ module _ (t : Turn) (settled : IsSettled (typing t).table) (own_law : OwnsByShap
   abbrev Both : steps.Bounds → Type 0
   Both b = One b.low × One b.high
 
-  then_started : (x : ℕ) (f : steps.Bounds → Memory → Outcome) → Starts t settled own_law other alone in_formals v parts_named may frames none x f
+  then_started : (x : ℕ) (f : steps.Bounds → Memory → Outcome) → Starts t sees seeing settled own_law other alone in_formals v parts_named may frames none x f
       → is_scalar (full s.table (object_at s x).of) ≡ true → (facts : List Fact) → Good facts → Exact m facts
       → (y : Evaluated steps.Bounds) → Quiet now Both y → ExactHere facts (steps.evaluated t y f)
   then_started x f starts scalar facts good exact (Done b n) (same, both) =
@@ -138,7 +138,7 @@ module _ (t : Turn) (settled : IsSettled (typing t).table) (own_law : OwnsByShap
       subst (λ (z : Now). ExactHere facts (f b z.memory)) (sym same) (elim (bool_cases (starts.fails b)) [
         | inl e ↦ subst (ExactHere facts) (sym (starts.at_fault b m e)) tt
         | inr e ↦ subst (ExactHere facts) (sym (starts.at_turn b m e)) (
-          same_exact t settled own_law other alone in_formals v parts_named may frames none elsewhere away Excused next facts good
+          same_exact t sees seeing settled own_law other alone in_formals v parts_named may frames none elsewhere away Excused next facts good
               (scalar_same s settled m hands t.state.leaks depth x scalar next.variables (λ g y ne. put_other s depth x g y ne (fresh b.low) m.variables)) exact,
           tt,
         )
@@ -147,16 +147,16 @@ module _ (t : Turn) (settled : IsSettled (typing t).table) (own_law : OwnsByShap
   then_started x f starts scalar facts good exact (Traps e n) never = tt
 
   pub started_on : (ws mid : List (List machine.Word)) (x : ℕ) (f : steps.Bounds → Memory → Outcome) (low high : TypedTree)
-      → Starts t settled own_law other alone in_formals v parts_named may frames none x f
+      → Starts t sees seeing settled own_law other alone in_formals v parts_named may frames none x f
       → is_scalar (full s.table (object_at s x).of) ≡ true
       → Stays s low → Stays s high → Takes (waits_in low) ws mid → Takes (waits_in high) mid [] → (facts : List Fact) → Good facts
       → AllowsAll facts (acts (acts_in s low ++ acts_in s high)) → Exact m facts
       → ExactHere (after (acts (acts_in s low ++ acts_in s high)) facts) (steps.evaluated t (steps.bounds t low high (at ws)) f)
   started_on ws mid x f low high starts scalar stays stays' takes takes' facts good allowed exact =
       let each = allows_both facts (acts (acts_in s low)) (acts (acts_in s high)) (subst (AllowsAll facts) (acts_append (acts_in s low) (acts_in s high)) allowed) in
-      let alive = live t settled own_law other alone v parts_named may frames none facts good in
-      let first_bound = taking (here t) settled hands t.state.leaks m [] other facts v good.kept good.viewed good.holds alone alive index_law own_law parts_named AsValue low stays ws mid takes each.0 in
-      let second_bound = taking (here t) settled hands t.state.leaks m [] other facts v good.kept good.viewed good.holds alone alive index_law own_law parts_named AsValue high stays' mid [] takes'
+      let alive = live t sees seeing settled own_law other alone v parts_named may frames none facts good in
+      let first_bound = taking (here t) sees seeing settled hands t.state.leaks m [] other facts v good.kept good.viewed good.holds alone alive index_law own_law parts_named AsValue low stays ws mid takes each.0 in
+      let second_bound = taking (here t) sees seeing settled hands t.state.leaks m [] other facts v good.kept good.viewed good.holds alone alive index_law own_law parts_named AsValue high stays' mid [] takes'
       (subst (λ z. AllowsAll z (acts (acts_in s high))) first_bound.1 each.1) in
       let all : after (acts (acts_in s low ++ acts_in s high)) facts ≡ facts =
       ap (λ z. after z facts) (acts_append (acts_in s low) (acts_in s high)) ∙ after_append (acts (acts_in s low)) (acts (acts_in s high)) facts
@@ -185,7 +185,7 @@ module _ (t : Turn) (settled : IsSettled (typing t).table) (own_law : OwnsByShap
   unfolding acts_in
   output_on ws e rest line last writes takes facts good allowed exact =
       let same : acts_in s e ++ acts_in s rest ≡ acts_in s e = ap (λ z. acts_in s e ++ acts_in s z) last ∙ append-nil (acts_in s e) in
-      let q = text_quiet t settled own_law other alone in_formals v parts_named may frames none ws [] e writes takes facts good (subst (λ z. AllowsAll facts (acts z)) same allowed) in
+      let q = text_quiet t sees seeing settled own_law other alone in_formals v parts_named may frames none ws [] e writes takes facts good (subst (λ z. AllowsAll facts (acts z)) same allowed) in
       subst (λ z. ExactHere z (steps.evaluated t (text_of (here t) e (at ws)) (λ bytes m. Goes (record (behind t (waiting t) m 0) {
         output = t.state.output ++ bytes ++ (if line then 10 ∷ [] else []);
       })))) (sym (ap (λ z. after (acts z) facts) same ∙ q.1)) (written_exact facts exact line (text_of (here t) e (at ws)) q.0)
@@ -196,21 +196,21 @@ module _ (t : Turn) (settled : IsSettled (typing t).table) (own_law : OwnsByShap
   line_exact line facts exact =
       subst (λ z. ExactHere facts (steps.evaluated t (Done [] z) (λ bytes m. Goes (record (behind t (waiting t) m 0) {
         output = t.state.output ++ bytes ++ (if line then 10 ∷ [] else []);
-      })))) (sym (start_is t settled own_law other alone v parts_named may frames none)) (written_exact facts exact line (Done [] now) (refl, tt))
+      })))) (sym (start_is t sees seeing settled own_law other alone v parts_named may frames none)) (written_exact facts exact line (Done [] now) (refl, tt))
 
   -- ---- input
 
-  module _ (f : Place → Memory → Outcome) (gets : Gets t settled own_law other alone in_formals v parts_named may frames none f) (facts : List Fact)
+  module _ (f : Place → Memory → Outcome) (gets : Gets t sees seeing settled own_law other alone in_formals v parts_named may frames none f) (facts : List Fact)
       (good : Good facts) (exact : Exact m facts) (u : ℕ) (scalar : is_scalar (full s.table u) ≡ true) (i : ℤ) where
     abbrev value_in : Waiting
     value_in = record { of = u; words = machine.Int i ∷ [] }
 
-    ready_in : Ready (here t) settled t.state.leaks [] other alone (keeps s settled own_law) index_law own_law v parts_named m (value_in ∷ hands) facts
-    ready_in = blank_ready (here t) settled t.state.leaks [] other alone (keeps s settled own_law) index_law own_law v parts_named
+    ready_in : Ready (here t) sees seeing settled t.state.leaks [] other alone (keeps s settled own_law) index_law own_law v parts_named m (value_in ∷ hands) facts
+    ready_in = blank_ready (here t) sees seeing settled t.state.leaks [] other alone (keeps s settled own_law) index_law own_law v parts_named
         m hands facts u (machine.Int i ∷ []) (λ k has. elim has [ inl e ↦ cc | inr e ↦ e ])
         (record { viewed = good.viewed; kept = good.kept; holds = good.holds })
 
-    module _ (w : Way) (named : Named (home s depth) w) (plain : sees_only s (number_of w) ≡ false) (allowed : Allows facts (act.Write (ways.name_of w)))
+    module _ (w : Way) (named : Named (home s depth) w) (plain : sees (number_of w) ≡ false) (allowed : Allows facts (act.Write (ways.name_of w)))
         (owners : (l : Loc) → Reaches (seen s m (value_in ∷ hands) t.state.leaks) (expand v w) l → IsOwners s (expand v w)) where
       abbrev behind_it : List Fact
       behind_it = effect (act.Write (ways.name_of w)) facts
@@ -225,10 +225,10 @@ module _ (t : Turn) (settled : IsSettled (typing t).table) (own_law : OwnsByShap
             | inr out ↦ subst (ExactHere behind_it) (sym (gets.at_outside k m i end next out)) tt
             | inl fits ↦ (
                 let long : 1 ≡ words s.table k.of = sym (ap (words s.table) of ∙ settled.word_law u ∙ (plain_shape (shape_of s.table u) scalar).3 (words s.table)) in
-                let owns = live_trunk (here t) settled t.state.leaks [] other alone (keeps s settled own_law) index_law own_law v parts_named m (value_in ∷ hands)
+                let owns = live_trunk (here t) sees seeing settled t.state.leaks [] other alone (keeps s settled own_law) index_law own_law v parts_named m (value_in ∷ hands)
                 ready_in.viewed.owned (expand v w) l (owners l reaches) reaches in
                 subst (ExactHere behind_it) (sym (gets.at_number k m i end next fits)) (
-                  stored_exact s settled (home s depth) (sees_only s) other v elsewhere away_from m value_in hands t.state.leaks facts k l w t.point.pos ready_in.viewed ready_in.kept
+                  stored_exact s settled (home s depth) sees other v elsewhere away_from m value_in hands t.state.leaks facts k l w t.point.pos ready_in.viewed ready_in.kept
                       place named plain reaches owns allowed long (inl (ap (shape_of s.table) (sym of))) exact,
                   tt,
                 ))
@@ -250,11 +250,11 @@ module _ (t : Turn) (settled : IsSettled (typing t).table) (own_law : OwnsByShap
     -- a formal that owns nothing isn't of a scalar type
     whole : (x : ℕ) (path : TypedTree) (way : List run.Step) → GoesAlong s.table (object_at s x).of u path way → is_view_formal s x ≡ true → way ≡ [] → ⊥
     whole x path way along formal none =
-        scalar_no_view s in_formals x
+        scalar_no_view s sees in_formals x
         (subst (λ z. is_scalar (full s.table z) ≡ true) (sym (subst (λ z. StartsAt s.table (object_at s x).of z u) none along.lead)) scalar) (formal_view s x formal)
 
     -- the steps of the name are evaluated
-    then_got : (x : ℕ) (path : TypedTree) → sees_only s x ≡ false → Allows facts (act.Write (name_of x path)) → (it : Item) → next_item t.input t.state.at ≡ it
+    then_got : (x : ℕ) (path : TypedTree) → sees x ≡ false → Allows facts (act.Write (name_of x path)) → (it : Item) → next_item t.input t.state.at ≡ it
         → ((j : ℤ) (end : ℕ) → it ≡ item.Number j end → j ≡ i) → (y : Evaluated (List run.Step)) → Quiet now (λ way. GoesAlong s.table (object_at s x).of u path way) y
         → ExactHere (effect (act.Write (name_of x path)) facts) (steps.evaluated t (followed_by y (λ way now. walked s way (variable_place (here t) x) now)) f)
     then_got x path plain allowed it next mine (Done way n) (same, goes) =
@@ -266,14 +266,14 @@ module _ (t : Turn) (settled : IsSettled (typing t).table) (own_law : OwnsByShap
         }) in
         subst (λ (z : Now). ExactHere (effect (act.Write (name_of x path)) facts) (steps.evaluated t (walked s way (variable_place (here t) x) z) f)) (sym same)
         (subst (λ z. ExactHere (effect (act.Write z) facts) (steps.evaluated t (walked s way (variable_place (here t) x) now) f)) called
-        (by_item w named (ap (sees_only s) (number_along way (Object (OfVariable (home s depth x) x))) ∙ plain)
+        (by_item w named (ap sees (number_along way (Object (OfVariable (home s depth x) x))) ∙ plain)
         (subst (λ z. Allows facts (act.Write z)) (sym called) allowed)
-        (λ l reaches. changed_owners (here t) settled (value_in ∷ hands) t.state.leaks m [] other facts v ready_in.kept ready_in.viewed ready_in.holds alone
-        (live_trunk (here t) settled t.state.leaks [] other alone (keeps s settled own_law) index_law own_law v parts_named m (value_in ∷ hands) ready_in.viewed.owned)
-        x u way (whole x path way goes) goes.lead l reaches) it next mine
+        (λ l reaches. changed_owners (here t) sees seeing settled (value_in ∷ hands) t.state.leaks m [] other facts v ready_in.kept ready_in.viewed ready_in.holds alone
+        (live_trunk (here t) sees seeing settled t.state.leaks [] other alone (keeps s settled own_law) index_law own_law v parts_named m (value_in ∷ hands) ready_in.viewed.owned)
+        x u way plain (whole x path way goes) goes.lead l reaches) it next mine
         (walked s way (variable_place (here t) x) now)
-        (name_quiet (here t) settled (value_in ∷ hands) t.state.leaks m [] other facts v ready_in.kept ready_in.viewed ready_in.holds alone
-        (live_trunk (here t) settled t.state.leaks [] other alone (keeps s settled own_law) index_law own_law v parts_named m (value_in ∷ hands) ready_in.viewed.owned)
+        (name_quiet (here t) sees seeing settled (value_in ∷ hands) t.state.leaks m [] other facts v ready_in.kept ready_in.viewed ready_in.holds alone
+        (live_trunk (here t) sees seeing settled t.state.leaks [] other alone (keeps s settled own_law) index_law own_law v parts_named m (value_in ∷ hands) ready_in.viewed.owned)
         index_law own_law parts_named x path u way goes (λ q q_named q_called. write_open facts q (subst (λ z. Allows facts (act.Write z)) (sym q_called) allowed)))))
     then_got x path plain allowed it next mine (Raises e n) is = tt
     then_got x path plain allowed it next mine (Traps e n) never = tt
@@ -282,8 +282,8 @@ module _ (t : Turn) (settled : IsSettled (typing t).table) (own_law : OwnsByShap
   out_act name = act.Actual name mode.Out false false
 
   pub got_on : (ws : List (List machine.Word)) (f : Place → Memory → Outcome) (p : Pos) (x u : ℕ) (path : TypedTree)
-      → Gets t settled own_law other alone in_formals v parts_named may frames none f
-      → is_scalar (full s.table u) ≡ true → Leads s (object_at s x).of path u → Takes (waits_in path) ws [] → sees_only s x ≡ false → (facts : List Fact) → Good facts
+      → Gets t sees seeing settled own_law other alone in_formals v parts_named may frames none f
+      → is_scalar (full s.table u) ≡ true → Leads s (object_at s x).of path u → Takes (waits_in path) ws [] → sees x ≡ false → (facts : List Fact) → Good facts
       → AllowsAll facts (acts (source_acts s (Name p x path u) out_act)) → Exact m facts
       → ExactHere (after (acts (source_acts s (Name p x path u) out_act)) facts) (steps.evaluated t (place_of (here t) (Name p x path u) (at ws)) f)
   got_on ws f p x u path gets scalar lead takes plain facts good allowed exact =
@@ -291,8 +291,8 @@ module _ (t : Turn) (settled : IsSettled (typing t).table) (own_law : OwnsByShap
       let whole_acts : acts (source_acts s (Name p x path u) out_act) ≡ b ++ (out_act (name_of x path) ∷ []) =
       acts_append (acts_in s path) (record { pos = p; act = out_act (name_of x path) } ∷ []) in
       let each = allows_both facts b (out_act (name_of x path) ∷ []) (subst (AllowsAll facts) whole_acts allowed) in
-      let inner = steps_taking (here t) settled hands t.state.leaks m [] other facts v good.kept good.viewed good.holds alone
-      (live t settled own_law other alone v parts_named may frames none facts good) index_law own_law parts_named (object_at s x).of u path lead ws [] takes each.0 in
+      let inner = steps_taking (here t) sees seeing settled hands t.state.leaks m [] other facts v good.kept good.viewed good.holds alone
+      (live t sees seeing settled own_law other alone v parts_named may frames none facts good) index_law own_law parts_named (object_at s x).of u path lead ws [] takes each.0 in
       let actual : Allows facts (out_act (name_of x path)) = subst (λ z. Allows z (out_act (name_of x path))) inner.1 each.1.0 in
       let writes : Allows facts (act.Write (name_of x path)) = (λ g has. switched (breaks_O3 (name_of x path) g) _ _ (actual g has)) in
       let behind_acts : after (acts (source_acts s (Name p x path u) out_act)) facts ≡ effect (act.Write (name_of x path)) facts =

@@ -1,5 +1,4 @@
 -- In each sound state of a program that is ready whose facts are exact, no leak check of the step fails that is excused.
-use Rattle.viewed_soundness.specs.Holds.{sees_only}
 use Rattle.std.specs.Prelude.{is_some}
 use Rattle.std.proofs.Common.{Some, ◌+◌, not, ◌≡◌, refl, sym, ap, ◌∙◌, subst, ◌⊎◌, inl, inr, ℕ, suc, Bool, true, false, nat_le, List, [], ◌∷◌, ◌++◌, map, length, get_or, Option, None}
 use Rattle.spark_base.specs.Lists.{Has}
@@ -67,12 +66,16 @@ use Rattle.exact_facts.proofs.Spots.{values_same, call_same, ways_same}
 use Rattle.viewed_facts.specs.Exact.{IsDefinite, IsDefiniteOf, ExcusedHold}
 use Rattle.viewed_facts.proofs.Stepping.{checks_hold}
 use Rattle.viewed_facts.proofs.ScopeEnds.{ended_checks_hold}
+use Rattle.viewed_steps.specs.Seeing.{sees_in}
 
 pub end_or : (i : Instruction) → ((x : ℕ) × (i ≡ EndScope x)) ⊎ ((x : ℕ) → i ≡ EndScope x → ⊥)
 end_or (EndScope x) = inl (x, refl)
 end_or i = inr (λ x e. cc)
 
 module _ (table : Table) (typed : TypedProgram) (effects : Effects) (input : List ℕ) (ready : IsReady table typed effects) where
+  abbrev sees : ℕ → Bool
+  sees = sees_in (flow_program table typed)
+
   abbrev program : FlowProgram
   program = flow_program table typed
 
@@ -127,9 +130,9 @@ module _ (table : Table) (typed : TypedProgram) (effects : Effects) (input : Lis
       (awaiting : AreAwaited table typed None (top ∷ stages_of (below ∷ more_frames)))
       (of_sub : IsNamedSub (flow_named table typed) top.frame.sub named) (at_point : IsAtPoint named.points top.frame.next p)
       (path : ControlPath (path_points program effects (sub_of program top.frame.sub)) top.before top.frame.next) (views : Views)
-      (viewed_before : ViewedAlone (home s (suc (length rest))) (sees_only s) (known_gone (home s (suc (length rest))) (GoneElsewhere program effects (below ∷ more_frames))) views
+      (viewed_before : ViewedAlone (home s (suc (length rest))) sees (known_gone (home s (suc (length rest))) (GoneElsewhere program effects (below ∷ more_frames))) views
       (view_here s state) (facts_of program effects top))
-      (kept : Kept s state.memory (waiting_in state)) (scope : InScope s state.memory (suc (length rest)) (lasting_of s p.scope)) (holds : HoldsAt s (suc (length rest)) views state.memory p)
+      (kept : Kept s state.memory (waiting_in state)) (scope : InScope s state.memory (suc (length rest)) (lasting_of s p.scope)) (holds : HoldsAt s sees (suc (length rest)) views state.memory p)
       (placed_before : ArePlaced program (suc (length rest)) (facts_of program effects top) views p.scope × IsBeyond program effects (suc (length rest)) views (below ∷ more_frames)) (above : NoneAbove s (suc (length rest)) state.memory
       × HasTraversals table typed (view_here s state) (record { stage = top; views = views; cells = [] } ∷ (below ∷ more_frames)))
       (exact_before : Told (seen s state.memory [] []) (IsDefiniteOf program effects (record { stage = top; views = views; cells = [] } ∷ (below ∷ more_frames)))) where
@@ -183,7 +186,7 @@ module _ (table : Table) (typed : TypedProgram) (effects : Effects) (input : Lis
 
       variables_here : (w : Way) → IsDefinite (home s (suc (length rest))) views elsewhere_here facts_here w → IsOfVariable w
       variables_here =
-          definite_variable (home s depth) (sees_only s) other views elsewhere_here (λ w gone. of_others s depth other w (here.away table typed effects input ready state top below more_frames rest named p frames deep stages running awaiting of_sub at_point path views viewed_before kept scope holds placed_before above exact_before w gone))
+          definite_variable (home s depth) sees other views elsewhere_here (λ w gone. of_others s depth other w (here.away table typed effects input ready state top below more_frames rest named p frames deep stages running awaiting of_sub at_point path views viewed_before kept scope holds placed_before above exact_before w gone))
           (view_here s state) facts_here (here.viewed table typed effects input ready state top below more_frames rest named p frames deep stages running awaiting of_sub at_point path views viewed_before kept scope holds placed_before above exact_before)
 
       abbrev view_there : View
@@ -231,7 +234,7 @@ module _ (table : Table) (typed : TypedProgram) (effects : Effects) (input : Lis
             )
 
         -- where the actuals are evaluated, the checks of the outs are made in the memory before the call
-        entered_holds : (f : List Passed → Memory → Outcome) → Enters at ready.accepted.settled n actuals f → (passed : List Passed) → AreLaidOut s state.memory depth views view_there formals actuals passed
+        entered_holds : (f : List Passed → Memory → Outcome) → Enters at ready.accepted.settled n actuals f → (passed : List Passed) → AreLaidOut s sees state.memory depth views view_there formals actuals passed
             → NoneFails Excused spots (checks_of (f passed state.memory))
         entered_holds f enters passed laid = by_room (nat_le (frames_with at ready.accepted.settled n actuals passed state.memory) stack_words) refl
           where
@@ -239,8 +242,8 @@ module _ (table : Table) (typed : TypedProgram) (effects : Effects) (input : Lis
             by_room false full = subst (λ z. NoneFails Excused spots (checks_of z)) (sym (enters.full passed state.memory full)) (none_made Excused spots)
             by_room true fits =
                 subst (λ z. NoneFails Excused spots (checks_of z)) (sym (enters.fits passed state.memory fits))
-                (outs_hold s ready.accepted.settled depth views elsewhere_here state.memory (waiting_in (here.easy table typed effects input ready state top below more_frames rest named p frames deep stages running awaiting of_sub at_point path views viewed_before kept scope holds placed_before above exact_before).state) state.leaks facts_here variables_here (here.exact table typed effects input ready state top below more_frames rest named p frames deep stages running awaiting of_sub at_point path views viewed_before kept scope holds placed_before above exact_before) (innermost.ownless_easy table typed effects input ready state top below more_frames rest named p frames deep stages running awaiting of_sub at_point path views viewed_before kept scope holds placed_before above
-                (calling.plain_there table typed effects input ready state top below more_frames rest named p frames deep stages running awaiting of_sub at_point path views viewed_before kept scope holds placed_before above n actuals result e).0).1 holds.only Excused p.pos procedure
+                (outs_hold s sees ready.accepted.settled depth views elsewhere_here state.memory (waiting_in (here.easy table typed effects input ready state top below more_frames rest named p frames deep stages running awaiting of_sub at_point path views viewed_before kept scope holds placed_before above exact_before).state) state.leaks facts_here variables_here (here.exact table typed effects input ready state top below more_frames rest named p frames deep stages running awaiting of_sub at_point path views viewed_before kept scope holds placed_before above exact_before) (innermost.ownless_easy table typed effects input ready state top below more_frames rest named p frames deep stages running awaiting of_sub at_point path views viewed_before kept scope holds placed_before above
+                (calling.plain_there table typed effects input ready state top below more_frames rest named p frames deep stages running awaiting of_sub at_point path views viewed_before kept scope holds placed_before above n actuals result e).0).1 (holds.only, holds.parts.only) Excused p.pos procedure
                 (values ++ copies) knows_there formals actuals passed laid called.actuals_stay values refl)
 
         evaluated_holds : (f : List Passed → Memory → Outcome) → Enters at ready.accepted.settled n actuals f → (y : Evaluated (List Passed))
@@ -310,10 +313,10 @@ module _ (table : Table) (typed : TypedProgram) (effects : Effects) (input : Lis
   by_stages : (state : State) (top : Stage) (views : Views) (older : List ViewStage) (fs : List Frame) → state.frames ≡ fs → AreStages (top ∷ stages_of older) fs
       → IsRunning table typed effects state (record { stage = top; views = views; cells = [] }) older → AreAwaited table typed None (top ∷ stages_of older)
       → ControlPath (path_points program effects (sub_of program top.frame.sub)) top.before top.frame.next
-      → ViewedAlone (home s top.depth) (sees_only s) (known_gone (home s top.depth) (GoneElsewhere program effects older)) views (view_here s state) (facts_of program effects top)
+      → ViewedAlone (home s top.depth) sees (known_gone (home s top.depth) (GoneElsewhere program effects older)) views (view_here s state) (facts_of program effects top)
       → Kept s state.memory (waiting_in state)
       → (named : NamedSub) → IsNamedSub (flow_named table typed) top.frame.sub named → (p : NamedPoint) → IsAtPoint named.points top.frame.next p
-      → InScope s state.memory top.depth (lasting_of s p.scope) → HoldsAt s top.depth views state.memory p → ArePlaced program top.depth (facts_of program effects top) views p.scope × IsBeyond program effects top.depth views older
+      → InScope s state.memory top.depth (lasting_of s p.scope) → HoldsAt s sees top.depth views state.memory p → ArePlaced program top.depth (facts_of program effects top) views p.scope × IsBeyond program effects top.depth views older
       → NoneAbove s top.depth state.memory × HasTraversals table typed (view_here s state) (record { stage = top; views = views; cells = [] } ∷ older)
       → Told (seen s state.memory [] []) (IsDefiniteOf program effects (record { stage = top; views = views; cells = [] } ∷ older))
       → Holds top state
@@ -321,8 +324,8 @@ module _ (table : Table) (typed : TypedProgram) (effects : Effects) (input : Lis
       package_holds state top named p running.0 of_sub at_point
   by_stages state top views (below ∷ more) (f ∷ (g ∷ rest)) is (frame, deep, (around_frame, deeper, others)) running awaiting path well kept named of_sub p at_point scope holds there above exact =
       main_holds state top below more rest named p (is ∙ (λ j. sym frame j ∷ (sym around_frame j ∷ rest))) deep (refl, deeper, others) running awaiting of_sub at_point path views
-      (subst (λ d. ViewedAlone (home s d) (sees_only s) (known_gone (home s d) (GoneElsewhere program effects (below ∷ more))) views (view_here s state) (facts_of program effects top)) deep well) kept
-      (subst (λ d. InScope s state.memory d (lasting_of s p.scope)) deep scope) (subst (λ d. HoldsAt s d views state.memory p) deep holds)
+      (subst (λ d. ViewedAlone (home s d) sees (known_gone (home s d) (GoneElsewhere program effects (below ∷ more))) views (view_here s state) (facts_of program effects top)) deep well) kept
+      (subst (λ d. InScope s state.memory d (lasting_of s p.scope)) deep scope) (subst (λ d. HoldsAt s sees d views state.memory p) deep holds)
       (subst (λ d. ArePlaced program d (facts_of program effects top) views p.scope × IsBeyond program effects d views (below ∷ more)) deep there)
       (subst (λ d. NoneAbove s d state.memory) deep above.0, above.1) exact
   by_stages state top views (below ∷ more) [] is stages running awaiting path well kept named of_sub p at_point scope holds there above exact = absurd stages

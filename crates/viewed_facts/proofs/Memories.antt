@@ -192,21 +192,21 @@ module _ (s : Typing) (settled : IsSettled s.table) (home : ℕ → ℕ) (observ
 
   pub ended_exact : (m : Memory) (rest : List Waiting) (leaks leaks' : List Leak) (facts : List Fact) (left : Views) (x : ℕ) (borrower : Bool)
       → Viewed home observer other v (seen s m rest leaks) facts → ((l : Loan) (n : Name) → other.lent l n → n.root ≡ x → ⊥)
-      → Checks s.table (content s m rest (OfRoot (OfVariable (home x) x))) [] leaks leaks'
+      → Checks s.table (content s m rest (OfRoot (OfVariable (home x) x))) [] leaks leaks' → ((y : ℕ) (p : List Step) (w : Way) → left.part_way y p ≡ Some w → observer y ≡ true)
       → ((y : ℕ) (w : Way) → left.way y ≡ Some w → (v.way y ≡ Some w) × (Named home w → number_of w ≡ x → ⊥))
       → ((y : ℕ) (w : Way) (n : ℕ) → v.way y ≡ Some w → (seen s m rest leaks).word (OfRoot (OfVariable (home y) y)) ≡ Held n → ⊥)
       → Exact m facts → IsExact s home left elsewhere (undeclared (home x) x m) (effect (EndScope x borrower) facts)
-  ended_exact m rest leaks leaks' facts left x borrower viewed unlent checks was empty exact =
+  ended_exact m rest leaks leaks' facts left x borrower viewed unlent checks same_parts was empty exact =
       same_told s (seen s (undeclared (home x) x m) rest leaks') (seen s (undeclared (home x) x m) [] []) (undeclared (home x) x m) rest []
       (IsDefinite home left elsewhere (effect (EndScope x borrower) facts)) variables (λ z. refl) (λ l. refl)
       (told_ended home observer other v elsewhere apart (seen s m rest leaks) (seen s (undeclared (home x) x m) rest leaks') left x borrower facts viewed unlent
-      (drops s m (home x) x rest leaks leaks' checks) was empty (told_seen m rest leaks facts viewed exact))
+      (drops s m (home x) x rest leaks leaks' checks) same_parts was empty (told_seen m rest leaks facts viewed exact))
     where
       variables : (w : Way) → IsDefinite home left elsewhere (effect (EndScope x borrower) facts) w → IsOfVariable w
       variables w (inr e) = e.0
       variables w (inl d) = elim (fact_before (EndScope x borrower) facts (Moved (name_of d.0)) d.1.1) [
         | inr none ↦ absurd none
-        | inl old ↦ left_variable home observer other v elsewhere apart (seen s m rest leaks) left facts viewed (λ y k has. (was y k has).0) w
+        | inl old ↦ left_variable home observer other v elsewhere apart (seen s m rest leaks) left facts viewed same_parts (λ y k has. (was y k has).0) w
             (inl (d.0, (d.1.0, old.0), d.2, d.3))
       ]
 

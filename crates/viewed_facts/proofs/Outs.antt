@@ -1,6 +1,6 @@
 -- The leak checks of a call are those of what is passed for formals of mode `out`. None fails that is excused, if facts are
 -- exact before the call.
-use Rattle.std.proofs.Common.{◌≡◌, refl, sym, ap, ◌∙◌, subst, inl, inr, ℕ, ◌+◌, Bool, true, false, ◌&&◌, List, [], ◌∷◌, ◌++◌, map, length, append_assoc, arith, Some}
+use Rattle.std.proofs.Common.{◌≡◌, refl, sym, ap, ◌∙◌, subst, inl, inr, ℕ, ◌+◌, Bool, true, false, ◌&&◌, List, [], ◌∷◌, ◌++◌, map, length, append_assoc, arith}
 use Rattle.std.proofs.lemmas.List.{length-append, length-map}
 use Rattle.spark_base.specs.Lists.{Has}
 use Rattle.spark_base.specs.declared.position.Pos.{Pos}
@@ -36,7 +36,8 @@ use Rattle.viewed_steps.proofs.Carried.{inside_at, inside_spot, inside_reached}
 use Rattle.exact_facts.specs.Exact.{IsOfVariable, NoneFails}
 use Rattle.viewed_facts.specs.Exact.{IsDefinite, IsExact}
 use Rattle.viewed_facts.proofs.Checks.{place_holds}
-use Rattle.viewed_soundness.specs.Holds.{is_view}
+use Rattle.viewed_soundness.proofs.ViewKinds.{bundle_view}
+use Rattle.viewed_steps.proofs.Views.{AreOnly}
 use Rattle.viewed_steps.proofs.Entered.{own_named, own_itself}
 
 -- ---- lists of checks
@@ -81,10 +82,10 @@ head_first s p m (To k) passed e rest = refl
 
 -- ---- one of them
 
-module _ (s : Typing) (settled : IsSettled s.table) (depth : ℕ) (v : Views) (elsewhere : Way → Type 0) (m : Memory) (hands : List Waiting) (leaks : List Leak)
+module _ (s : Typing) (sees : ℕ → Bool) (settled : IsSettled s.table) (depth : ℕ) (v : Views) (elsewhere : Way → Type 0) (m : Memory) (hands : List Waiting) (leaks : List Leak)
     (facts : List Fact) (variables : (w : Way) → IsDefinite (home s depth) v elsewhere facts w → IsOfVariable w)
     (exact : IsExact s (home s depth) v elsewhere m facts) (typed : Kept s m hands)
-    (only : (x : ℕ) (w : Way) → v.way x ≡ Some w → is_view s x ≡ true) (Excused : LeakSpot → Type 0) (pos : Pos) where
+    (only : AreOnly s v) (Excused : LeakSpot → Type 0) (pos : Pos) where
   -- What an excused spot says, before some acts.
   abbrev KnowsAt : ℕ → PlaceName → Type 0
   KnowsAt before name =
@@ -134,8 +135,8 @@ module _ (s : Typing) (settled : IsSettled s.table) (depth : ℕ) (v : Views) (e
   abbrev view : ways.View
   view = seen s m hands leaks
 
-  plain_scalar : (p : Pos) (y u : ℕ) (path : TypedTree) (k : Place) → IsPlainAt s depth v view (Name p y path u) k → is_scalar (full s.table k.of) ≡ true
-  plain_scalar p y u path k (inl fixed) = fixed.scalar
+  plain_scalar : (p : Pos) (y u : ℕ) (path : TypedTree) (k : Place) → IsPlainAt s sees depth v view (Name p y path u) k → is_scalar (full s.table k.of) ≡ true
+  plain_scalar p y u path k (inl (fixed, bare)) = fixed.scalar
   plain_scalar p y u path k (inr lodged) = lodged.2
 
   -- what is named is of the shape of the formal, if that isn't scalar
@@ -144,20 +145,20 @@ module _ (s : Typing) (settled : IsSettled s.table) (depth : ℕ) (v : Views) (e
   shape_named x y u t path k fits many type match =
       same_type k.of (object_at s x).of fits many ∙ sym (same_type t (object_at s x).of match many) ∙ sym (ap (shape_of s.table) type)
 
-  place_holds_at : (x before : ℕ) (e : TypedTree) (k : Place) (owning access : Bool) → IsBackLaid s depth v view x e k → IsActualTo s x mode.Out e
+  place_holds_at : (x before : ℕ) (e : TypedTree) (k : Place) (owning access : Bool) → IsBackLaid s sees depth v view x e k → IsActualTo s x mode.Out e
       → ((name : PlaceName) → KnowsAt before name) → Holds (actual_spots s (passing_by mode.Out owning access) e before) (head_checks s pos m (To k) e)
   place_holds_at x before (Name p y path u) k owning access (inl (inl (plain, at))) (t, (leads, type), match, which) known =
       scalar_holds (spot p (name_of y path) before) (λ part. checked_at p k.at (slots_at s m k.base) (offsets s.table k.of part)) u k.of
       (subst (λ z. is_scalar (full s.table z) ≡ true) (sym type) (scalar_type t (object_at s x).of match plain)) (plain_scalar p y u path k at)
   place_holds_at x before (Name p y path u) k owning access (inl (inr (many, own))) (t, (leads, type), match, which) known =
-      own_holds y u before p p path k own.0 own.1 own.0 (own_named s settled depth k own.0 own.1 own.5) (own_itself s settled depth k own.0 own.1 own.5 v only) own.2 (subst (λ z. ways.Reaches view z (own.1).start) (sym (own.5).0) (own.5).1)
+      own_holds y u before p p path k own.0 own.1 own.0 (own_named s settled depth k own.0 own.1 own.5) (own_itself s settled depth k own.0 own.1 own.5 v only.0 (λ z q w has. bundle_view s z (only.1 z q w has))) own.2 (subst (λ z. ways.Reaches view z (own.1).start) (sym (own.5).0) (own.5).1)
       (shape_named x y u t path k own.4 many type match) (known (name_of y path))
   place_holds_at x before (Name p y path u) k owning access (inr (many, housed)) (t, (leads, type), match, which) known =
       own_holds y u before p p path k housed.to housed.inside housed.name housed.named housed.means housed.called (subst (ways.Reaches view (housed.inside).trunk) (sym housed.start) housed.reaches)
       (shape_named x y u t path k housed.fits many type match) (known (name_of y path))
   place_holds_at x before e k owning access laid (t, never, match, which) known = absurd never
 
-  one_holds : (x before : ℕ) (mode_of : Mode) (owning access : Bool) (e : TypedTree) (a : Passed) → IsLaidOne s m depth v view x mode_of e a → IsActualTo s x mode_of e
+  one_holds : (x before : ℕ) (mode_of : Mode) (owning access : Bool) (e : TypedTree) (a : Passed) → IsLaidOne s sees m depth v view x mode_of e a → IsActualTo s x mode_of e
       → ((name : PlaceName) → KnowsAt before name) → Holds (actual_spots s (passing_by mode_of owning access) e before) (head_checks s pos m a e)
   one_holds x before mode.In true access e (Value ws) laid stay known = (refl, tt)
   one_holds x before mode.In false access e (Value ws) laid stay known = (refl, tt)
@@ -169,7 +170,7 @@ module _ (s : Typing) (settled : IsSettled s.table) (depth : ℕ) (v : Views) (e
 
   module _ (procedure : Bool) (placed : List Placed)
       (known : (front others : List Placed) → placed ≡ front ++ others → (name : PlaceName) → KnowsAt (length front) name) where
-    pub outs_hold : (formals : List ℕ) (actuals : TypedTree) (passed : List Passed) → AreLaidOut s m depth v view formals actuals passed → AreActualsTo s formals actuals
+    pub outs_hold : (formals : List ℕ) (actuals : TypedTree) (passed : List Passed) → AreLaidOut s sees m depth v view formals actuals passed → AreActualsTo s formals actuals
         → (front : List Placed) → placed ≡ front ++ actual_acts (map (passing s procedure) formals) actuals
         → NoneFails Excused (call_spots s (map (passing s procedure) formals) actuals (length front)) (out_checks s pos m passed actuals)
     outs_hold [] actuals passed laid stay front is = tt

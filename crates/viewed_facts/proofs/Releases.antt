@@ -47,8 +47,9 @@ use Rattle.soundness.proofs.Numbers.{index_law}
 use Rattle.owned_loans.specs.Views.{Around, Views, expand, ExcusedBy}
 use Rattle.owned_loans.proofs.Allowed.{free_open}
 use Rattle.owned_loans.proofs.Moves.{IsPlace}
-use Rattle.viewed_soundness.specs.Holds.{IsNamed, PartsAreNamed, sees_only, is_fixed, IsOwners}
-use Rattle.viewed_soundness.proofs.Names.{is_place, free_sees, free_formal, changed_owners}
+use Rattle.viewed_soundness.specs.Holds.{IsNamed, PartsAreNamed, is_fixed, IsOwners, Seeing}
+use Rattle.viewed_soundness.proofs.Names.{is_place, changed_owners}
+use Rattle.viewed_soundness.proofs.ViewKinds.{free_sees, free_formal}
 use Rattle.viewed_soundness.proofs.Spared.{gone_off}
 use Rattle.viewed_soundness.proofs.Stays.{Goes, no_selectors, name_quiet, steps_taking}
 use Rattle.viewed_soundness.proofs.Viewing.{expand_down}
@@ -64,8 +65,9 @@ use Rattle.viewed_facts.proofs.Checks.{place_holds}
 use Rattle.viewed_facts.proofs.Instructions.{ExactOn}
 use Rattle.viewed_soundness.proofs.Walks.{slot_at, one_slot, type_is, held_there, cell_spot}
 use Rattle.viewed_steps.proofs.Views.{AreAccess}
+use Rattle.owned_loans.proofs.Meeting.{no_part}
 
-module _ (t : Turn) (settled : IsSettled (typing t).table) (own_law : OwnsByShape (typing t).table) (other : Around (home (typing t) (length t.outer)))
+module _ (t : Turn) (sees : ℕ → Bool) (seeing : Seeing (typing t) sees) (settled : IsSettled (typing t).table) (own_law : OwnsByShape (typing t).table) (other : Around (home (typing t) (length t.outer)))
     (alone : (w : Way) → IsNear (length t.outer) w → other.gone w → ⊥) (in_formals : AreAccess (typing t))
     (v : Views) (parts_named : PartsAreNamed (typing t).table) (may : ℕ → ℕ → Type 0)
     (frames : t.state.frames ≡ t.frame ∷ t.outer) (none : taken t.point.instr ≡ 0)
@@ -86,16 +88,16 @@ module _ (t : Turn) (settled : IsSettled (typing t).table) (own_law : OwnsByShap
   now = record { memory = t.state.memory; waits = [] }
 
   abbrev Good : List Fact → Type 0
-  Good facts = IsGood t settled own_law other alone v parts_named may frames none v facts t.state
+  Good facts = IsGood t sees seeing settled own_law other alone v parts_named may frames none v facts t.state
 
   abbrev Exact : Memory → List Fact → Type 0
   Exact n facts = IsExact s (home s depth) v elsewhere n facts
 
   abbrev ExactHere : List Fact → List LeakSpot → Outcome → Type 0
-  ExactHere facts spots outcome = ExactOn t settled own_law other alone in_formals v parts_named may frames none elsewhere away Excused facts spots outcome
+  ExactHere facts spots outcome = ExactOn t sees seeing settled own_law other alone in_formals v parts_named may frames none elsewhere away Excused facts spots outcome
 
   abbrev Does : (Place → Memory → Outcome) → Pos → Type 0
-  Does f pos = Releases t settled own_law other alone in_formals v parts_named may frames none f pos
+  Does f pos = Releases t sees seeing settled own_law other alone in_formals v parts_named may frames none f pos
 
   away_from : (w : Way) → elsewhere w → IsOthers (home s depth) other w
   away_from w e = of_others s depth other w (away w e)
@@ -115,7 +117,7 @@ module _ (t : Turn) (settled : IsSettled (typing t).table) (own_law : OwnsByShap
     seen_here = seen s m hands t.state.leaks
 
     alive_trunk : (w : Way) (l : Loc) → IsOwners s w → Reaches seen_here w l → (content s m hands (trunk l)).owns ≡ true
-    alive_trunk = live t settled own_law other alone v parts_named may frames none facts good
+    alive_trunk = live t sees seeing settled own_law other alone v parts_named may frames none facts good
 
     abbrev excused : Way → Type 0
     excused = ExcusedBy (home s depth) v other facts
@@ -134,18 +136,18 @@ module _ (t : Turn) (settled : IsSettled (typing t).table) (own_law : OwnsByShap
     slot_here k = slot_at s settled hands t.state.leaks m [] excused good.kept good.viewed.owned good.viewed.known alive_trunk k
 
     -- the place is found
-    module _ (w : Way) (named : Named (home s depth) w) (plain : sees_only s (number_of w) ≡ false) (place : IsPlace v w) (allowed : Allows facts (act.Free (ways.name_of w)))
+    module _ (w : Way) (named : Named (home s depth) w) (plain : sees (number_of w) ≡ false) (place : IsPlace v w) (allowed : Allows facts (act.Free (ways.name_of w)))
         (owners : (l : Loc) → Reaches seen_here (expand v w) l → IsOwners s (expand v w)) where
       abbrev behind : List Fact
       behind = effect (act.Free (ways.name_of w)) facts
 
       clean : excused (expand v w) → ⊥
-      clean (inl moved) = free_clean (home s depth) (sees_only s) other v seen_here facts good.viewed w named plain allowed moved
-      clean (inr o) = gone_off s depth other v seen_here facts good.viewed alone w (expand v w) named plain (inl (under_itself (expand v w))) o
+      clean (inl moved) = free_clean (home s depth) sees other v seen_here facts good.viewed w named plain allowed moved
+      clean (inr o) = gone_off s sees depth other v seen_here facts good.viewed alone w (expand v w) named plain (inl (under_itself (expand v w))) o
 
       nothing : (k : ℕ) → ExactHere behind (spots_of (ways.name_of w) pos' count k) (steps.goes t m 0)
       nothing k = (
-        told_fewer (home s depth) (sees_only s) other v elsewhere away_from (seen s m [] []) facts behind fewer exact,
+        told_fewer (home s depth) sees other v elsewhere away_from (seen s m [] []) facts behind fewer exact,
         none_made Excused (spots_of (ways.name_of w) pos' count k),
       )
         where
@@ -179,15 +181,15 @@ module _ (t : Turn) (settled : IsSettled (typing t).table) (own_law : OwnsByShap
           let freed_there = releases s settled m hands t.state.leaks (t.state.leaks ++ leaks) n k l good.kept spot there.made.0 there.made.1 leaf (alive_trunk (expand v w) l (owners l reaches) reaches) off checks in
           let next : Memory = stored s k (machine.Null ∷ []) (freed n m) in
           let designates : Reaches seen_here (expand v (All w)) (OfCell n) =
-          subst (λ z. Reaches seen_here z (OfCell n)) (sym (expand_down v w place)) (l, n, reaches, held, refl) in
+          subst (λ z. Reaches seen_here z (OfCell n)) (sym (expand_down v w place (inr (no_part (home s depth) sees v seen_here facts good.viewed.views w plain)))) (l, n, reaches, held, refl) in
           subst (ExactHere behind (spots_of (ways.name_of w) pos' count k.of)) (sym (does.at_cell k m n (word ∙ ap (λ z. z ∷ []) e) alive)) (
-            exact_from s settled (home s depth) (sees_only s) other v elsewhere away_from (seen s next hands (t.state.leaks ++ leaks)) next hands behind
-                (variables_after (home s depth) (sees_only s) other v elsewhere away_from seen_here facts good.viewed (act.Free (ways.name_of w)) (λ n none. absurd none)) (λ z. refl)
-                (told_released (home s depth) (sees_only s) other v elsewhere away_from seen_here (seen s next hands (t.state.leaks ++ leaks)) w l n facts good.viewed named plain
+            exact_from s settled (home s depth) sees other v elsewhere away_from (seen s next hands (t.state.leaks ++ leaks)) next hands behind
+                (variables_after (home s depth) sees other v elsewhere away_from seen_here facts good.viewed (act.Free (ways.name_of w)) (λ n none. absurd none)) (λ z. refl)
+                (told_released (home s depth) sees other v elsewhere away_from seen_here (seen s next hands (t.state.leaks ++ leaks)) w l n facts good.viewed named plain
                 freed_there reaches held allowed
-                (told_seen s settled (home s depth) (sees_only s) other v elsewhere away_from m hands t.state.leaks facts good.viewed exact)),
+                (told_seen s settled (home s depth) sees other v elsewhere away_from m hands t.state.leaks facts good.viewed exact)),
             place_holds s settled (home s depth) v elsewhere m hands t.state.leaks facts
-                (definite_variable (home s depth) (sees_only s) other v elsewhere away_from seen_here facts good.viewed) exact (cell_place t' n) (OfCell n) (All w) in_cell named designates
+                (definite_variable (home s depth) sees other v elsewhere away_from seen_here facts good.viewed) exact (cell_place t' n) (OfCell n) (All w) in_cell named designates
                 Excused pos pos' count known,
           )
 
@@ -205,12 +207,12 @@ module _ (t : Turn) (settled : IsSettled (typing t).table) (own_law : OwnsByShap
       released_at known (Traps e n) never = none_made Excused (spots_of (ways.name_of w) pos' count u)
 
     -- what is freed isn't a formal itself
-    whole : (x : ℕ) (path : TypedTree) (way : List run.Step) → is_fixed s (name_of x path) ≡ false → Goes s.table (object_at s x).of u path way
+    whole : (x : ℕ) (path : TypedTree) (way : List run.Step) → is_fixed s sees (name_of x path) ≡ false → Goes s.table (object_at s x).of u path way
         → is_view_formal s x ≡ true → way ≡ [] → ⊥
-    whole x path way free goes formal none = free_formal s (name_of x path) free formal (no_selectors s.table (object_at s x).of u path way goes none)
+    whole x path way free goes formal none = free_formal s sees (name_of x path) free formal (no_selectors s.table (object_at s x).of u path way goes none)
 
     -- the steps of the name are evaluated
-    then_released : (x : ℕ) (path : TypedTree) → is_fixed s (name_of x path) ≡ false → Allows facts (act.Free (name_of x path))
+    then_released : (x : ℕ) (path : TypedTree) → is_fixed s sees (name_of x path) ≡ false → Allows facts (act.Free (name_of x path))
         → Knows Excused pos' (extend (name_of x path) (sel.Deref ∷ [])) count facts (parts s.table (designated s.table u)) → (y : Evaluated (List run.Step))
         → Quiet now (λ way. Goes s.table (object_at s x).of u path way) y
         → ExactHere (effect (act.Free (name_of x path)) facts) (spots_of (name_of x path) pos' count u)
@@ -225,19 +227,19 @@ module _ (t : Turn) (settled : IsSettled (typing t).table) (own_law : OwnsByShap
         let frees : Allows facts (act.Free (ways.name_of w)) = subst (λ z. Allows facts (act.Free z)) (sym called) allowed in
         subst (λ (z : Now). ExactHere (effect (act.Free (name_of x path)) facts) (spots_of (name_of x path) pos' count u) (steps.evaluated t (walked s way (variable_place (here t) x) z) f)) (sym same)
         (subst (λ z. ExactHere (effect (act.Free z) facts) (spots_of z pos' count u) (steps.evaluated t (walked s way (variable_place (here t) x) now) f)) called
-        (released_at w named (ap (sees_only s) (number_along way (Object (OfVariable (home s depth x) x))) ∙ free_sees s (name_of x path) free)
+        (released_at w named (ap sees (number_along way (Object (OfVariable (home s depth x) x))) ∙ free_sees s sees (name_of x path) free)
         (is_place s v (home s depth x) x u way goes.lead (named_type s.table u d access) (whole x path way free goes) good.holds.only) frees
-        (λ l reaches. changed_owners (here t) settled hands t.state.leaks m [] other facts v good.kept good.viewed good.holds alone alive_trunk x u way (whole x path way free goes) goes.lead l reaches)
+        (λ l reaches. changed_owners (here t) sees seeing settled hands t.state.leaks m [] other facts v good.kept good.viewed good.holds alone alive_trunk x u way (free_sees s sees (name_of x path) free) (whole x path way free goes) goes.lead l reaches)
         (subst (λ z. Knows Excused pos' (extend z (sel.Deref ∷ [])) count facts (parts s.table (designated s.table u))) (sym called) known)
         (walked s way (variable_place (here t) x) now)
-        (name_quiet (here t) settled hands t.state.leaks m [] other facts v good.kept good.viewed good.holds alone alive_trunk index_law own_law parts_named x path u way goes
+        (name_quiet (here t) sees seeing settled hands t.state.leaks m [] other facts v good.kept good.viewed good.holds alone alive_trunk index_law own_law parts_named x path u way goes
         (λ q q_named q_called. free_open facts q (subst (λ z. Allows facts (act.Free z)) (sym q_called) allowed)))))
     then_released x path free allowed known (Raises e n) is = none_made Excused (spots_of (name_of x path) pos' count u)
     then_released x path free allowed known (Traps e n) never = none_made Excused (spots_of (name_of x path) pos' count u)
 
   -- a release, whose name takes these values
   pub released_on : (ws : List (List machine.Word)) (f : Place → Memory → Outcome) (pos p : Pos) (x u d : ℕ) (path : TypedTree) → Does f pos
-      → shape_of s.table u ≡ shape.Access d false true → Leads s (object_at s x).of path u → Takes (waits_in path) ws [] → is_fixed s (name_of x path) ≡ false
+      → shape_of s.table u ≡ shape.Access d false true → Leads s (object_at s x).of path u → Takes (waits_in path) ws [] → is_fixed s sees (name_of x path) ≡ false
       → (facts : List Fact) → Good facts → AllowsAll facts (acts (source_acts s (Name p x path u) act.Free)) → Exact m facts
       → (pos' : Pos) (count : ℕ) → Knows Excused pos' (extend (name_of x path) (sel.Deref ∷ [])) count (after (acts (acts_in s path)) facts) (parts s.table (designated s.table u))
       → ExactHere (after (acts (source_acts s (Name p x path u) act.Free)) facts) (spots_of (name_of x path) pos' count u)
@@ -248,8 +250,8 @@ module _ (t : Turn) (settled : IsSettled (typing t).table) (own_law : OwnsByShap
       let whole_acts : acts (source_acts s (Name p x path u) act.Free) ≡ b ++ (act.Free (name_of x path) ∷ []) =
       acts_append (acts_in s path) (record { pos = p; act = act.Free (name_of x path) } ∷ []) in
       let each = allows_both facts b (act.Free (name_of x path) ∷ []) (subst (AllowsAll facts) whole_acts allowed) in
-      let inner = steps_taking (here t) settled hands t.state.leaks m [] other facts v good.kept good.viewed good.holds alone
-      (live t settled own_law other alone v parts_named may frames none facts good) index_law own_law parts_named (object_at s x).of u path lead ws [] takes each.0 in
+      let inner = steps_taking (here t) sees seeing settled hands t.state.leaks m [] other facts v good.kept good.viewed good.holds alone
+      (live t sees seeing settled own_law other alone v parts_named may frames none facts good) index_law own_law parts_named (object_at s x).of u path lead ws [] takes each.0 in
       let frees : Allows facts (act.Free (name_of x path)) = subst (λ z. Allows z (act.Free (name_of x path))) inner.1 each.1.0 in
       let behind_acts : after (acts (source_acts s (Name p x path u) act.Free)) facts ≡ effect (act.Free (name_of x path)) facts =
       ap (λ z. after z facts) whole_acts ∙ after_append b (act.Free (name_of x path) ∷ []) facts ∙ ap (effect (act.Free (name_of x path))) inner.1 in

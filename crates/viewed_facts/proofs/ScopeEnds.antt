@@ -1,6 +1,6 @@
 -- At the end of a scope, facts of all frames stay exact, and no leak check fails that is excused.
-use Rattle.viewed_soundness.specs.Holds.{is_view, sees_only}
-use Rattle.std.proofs.Common.{◌≡◌, refl, sym, ◌∙◌, subst, ℕ, suc, true, false, List, [], ◌∷◌, ◌++◌, length, Some, None, take}
+use Rattle.viewed_soundness.specs.Holds.{is_view, Seeing}
+use Rattle.std.proofs.Common.{◌≡◌, refl, sym, ◌∙◌, subst, ℕ, suc, true, false, List, [], ◌∷◌, ◌++◌, length, Some, None, take, Bool}
 use Rattle.spark_base.specs.Lists.{Has}
 use Rattle.spark_base.specs.declared.position.Pos.{Pos}
 use Rattle.place_names.specs.declared.selector.Sel.{Sel}
@@ -28,7 +28,7 @@ use Rattle.machine.specs.States.{Frame, State, Outcome, Goes, Ends, sub_of}
 use Rattle.machine.specs.Step.{Turn, turn}
 use Rattle.machine.specs.Owners.{waiting_in}
 use Rattle.machine.specs.Run.{step}
-use Rattle.owned_ways.specs.Ways.{Way, Told, after}
+use Rattle.owned_ways.specs.Ways.{Step, Way, Told, after}
 use Rattle.soundness.specs.Seen.{home, seen, IsNear}
 use Rattle.soundness.specs.Typed.{Kept}
 use Rattle.soundness.specs.Sound.{Stage, facts_of, AreStages, IsRunnable, IsNoCall, InScope, IsNamedSub, IsAtPoint, view_of as view_here}
@@ -50,8 +50,16 @@ use Rattle.viewed_facts.proofs.Frames.{elsewhere as moved_elsewhere, IsDefiniteH
 use Rattle.viewed_facts.proofs.Here as here
 use Rattle.viewed_steps.proofs.Views.{AreAccess}
 use Rattle.viewed_facts.proofs.Steps.{IsAway}
+use Rattle.viewed_steps.specs.Seeing.{sees_in}
+use Rattle.viewed_steps.proofs.Sees.{sees_seeing}
 
 module _ (table : Table) (typed : TypedProgram) (effects : Effects) (input : List ℕ) (ready : IsReady table typed effects) where
+  abbrev sees : ℕ → Bool
+  sees = sees_in (flow_program table typed)
+
+  abbrev seeing : Seeing (flow_typing (flow_program table typed)) sees
+  seeing = sees_seeing (flow_program table typed)
+
   abbrev program : FlowProgram
   program = flow_program table typed
 
@@ -78,9 +86,9 @@ module _ (table : Table) (typed : TypedProgram) (effects : Effects) (input : Lis
       (awaiting : AreAwaited table typed None (top ∷ stages_of (below ∷ more_frames)))
       (of_sub : IsNamedSub (flow_named table typed) top.frame.sub named) (at_point : IsAtPoint named.points top.frame.next p)
       (path : ControlPath (path_points program effects (sub_of program top.frame.sub)) top.before top.frame.next) (views : Views)
-      (viewed_before : ViewedAlone (home s (suc (length rest))) (sees_only s) (known_gone (home s (suc (length rest))) (GoneElsewhere program effects (below ∷ more_frames))) views
+      (viewed_before : ViewedAlone (home s (suc (length rest))) sees (known_gone (home s (suc (length rest))) (GoneElsewhere program effects (below ∷ more_frames))) views
       (view_here s state) (facts_of program effects top))
-      (kept : Kept s state.memory (waiting_in state)) (scope : InScope s state.memory (suc (length rest)) (lasting_of s p.scope)) (holds : HoldsAt s (suc (length rest)) views state.memory p)
+      (kept : Kept s state.memory (waiting_in state)) (scope : InScope s state.memory (suc (length rest)) (lasting_of s p.scope)) (holds : HoldsAt s sees (suc (length rest)) views state.memory p)
       (placed_before : ArePlaced program (suc (length rest)) (facts_of program effects top) views p.scope × IsBeyond program effects (suc (length rest)) views (below ∷ more_frames)) (above : NoneAbove s (suc (length rest)) state.memory
       × HasTraversals table typed (view_here s state) (record { stage = top; views = views; cells = [] } ∷ (below ∷ more_frames)))
       (exact_before : Told (seen s state.memory [] []) (IsDefiniteOf program effects (record { stage = top; views = views; cells = [] } ∷ (below ∷ more_frames)))) where
@@ -159,7 +167,7 @@ module _ (table : Table) (typed : TypedProgram) (effects : Effects) (input : Lis
     abbrev easy : Turn
     easy = eased at
 
-    abbrev viewed_easy : Plain → Viewed (home s depth) (sees_only s) other views (view_here s easy.state) facts_now × Kept s state.memory (waiting_in easy.state)
+    abbrev viewed_easy : Plain → Viewed (home s depth) sees other views (view_here s easy.state) facts_now × Kept s state.memory (waiting_in easy.state)
     viewed_easy = innermost.viewed_easy table typed effects input ready state top below more_frames rest named p frames deep stages running awaiting of_sub at_point path views viewed_before kept scope holds placed_before above
 
     abbrev knows : (i : Instruction) → p.instr ≡ i → (front others : List Placed) → placed_by i ≡ front ++ others → (pos : Pos) (name : PlaceName) (qs : List (List Sel))
@@ -188,7 +196,7 @@ module _ (table : Table) (typed : TypedProgram) (effects : Effects) (input : Lis
 
       scope_checks : NoneFails Excused (spots_by (EndScope y)) (checks_of (turn at (EndScope y)))
       scope_checks =
-          end_scope_checked easy ready.accepted.settled ready.owns other alone in_formals views ready.class.parts_named none_taken refl refl elsewhere away Excused y facts_now (viewed_easy plain_end.0).0 exact p.pos 0
+          end_scope_checked easy sees seeing ready.accepted.settled ready.owns other alone in_formals views ready.class.parts_named none_taken refl refl elsewhere away Excused y facts_now (viewed_easy plain_end.0).0 exact p.pos 0
           (knows (EndScope y) is [] (placed_by (EndScope y)) refl p.pos (object y) (parts s.table (object_at s y).of))
 
       pub ended_checks_hold : NoneFails Excused at.point.leaks (checks_of (step program input state))
@@ -202,13 +210,13 @@ module _ (table : Table) (typed : TypedProgram) (effects : Effects) (input : Lis
       IsLeft (Ends how next) = Unit {0}
 
       pub told_left : (next : State) → step program input state ≡ Goes next → (later : Views)
-          → ((x : ℕ) (w : Way) → later.way x ≡ Some w → is_view s x ≡ true) → AreLeft (home s depth) y views later
+          → ((x : ℕ) (w : Way) → later.way x ≡ Some w → is_view s x ≡ true) → ((x : ℕ) (p : List Step) (w : Way) → later.part_way x p ≡ Some w → sees x ≡ true) → AreLeft (home s depth) y views later
           → Told (seen s next.memory [] []) (IsDefiniteHere table typed effects unmoved_stage local depth later (facts_before points (top.frame.next ∷ top.before)) older)
-      told_left next goes later only left =
+      told_left next goes later only parts left =
           all_told next.memory later only no_call_there
           (subst (λ z. IsExact s (home s depth) later elsewhere z (after (acts_by p.instr) facts_now)) (sym memory_is)
           (subst (λ i. IsExact s (home s depth) later elsewhere (undeclared depth y state.memory) (after (acts_by i) facts_now)) (sym is)
-          (end_scope_exact easy ready.accepted.settled ready.owns other alone in_formals views ready.class.parts_named none_taken refl refl elsewhere away Excused later y (is_borrower s y) ((here.orderly table typed effects input ready state top below more_frames rest named p frames deep stages running awaiting of_sub at_point path views viewed_before kept scope holds placed_before above exact_before).over y is) (home_frame y not_shared) facts_now (viewed_easy plain_end.0).0 (innermost.not_lent table typed effects input ready state top below more_frames rest named p frames deep stages running awaiting of_sub at_point path views viewed_before kept scope holds placed_before above y not_shared) holds.only left exact)))
+          (end_scope_exact easy sees seeing ready.accepted.settled ready.owns other alone in_formals views ready.class.parts_named none_taken refl refl elsewhere away Excused later y (is_borrower s y) ((here.orderly table typed effects input ready state top below more_frames rest named p frames deep stages running awaiting of_sub at_point path views viewed_before kept scope holds placed_before above exact_before).over y is) (home_frame y not_shared) facts_now (viewed_easy plain_end.0).0 (innermost.not_lent table typed effects input ready state top below more_frames rest named p frames deep stages running awaiting of_sub at_point path views viewed_before kept scope holds placed_before above y not_shared) holds.only parts left exact)))
         where
           left_there : IsLeft (step program input state)
           left_there = subst IsLeft (sym (standing.step_is table typed effects input ready state top older outer named p frames of_sub at_point)) (subst (λ i. IsLeft (turn at i)) (sym is) refl)

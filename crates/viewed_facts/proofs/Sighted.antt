@@ -1,5 +1,5 @@
 -- Facts without an element stay exact where a view takes what a function gave that goes through a name.
-use Rattle.std.proofs.Common.{◌≡◌, refl, sym, subst, ℕ, suc, true, false, List, [], ◌∷◌, ◌++◌, length, None}
+use Rattle.std.proofs.Common.{◌≡◌, refl, sym, subst, ℕ, suc, true, false, List, [], ◌∷◌, ◌++◌, length, None, Bool}
 use Rattle.spark_base.specs.Lists.{Has}
 use Rattle.spark_base.specs.declared.position.Pos.{Pos}
 use Rattle.place_names.specs.declared.act.Act.{Act}
@@ -33,7 +33,7 @@ use Rattle.soundness.specs.Sound.{Stage, facts_of, AreStages, IsRunnable, IsNoCa
 use Rattle.soundness.proofs.Eased.{eased}
 use Rattle.soundness.proofs.Around.{IsFar}
 use Rattle.owned_loans.specs.Views.{Around, known_gone, Views, ViewedAlone}
-use Rattle.viewed_soundness.specs.Holds.{is_view, sees_only}
+use Rattle.viewed_soundness.specs.Holds.{is_view, Seeing}
 use Rattle.viewed_soundness.proofs.Outcomes.{IsGood}
 use Rattle.viewed_steps.specs.Sound.{IsBeyond, IsResting, HoldsAt, ArePlaced, NoneAbove, ViewStage, stages_of, GoneElsewhere, AreWaiting, HasTraversals, IsStoredAt}
 use Rattle.viewed_steps.specs.Awaited.{AreAwaited, lasting_of, TakesAlone}
@@ -53,8 +53,16 @@ use Rattle.viewed_facts.proofs.Steps.{IsAway}
 use Rattle.viewed_facts.proofs.Given.{call_tree, given_declared, given_put}
 use Rattle.viewed_steps.specs.Traversals.{AreGiven, GivesView}
 use Rattle.viewed_soundness.proofs.Lends.{Sees}
+use Rattle.viewed_steps.specs.Seeing.{sees_in}
+use Rattle.viewed_steps.proofs.Sees.{sees_seeing}
 
 module _ (table : Table) (typed : TypedProgram) (effects : Effects) (input : List ℕ) (ready : IsReady table typed effects) where
+  abbrev sees : ℕ → Bool
+  sees = sees_in (flow_program table typed)
+
+  abbrev seeing : Seeing (flow_typing (flow_program table typed)) sees
+  seeing = sees_seeing (flow_program table typed)
+
   abbrev program : FlowProgram
   program = flow_program table typed
 
@@ -81,9 +89,9 @@ module _ (table : Table) (typed : TypedProgram) (effects : Effects) (input : Lis
       (awaiting : AreAwaited table typed None (top ∷ stages_of (below ∷ more_frames)))
       (of_sub : IsNamedSub (flow_named table typed) top.frame.sub named) (at_point : IsAtPoint named.points top.frame.next p)
       (path : ControlPath (path_points program effects (sub_of program top.frame.sub)) top.before top.frame.next) (views : Views)
-      (viewed_before : ViewedAlone (home s (suc (length rest))) (sees_only s) (known_gone (home s (suc (length rest))) (GoneElsewhere program effects (below ∷ more_frames))) views
+      (viewed_before : ViewedAlone (home s (suc (length rest))) sees (known_gone (home s (suc (length rest))) (GoneElsewhere program effects (below ∷ more_frames))) views
       (view_here s state) (facts_of program effects top))
-      (kept : Kept s state.memory (waiting_in state)) (scope : InScope s state.memory (suc (length rest)) (lasting_of s p.scope)) (holds : HoldsAt s (suc (length rest)) views state.memory p)
+      (kept : Kept s state.memory (waiting_in state)) (scope : InScope s state.memory (suc (length rest)) (lasting_of s p.scope)) (holds : HoldsAt s sees (suc (length rest)) views state.memory p)
       (placed_before : ArePlaced program (suc (length rest)) (facts_of program effects top) views p.scope × IsBeyond program effects (suc (length rest)) views (below ∷ more_frames)) (above : NoneAbove s (suc (length rest)) state.memory
       × HasTraversals table typed (view_here s state) (record { stage = top; views = views; cells = [] } ∷ (below ∷ more_frames)))
       (exact_before : Told (seen s state.memory [] []) (IsDefiniteOf program effects (record { stage = top; views = views; cells = [] } ∷ (below ∷ more_frames)))) where
@@ -151,7 +159,7 @@ module _ (table : Table) (typed : TypedProgram) (effects : Effects) (input : Lis
 
     module _ (going : (x : ℕ) → p.instr ≡ EndScope x → ⊥) (no_calls : IsNoCall p.instr) (taken_alone : TakesAlone s p) where
       abbrev ExactAt : List Fact → List LeakSpot → Outcome → Type 0
-      ExactAt facts spots outcome = ExactOn easy ready.accepted.settled ready.owns other alone in_formals views ready.class.parts_named none_taken refl refl elsewhere away Excused facts spots outcome
+      ExactAt facts spots outcome = ExactOn easy sees seeing ready.accepted.settled ready.owns other alone in_formals views ready.class.parts_named none_taken refl refl elsewhere away Excused facts spots outcome
 
       abbrev call : TypedTree
       call = alone_value.call table typed effects input ready state top below more_frames rest named p frames deep stages running awaiting of_sub at_point path views viewed_before kept scope holds placed_before above going taken_alone
@@ -168,12 +176,12 @@ module _ (table : Table) (typed : TypedProgram) (effects : Effects) (input : Lis
         words_now : given_words ≡ (word_now ∷ []) ∷ []
         words_now = taking.words_there table typed effects input ready state top below more_frames rest named p frames deep stages running awaiting of_sub at_point path views viewed_before kept scope holds placed_before above going no_calls taken_alone given_here (object_at s x).of n q r path_of u others y call_is gives
 
-        good_now : IsGood easy ready.accepted.settled ready.owns other alone views ready.class.parts_named none_taken refl refl views facts_now easy.state
+        good_now : IsGood easy sees seeing ready.accepted.settled ready.owns other alone views ready.class.parts_named none_taken refl refl views facts_now easy.state
         good_now =
             let good_there = taking.good_there table typed effects input ready state top below more_frames rest named p frames deep stages running awaiting of_sub at_point path views viewed_before kept scope holds placed_before above going no_calls taken_alone given_here (object_at s x).of n q r path_of u others y call_is gives in
             record { viewed = good_there.viewed; kept = good_there.kept; holds = good_there.holds }
 
-        looks_now : Sees easy ready.accepted.settled ready.owns other alone views ready.class.parts_named none_taken refl refl x gives.d
+        looks_now : Sees easy sees seeing ready.accepted.settled ready.owns other alone views ready.class.parts_named none_taken refl refl x gives.d
         looks_now = record {
           k = gives.k;
           e = gives.e;
@@ -194,7 +202,7 @@ module _ (table : Table) (typed : TypedProgram) (effects : Effects) (input : Lis
             (steps.evaluated easy (steps.taken_by at (object_at s x).of c (start at)) (λ vs m. steps.goes easy (declared depth x vs m) 0))) (sym call_is)
             (subst (λ ws. ExactAt (after (acts_by (Declare x (More tree_now NoMore))) facts_now) []
             (steps.evaluated easy (steps.taken_by at (object_at s x).of tree_now (record { memory = state.memory; waits = ws })) (λ vs m. steps.goes easy (declared depth x vs m) 0))) (sym words_now)
-            (given_declared easy ready.accepted.settled ready.owns other alone in_formals views ready.class.parts_named none_taken refl refl elsewhere away Excused r n q y path_of u others x gives.d word_now facts_now looks_now good_now exact variable))
+            (given_declared easy sees seeing ready.accepted.settled ready.owns other alone in_formals views ready.class.parts_named none_taken refl refl elsewhere away Excused r n q y path_of u others x gives.d word_now facts_now looks_now good_now exact variable))
 
         abbrev pub Puts_now : Pos → TypedTree → Now → Outcome
         Puts_now k c before =
@@ -206,4 +214,4 @@ module _ (table : Table) (typed : TypedProgram) (effects : Effects) (input : Lis
         put_so k =
             subst (λ c. ExactAt (after (acts_by (Assign (Name k x NoMore (object_at s x).of) c)) facts_now) [] (Puts_now k c (start at))) (sym call_is)
             (subst (λ ws. ExactAt (after (acts_by (Assign (Name k x NoMore (object_at s x).of) tree_now)) facts_now) [] (Puts_now k tree_now (record { memory = state.memory; waits = ws }))) (sym words_now)
-            (given_put easy ready.accepted.settled ready.owns other alone in_formals views ready.class.parts_named none_taken refl refl elsewhere away Excused r n q y path_of u others x gives.d word_now facts_now looks_now good_now exact variable p.pos (steps.target_pos at (Name k x NoMore (object_at s x).of)) k))
+            (given_put easy sees seeing ready.accepted.settled ready.owns other alone in_formals views ready.class.parts_named none_taken refl refl elsewhere away Excused r n q y path_of u others x gives.d word_now facts_now looks_now good_now exact variable p.pos (steps.target_pos at (Name k x NoMore (object_at s x).of)) k))

@@ -60,8 +60,8 @@ use Rattle.soundness.proofs.Continued.{got_with, released_with, started_with, in
 use Rattle.soundness.proofs.Inherited.{after_splits}
 use Rattle.soundness.proofs.Around.{IsFar}
 use Rattle.owned_loans.specs.Views.{Around, known_gone, Views, Viewed, ViewedAlone}
-use Rattle.viewed_soundness.specs.Holds.{is_fixed, is_view, IsNamed, AllKeep, sees_only}
-use Rattle.viewed_soundness.proofs.Names.{plain_named, true_false}
+use Rattle.viewed_soundness.specs.Holds.{is_fixed, is_view, IsNamed, AllKeep, Seeing}
+use Rattle.viewed_soundness.proofs.ViewKinds.{plain_named, true_false}
 use Rattle.viewed_soundness.proofs.Evaluated.{keep_both}
 use Rattle.viewed_soundness.proofs.Outcomes.{named_plain, IsGood, Leads_on, assigned_acts}
 use Rattle.viewed_steps.specs.Sound.{IsBeyond, IsResting, HoldsAt, ArePlaced, NoneAbove, ViewStage, stages_of, GoneElsewhere, AreWaiting, HasTraversals, IsStoredAt}
@@ -93,8 +93,16 @@ use Rattle.viewed_facts.proofs.Within as within_value
 use Rattle.viewed_steps.proofs.Views.{AreAccess, all_held}
 use Rattle.viewed_facts.proofs.Steps.{IsAway}
 use Rattle.viewed_facts.proofs.Given.{gives_no_call, first_plain}
+use Rattle.viewed_steps.specs.Seeing.{sees_in}
+use Rattle.viewed_steps.proofs.Sees.{sees_seeing}
 
 module _ (table : Table) (typed : TypedProgram) (effects : Effects) (input : List ℕ) (ready : IsReady table typed effects) where
+  abbrev sees : ℕ → Bool
+  sees = sees_in (flow_program table typed)
+
+  abbrev seeing : Seeing (flow_typing (flow_program table typed)) sees
+  seeing = sees_seeing (flow_program table typed)
+
   abbrev program : FlowProgram
   program = flow_program table typed
 
@@ -121,9 +129,9 @@ module _ (table : Table) (typed : TypedProgram) (effects : Effects) (input : Lis
       (awaiting : AreAwaited table typed None (top ∷ stages_of (below ∷ more_frames)))
       (of_sub : IsNamedSub (flow_named table typed) top.frame.sub named) (at_point : IsAtPoint named.points top.frame.next p)
       (path : ControlPath (path_points program effects (sub_of program top.frame.sub)) top.before top.frame.next) (views : Views)
-      (viewed_before : ViewedAlone (home s (suc (length rest))) (sees_only s) (known_gone (home s (suc (length rest))) (GoneElsewhere program effects (below ∷ more_frames))) views
+      (viewed_before : ViewedAlone (home s (suc (length rest))) sees (known_gone (home s (suc (length rest))) (GoneElsewhere program effects (below ∷ more_frames))) views
       (view_here s state) (facts_of program effects top))
-      (kept : Kept s state.memory (waiting_in state)) (scope : InScope s state.memory (suc (length rest)) (lasting_of s p.scope)) (holds : HoldsAt s (suc (length rest)) views state.memory p)
+      (kept : Kept s state.memory (waiting_in state)) (scope : InScope s state.memory (suc (length rest)) (lasting_of s p.scope)) (holds : HoldsAt s sees (suc (length rest)) views state.memory p)
       (placed_before : ArePlaced program (suc (length rest)) (facts_of program effects top) views p.scope × IsBeyond program effects (suc (length rest)) views (below ∷ more_frames)) (above : NoneAbove s (suc (length rest)) state.memory
       × HasTraversals table typed (view_here s state) (record { stage = top; views = views; cells = [] } ∷ (below ∷ more_frames)))
       (exact_before : Told (seen s state.memory [] []) (IsDefiniteOf program effects (record { stage = top; views = views; cells = [] } ∷ (below ∷ more_frames)))) where
@@ -166,7 +174,7 @@ module _ (table : Table) (typed : TypedProgram) (effects : Effects) (input : Lis
     abbrev facts_now : List Fact
     facts_now = own_facts ++ around
 
-    abbrev viewed : Viewed (home s depth) (sees_only s) other views (view_here s state) facts_now
+    abbrev viewed : Viewed (home s depth) sees other views (view_here s state) facts_now
     viewed = innermost.viewed table typed effects input ready state top below more_frames rest named p frames deep stages running awaiting of_sub at_point path views viewed_before kept scope holds placed_before above
 
     abbrev own_views : (x : ℕ) (w : Way) → views.way x ≡ Some w → is_package_object s x ≡ false
@@ -214,7 +222,7 @@ module _ (table : Table) (typed : TypedProgram) (effects : Effects) (input : Lis
     abbrev easy : Turn
     easy = eased at
 
-    abbrev viewed_easy : Plain → Viewed (home s depth) (sees_only s) other views (view_here s easy.state) facts_now × Kept s state.memory (waiting_in easy.state)
+    abbrev viewed_easy : Plain → Viewed (home s depth) sees other views (view_here s easy.state) facts_now × Kept s state.memory (waiting_in easy.state)
     viewed_easy = innermost.viewed_easy table typed effects input ready state top below more_frames rest named p frames deep stages running awaiting of_sub at_point path views viewed_before kept scope holds placed_before above
 
     abbrev knows : (i : Instruction) → p.instr ≡ i → (front others : List Placed) → placed_by i ≡ front ++ others → (pos : Pos) (name : PlaceName) (qs : List (List Sel))
@@ -231,16 +239,16 @@ module _ (table : Table) (typed : TypedProgram) (effects : Effects) (input : Lis
 
     module _ (going : (x : ℕ) → p.instr ≡ EndScope x → ⊥) (no_calls : IsNoCall p.instr) where
       abbrev pub ExactAt : List Fact → List LeakSpot → Outcome → Type 0
-      ExactAt facts spots outcome = ExactOn easy ready.accepted.settled ready.owns other alone in_formals views ready.class.parts_named none_taken refl refl elsewhere away Excused facts spots outcome
+      ExactAt facts spots outcome = ExactOn easy sees seeing ready.accepted.settled ready.owns other alone in_formals views ready.class.parts_named none_taken refl refl elsewhere away Excused facts spots outcome
 
       abbrev Exacts : Instruction → Type 0
       Exacts i = ExactAt (after (acts_by i) facts_now) (spots_by i) (turn at i)
 
-      pub good : Plainly → IsGood easy ready.accepted.settled ready.owns other alone views ready.class.parts_named none_taken refl refl views facts_now easy.state
+      pub good : Plainly → IsGood easy sees seeing ready.accepted.settled ready.owns other alone views ready.class.parts_named none_taken refl refl views facts_now easy.state
       good plain = record {
         viewed = (viewed_easy plain.0).0;
         kept = (viewed_easy plain.0).1;
-        holds = all_held s in_formals depth views state.memory (λ x n view e. holds.held x n (λ fading. going fading.0 fading.1) view e) holds.only holds.owners holds.own;
+        holds = all_held s sees in_formals depth views state.memory (λ x n view bare e. holds.held x n (λ fading. going fading.0 fading.1) view bare e) holds.only holds.owners holds.own holds.taken holds.parts;
       }
 
       abbrev eased_on : (facts : List Fact) (spots : List LeakSpot) {A : Type 0} (y : Evaluated A) (f g : A → Memory → Outcome)
@@ -253,7 +261,7 @@ module _ (table : Table) (typed : TypedProgram) (effects : Effects) (input : Lis
       NoTrap (Goes t) = Unit {0}
       NoTrap (Ends e t) = IsTrap e → ⊥
 
-      no_trap : (facts : List Fact) (o : Outcome) → Leads_on easy ready.accepted.settled ready.owns other alone views ready.class.parts_named none_taken refl refl facts o → NoTrap o
+      no_trap : (facts : List Fact) (o : Outcome) → Leads_on easy sees seeing ready.accepted.settled ready.owns other alone views ready.class.parts_named none_taken refl refl facts o → NoTrap o
       no_trap facts (Goes t) leads = tt
       no_trap facts (Ends e t) leads = leads.0
 
@@ -265,21 +273,21 @@ module _ (table : Table) (typed : TypedProgram) (effects : Effects) (input : Lis
 
       -- where nothing is taken, the step is like it is
       module _ (nothing : taken at.point.instr ≡ 0) where
-        good_there : IsGood at ready.accepted.settled ready.owns other alone views ready.class.parts_named none_taken frames nothing views facts_now state
-        good_there = record { viewed = viewed; kept = kept; holds = all_held s in_formals depth views state.memory (λ x n view e. holds.held x n (λ fading. going fading.0 fading.1) view e) holds.only holds.owners holds.own }
+        good_there : IsGood at sees seeing ready.accepted.settled ready.owns other alone views ready.class.parts_named none_taken frames nothing views facts_now state
+        good_there = record { viewed = viewed; kept = kept; holds = all_held s sees in_formals depth views state.memory (λ x n view bare e. holds.held x n (λ fading. going fading.0 fading.1) view bare e) holds.only holds.owners holds.own holds.taken holds.parts }
 
         writes_line : (line : Bool) → Exacts (Output NoMore line)
         unfolding acts_in
         writes_line line =
-            line_exact at ready.accepted.settled ready.owns other alone in_formals views ready.class.parts_named none_taken frames nothing elsewhere away Excused line facts_now exact
+            line_exact at sees seeing ready.accepted.settled ready.owns other alone in_formals views ready.class.parts_named none_taken frames nothing elsewhere away Excused line facts_now exact
 
         turns : (x : ℕ) (reversed : Bool) (low high : TypedTree) → is_scalar (full s.table (object_at s x).of) ≡ true → Exacts (Next x reversed low high)
         turns x reversed low high scalar =
-            next_exact at ready.accepted.settled ready.owns other alone in_formals views ready.class.parts_named none_taken frames nothing elsewhere away Excused
+            next_exact at sees seeing ready.accepted.settled ready.owns other alone in_formals views ready.class.parts_named none_taken frames nothing elsewhere away Excused
             x reversed scalar facts_now good_there exact
 
       skips : Exacts Skip
-      skips = skip_exact easy ready.accepted.settled ready.owns other alone in_formals views ready.class.parts_named none_taken refl refl elsewhere away Excused facts_now exact
+      skips = skip_exact easy sees seeing ready.accepted.settled ready.owns other alone in_formals views ready.class.parts_named none_taken refl refl elsewhere away Excused facts_now exact
 
       abbrev declared_main : (facts : List Fact) (x : ℕ) (w : TypedTree)
           → ExactAt facts [] (steps.evaluated easy (steps.first_value at (object_at s x).of w (start at)) (λ vs m. steps.goes easy (declared depth x vs m) 0))
@@ -296,10 +304,10 @@ module _ (table : Table) (typed : TypedProgram) (effects : Effects) (input : Lis
       assigned_main = turning.assigned_main table typed effects input ready state top below more_frames rest named p frames deep stages running awaiting of_sub at_point path views viewed_before kept scope holds placed_before above exact_before going no_calls
 
       abbrev holds_value : (e : TypedTree) (of : ℕ) → p.instr ≡ Hold (More e NoMore) → named.sub.result ≡ Some of → is_anonymous (full s.table of) ≡ false
-          → (IsNamed s.table of → AllowsAll facts_now (acts (acts_in s e)) → AllKeep (is_fixed s) (acts (acts_in s e))
-          → ExactTo (steps.here at) ready.accepted.settled state.leaks [] other alone (keeps s ready.accepted.settled ready.owns) index_law ready.owns views
+          → (IsNamed s.table of → AllowsAll facts_now (acts (acts_in s e)) → AllKeep (is_fixed s sees) (acts (acts_in s e))
+          → ExactTo (steps.here at) sees seeing ready.accepted.settled state.leaks [] other alone (keeps s ready.accepted.settled ready.owns) index_law ready.owns views
           ready.class.parts_named elsewhere away (after (acts (acts_in s e)) facts_now) (steps.taken_by at of e (start at)))
-          → AllowsAll facts_now (acts_by (Hold (More e NoMore))) → AllKeep (is_fixed s) (acts_by (Hold (More e NoMore))) → Exacts (Hold (More e NoMore))
+          → AllowsAll facts_now (acts_by (Hold (More e NoMore))) → AllKeep (is_fixed s sees) (acts_by (Hold (More e NoMore))) → Exacts (Hold (More e NoMore))
       holds_value = turning.holds_value table typed effects input ready state top below more_frames rest named p frames deep stages running awaiting of_sub at_point path views viewed_before kept scope holds placed_before above exact_before going no_calls
 
       abbrev returns_view : (e : TypedTree) (of : ℕ) → p.instr ≡ Hold (More e NoMore) → named.sub.result ≡ Some of → Source s of e → is_anonymous (full s.table of) ≡ true
@@ -314,7 +322,7 @@ module _ (table : Table) (typed : TypedProgram) (effects : Effects) (input : Lis
 
         abbrev CallExact : ℕ → Type 0
         CallExact u =
-            ExactTo (steps.here at) ready.accepted.settled state.leaks [] other alone (keeps s ready.accepted.settled ready.owns) index_law ready.owns views
+            ExactTo (steps.here at) sees seeing ready.accepted.settled state.leaks [] other alone (keeps s ready.accepted.settled ready.owns) index_law ready.owns views
             ready.class.parts_named elsewhere away facts_now (steps.taken_by at u (CallIn taken_alone.3 taken_alone.4 taken_alone.5) (start at))
 
         -- the value comes from the frame, and memory is as it was
@@ -323,12 +331,12 @@ module _ (table : Table) (typed : TypedProgram) (effects : Effects) (input : Lis
         call_exact u type_there =
             let words : List machine.Word = (alone_value.first_value table typed effects input ready state top below more_frames rest named p frames deep stages running awaiting of_sub at_point path views viewed_before kept scope holds placed_before above going taken_alone).0.words in
             let now : List (List machine.Word) → Now = (λ ws. record { memory = state.memory; waits = ws }) in
-            subst (λ b. ExactTo (steps.here at) ready.accepted.settled state.leaks [] other alone (keeps s ready.accepted.settled ready.owns) index_law ready.owns views
+            subst (λ b. ExactTo (steps.here at) sees seeing ready.accepted.settled state.leaks [] other alone (keeps s ready.accepted.settled ready.owns) index_law ready.owns views
             ready.class.parts_named elsewhere away facts_now (if b then run.viewed (steps.here at) call (start at) else followed_by (value (steps.here at) call (start at)) (checked (steps.here at) u)))
             (sym (named_plain s.table u type_there))
-            (checked_exact (steps.here at) ready.accepted.settled state.leaks [] other alone (keeps s ready.accepted.settled ready.owns) index_law ready.owns views
+            (checked_exact (steps.here at) sees seeing ready.accepted.settled state.leaks [] other alone (keeps s ready.accepted.settled ready.owns) index_law ready.owns views
             ready.class.parts_named elsewhere away u facts_now (value (steps.here at) call (start at))
-            (subst (λ ws. ExactTo (steps.here at) ready.accepted.settled state.leaks [] other alone (keeps s ready.accepted.settled ready.owns) index_law ready.owns views
+            (subst (λ ws. ExactTo (steps.here at) sees seeing ready.accepted.settled state.leaks [] other alone (keeps s ready.accepted.settled ready.owns) index_law ready.owns views
             ready.class.parts_named elsewhere away facts_now (value (steps.here at) call (now ws))) (sym (alone_value.first_value table typed effects input ready state top below more_frames rest named p frames deep stages running awaiting of_sub at_point path views viewed_before kept scope holds placed_before above going taken_alone).1.3) exact))
 
         no_name : (r : Pos) (b : ℕ) (w : TypedTree) (o : ℕ) → call ≡ Name r b w o → ⊥
@@ -358,7 +366,7 @@ module _ (table : Table) (typed : TypedProgram) (effects : Effects) (input : Lis
               | inl name ↦ absurd (no_name found.0 found.1 found.2 found.3 name)
               | inr (r, n, others, call_is, gives) ↦
                   subst (λ z. ExactAt (after (acts_by (Assign target call)) facts_now) (map (spot k (name_of y NoMore) (length (acts_in s call ++ acts_in s NoMore))) z) (turn at (Assign target call)))
-                  (sym (view_parts easy ready.accepted.settled ready.owns other alone in_formals views ready.class.parts_named none_taken refl refl elsewhere away Excused y view))
+                  (sym (view_parts easy sees seeing ready.accepted.settled ready.owns other alone in_formals views ready.class.parts_named none_taken refl refl elsewhere away Excused y view))
                   (assigned_main (after (acts_by (Assign target call)) facts_now) [] target (object_at s y).of call
                   (sighted.put_so table typed effects input ready state top below more_frames rest named p frames deep stages running awaiting of_sub at_point path views viewed_before kept scope holds placed_before above exact_before going no_calls taken_alone y n found.0 r found.2 found.3 others found.1 call_is gives view (orderly.variables y (inl stored_there) view) stored_there k))
             ]
@@ -371,7 +379,7 @@ module _ (table : Table) (typed : TypedProgram) (effects : Effects) (input : Lis
             declared_main (after (acts_by (Declare y (More call NoMore))) facts_now) y (More call NoMore)
             (subst (λ z. ExactAt (after z facts_now) [] (steps.evaluated easy (steps.first_value at (object_at s y).of (More call NoMore) (start at))
             (λ vs m. steps.goes easy (declared depth y vs m) 0))) (sym same)
-            (then_declared easy ready.accepted.settled ready.owns other alone in_formals views ready.class.parts_named none_taken refl refl elsewhere away Excused y (orderly.begun y (More call NoMore) is) facts_now (steps.first_value at (object_at s y).of (More call NoMore) (start at))
+            (then_declared easy sees seeing ready.accepted.settled ready.owns other alone in_formals views ready.class.parts_named none_taken refl refl elsewhere away Excused y (orderly.begun y (More call NoMore) is) facts_now (steps.first_value at (object_at s y).of (More call NoMore) (start at))
             (alone_value.source_alone table typed effects input ready state top below more_frames rest named p frames deep stages running awaiting of_sub at_point path views viewed_before kept scope holds placed_before above going taken_alone (object_at s y).of type_there (alone_value.source_here table typed effects input ready state top below more_frames rest named p frames deep stages running awaiting of_sub at_point path views viewed_before kept scope holds placed_before above going no_calls taken_alone y is owner))
             (call_exact (object_at s y).of type_there)
             (each.unmoved_now table typed effects input ready state top below more_frames rest named p frames deep stages running awaiting of_sub at_point path views viewed_before kept scope holds placed_before above going no_calls y (More call NoMore) is, each.free table typed effects input ready state top below more_frames rest named p frames deep stages running awaiting of_sub at_point path views viewed_before kept scope holds placed_before above going no_calls y (More call NoMore) is)))
@@ -398,13 +406,13 @@ module _ (table : Table) (typed : TypedProgram) (effects : Effects) (input : Lis
             (subst (λ z. ExactAt z (spots_by (Assign target call)) (steps.evaluated easy (followed_by (steps.taken_by at u call (start at))
             (λ ws now. followed_by (place_of (steps.here at) target now) (λ k now. Done (record { words = ws; place = k }) now)))
             (λ (st : steps.Stored) m. steps.leaking_goes (checks_at s (steps.target_pos at target) m st.place) (steps.goes easy (stored s st.place st.words m) 0)))) (sym whole)
-            (then_stored easy ready.accepted.settled ready.owns other alone in_formals views ready.class.parts_named none_taken refl refl elsewhere away Excused (name_of y steps_there) u (after a facts_now) (effect (act.Write (name_of y steps_there)) (after a facts_now)) (steps.target_pos at target)
+            (then_stored easy sees seeing ready.accepted.settled ready.owns other alone in_formals views ready.class.parts_named none_taken refl refl elsewhere away Excused (name_of y steps_there) u (after a facts_now) (effect (act.Write (name_of y steps_there)) (after a facts_now)) (steps.target_pos at target)
             r (length (acts_in s steps_there))
             (knows (Assign target call) is (acts_in s steps_there) (record { pos = r; act = act.Write (name_of y steps_there) } ∷ [])
             (assigned_acts s p.pos y u target steps_there call type_there leads) r (name_of y steps_there) (parts s.table u))
             (followed_by (steps.taken_by at u call (start at))
             (λ ws now. followed_by (place_of (steps.here at) target now) (λ k now. Done (record { words = ws; place = k }) now)))
-            (then_placed (steps.here at) ready.accepted.settled state.leaks [] other alone (keeps s ready.accepted.settled ready.owns) index_law ready.owns views
+            (then_placed (steps.here at) sees seeing ready.accepted.settled state.leaks [] other alone (keeps s ready.accepted.settled ready.owns) index_law ready.owns views
             ready.class.parts_named elsewhere away Excused [] [] r y u steps_there (waiting_in easy.state) facts_now
             (alone_value.plain_root table typed effects input ready state top below more_frames rest named p frames deep stages running awaiting of_sub at_point path views viewed_before kept scope holds placed_before above going no_calls taken_alone r y steps_there u is calls end place) leads (no_takes steps_there calls [])
             (alone_value.allowed_steps table typed effects input ready state top below more_frames rest named p frames deep stages running awaiting of_sub at_point path views viewed_before kept scope holds placed_before above going no_calls taken_alone r y steps_there u is calls end place) (steps.taken_by at u call (start at))
@@ -429,7 +437,7 @@ module _ (table : Table) (typed : TypedProgram) (effects : Effects) (input : Lis
             ]
 
         returns_alone : (of : ℕ) → p.instr ≡ Hold (More call NoMore) → named.sub.result ≡ Some of → Source s of call
-            → AllowsAll facts_now (acts_by (Hold (More call NoMore))) → AllKeep (is_fixed s) (acts_by (Hold (More call NoMore))) → Exacts (Hold (More call NoMore))
+            → AllowsAll facts_now (acts_by (Hold (More call NoMore))) → AllKeep (is_fixed s sees) (acts_by (Hold (More call NoMore))) → Exacts (Hold (More call NoMore))
         unfolding acts_in
         returns_alone of is result source allowed_there keep = elim (bool_cases (is_anonymous (full s.table of))) [
           | inl view ↦ returns_view call of is result source view
@@ -442,14 +450,14 @@ module _ (table : Table) (typed : TypedProgram) (effects : Effects) (input : Lis
         result_there is None result none = (let never : ◌≡◌ {A = TypedTree} (More call NoMore) NoMore = none in cc)
         result_there is (Some of) result (e, same, source) = (of, result, subst (Source s of) (sym (same_first call e same)) source)
 
-        alone_exact : (p.instr ≡ Finish → ⊥) → AllowsAll facts_now (acts_by p.instr) → AllKeep (is_fixed s) (acts_by p.instr) → Exacts p.instr
+        alone_exact : (p.instr ≡ Finish → ⊥) → AllowsAll facts_now (acts_by p.instr) → AllKeep (is_fixed s sees) (acts_by p.instr) → Exacts p.instr
         alone_exact end allowed_there keep = elim taken_alone.8 [
           | inl (y, is) ↦ subst Exacts (sym is) (declares_alone y is)
           | inr (inl (r, y, steps_there, u, is, calls)) ↦ subst Exacts (sym is) (assigns_alone r y steps_there u is calls end)
           | inr (inr is) ↦ (
               let result = result_there is named.sub.result refl (subst (IsFine s named.sub.result) is fine_here) in
               subst Exacts (sym is)
-              (returns_alone result.0 is result.1 result.2 (subst (λ i. AllowsAll facts_now (acts_by i)) is allowed_there) (subst (λ i. AllKeep (is_fixed s) (acts_by i)) is keep)))
+              (returns_alone result.0 is result.1 result.2 (subst (λ i. AllowsAll facts_now (acts_by i)) is allowed_there) (subst (λ i. AllKeep (is_fixed s sees) (acts_by i)) is keep)))
         ]
 
       -- ---- what is taken is scalar
@@ -460,12 +468,12 @@ module _ (table : Table) (typed : TypedProgram) (effects : Effects) (input : Lis
             → ExactAt (after (acts (acts_in s e)) facts_now) [] (steps.evaluated at (value (steps.here at) e (start at)) f)
         value_taken e stays takes allowed_there f next =
             eased_on (after (acts (acts_in s e)) facts_now) [] (value (steps.here at) e (start at)) f f (λ ws m on. on)
-            (value_on easy ready.accepted.settled ready.owns other alone in_formals views ready.class.parts_named none_taken refl refl elsewhere away Excused given_words e stays takes facts_now (good plain) allowed_there exact f next)
+            (value_on easy sees seeing ready.accepted.settled ready.owns other alone in_formals views ready.class.parts_named none_taken refl refl elsewhere away Excused given_words e stays takes facts_now (good plain) allowed_there exact f next)
 
         -- ---- declarations
 
         declares : (x : ℕ) (v : TypedTree) → p.instr ≡ Declare x v → FirstSource s (object_at s x).of v
-            → AllowsAll facts_now (acts_by (Declare x v)) → AllKeep (is_fixed s) (acts_by (Declare x v)) → Exacts (Declare x v)
+            → AllowsAll facts_now (acts_by (Declare x v)) → AllKeep (is_fixed s sees) (acts_by (Declare x v)) → Exacts (Declare x v)
         unfolding waits_in
         declares x v e text allowed_there keep = by_view (is_anonymous (view_of s x)) refl
           where
@@ -485,7 +493,7 @@ module _ (table : Table) (typed : TypedProgram) (effects : Effects) (input : Lis
                 (subst (λ z. Takes (taken (Declare x z)) given_words []) here_is (takes_of plain.0 (Declare x v) e)) in
                 subst (λ z. Exacts (Declare x z)) (sym here_is)
                 (declared_main (after (acts_by (Declare x (More (Name q y path_of u) NoMore))) facts_now) x (More (Name q y path_of u) NoMore)
-                (view_declared_on easy ready.accepted.settled ready.owns other alone in_formals views ready.class.parts_named none_taken refl refl elsewhere away Excused given_words q x y u path_of view (orderly.variables x (inl (inl (v, e))) view) (home_frame x (local x (anonymous_view s x view))) text_there.1 takes facts_now (good plain)
+                (view_declared_on easy sees seeing ready.accepted.settled ready.owns other alone in_formals views ready.class.parts_named none_taken refl refl elsewhere away Excused given_words q x y u path_of view (orderly.variables x (inl (inl (v, e))) view) (home_frame x (local x (anonymous_view s x view))) text_there.1 takes facts_now (good plain)
                 (subst (λ z. AllowsAll facts_now (acts_by (Declare x z))) here_is allowed_there) exact))
 
             by_view : (b : Bool) → is_anonymous (view_of s x) ≡ b → Exacts (Declare x v)
@@ -499,14 +507,14 @@ module _ (table : Table) (typed : TypedProgram) (effects : Effects) (input : Lis
                 ]
             by_view false owner =
                 declared_main (after (acts_by (Declare x v)) facts_now) x v
-                (declare_on easy ready.accepted.settled ready.owns other alone in_formals views ready.class.parts_named none_taken refl refl elsewhere away Excused given_words x v (plain_named s.table (object_at s x).of owner) (orderly.begun x v e) text
+                (declare_on easy sees seeing ready.accepted.settled ready.owns other alone in_formals views ready.class.parts_named none_taken refl refl elsewhere away Excused given_words x v (plain_named s.table (object_at s x).of owner) (orderly.begun x v e) text
                 (subst (TakesScalars s) e plain.1) (takes_of plain.0 (Declare x v) e) facts_now (good plain) allowed_there keep
                 (after_it, each.free table typed effects input ready state top below more_frames rest named p frames deep stages running awaiting of_sub at_point path views viewed_before kept scope holds placed_before above going no_calls x v e) exact)
 
         -- ---- assignments
 
         assigns : (target e : TypedTree) → p.instr ≡ Assign target e → IsFine s None (Assign target e)
-            → AllowsAll facts_now (acts_by (Assign target e)) → AllKeep (is_fixed s) (acts_by (Assign target e)) → Exacts (Assign target e)
+            → AllowsAll facts_now (acts_by (Assign target e)) → AllKeep (is_fixed s sees) (acts_by (Assign target e)) → Exacts (Assign target e)
         unfolding waits_in
         assigns (Name q x steps u) e is (v, (leads, type), source) allowed_there keep =
             by_view (subst (λ z. Source s z e) (sym type) source) (is_anonymous (full s.table u)) refl
@@ -534,9 +542,9 @@ module _ (table : Table) (typed : TypedProgram) (effects : Effects) (input : Lis
                     subst (λ z. Exacts (Assign (Name q x NoMore (object_at s x).of) z)) (sym here_is)
                     (subst (λ z. ExactAt (after (acts_by (Assign (Name q x NoMore (object_at s x).of) (Name r y path_of w))) facts_now)
                     (map (spot q (name_of x NoMore) (length (acts_in s (Name r y path_of w) ++ acts_in s NoMore))) z)
-                    (turn at (Assign (Name q x NoMore (object_at s x).of) (Name r y path_of w)))) (sym (view_parts easy ready.accepted.settled ready.owns other alone in_formals views ready.class.parts_named none_taken refl refl elsewhere away Excused x view))
+                    (turn at (Assign (Name q x NoMore (object_at s x).of) (Name r y path_of w)))) (sym (view_parts easy sees seeing ready.accepted.settled ready.owns other alone in_formals views ready.class.parts_named none_taken refl refl elsewhere away Excused x view))
                     (assigned_main (after (acts_by (Assign (Name q x NoMore of) (Name r y path_of w))) facts_now) [] (Name q x NoMore of) of (Name r y path_of w)
-                    (view_assigned_on easy ready.accepted.settled ready.owns other alone in_formals views ready.class.parts_named none_taken refl refl elsewhere away Excused given_words p.pos q r x y w path_of view (orderly.variables x (inl (inr (q, (object_at s x).of, e, instr_is))) view) (home_frame x (local x (anonymous_view s x view)))
+                    (view_assigned_on easy sees seeing ready.accepted.settled ready.owns other alone in_formals views ready.class.parts_named none_taken refl refl elsewhere away Excused given_words p.pos q r x y w path_of view (orderly.variables x (inl (inr (q, (object_at s x).of, e, instr_is))) view) (home_frame x (local x (anonymous_view s x view)))
                     (subst (Source s (object_at s x).of) here_is source) takes itself facts_now (good plain)
                     (subst (λ z. AllowsAll facts_now (acts_by (Assign (Name q x NoMore (object_at s x).of) z))) here_is allowed_here) exact)))
 
@@ -549,9 +557,9 @@ module _ (table : Table) (typed : TypedProgram) (effects : Effects) (input : Lis
                   let two = takes_both (waits_in e) (waits_in steps) given_words [] (takes_of plain.0 (Assign (Name q x steps u) e) is) in
                   subst (λ z. ExactAt (after (acts z) facts_now) (spots_by (Assign (Name q x steps u) e)) (turn at (Assign (Name q x steps u) e))) (sym same_acts)
                   (assigned_main (after (acts (stored_acts s (Name q x steps u) e)) facts_now) (spots_by (Assign (Name q x steps u) e)) (Name q x steps u) u e
-                  (assign_on easy ready.accepted.settled ready.owns other alone in_formals views ready.class.parts_named none_taken refl refl elsewhere away Excused given_words two.0 q x u steps e own_type gives leads
+                  (assign_on easy sees seeing ready.accepted.settled ready.owns other alone in_formals views ready.class.parts_named none_taken refl refl elsewhere away Excused given_words two.0 q x u steps e own_type gives leads
                   (subst (TakesScalars s) is plain.1) two.1 two.2 facts_now (good plain)
-                  (subst (λ z. AllowsAll facts_now (acts z)) same_acts allowed_there) (subst (λ z. AllKeep (is_fixed s) (acts z)) same_acts keep) exact (length front)
+                  (subst (λ z. AllowsAll facts_now (acts z)) same_acts allowed_there) (subst (λ z. AllKeep (is_fixed s sees) (acts z)) same_acts keep) exact (length front)
                   (knows (Assign (Name q x steps u) e) is front (record { pos = q; act = act.Write (name_of x steps) } ∷ []) same_acts q (name_of x steps) (parts s.table u)))))
             ]
             by_view source true view = elim (leads_or s ready.class.parts_named steps (object_at s x).of u leads) [
@@ -574,7 +582,7 @@ module _ (table : Table) (typed : TypedProgram) (effects : Effects) (input : Lis
             (λ bytes m. Goes (record (behind easy (waiting easy) m 0) { output = state.output ++ bytes ++ (if line then 10 ∷ [] else []) }))
             (λ bytes m. Goes (record (behind at (waiting at) m 0) { output = state.output ++ bytes ++ (if line then 10 ∷ [] else []) }))
             (λ bytes m on. on)
-            (output_on easy ready.accepted.settled ready.owns other alone in_formals views ready.class.parts_named none_taken refl refl elsewhere away Excused given_words e last line none text
+            (output_on easy sees seeing ready.accepted.settled ready.owns other alone in_formals views ready.class.parts_named none_taken refl refl elsewhere away Excused given_words e last line none text
             (takes_as (taken (Output (More e last) line)) (waits_in e) given_words [] (ap (λ z. waits_in e + waits_in z) none ∙ nothing_more (waits_in e))
             (takes_of plain.0 (Output (More e last) line) is))
             facts_now (good plain) allowed_there exact)
@@ -584,7 +592,7 @@ module _ (table : Table) (typed : TypedProgram) (effects : Effects) (input : Lis
         abbrev gets_here : Place → Memory → Outcome
         gets_here k m = got_with easy k (next_item input state.at) m
 
-        gets_so : Gets easy ready.accepted.settled ready.owns other alone in_formals views ready.class.parts_named none_taken refl refl gets_here
+        gets_so : Gets easy sees seeing ready.accepted.settled ready.owns other alone in_formals views ready.class.parts_named none_taken refl refl gets_here
         gets_so = record {
           at_missing = λ k m next. rw next refl;
           at_bad = λ k m next. rw next refl;
@@ -599,9 +607,9 @@ module _ (table : Table) (typed : TypedProgram) (effects : Effects) (input : Lis
             let target : TypedTree = Name q x path_of u in
             let scalar_there : is_scalar (full s.table u) ≡ true = subst (λ z. is_scalar (full s.table z) ≡ true) (sym type) scalar in
             (input_eased at (Both (Input target)) (raising (Input target)) (λ trap m on. on.0 tt) target (
-              no_trap _ _ (sound_got_on easy ready.accepted.settled ready.owns other alone in_formals views ready.class.parts_named none_taken refl refl given_words
+              no_trap _ _ (sound_got_on easy sees seeing ready.accepted.settled ready.owns other alone in_formals views ready.class.parts_named none_taken refl refl given_words
                   gets_here q x u path_of gets_so scalar_there leads (takes_of plain.0 (Input target) is) (orderly.read q x u path_of is) facts_now (good plain) allowed_there),
-              got_on easy ready.accepted.settled ready.owns other alone in_formals views ready.class.parts_named none_taken refl refl elsewhere away Excused given_words
+              got_on easy sees seeing ready.accepted.settled ready.owns other alone in_formals views ready.class.parts_named none_taken refl refl elsewhere away Excused given_words
                   gets_here q x u path_of gets_so scalar_there leads (takes_of plain.0 (Input target) is) (orderly.read q x u path_of is) facts_now (good plain) allowed_there exact,
             )).1
         reads target is (v, never, scalar) allowed_there = absurd never
@@ -609,7 +617,7 @@ module _ (table : Table) (typed : TypedProgram) (effects : Effects) (input : Lis
         abbrev frees_here : Pos → Place → Memory → Outcome
         frees_here q k m = released_with easy q k (words_of s m k) m
 
-        frees_so : (q : Pos) → Releases easy ready.accepted.settled ready.owns other alone in_formals views ready.class.parts_named none_taken refl refl (frees_here q) q
+        frees_so : (q : Pos) → Releases easy sees seeing ready.accepted.settled ready.owns other alone in_formals views ready.class.parts_named none_taken refl refl (frees_here q) q
         frees_so q = record {
           at_null = λ k m is. rw is refl;
           at_whole = λ k m v is. rw is refl;
@@ -618,25 +626,25 @@ module _ (table : Table) (typed : TypedProgram) (effects : Effects) (input : Lis
         }
 
         releases : (target : TypedTree) → p.instr ≡ Release target → IsFine s None (Release target)
-            → AllowsAll facts_now (acts_by (Release target)) → AllKeep (is_fixed s) (acts_by (Release target)) → Exacts (Release target)
+            → AllowsAll facts_now (acts_by (Release target)) → AllKeep (is_fixed s sees) (acts_by (Release target)) → Exacts (Release target)
         unfolding waits_in
         releases (Name q x path_of u) is (v, d, (leads, type), access) allowed_there keep =
             let target : TypedTree = Name q x path_of u in
             let access_there : shape_of s.table u ≡ shape.Access d false true = subst (λ z. shape_of s.table z ≡ shape.Access d false true) (sym type) access in
             (release_eased at (Both (Release target)) (raising (Release target)) (λ trap m on. on.0 tt) q x u path_of (
-              no_trap _ _ (sound_released_on easy ready.accepted.settled ready.owns other alone in_formals views ready.class.parts_named none_taken refl refl given_words
+              no_trap _ _ (sound_released_on easy sees seeing ready.accepted.settled ready.owns other alone in_formals views ready.class.parts_named none_taken refl refl given_words
                   (frees_here q) q q x u d path_of (frees_so q) access_there leads (takes_of plain.0 (Release target) is) (last_kept (acts_in s path_of) keep) facts_now (good plain) allowed_there),
-              released_on easy ready.accepted.settled ready.owns other alone in_formals views ready.class.parts_named none_taken refl refl elsewhere away Excused given_words
+              released_on easy sees seeing ready.accepted.settled ready.owns other alone in_formals views ready.class.parts_named none_taken refl refl elsewhere away Excused given_words
                   (frees_here q) q q x u d path_of (frees_so q) access_there leads (takes_of plain.0 (Release target) is) (last_kept (acts_in s path_of) keep) facts_now (good plain) allowed_there exact
                   q (length (acts_in s path_of))
                   (knows (Release target) is (acts_in s path_of) (record { pos = q; act = act.Free (name_of x path_of) } ∷ []) refl
                   q (extend (name_of x path_of) (sel.Deref ∷ [])) (parts s.table (designated s.table u))),
             )).1
           where
-            last_kept : (before : List Placed) → AllKeep (is_fixed s) (acts (before ++ record { pos = q; act = act.Free (name_of x path_of) } ∷ [])) → is_fixed s (name_of x path_of) ≡ false
+            last_kept : (before : List Placed) → AllKeep (is_fixed s sees) (acts (before ++ record { pos = q; act = act.Free (name_of x path_of) } ∷ [])) → is_fixed s sees (name_of x path_of) ≡ false
             last_kept before keep =
-                (keep_both (is_fixed s) (acts before) (act.Free (name_of x path_of) ∷ [])
-                (subst (AllKeep (is_fixed s)) (acts_append before (record { pos = q; act = act.Free (name_of x path_of) } ∷ [])) keep)).1.0
+                (keep_both (is_fixed s sees) (acts before) (act.Free (name_of x path_of) ∷ [])
+                (subst (AllKeep (is_fixed s sees)) (acts_append before (record { pos = q; act = act.Free (name_of x path_of) } ∷ [])) keep)).1.0
         releases target is (v, d, never, access) allowed_there keep = absurd never
 
         chosen_exact : (b : Bool) (k : ℕ) → ExactAt facts_now [] (if b then steps.goes at state.memory k else steps.raised at ConstraintError state.memory)
@@ -664,7 +672,7 @@ module _ (table : Table) (typed : TypedProgram) (effects : Effects) (input : Lis
         abbrev starts_here : ℕ → steps.Bounds → Memory → Outcome
         starts_here x b m = started_with easy x b m
 
-        starts_so : (x : ℕ) → Starts easy ready.accepted.settled ready.owns other alone in_formals views ready.class.parts_named none_taken refl refl x (starts_here x)
+        starts_so : (x : ℕ) → Starts easy sees seeing ready.accepted.settled ready.owns other alone in_formals views ready.class.parts_named none_taken refl refl x (starts_here x)
         starts_so x = record {
           fails = λ b. int_le (steps.number b.low) (steps.number b.high)
               && not (fits_type s.table (object_at s x).of b.low && fits_type s.table (object_at s x).of b.high);
@@ -678,9 +686,9 @@ module _ (table : Table) (typed : TypedProgram) (effects : Effects) (input : Lis
         starts x reversed low high is scalar stays stays' allowed_there =
             let two = takes_both (waits_in low) (waits_in high) given_words [] (takes_of plain.0 (Start x reversed low high) is) in
             (start_eased at (Both (Start x reversed low high)) (raising (Start x reversed low high)) (λ trap m on. on.0 tt) x low high (
-              no_trap _ _ (sound_started_on easy ready.accepted.settled ready.owns other alone in_formals views ready.class.parts_named none_taken refl refl given_words two.0
+              no_trap _ _ (sound_started_on easy sees seeing ready.accepted.settled ready.owns other alone in_formals views ready.class.parts_named none_taken refl refl given_words two.0
                   x (starts_here x) low high (starts_so x) scalar stays stays' two.1 two.2 facts_now (good plain) allowed_there),
-              started_on easy ready.accepted.settled ready.owns other alone in_formals views ready.class.parts_named none_taken refl refl elsewhere away Excused given_words two.0
+              started_on easy sees seeing ready.accepted.settled ready.owns other alone in_formals views ready.class.parts_named none_taken refl refl elsewhere away Excused given_words two.0
                   x (starts_here x) low high (starts_so x) scalar stays stays' two.1 two.2 facts_now (good plain) allowed_there exact,
             )).1
 
@@ -695,18 +703,18 @@ module _ (table : Table) (typed : TypedProgram) (effects : Effects) (input : Lis
 
         -- a return with a value, and one without
         holds_plain : (e : TypedTree) (of : ℕ) → p.instr ≡ Hold (More e NoMore) → named.sub.result ≡ Some of → Source s of e
-            → AllowsAll facts_now (acts_by (Hold (More e NoMore))) → AllKeep (is_fixed s) (acts_by (Hold (More e NoMore))) → Exacts (Hold (More e NoMore))
+            → AllowsAll facts_now (acts_by (Hold (More e NoMore))) → AllKeep (is_fixed s sees) (acts_by (Hold (More e NoMore))) → Exacts (Hold (More e NoMore))
         unfolding GivesPlainly waits_in
         holds_plain e of is result source allowed_there keep = elim (bool_cases (is_anonymous (full s.table of))) [
           | inl view ↦ returns_view e of is result source view
           | inr owner ↦ holds_value e of is result owner (λ type_there allows keeps.
-              source_exact easy ready.accepted.settled ready.owns other alone in_formals views ready.class.parts_named none_taken refl refl elsewhere away Excused given_words of e type_there source (subst (TakesScalars s) is plain.1).0
+              source_exact easy sees seeing ready.accepted.settled ready.owns other alone in_formals views ready.class.parts_named none_taken refl refl elsewhere away Excused given_words of e type_there source (subst (TakesScalars s) is plain.1).0
               (takes_as (taken (Hold (More e NoMore))) (waits_in e) given_words [] (nothing_more (waits_in e)) (takes_of plain.0 (Hold (More e NoMore)) is))
               facts_now (good plain) allows keeps exact) allowed_there keep
         ]
 
         returns : (v : TypedTree) (r : Option ℕ) → p.instr ≡ Hold v → named.sub.result ≡ r → Returns s r v → AllowsAll facts_now (acts_by (Hold v))
-            → AllKeep (is_fixed s) (acts_by (Hold v)) → Exacts (Hold v)
+            → AllKeep (is_fixed s sees) (acts_by (Hold v)) → Exacts (Hold v)
         unfolding acts_in waits_in
         returns v None is result none allowed_there keep =
             subst (λ z. Exacts (Hold z)) (sym none)
@@ -714,10 +722,10 @@ module _ (table : Table) (typed : TypedProgram) (effects : Effects) (input : Lis
         returns v (Some of) is result (e, same, source) allowed_there keep =
             subst (λ z. Exacts (Hold z)) (sym same)
             (holds_plain e of (is ∙ ap Hold same) result source (subst (λ z. AllowsAll facts_now (acts_by (Hold z))) same allowed_there)
-            (subst (λ z. AllKeep (is_fixed s) (acts_by (Hold z))) same keep))
+            (subst (λ z. AllKeep (is_fixed s sees) (acts_by (Hold z))) same keep))
 
         each_instruction : (i : Instruction) → p.instr ≡ i → (i ≡ Finish → ⊥) → IsFine s named.sub.result i → AllowsAll facts_now (acts_by i)
-            → AllKeep (is_fixed s) (acts_by i) → Exacts i
+            → AllKeep (is_fixed s sees) (acts_by i) → Exacts i
         each_instruction Skip is end text allowed_there keep = skips
         each_instruction (Declare x v) is end text allowed_there keep = declares x v is text allowed_there keep
         each_instruction (Assign target e) is end text allowed_there keep = assigns target e is text allowed_there keep

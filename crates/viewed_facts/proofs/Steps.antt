@@ -1,5 +1,5 @@
 -- Facts without an element stay exact in each of the four steps, under its act, and where a view gets another way.
-use Rattle.std.proofs.Common.{◌≡◌, refl, sym, ap, ◌∙◌, subst, ◌⊎◌, inl, inr, ℕ, Bool, false, eq-eqb, List, [], ◌∷◌, Option, Some}
+use Rattle.std.proofs.Common.{◌≡◌, refl, sym, ap, ◌∙◌, subst, ◌⊎◌, inl, inr, ℕ, Bool, true, false, eq-eqb, List, [], ◌∷◌, Option, Some}
 use Rattle.spark_base.specs.Lists.{Has}
 use Rattle.place_names.specs.declared.selector.Sel.{Sel}
 use Rattle.place_names.specs.declared.rule.Loan.TheVariants.{Borrowed}
@@ -15,17 +15,18 @@ use Rattle.owned_ways.proofs.Unique.{one_way}
 use Rattle.owned_ways.proofs.Named.{longer}
 use Rattle.owned_ways.proofs.Moving.{Given}
 use Rattle.owned_ways.proofs.Told.{told_after}
-use Rattle.owned_loans.specs.Views.{Go, Part, Down, on, Views, Around, expand, expand_root, Viewed, Becomes, Unused}
+use Rattle.owned_loans.specs.Views.{Go, Part, Down, on, Views, Around, expand, Viewed, Becomes, Unused}
 use Rattle.owned_loans.proofs.Others.{below_through}
 use Rattle.place_names.specs.declared.rule.Loan.{Loan}
 use Rattle.flow_paths.specs.Objects.{Typing}
 use Rattle.soundness.specs.Seen.{IsNear, home as frame_home}
 use Rattle.soundness.proofs.Near.{near_under, named_near}
-use Rattle.owned_loans.proofs.Ways.{flip, under_on, meet_overlaps, base_on, on_named, Lifted, lifts, lifted_root, lifted_way}
+use Rattle.owned_loans.proofs.Ways.{flip, under_on, meet_overlaps, base_on, on_named, Lifted, InPart, lifts, part_root, lifted_root, lifted_way}
 use Rattle.owned_loans.proofs.Meeting.{IsPlain}
 use Rattle.owned_loans.proofs.Safe.{Unborrowed, loan_of, clean_below, met, no_both, only_itself, lent_fact}
 use Rattle.owned_loans.proofs.Allowed.{move_unlent, move_unmoved, write_unlent, free_unlent}
 use Rattle.owned_loans.proofs.Moves.{expand_along}
+use Rattle.owned_loans.proofs.Taken.{expand_other}
 use Rattle.exact_facts.specs.Exact.{IsOfVariable}
 use Rattle.owned_loans.proofs.Meeting.{stands, stands_base}
 use Rattle.viewed_steps.proofs.Views.{base_named}
@@ -47,17 +48,6 @@ reached_before s t held (Object r) l rooted reach = reach
 reached_before s t held (Lost n) l rooted reach = absurd rooted
 reached_before s t held (Into w i) l rooted (m, reach, e) = (m, reached_before s t held w m rooted reach, e)
 reached_before s t held (All w) l rooted (m, n, reach, h, e) = (m, n, reached_before s t held w m rooted reach, held m n h, e)
-
--- a name that isn't rooted in a view stands for what it stood for
-expand_other : (v t : Views) (b : ℕ) (o : Option Way) (loan up : Way) (n : ℕ) → Becomes v t b o loan up n → (u : Way) → (number_of u ≡ b → ⊥) → expand t u ≡ expand v u
-expand_other v t b o loan up n c (Object r) off = refl
-expand_other v t b o loan up n c (Lost x) off = refl
-expand_other v t b o loan up n c (Into w i) off = ap (λ z. Into z i) (expand_other v t b o loan up n c w off)
-expand_other v t b o loan up n c (All (Object (OfVariable f x))) off = ap (λ z. expand_root z (OfVariable f x)) (c.ways x off)
-expand_other v t b o loan up n c (All (Object (OfHand h))) off = refl
-expand_other v t b o loan up n c (All (Lost x)) off = refl
-expand_other v t b o loan up n c (All (Into w i)) off = ap All (expand_other v t b o loan up n c (Into w i) off)
-expand_other v t b o loan up n c (All (All w)) off = ap All (expand_other v t b o loan up n c (All w) off)
 
 -- a way that begins at a variable is rooted in its object
 number_there : (w : Way) {f x : ℕ} → base_of w ≡ OfRoot (OfVariable f x) → number_of w ≡ x
@@ -297,24 +287,36 @@ module _ (home : ℕ → ℕ) (observer : ℕ → Bool) (other : Around home) (v
   root_held (Part i ∷ rest) s r l reach = root_held rest s r reach.0 reach.1
   root_held (Down ∷ rest) s r l reach = root_held rest s r reach.0 reach.2
 
+  -- Formals with parts are seen alone, so that no moved name goes through a part.
+  abbrev pub AreSeenParts : Views → Type 0
+  AreSeenParts t = (y : ℕ) (p : List Step) (w : Way) → t.part_way y p ≡ Some w → observer y ≡ true
+
+  none_in : (t : Views) → AreSeenParts t → (u : Way) → observer (number_of u) ≡ false → InPart t u → ⊥
+  none_in t seen u plain l = (let is : true ≡ false = sym (seen l.object l.steps l.way l.has) ∙ ap observer (sym (part_root t u l)) ∙ plain in cc)
+
+  before_seen : (s : View) (facts : List Fact) → Viewed home observer other v s facts → AreSeenParts v
+  before_seen s facts viewed y p w has = (viewed.views.1 y p w has).sees
+
   -- Each view with a way has the one that it had, or no moved name is rooted in it. (Variables of views own nothing.)
-  pub told_turned : (s : View) (t : Views) (facts : List Fact)
+  pub told_turned : (s : View) (t : Views) (facts : List Fact) → AreSeenParts v → AreSeenParts t → ((u : Way) → IsMoved home facts u → observer (number_of u) ≡ false)
       → ((x : ℕ) (w : Way) → t.way x ≡ Some w → (v.way x ≡ Some w) ⊎ ((n : Name) → Has facts (Moved n) → n.root ≡ x → ⊥))
       → ((x : ℕ) (w : Way) (n : ℕ) → v.way x ≡ Some w → s.word (OfRoot (OfVariable (home x) x)) ≡ Held n → ⊥)
       → Told s (IsDefinite home v elsewhere facts) → Told s (IsDefinite home t elsewhere facts)
-  told_turned s t facts turned empty told w l (inr e) reach = told w l (inr e) reach
-  told_turned s t facts turned empty told w l (inl d) reach = by_name d.0 d.1 d.2 d.3
+  told_turned s t facts seen_before seen_then plain_moved turned empty told w l (inr e) reach = told w l (inr e) reach
+  told_turned s t facts seen_before seen_then plain_moved turned empty told w l (inl d) reach = by_name d.0 d.1 d.2 d.3
     where
       by_name : (u : Way) → IsMoved home facts u → has_elem (sels_of u) ≡ false → expand t u ≡ w → s.word l ≡ Gone
       by_name u moved plain same = elim (lifts t u) [
-        | inr a ↦ elim (turned a.object a.way a.has) [
+        | inr (inr inner) ↦ absurd (none_in t seen_then u (plain_moved u moved) inner)
+        | inr (inl a) ↦ elim (turned a.object a.way a.has) [
           | inr unmoved ↦ absurd (unmoved (name_of u) moved.1 (lifted_root t u a))
           | inl old ↦ (let before : Lifted v u = record { frame = a.frame; object = a.object; rest = a.rest; way = a.way; is = a.is; has = old } in
               told w l (inl (u, moved, plain, lifted_way v u before ∙ sym (lifted_way t u a) ∙ same)) reach)
         ]
         | inl e ↦ elim (lifts v u) [
           | inl f ↦ told w l (inl (u, moved, plain, f ∙ sym e ∙ same)) reach
-          | inr b ↦ absurd (
+          | inr (inr inner) ↦ absurd (none_in v seen_before u (plain_moved u moved) inner)
+          | inr (inl b) ↦ absurd (
               let at : Reaches s (on (All (Object (OfVariable b.frame b.object))) b.rest) l = subst (λ z. Reaches s z l) (sym same ∙ e ∙ b.is) reach in
               let frame : b.frame ≡ home b.object = on_named home (All (Object (OfVariable b.frame b.object))) b.rest (subst (Named home) b.is moved.0) in
               let held = root_held b.rest s (OfVariable b.frame b.object) l at in
@@ -329,11 +331,13 @@ module _ (home : ℕ → ℕ) (observer : ℕ → Bool) (other : Around home) (v
 
   -- where the views that are left have the ways that they had
   pub left_variable : (s : View) (left : Views) (facts : List Fact) → Viewed home observer other v s facts
+      → AreSeenParts left
       → ((y : ℕ) (w : Way) → left.way y ≡ Some w → v.way y ≡ Some w) → (w : Way) → IsDefinite home left elsewhere facts w → IsOfVariable w
-  left_variable s left facts viewed was w (inr e) = e.0
-  left_variable s left facts viewed was w (inl d) = elim (lifts left d.0) [
+  left_variable s left facts viewed parts was w (inr e) = e.0
+  left_variable s left facts viewed parts was w (inl d) = elim (lifts left d.0) [
     | inl e ↦ named_variable home w (subst (Named home) (sym e ∙ d.3) d.1.0)
-    | inr l ↦ (
+    | inr (inr inner) ↦ absurd (none_in left parts d.0 (viewed.clear.owned (name_of d.0) d.1.1) inner)
+    | inr (inl l) ↦ (
         let before : Lifted v d.0 = record { frame = l.frame; object = l.object; rest = l.rest; way = l.way; is = l.is; has = was l.object l.way l.has } in
         definite_variable s facts viewed w (inl (d.0, d.1, d.2, lifted_way v d.0 before ∙ sym (lifted_way left d.0 l) ∙ d.3)))
   ]
@@ -341,21 +345,21 @@ module _ (home : ℕ → ℕ) (observer : ℕ → Bool) (other : Around home) (v
   -- none of them begins there
   pub told_ended : (s t : View) (left : Views) (x : ℕ) (borrower : Bool) (facts : List Fact) → Viewed home observer other v s facts
       → ((l : Loan) (n : Name) → other.lent l n → n.root ≡ x → ⊥)
-      → IsDrop s t (OfVariable (home x) x)
+      → IsDrop s t (OfVariable (home x) x) → AreSeenParts left
       → ((y : ℕ) (w : Way) → left.way y ≡ Some w → (v.way y ≡ Some w) × (Named home w → number_of w ≡ x → ⊥))
       → ((y : ℕ) (w : Way) (n : ℕ) → v.way y ≡ Some w → s.word (OfRoot (OfVariable (home y) y)) ≡ Held n → ⊥)
       → Told s (Definite facts) → Told t (IsDefinite home left elsewhere (effect (EndScope x borrower) facts))
-  told_ended s t left x borrower facts viewed unlent step was empty told = by
+  told_ended s t left x borrower facts viewed unlent step parts was empty told = by
     where
       told_left : Told s (IsDefinite home left elsewhere facts)
-      told_left = told_turned s left facts (λ y w has. inl (was y w has).0) empty told
+      told_left = told_turned s left facts (before_seen s facts viewed) parts (λ u moved. viewed.clear.owned (name_of u) moved.1) (λ y w has. inl (was y w has).0) empty told
 
       held_before : (l : Loc) (c : ℕ) → t.word l ≡ Held c → s.word l ≡ Held c
       held_before l c h = sym (step.off l (λ b. (let is : Held c ≡ Empty = sym h ∙ ap t.word b.1 ∙ step.empty b.0 in cc))) ∙ h
 
       stays : (w : Way) (l : Loc) → IsDefinite home left elsewhere facts w → (Under (place x) w → ⊥) → Reaches t w l → t.word l ≡ Gone
       stays w l is off reach =
-          let before = reached_before s t held_before w l (variable_rooted w (left_variable s left facts viewed (λ y k has. (was y k has).0) w is)) reach in
+          let before = reached_before s t held_before w l (variable_rooted w (left_variable s left facts viewed parts (λ y k has. (was y k has).0) w is)) reach in
           step.off l (λ b. (
           let there : Reaches s (along (place x) b.0) (part (OfRoot (OfVariable (home x) x)) b.0) = reaches_along s (place x) (OfRoot (OfVariable (home x) x)) b.0 refl in
           let same : w ≡ along (place x) b.0 = one_way s viewed.owned w (along (place x) b.0) l before (subst (Reaches s (along (place x) b.0)) (sym b.1) there) in
@@ -363,10 +367,11 @@ module _ (home : ℕ → ℕ) (observer : ℕ → Bool) (other : Around home) (v
           ∙ told_left w l is before
 
       -- what stands for a way that begins there is rooted there
-      own_root : (u : Way) → base_of (expand left u) ≡ OfRoot (OfVariable (home x) x) → number_of u ≡ x
-      own_root u is = elim (lifts left u) [
+      own_root : (u : Way) → IsMoved home facts u → base_of (expand left u) ≡ OfRoot (OfVariable (home x) x) → number_of u ≡ x
+      own_root u moved is = elim (lifts left u) [
         | inl e ↦ number_there u (ap base_of (sym e) ∙ is)
-        | inr l ↦ absurd (let begins : base_of l.way ≡ OfRoot (OfVariable (home x) x) = sym (base_on l.way l.rest) ∙ ap base_of (sym (lifted_way left u l)) ∙ is in
+        | inr (inr inner) ↦ absurd (none_in left parts u (viewed.clear.owned (name_of u) moved.1) inner)
+        | inr (inl l) ↦ absurd (let begins : base_of l.way ≡ OfRoot (OfVariable (home x) x) = sym (base_on l.way l.rest) ∙ ap base_of (sym (lifted_way left u l)) ∙ is in
             (was l.object l.way l.has).1 (base_named home l.way x begins) (number_there l.way begins))
       ]
 
@@ -382,7 +387,7 @@ module _ (home : ℕ → ℕ) (observer : ℕ → Bool) (other : Around home) (v
         | inr none ↦ absurd none
         | inl old ↦ stays w l (inl (d.0, (d.1.0, old.0), d.2, d.3))
             (λ under. (
-            let number : number_of d.0 ≡ x = own_root d.0 (ap base_of d.3 ∙ (longer (place x) w under).base) in
+            let number : number_of d.0 ≡ x = own_root d.0 (d.1.0, old.0) (ap base_of d.3 ∙ (longer (place x) w under).base) in
             let ends = eq-eqb (number_of d.0) x number in
             let kept = old.1 in cc)) reach
       ]

@@ -1,7 +1,7 @@
 -- Where a step of an instruction goes on that is no call and isn't the end of a scope, facts of all frames are exact,
 -- with the views then.
-use Rattle.viewed_soundness.specs.Holds.{is_view, sees_only, is_given, is_exclusive, is_fixed, AllKeep, IsNamed}
-use Rattle.std.proofs.Common.{◌≡◌, refl, sym, ap, ◌∙◌, subst, inl, inr, ℕ, suc, true, false, List, [], ◌∷◌, ◌++◌, map, length, Some, None, take, ◌||◌, ◌&&◌, not}
+use Rattle.viewed_soundness.specs.Holds.{is_view, is_given, is_exclusive, is_fixed, AllKeep, IsNamed, Seeing}
+use Rattle.std.proofs.Common.{◌≡◌, refl, sym, ap, ◌∙◌, subst, inl, inr, ℕ, suc, true, false, List, [], ◌∷◌, ◌++◌, map, length, Some, None, take, ◌||◌, ◌&&◌, not, Bool}
 use Rattle.spark_base.specs.Lists.{Has}
 use Rattle.spark_base.specs.declared.position.Pos.{Pos}
 use Rattle.place_names.specs.declared.act.Act.{Act}
@@ -30,7 +30,7 @@ use Rattle.machine.specs.States.{Frame, State, Outcome, Goes, Ends, sub_of}
 use Rattle.machine.specs.Step.{Turn, start}
 use Rattle.machine.specs.Owners.{waiting_in}
 use Rattle.machine.specs.Run.{step}
-use Rattle.owned_ways.specs.Ways.{Way, Told, after, AllowsAll, Allows}
+use Rattle.owned_ways.specs.Ways.{Step, name_of as way_name, Way, Told, after, AllowsAll, Allows}
 use Rattle.soundness.specs.Seen.{home, seen, IsNear, is_view_formal}
 use Rattle.soundness.specs.Typed.{Kept}
 use Rattle.soundness.specs.Sound.{Stage, facts_of, AreStages, IsRunnable, IsNoCall, InScope, IsNamedSub, IsAtPoint, view_of as view_here}
@@ -41,7 +41,7 @@ use Rattle.soundness.proofs.Eased.{eased}
 use Rattle.soundness.proofs.Inherited.{after_splits}
 use Rattle.soundness.proofs.Around.{IsFar}
 use Rattle.owned_loans.specs.Views.{Around, known_gone, Views, Viewed, ViewedAlone}
-use Rattle.viewed_soundness.proofs.Names.{true_false, free_formal, plain_named}
+use Rattle.viewed_soundness.proofs.ViewKinds.{true_false, free_formal, plain_named}
 use Rattle.viewed_soundness.proofs.Outcomes.{IsGood, assigned_acts}
 use Rattle.viewed_steps.specs.Sound.{IsBeyond, IsResting, HoldsAt, ArePlaced, NoneAbove, ViewStage, stages_of, GoneElsewhere, AreWaiting, IsStoredAt, AreTurned, HasTraversals}
 use Rattle.viewed_steps.specs.Awaited.{AreAwaited, lasting_of, AreScalar, temporaries_of, TakesScalars}
@@ -64,8 +64,16 @@ use Rattle.soundness.proofs.Scalars.{acts_append, acts}
 use Rattle.viewed_soundness.proofs.Evaluated.{keep_both}
 use Rattle.viewed_facts.proofs.Given.{call_tree, given_unmoved, reborrowed_acts}
 use Rattle.viewed_steps.proofs.Ended.{view_kinds}
+use Rattle.viewed_steps.specs.Seeing.{sees_in}
+use Rattle.viewed_steps.proofs.Sees.{sees_seeing}
 
 module _ (table : Table) (typed : TypedProgram) (effects : Effects) (input : List ℕ) (ready : IsReady table typed effects) where
+  abbrev sees : ℕ → Bool
+  sees = sees_in (flow_program table typed)
+
+  abbrev seeing : Seeing (flow_typing (flow_program table typed)) sees
+  seeing = sees_seeing (flow_program table typed)
+
   abbrev program : FlowProgram
   program = flow_program table typed
 
@@ -92,9 +100,9 @@ module _ (table : Table) (typed : TypedProgram) (effects : Effects) (input : Lis
       (awaiting : AreAwaited table typed None (top ∷ stages_of (below ∷ more_frames)))
       (of_sub : IsNamedSub (flow_named table typed) top.frame.sub named) (at_point : IsAtPoint named.points top.frame.next p)
       (path : ControlPath (path_points program effects (sub_of program top.frame.sub)) top.before top.frame.next) (views : Views)
-      (viewed_before : ViewedAlone (home s (suc (length rest))) (sees_only s) (known_gone (home s (suc (length rest))) (GoneElsewhere program effects (below ∷ more_frames))) views
+      (viewed_before : ViewedAlone (home s (suc (length rest))) sees (known_gone (home s (suc (length rest))) (GoneElsewhere program effects (below ∷ more_frames))) views
       (view_here s state) (facts_of program effects top))
-      (kept : Kept s state.memory (waiting_in state)) (scope : InScope s state.memory (suc (length rest)) (lasting_of s p.scope)) (holds : HoldsAt s (suc (length rest)) views state.memory p)
+      (kept : Kept s state.memory (waiting_in state)) (scope : InScope s state.memory (suc (length rest)) (lasting_of s p.scope)) (holds : HoldsAt s sees (suc (length rest)) views state.memory p)
       (placed_before : ArePlaced program (suc (length rest)) (facts_of program effects top) views p.scope × IsBeyond program effects (suc (length rest)) views (below ∷ more_frames)) (above : NoneAbove s (suc (length rest)) state.memory
       × HasTraversals table typed (view_here s state) (record { stage = top; views = views; cells = [] } ∷ (below ∷ more_frames)))
       (exact_before : Told (seen s state.memory [] []) (IsDefiniteOf program effects (record { stage = top; views = views; cells = [] } ∷ (below ∷ more_frames)))) where
@@ -140,7 +148,7 @@ module _ (table : Table) (typed : TypedProgram) (effects : Effects) (input : Lis
     abbrev own_views : (x : ℕ) (w : Way) → views.way x ≡ Some w → is_package_object s x ≡ false
     own_views = innermost.own_views table typed effects input ready state top below more_frames rest named p frames deep stages running awaiting of_sub at_point path views viewed_before kept scope holds placed_before above
 
-    abbrev viewed : Viewed (home s depth) (sees_only s) other views (view_here s state) facts_now
+    abbrev viewed : Viewed (home s depth) sees other views (view_here s state) facts_now
     viewed = here.viewed table typed effects input ready state top below more_frames rest named p frames deep stages running awaiting of_sub at_point path views viewed_before kept scope holds placed_before above exact_before
 
     abbrev home_frame : (x : ℕ) → is_package_object s x ≡ false → home s depth x ≡ depth
@@ -191,9 +199,9 @@ module _ (table : Table) (typed : TypedProgram) (effects : Effects) (input : Lis
 
     module _ (going : (x : ℕ) → p.instr ≡ EndScope x → ⊥) (no_calls : IsNoCall p.instr) where
       abbrev ExactAt : List Fact → List LeakSpot → Outcome → Type 0
-      ExactAt facts spots outcome = ExactOn easy ready.accepted.settled ready.owns other alone in_formals views ready.class.parts_named none_taken refl refl elsewhere away Excused facts spots outcome
+      ExactAt facts spots outcome = ExactOn easy sees seeing ready.accepted.settled ready.owns other alone in_formals views ready.class.parts_named none_taken refl refl elsewhere away Excused facts spots outcome
 
-      abbrev good : Plainly → IsGood easy ready.accepted.settled ready.owns other alone views ready.class.parts_named none_taken refl refl views facts_now easy.state
+      abbrev good : Plainly → IsGood easy sees seeing ready.accepted.settled ready.owns other alone views ready.class.parts_named none_taken refl refl views facts_now easy.state
       good = stepping.good table typed effects input ready state top below more_frames rest named p frames deep stages running awaiting of_sub at_point path views viewed_before kept scope holds placed_before above exact_before going no_calls
 
       abbrev allowed_there : (p.instr ≡ Finish → ⊥) → AllowsAll facts_now (acts_by p.instr)
@@ -262,7 +270,7 @@ module _ (table : Table) (typed : TypedProgram) (effects : Effects) (input : Lis
                   let same = reborrowed_acts s p.pos q r a k x y w (object_at s x).of path_of more one in
                   let mine : Allows facts_now (act.Reborrow x (name_of y path_of)) =
                   (subst (λ z. AllowsAll facts_now (acts z)) same (subst (λ i. AllowsAll facts_now (acts_by i)) instr_is (allowed_there end))).0 in
-                  given_unmoved (home s depth) (sees_only s) other views (view_here s state) facts_now viewed x (name_of y path_of) mine n
+                  given_unmoved (home s depth) sees other views (view_here s state) facts_now viewed x (name_of y path_of) mine n
                   (subst (λ z. Has (after (acts z) facts_now) (Moved n)) same (subst (λ i. Has (after (acts_by i) facts_now) (Moved n)) instr_is has)) root
 
               from_name : Plainly → (r : Pos) (y w : ℕ) (path_of : TypedTree) → e ≡ Name r y path_of w → y ≡ x → Source s (object_at s x).of e → (object_at s x).of ≡ u → ⊥
@@ -272,7 +280,7 @@ module _ (table : Table) (typed : TypedProgram) (effects : Effects) (input : Lis
                   let takes : Takes (waits_in path_of) given_words [] =
                   takes_as (taken (Assign (Name q x NoMore (object_at s x).of) (Name r y path_of w))) (waits_in path_of) given_words [] (nothing_more (waits_in path_of))
                   (takes_of plain.0 (Assign (Name q x NoMore (object_at s x).of) (Name r y path_of w)) instr_is) in
-                  reborrow_unmoved easy ready.accepted.settled ready.owns other alone in_formals views ready.class.parts_named none_taken refl refl elsewhere away Excused given_words p.pos q r x y w path_of view (orderly.variables x (inl (inr (q, u, e, is))) view) (home_frame x (local x (anonymous_view s x view)))
+                  reborrow_unmoved easy sees seeing ready.accepted.settled ready.owns other alone in_formals views ready.class.parts_named none_taken refl refl elsewhere away Excused given_words p.pos q r x y w path_of view (orderly.variables x (inl (inr (q, u, e, is))) view) (home_frame x (local x (anonymous_view s x view)))
                   (subst (Source s (object_at s x).of) here_is source_there) takes borrows itself facts_now (good plain)
                   (subst (λ i. AllowsAll facts_now (acts_by i)) instr_is (allowed_there end)) n (subst (λ i. Has (after (acts_by i) facts_now) (Moved n)) instr_is has) root
 
@@ -290,14 +298,14 @@ module _ (table : Table) (typed : TypedProgram) (effects : Effects) (input : Lis
           by_fine : IsFine s None (Assign (Name q x NoMore u) e) → ⊥
           by_fine (v, (leads, type), source) =
               let named_type : IsNamed s.table u = plain_named s.table u (ap (λ z. is_anonymous (full s.table z)) (sym leads) ∙ owner) in
-              let keep : AllKeep (is_fixed s) (acts_by (Assign target e)) =
-              subst (λ i. AllKeep (is_fixed s) (acts_by i)) is (standing.keeps_there table typed effects input ready state top older outer named p frames of_sub at_point) in
-              let stores = subst (λ z. AllKeep (is_fixed s) (acts z)) (assigned_acts s p.pos x u target NoMore e named_type leads) keep in
-              let last = keep_both (is_fixed s) (acts (before_write s target e)) (act.Write (name_of x NoMore) ∷ [])
-              (subst (AllKeep (is_fixed s)) (acts_append (before_write s target e) (record { pos = q; act = act.Write (name_of x NoMore) } ∷ [])) stores) in
-              free_formal s (name_of x NoMore) (last.1).0 formal refl
+              let keep : AllKeep (is_fixed s sees) (acts_by (Assign target e)) =
+              subst (λ i. AllKeep (is_fixed s sees) (acts_by i)) is (standing.keeps_there table typed effects input ready state top older outer named p frames of_sub at_point) in
+              let stores = subst (λ z. AllKeep (is_fixed s sees) (acts z)) (assigned_acts s p.pos x u target NoMore e named_type leads) keep in
+              let last = keep_both (is_fixed s sees) (acts (before_write s target e)) (act.Write (name_of x NoMore) ∷ [])
+              (subst (AllKeep (is_fixed s sees)) (acts_append (before_write s target e) (record { pos = q; act = act.Write (name_of x NoMore) } ∷ [])) stores) in
+              free_formal s sees (name_of x NoMore) (last.1).0 formal refl
 
-      stored_unmoved : (p.instr ≡ Finish → ⊥) → ((n : PlaceName) → Has (after (acts_by p.instr) own_facts) (Moved n) → sees_only s n.root ≡ false)
+      stored_unmoved : (p.instr ≡ Finish → ⊥) → ((n : PlaceName) → Has (after (acts_by p.instr) own_facts) (Moved n) → sees n.root ≡ false)
           → (x : ℕ) → is_view s x ≡ true → IsStoredAt p.instr x → (n : PlaceName) → Has (after (acts_by p.instr) facts_now) (Moved n) → n.root ≡ x → ⊥
       stored_unmoved end clear x view stored n has root =
           elim (after_splits (acts_by p.instr) facts_now own_facts around (innermost.from_both table typed effects input ready state top below more_frames rest named p frames deep stages running awaiting of_sub at_point path views viewed_before kept scope holds placed_before above) (Moved n) has) [
@@ -307,7 +315,7 @@ module _ (table : Table) (typed : TypedProgram) (effects : Effects) (input : Lis
               | inr (q, u, e, is) ↦ elim (view_cases s x view) [
                 | inr formal ↦ formal_kept q x u e is end formal
                 | inl anonymous ↦ elim (bool_cases (is_observer s x)) [
-                  | inl sees ↦ true_false (sees_only s x) (ap (λ b. b || (is_given s x && not (is_exclusive s x))) sees) (ap (sees_only s) (sym root) ∙ clear n mine)
+                  | inl sight ↦ true_false (sees x) (seeing.observers x sight) (ap sees (sym root) ∙ clear n mine)
                   | inr borrows ↦ assigned_unmoved q x u e is end anonymous borrows n has root
                 ]
               ]
@@ -316,12 +324,14 @@ module _ (table : Table) (typed : TypedProgram) (effects : Effects) (input : Lis
 
       -- They are exact after the step, too, with the views then.
       pub told_next : (p.instr ≡ Finish → ⊥) → (next : State) → step program input state ≡ Goes next → (later : Views)
-          → ((x : ℕ) (w : Way) → later.way x ≡ Some w → is_view s x ≡ true)
-          → ((n : PlaceName) → Has (facts_before points (top.frame.next ∷ top.before)) (Moved n) → sees_only s n.root ≡ false) → AreTurned p.instr views later
+          → ((x : ℕ) (w : Way) → later.way x ≡ Some w → is_view s x ≡ true) → ((x : ℕ) (p : List Step) (w : Way) → later.part_way x p ≡ Some w → sees x ≡ true)
+          → ((n : PlaceName) → Has (facts_before points (top.frame.next ∷ top.before)) (Moved n) → sees n.root ≡ false) → AreTurned p.instr views later
           → Told (seen s next.memory [] []) (IsDefiniteHere table typed effects unmoved_stage local depth later (facts_before points (top.frame.next ∷ top.before)) older)
-      told_next end next is later only clear turned =
+      told_next end next is later only parts clear turned =
           all_told next.memory later only no_calls
-          (turned_exact easy ready.accepted.settled ready.owns other alone in_formals views ready.class.parts_named none_taken refl refl elsewhere away Excused next.memory later (after (acts_by p.instr) facts_now) holds.only
+          (turned_exact easy sees seeing ready.accepted.settled ready.owns other alone in_formals views ready.class.parts_named none_taken refl refl elsewhere away Excused next.memory later (after (acts_by p.instr) facts_now) holds.only
+          (λ x q w has. holds.parts.looks x (holds.parts.only x q w has)) parts
+          (λ u moved. plain_after (way_name u) moved.1)
           (λ x w has. elim (turned x w has) [
             | inl old ↦ inl old
             | inr stored ↦ inr (λ n moved root.
@@ -329,6 +339,13 @@ module _ (table : Table) (typed : TypedProgram) (effects : Effects) (input : Lis
           ])
           (goes_exact (step program input state) is (main_exact end)))
         where
+          plain_after : (n : PlaceName) → Has (after (acts_by p.instr) facts_now) (Moved n) → sees n.root ≡ false
+          plain_after n has =
+              elim (after_splits (acts_by p.instr) facts_now own_facts around (innermost.from_both table typed effects input ready state top below more_frames rest named p frames deep stages running awaiting of_sub at_point path views viewed_before kept scope holds placed_before above) (Moved n) has) [
+                | inr there ↦ absurd (innermost.not_handed table typed effects input ready state top below more_frames rest named p frames deep stages running awaiting of_sub at_point path views viewed_before kept scope holds placed_before above n there)
+                | inl mine ↦ clear n (subst (λ z. Has z (Moved n)) (sym (standing.facts_on table typed effects input ready state top older outer named p frames of_sub at_point path no_calls)) mine)
+              ]
+
           goes_exact : (outcome : Outcome) → outcome ≡ Goes next → ExactAt (after (acts_by p.instr) facts_now) at.point.leaks outcome
               → IsExact s (home s depth) views elsewhere next.memory (after (acts_by p.instr) facts_now)
           goes_exact (Goes after_step) same_step on = (

@@ -1,5 +1,5 @@
 -- A declaration, an assignment or a return, once the value that it takes is out of the frame.
-use Rattle.std.proofs.Common.{◌≡◌, refl, sym, ap, ◌∙◌, subst, ℕ, suc, true, false, List, [], ◌∷◌, ◌++◌, length, append-nil, Some, None, if◌then◌else◌}
+use Rattle.std.proofs.Common.{◌≡◌, refl, sym, ap, ◌∙◌, subst, ℕ, suc, true, false, List, [], ◌∷◌, ◌++◌, length, append-nil, Some, None, if◌then◌else◌, Bool}
 use Rattle.viewed_facts.proofs.Evaluated.{ExactTo}
 use Rattle.soundness.proofs.Lasting.{keeps}
 use Rattle.soundness.proofs.Numbers.{index_law}
@@ -39,8 +39,8 @@ use Rattle.soundness.proofs.Eased.{eased}
 use Rattle.soundness.proofs.Operands.{handed_over, hold_is}
 use Rattle.soundness.proofs.Around.{IsFar}
 use Rattle.owned_loans.specs.Views.{Around, known_gone, Views, ViewedAlone}
-use Rattle.viewed_soundness.specs.Holds.{is_fixed, is_view, IsNamed, AllKeep, sees_only}
-use Rattle.viewed_soundness.proofs.Names.{plain_named}
+use Rattle.viewed_soundness.specs.Holds.{is_fixed, is_view, IsNamed, AllKeep, Seeing}
+use Rattle.viewed_soundness.proofs.ViewKinds.{plain_named}
 use Rattle.viewed_soundness.proofs.Outcomes.{named_plain}
 use Rattle.viewed_steps.specs.Sound.{IsBeyond, IsResting, HoldsAt, ArePlaced, NoneAbove, ViewStage, stages_of, GoneElsewhere, AreWaiting, HasTraversals}
 use Rattle.viewed_steps.specs.Awaited.{AreAwaited, lasting_of}
@@ -62,8 +62,16 @@ use Rattle.viewed_facts.proofs.Frames.{elsewhere as moved_elsewhere}
 use Rattle.viewed_facts.proofs.Here as here
 use Rattle.viewed_steps.proofs.Views.{AreAccess}
 use Rattle.viewed_facts.proofs.Steps.{IsAway}
+use Rattle.viewed_steps.specs.Seeing.{sees_in}
+use Rattle.viewed_steps.proofs.Sees.{sees_seeing}
 
 module _ (table : Table) (typed : TypedProgram) (effects : Effects) (input : List ℕ) (ready : IsReady table typed effects) where
+  abbrev sees : ℕ → Bool
+  sees = sees_in (flow_program table typed)
+
+  abbrev seeing : Seeing (flow_typing (flow_program table typed)) sees
+  seeing = sees_seeing (flow_program table typed)
+
   abbrev program : FlowProgram
   program = flow_program table typed
 
@@ -90,9 +98,9 @@ module _ (table : Table) (typed : TypedProgram) (effects : Effects) (input : Lis
       (awaiting : AreAwaited table typed None (top ∷ stages_of (below ∷ more_frames)))
       (of_sub : IsNamedSub (flow_named table typed) top.frame.sub named) (at_point : IsAtPoint named.points top.frame.next p)
       (path : ControlPath (path_points program effects (sub_of program top.frame.sub)) top.before top.frame.next) (views : Views)
-      (viewed_before : ViewedAlone (home s (suc (length rest))) (sees_only s) (known_gone (home s (suc (length rest))) (GoneElsewhere program effects (below ∷ more_frames))) views
+      (viewed_before : ViewedAlone (home s (suc (length rest))) sees (known_gone (home s (suc (length rest))) (GoneElsewhere program effects (below ∷ more_frames))) views
       (view_here s state) (facts_of program effects top))
-      (kept : Kept s state.memory (waiting_in state)) (scope : InScope s state.memory (suc (length rest)) (lasting_of s p.scope)) (holds : HoldsAt s (suc (length rest)) views state.memory p)
+      (kept : Kept s state.memory (waiting_in state)) (scope : InScope s state.memory (suc (length rest)) (lasting_of s p.scope)) (holds : HoldsAt s sees (suc (length rest)) views state.memory p)
       (placed_before : ArePlaced program (suc (length rest)) (facts_of program effects top) views p.scope × IsBeyond program effects (suc (length rest)) views (below ∷ more_frames)) (above : NoneAbove s (suc (length rest)) state.memory
       × HasTraversals table typed (view_here s state) (record { stage = top; views = views; cells = [] } ∷ (below ∷ more_frames)))
       (exact_before : Told (seen s state.memory [] []) (IsDefiniteOf program effects (record { stage = top; views = views; cells = [] } ∷ (below ∷ more_frames)))) where
@@ -160,7 +168,7 @@ module _ (table : Table) (typed : TypedProgram) (effects : Effects) (input : Lis
 
     module _ (going : (x : ℕ) → p.instr ≡ EndScope x → ⊥) (no_calls : IsNoCall p.instr) where
       abbrev pub ExactAt : List Fact → List LeakSpot → Outcome → Type 0
-      ExactAt facts spots outcome = ExactOn easy ready.accepted.settled ready.owns other alone in_formals views ready.class.parts_named none_taken refl refl elsewhere away Excused facts spots outcome
+      ExactAt facts spots outcome = ExactOn easy sees seeing ready.accepted.settled ready.owns other alone in_formals views ready.class.parts_named none_taken refl refl elsewhere away Excused facts spots outcome
 
       abbrev Exacts : Instruction → Type 0
       Exacts i = ExactAt (after (acts_by i) facts_now) (spots_by i) (turn at i)
@@ -196,10 +204,10 @@ module _ (table : Table) (typed : TypedProgram) (effects : Effects) (input : Lis
 
       -- a return with a value
       pub holds_value : (e : TypedTree) (of : ℕ) → p.instr ≡ Hold (More e NoMore) → named.sub.result ≡ Some of → is_anonymous (full s.table of) ≡ false
-          → (IsNamed s.table of → AllowsAll facts_now (acts (acts_in s e)) → AllKeep (is_fixed s) (acts (acts_in s e))
-          → ExactTo (steps.here at) ready.accepted.settled state.leaks [] other alone (keeps s ready.accepted.settled ready.owns) index_law ready.owns views
+          → (IsNamed s.table of → AllowsAll facts_now (acts (acts_in s e)) → AllKeep (is_fixed s sees) (acts (acts_in s e))
+          → ExactTo (steps.here at) sees seeing ready.accepted.settled state.leaks [] other alone (keeps s ready.accepted.settled ready.owns) index_law ready.owns views
           ready.class.parts_named elsewhere away (after (acts (acts_in s e)) facts_now) (steps.taken_by at of e (start at)))
-          → AllowsAll facts_now (acts_by (Hold (More e NoMore))) → AllKeep (is_fixed s) (acts_by (Hold (More e NoMore))) → Exacts (Hold (More e NoMore))
+          → AllowsAll facts_now (acts_by (Hold (More e NoMore))) → AllKeep (is_fixed s sees) (acts_by (Hold (More e NoMore))) → Exacts (Hold (More e NoMore))
       unfolding acts_in
       holds_value e of is result owner value_exact allowed_there keep =
           let type_there : IsNamed s.table of = plain_named s.table of owner in
@@ -215,9 +223,9 @@ module _ (table : Table) (typed : TypedProgram) (effects : Effects) (input : Lis
           (eased_on (after (acts (acts_in s e)) facts_now) [] (steps.taken_by at of e (start at))
           (λ ws m. Goes (handed_over program input at.point state top.frame below.stage.frame rest of ws m))
           (λ ws m. Goes (handed_over program input at.point state top.frame below.stage.frame rest of ws m)) (λ ws m on. on)
-          (waits_exact easy ready.accepted.settled ready.owns other alone in_formals views ready.class.parts_named none_taken refl refl elsewhere away Excused
+          (waits_exact easy sees seeing ready.accepted.settled ready.owns other alone in_formals views ready.class.parts_named none_taken refl refl elsewhere away Excused
           (after (acts (acts_in s e)) facts_now) (steps.taken_by at of e (start at))
-          (value_exact type_there (subst (AllowsAll facts_now) same allowed_there) (subst (AllKeep (is_fixed s)) same keep))
+          (value_exact type_there (subst (AllowsAll facts_now) same allowed_there) (subst (AllKeep (is_fixed s sees)) same keep))
           (λ ws m. Goes (handed_over program input at.point state top.frame below.stage.frame rest of ws m)) (λ ws m still. (still, tt)))))
 
       -- a return of a view
@@ -233,7 +241,7 @@ module _ (table : Table) (typed : TypedProgram) (effects : Effects) (input : Lis
           (eased_on facts_now [] (steps.taken_by at of e (start at))
           (λ ws m. Goes (handed_over program input at.point state top.frame below.stage.frame rest of ws m))
           (λ ws m. Goes (handed_over program input at.point state top.frame below.stage.frame rest of ws m)) (λ ws m on. on)
-          (waits_exact easy ready.accepted.settled ready.owns other alone in_formals views ready.class.parts_named none_taken refl refl elsewhere away Excused facts_now (steps.taken_by at of e (start at))
-          (quiet_on (steps.here at) ready.accepted.settled state.leaks [] other alone (keeps s ready.accepted.settled ready.owns) index_law ready.owns views ready.class.parts_named elsewhere away [] state.memory (λ ws. (z : machine.Word) × (ws ≡ z ∷ []) × giving.IsGivenBack table typed effects input ready state top below more_frames rest named p frames deep stages running awaiting of_sub at_point path views viewed_before kept scope holds placed_before above e NoMore is of result source refl view z) facts_now facts_now
+          (waits_exact easy sees seeing ready.accepted.settled ready.owns other alone in_formals views ready.class.parts_named none_taken refl refl elsewhere away Excused facts_now (steps.taken_by at of e (start at))
+          (quiet_on (steps.here at) sees seeing ready.accepted.settled state.leaks [] other alone (keeps s ready.accepted.settled ready.owns) index_law ready.owns views ready.class.parts_named elsewhere away [] state.memory (λ ws. (z : machine.Word) × (ws ≡ z ∷ []) × giving.IsGivenBack table typed effects input ready state top below more_frames rest named p frames deep stages running awaiting of_sub at_point path views viewed_before kept scope holds placed_before above e NoMore is of result source refl view z) facts_now facts_now
           (steps.taken_by at of e (start at)) quiet.2 refl exact)
           (λ ws m. Goes (handed_over program input at.point state top.frame below.stage.frame rest of ws m)) (λ ws m still. (still, tt)))))

@@ -1,5 +1,5 @@
 -- Facts without an element stay exact where a value is made of what functions gave, of any types.
-use Rattle.std.proofs.Common.{◌≡◌, refl, sym, ap, ◌∙◌, subst, inl, inr, ℕ, suc, true, false, List, [], ◌∷◌, ◌++◌, map, length, Option, Some, None, if◌then◌else◌}
+use Rattle.std.proofs.Common.{◌≡◌, refl, sym, ap, ◌∙◌, subst, inl, inr, ℕ, suc, true, false, List, [], ◌∷◌, ◌++◌, map, length, Option, Some, None, if◌then◌else◌, Bool}
 use Rattle.viewed_facts.proofs.Stored.{then_placed}
 use Rattle.viewed_facts.proofs.Evaluated.{ExactTo, checked_exact}
 use Rattle.soundness.proofs.Lasting.{keeps}
@@ -53,8 +53,8 @@ use Rattle.soundness.proofs.Scalars.{after_append, acts, acts_append}
 use Rattle.soundness.proofs.Eased.{eased}
 use Rattle.soundness.proofs.Around.{IsFar}
 use Rattle.owned_loans.specs.Views.{Around, known_gone, Views, ViewedAlone}
-use Rattle.viewed_soundness.specs.Holds.{is_fixed, is_view, IsNamed, AllKeep, sees_only}
-use Rattle.viewed_soundness.proofs.Names.{true_false}
+use Rattle.viewed_soundness.specs.Holds.{is_fixed, is_view, IsNamed, AllKeep, Seeing}
+use Rattle.viewed_soundness.proofs.ViewKinds.{true_false}
 use Rattle.viewed_soundness.proofs.Outcomes.{named_plain, assigned_acts}
 use Rattle.viewed_steps.specs.Sound.{IsBeyond, IsResting, HoldsAt, ArePlaced, NoneAbove, ViewStage, stages_of, GoneElsewhere, AreWaiting, HasTraversals}
 use Rattle.viewed_steps.specs.Awaited.{AreAwaited, lasting_of, TakesTogether}
@@ -74,8 +74,16 @@ use Rattle.viewed_facts.proofs.Fed.{fed_exact}
 use Rattle.viewed_steps.proofs.Within as steps_within
 use Rattle.viewed_steps.proofs.Views.{AreAccess}
 use Rattle.viewed_facts.proofs.Steps.{IsAway}
+use Rattle.viewed_steps.specs.Seeing.{sees_in}
+use Rattle.viewed_steps.proofs.Sees.{sees_seeing}
 
 module _ (table : Table) (typed : TypedProgram) (effects : Effects) (input : List ℕ) (ready : IsReady table typed effects) where
+  abbrev sees : ℕ → Bool
+  sees = sees_in (flow_program table typed)
+
+  abbrev seeing : Seeing (flow_typing (flow_program table typed)) sees
+  seeing = sees_seeing (flow_program table typed)
+
   abbrev program : FlowProgram
   program = flow_program table typed
 
@@ -102,9 +110,9 @@ module _ (table : Table) (typed : TypedProgram) (effects : Effects) (input : Lis
       (awaiting : AreAwaited table typed None (top ∷ stages_of (below ∷ more_frames)))
       (of_sub : IsNamedSub (flow_named table typed) top.frame.sub named) (at_point : IsAtPoint named.points top.frame.next p)
       (path : ControlPath (path_points program effects (sub_of program top.frame.sub)) top.before top.frame.next) (views : Views)
-      (viewed_before : ViewedAlone (home s (suc (length rest))) (sees_only s) (known_gone (home s (suc (length rest))) (GoneElsewhere program effects (below ∷ more_frames))) views
+      (viewed_before : ViewedAlone (home s (suc (length rest))) sees (known_gone (home s (suc (length rest))) (GoneElsewhere program effects (below ∷ more_frames))) views
       (view_here s state) (facts_of program effects top))
-      (kept : Kept s state.memory (waiting_in state)) (scope : InScope s state.memory (suc (length rest)) (lasting_of s p.scope)) (holds : HoldsAt s (suc (length rest)) views state.memory p)
+      (kept : Kept s state.memory (waiting_in state)) (scope : InScope s state.memory (suc (length rest)) (lasting_of s p.scope)) (holds : HoldsAt s sees (suc (length rest)) views state.memory p)
       (placed_before : ArePlaced program (suc (length rest)) (facts_of program effects top) views p.scope × IsBeyond program effects (suc (length rest)) views (below ∷ more_frames)) (above : NoneAbove s (suc (length rest)) state.memory
       × HasTraversals table typed (view_here s state) (record { stage = top; views = views; cells = [] } ∷ (below ∷ more_frames)))
       (exact_before : Told (seen s state.memory [] []) (IsDefiniteOf program effects (record { stage = top; views = views; cells = [] } ∷ (below ∷ more_frames)))) where
@@ -185,13 +193,13 @@ module _ (table : Table) (typed : TypedProgram) (effects : Effects) (input : Lis
 
     module _ (going : (x : ℕ) → p.instr ≡ EndScope x → ⊥) (no_calls : IsNoCall p.instr) where
       abbrev ExactAt : List Fact → List LeakSpot → Outcome → Type 0
-      ExactAt facts spots outcome = ExactOn easy ready.accepted.settled ready.owns other alone in_formals views ready.class.parts_named none_taken refl refl elsewhere away Excused facts spots outcome
+      ExactAt facts spots outcome = ExactOn easy sees seeing ready.accepted.settled ready.owns other alone in_formals views ready.class.parts_named none_taken refl refl elsewhere away Excused facts spots outcome
 
       abbrev Exacts : Instruction → Type 0
       Exacts i = ExactAt (after (acts_by i) facts_now) (spots_by i) (turn at i)
 
       abbrev ExactValue : List Fact → Evaluated (List machine.Word) → Type 0
-      ExactValue facts y = ExactTo (steps.here at) ready.accepted.settled state.leaks [] other alone (keeps s ready.accepted.settled ready.owns) index_law ready.owns views ready.class.parts_named elsewhere away facts y
+      ExactValue facts y = ExactTo (steps.here at) sees seeing ready.accepted.settled state.leaks [] other alone (keeps s ready.accepted.settled ready.owns) index_law ready.owns views ready.class.parts_named elsewhere away facts y
 
       module _ (taken_within : TakesTogether s named.sub.result p) where
         abbrev held : TypedTree
@@ -205,7 +213,7 @@ module _ (table : Table) (typed : TypedProgram) (effects : Effects) (input : Lis
 
         -- the values come from the frame, and are handed on within the expression; scalar ones may wait above them
         value_exact : (u : ℕ) → IsNamed s.table u → Source s u held → (later first : List Waiting) → front ≡ later ++ first → AreOfTypes s (types_taken s held) first
-            → AllowsAll facts_now held_acts → AllKeep (is_fixed s) held_acts → ExactValue (after held_acts facts_now) (steps.taken_by at u held (start at))
+            → AllowsAll facts_now held_acts → AllKeep (is_fixed s sees) held_acts → ExactValue (after held_acts facts_now) (steps.taken_by at u held (start at))
         value_exact u type_there (inl (view, is)) later first split fit allowed keep = absurd (true_false (is_anonymous (full s.table u)) view (named_plain s.table u type_there))
         value_exact u type_there (inr gives) later first split fit allowed keep =
             let below_hands : List Waiting = waiting_in easy.state in
@@ -213,10 +221,10 @@ module _ (table : Table) (typed : TypedProgram) (effects : Effects) (input : Lis
             let words_are : (start at).waits ≡ first_words first (first_words later []) = words_first front ∙ ap (λ z. first_words z []) split ∙ first_both later first [] in
             subst (λ b. ExactValue (after held_acts facts_now) (if b then run.viewed (steps.here at) held (start at) else followed_by (value (steps.here at) held (start at)) (checked (steps.here at) u)))
             (sym (named_plain s.table u type_there))
-            (checked_exact (steps.here at) ready.accepted.settled state.leaks [] other alone (keeps s ready.accepted.settled ready.owns) index_law ready.owns views ready.class.parts_named elsewhere away u (after held_acts facts_now) (value (steps.here at) held (start at))
+            (checked_exact (steps.here at) sees seeing ready.accepted.settled state.leaks [] other alone (keeps s ready.accepted.settled ready.owns) index_law ready.owns views ready.class.parts_named elsewhere away u (after held_acts facts_now) (value (steps.here at) held (start at))
             (subst (λ ws. ExactValue (after held_acts facts_now) (value (steps.here at) held (now ws))) (sym words_are)
-            (fed_exact (steps.here at) ready.accepted.settled state.leaks [] other alone (keeps s ready.accepted.settled ready.owns) index_law ready.owns views ready.class.parts_named elsewhere away held u gives taken_within.2 first fit later below_hands (first_words later []) state.memory facts_now
-            (subst (λ z. Ready (steps.here at) ready.accepted.settled state.leaks [] other alone (keeps s ready.accepted.settled ready.owns) index_law ready.owns views ready.class.parts_named state.memory z facts_now) (ap (λ z. z ++ below_hands) split ∙ append_assoc later first below_hands)
+            (fed_exact (steps.here at) sees seeing ready.accepted.settled state.leaks [] other alone (keeps s ready.accepted.settled ready.owns) index_law ready.owns views ready.class.parts_named elsewhere away held u gives taken_within.2 first fit later below_hands (first_words later []) state.memory facts_now
+            (subst (λ z. Ready (steps.here at) sees seeing ready.accepted.settled state.leaks [] other alone (keeps s ready.accepted.settled ready.owns) index_law ready.owns views ready.class.parts_named state.memory z facts_now) (ap (λ z. z ++ below_hands) split ∙ append_assoc later first below_hands)
             (steps_within.ready_value table typed effects input ready state top below more_frames rest named p frames deep stages running awaiting of_sub at_point path views viewed_before kept scope holds placed_before above going taken_within)) allowed type_there keep exact)))
 
         declares : (y : ℕ) → p.instr ≡ Declare y (More held NoMore) → is_anonymous (view_of s y) ≡ false → Exacts (Declare y (More held NoMore))
@@ -231,7 +239,7 @@ module _ (table : Table) (typed : TypedProgram) (effects : Effects) (input : Lis
             turning.declared_main table typed effects input ready state top below more_frames rest named p frames deep stages running awaiting of_sub at_point path views viewed_before kept scope holds placed_before above exact_before going no_calls (after (acts_by (Declare y (More held NoMore))) facts_now) y (More held NoMore)
             (subst (λ z. ExactAt z [] (steps.evaluated easy (steps.first_value at (object_at s y).of (More held NoMore) (start at))
             (λ vs m. steps.goes easy (declared depth y vs m) 0))) same
-            (then_declared easy ready.accepted.settled ready.owns other alone in_formals views ready.class.parts_named none_taken refl refl elsewhere away Excused y (orderly.begun y (More held NoMore) is) (after held_acts facts_now) (steps.first_value at (object_at s y).of (More held NoMore) (start at))
+            (then_declared easy sees seeing ready.accepted.settled ready.owns other alone in_formals views ready.class.parts_named none_taken refl refl elsewhere away Excused y (orderly.begun y (More held NoMore) is) (after held_acts facts_now) (steps.first_value at (object_at s y).of (More held NoMore) (start at))
             (steps_within.alone_within table typed effects input ready state top below more_frames rest named p frames deep stages running awaiting of_sub at_point path views viewed_before kept scope holds placed_before above going taken_within (object_at s y).of type_there source fit allowed keep)
             (value_exact (object_at s y).of type_there source [] front refl fit allowed keep) (
               subst (λ z. (name : PlaceName) → Has z (Moved name) → name.root ≡ y → depth ≡ home s depth y → ⊥) (sym same)
@@ -260,14 +268,14 @@ module _ (table : Table) (typed : TypedProgram) (effects : Effects) (input : Lis
             (λ ws now. followed_by (place_of (steps.here at) target now) (λ k now. Done (record { words = ws; place = k }) now)))
             (λ (st : steps.Stored) m. steps.leaking_goes (checks_at s (steps.target_pos at target) m st.place) (steps.goes easy (stored s st.place st.words m) 0))))
             (steps_within.facts_there table typed effects input ready state top below more_frames rest named p frames deep stages running awaiting of_sub at_point path views viewed_before kept scope holds placed_before above going no_calls taken_within r y steps_there u is scalar end place)
-            (then_stored easy ready.accepted.settled ready.owns other alone in_formals views ready.class.parts_named none_taken refl refl elsewhere away Excused (name_of y steps_there) u facts_then (effect (act.Write (name_of y steps_there)) facts_then) (steps.target_pos at target)
+            (then_stored easy sees seeing ready.accepted.settled ready.owns other alone in_formals views ready.class.parts_named none_taken refl refl elsewhere away Excused (name_of y steps_there) u facts_then (effect (act.Write (name_of y steps_there)) facts_then) (steps.target_pos at target)
             r (length (acts_in s held ++ acts_in s steps_there))
             (subst (λ z. Knows Excused r (name_of y steps_there) (length (acts_in s held ++ acts_in s steps_there)) z (parts s.table u)) front_same
             (knows (Assign target held) is (acts_in s held ++ acts_in s steps_there) (record { pos = r; act = act.Write (name_of y steps_there) } ∷ [])
             (assigned_acts s p.pos y u target steps_there held type_there leads) r (name_of y steps_there) (parts s.table u)))
             (followed_by (steps.taken_by at u held (start at))
             (λ ws now. followed_by (place_of (steps.here at) target now) (λ k now. Done (record { words = ws; place = k }) now)))
-            (then_placed (steps.here at) ready.accepted.settled state.leaks [] other alone (keeps s ready.accepted.settled ready.owns) index_law ready.owns views ready.class.parts_named elsewhere away Excused (first_words fronts.0 []) [] r y u steps_there (waiting_in easy.state) (after held_acts facts_now)
+            (then_placed (steps.here at) sees seeing ready.accepted.settled state.leaks [] other alone (keeps s ready.accepted.settled ready.owns) index_law ready.owns views ready.class.parts_named elsewhere away Excused (first_words fronts.0 []) [] r y u steps_there (waiting_in easy.state) (after held_acts facts_now)
             (steps_within.plain_root table typed effects input ready state top below more_frames rest named p frames deep stages running awaiting of_sub at_point path views viewed_before kept scope holds placed_before above going no_calls taken_within r y steps_there u is scalar end place) leads takes allows.1
             (steps.taken_by at u held (start at))
             (steps_within.source_within table typed effects input ready state top below more_frames rest named p frames deep stages running awaiting of_sub at_point path views viewed_before kept scope holds placed_before above going taken_within u type_there source fronts.0 fronts.1 fronts.2
@@ -282,7 +290,7 @@ module _ (table : Table) (typed : TypedProgram) (effects : Effects) (input : Lis
         result_there None result none = (let never : ◌≡◌ {A = TypedTree} (More held NoMore) NoMore = none in cc)
         result_there (Some of) result (e, same, source) = (of, result, subst (Source s of) (sym (same_first held e same)) source)
 
-        returns : p.instr ≡ Hold (More held NoMore) → ((t : ℕ) → named.sub.result ≡ Some t → is_anonymous (full s.table t) ≡ false) → AllowsAll facts_now (acts_by (Hold (More held NoMore))) → AllKeep (is_fixed s) (acts_by (Hold (More held NoMore)))
+        returns : p.instr ≡ Hold (More held NoMore) → ((t : ℕ) → named.sub.result ≡ Some t → is_anonymous (full s.table t) ≡ false) → AllowsAll facts_now (acts_by (Hold (More held NoMore))) → AllKeep (is_fixed s sees) (acts_by (Hold (More held NoMore)))
             → Exacts (Hold (More held NoMore))
         unfolding types_taken
         returns is plain allowed keep =
@@ -291,10 +299,10 @@ module _ (table : Table) (typed : TypedProgram) (effects : Effects) (input : Lis
             turning.holds_value table typed effects input ready state top below more_frames rest named p frames deep stages running awaiting of_sub at_point path views viewed_before kept scope holds placed_before above exact_before going no_calls held result.0 is result.1 (plain result.0 result.1)
             (λ type_there allows keeps. value_exact result.0 type_there result.2 [] front refl fit allows keeps) allowed keep
 
-        pub within_exact : (p.instr ≡ Finish → ⊥) → AllowsAll facts_now (acts_by p.instr) → AllKeep (is_fixed s) (acts_by p.instr) → Exacts p.instr
+        pub within_exact : (p.instr ≡ Finish → ⊥) → AllowsAll facts_now (acts_by p.instr) → AllKeep (is_fixed s sees) (acts_by p.instr) → Exacts p.instr
         within_exact end allowed_there keep = elim taken_within.1 [
           | inl (y, is, owner) ↦ subst Exacts (sym is) (declares y is owner)
           | inr (inl (r, y, steps_there, u, is, place, scalar)) ↦ subst Exacts (sym is) (assigns r y steps_there u is scalar end place)
           | inr (inr (is, plain)) ↦ subst Exacts (sym is)
-              (returns is plain (subst (λ i. AllowsAll facts_now (acts_by i)) is allowed_there) (subst (λ i. AllKeep (is_fixed s) (acts_by i)) is keep))
+              (returns is plain (subst (λ i. AllowsAll facts_now (acts_by i)) is allowed_there) (subst (λ i. AllKeep (is_fixed s sees) (acts_by i)) is keep))
         ]

@@ -1,6 +1,6 @@
 -- Borrowers and observers of files that break no rule are in order, and the runs of their program are sound where
 -- nothing is reported, if it is of the class.
-use Rattle.std.proofs.Common.{◌≡◌, refl, sym, ap, ◌∙◌, subst, ◌⊎◌, inl, inr, ℕ, Bool, true, false, ◌&&◌, ◌||◌, List, [], ◌∷◌, Option, Some, None, is_some}
+use Rattle.std.proofs.Common.{◌≡◌, refl, sym, ap, ◌∙◌, subst, ◌⊎◌, inl, inr, ℕ, suc, Bool, true, false, not, ◌&&◌, ◌||◌, List, [], ◌∷◌, get_or, Some, None}
 use Rattle.spark_base.specs.declared.position.Pos.{Pos}
 use Rattle.spark_base.specs.Lists.{Has}
 use Rattle.place_names.specs.declared.act.Mode.{Mode}
@@ -31,10 +31,9 @@ use Rattle.typed_tree.specs.Trees as typed_tree
 use Rattle.typed_tree.specs.Programs.{TypedSub, site_of, elaboration, typed_program}
 use Rattle.flow_paths.specs.declared.report.Effects.{Effects}
 use Rattle.flow_paths.specs.Effects.{AreEffects}
-use Rattle.flow_paths.specs.Instructions.{Instruction, Declare, Assign, Call, Hold}
+use Rattle.flow_paths.specs.Instructions.{Instruction, Declare, Assign, Hold}
 use Rattle.flow_paths.specs.Objects.{Typing}
 use Rattle.flow_paths.specs.Objects as flow
-use Rattle.flow_paths.specs.Acts.{gives_variable}
 use Rattle.flow_paths.specs.Points.{FlowPoint}
 use Rattle.flow_paths.specs.Laid.{FlowSub, FlowProgram, flow_typing, flow_program}
 use Rattle.flow_paths.specs.Reports.{AreReports}
@@ -53,9 +52,8 @@ use Rattle.gathered_laws.specs.Views.{AreViews}
 use Rattle.gathered_laws.proofs.Parts as parts
 use Rattle.anonymous_types.proofs.Main as anonymous
 use Rattle.typed_laws.specs.Fine.{Laws, counts, lists}
-use Rattle.typed_steps.specs.Steps.{IsTypedStep, AreTyped as AreStepsTyped}
+use Rattle.typed_steps.specs.Steps.{AreTyped as AreStepsTyped}
 use Rattle.typed_points.specs.Meant.{AreMeantUnits, typing_meant}
-use Rattle.machine.specs.States.{sub_of}
 use Rattle.machine.specs.Owners.{is_in, is_in_formal}
 use Rattle.soundness.specs.Seen.{is_view_formal}
 use Rattle.soundness.specs.Typed.{OwnsByShape}
@@ -63,9 +61,7 @@ use Rattle.soundness.proofs.Passing.{plain_type, signature_is}
 use Rattle.soundness.specs.Sound.{Accepted, RunIsSound}
 use Rattle.soundness.proofs.Points.{flow_table}
 use Rattle.soundness.proofs.Typings.{Agree, flow_agrees}
-use Rattle.viewed_soundness.specs.Holds.{PartsAreNamed, is_given}
-use Rattle.viewed_steps.specs.Sound.{LendsApart}
-use Rattle.viewed_steps.proofs.Lending.{named_has}
+use Rattle.viewed_soundness.specs.Holds.{IsAccess, PartsAreNamed, is_given}
 use Rattle.ready_laws.specs.InOrder.{IsInOrder, IsSub, AreAnswered, AreStill, ArePassed}
 use Rattle.ready_laws.proofs.Actuals.{typed_passed}
 use Rattle.order_laws.specs.Orderly.{typed_of, typing_in, bodies_of, IsOrderly}
@@ -81,7 +77,6 @@ use Rattle.meant_files.proofs.Main.{files_denote}
 use Rattle.meant_files.proofs.Main as meant
 use Rattle.meant_files.proofs.Codes as codes
 use Rattle.scope_laws.proofs.Lists.{and_second}
-use Rattle.sound_files.specs.Class.{TakesBorrower, IsInClass}
 use Rattle.sound_files.proofs.Laws.{table_laws, files_declared, integers_scalar, truths_scalar}
 use Rattle.sound_files.proofs.Called.{files_bodies}
 use Rattle.sound_files.proofs.Mains.{main_formless}
@@ -100,12 +95,13 @@ use Rattle.viewed_steps.proofs.Main.{ready_sound}
 use Rattle.view_laws.specs.InOrder.{AreViewsInOrder}
 use Rattle.viewed_steps.specs.Traversals.{IsSourceName}
 use Rattle.viewed_steps.specs.Sound.{IsScalarObject, IsKindOfFormal, IsStoredAt}
-use Rattle.view_laws.specs.Program.{PassActuals, TraversesNames, SparesPackages, TakesView, IsViewProgram}
+use Rattle.view_laws.specs.Program.{PassActuals, TraversesNames, TakesView, IsViewProgram}
 use Rattle.view_laws.proofs.Ready.{views_ready}
 use Rattle.viewed_files.proofs.Sources.{scalar_plain}
+use Rattle.viewed_files.proofs.Variables.{named_variable}
 use Rattle.viewed_files.proofs.Passed.{actuals_passed}
 use Rattle.viewed_files.proofs.Stored.{are_stored}
-use Rattle.viewed_files.proofs.Traversals.{shape_there, declares_view, assigns_view, holds_view, called_name, returns_source}
+use Rattle.viewed_files.proofs.Traversals.{declares_view, assigns_view, holds_view, called_name, returns_source}
 use Rattle.viewed_files.proofs.Main.{IsGiven, views_in_order}
 
 unnamed_access : (w : View) → flow.is_anonymous w ≡ true → flow.is_named_access w ≡ false
@@ -121,8 +117,10 @@ is_mode_in : (m : Mode) → is_in m ≡ true → m ≡ mode.In
 is_mode_in mode.In e = refl
 is_mode_in m e = cc
 
-anonymous_shape : (z : Shape) → flow.is_anonymous (view_of z) ≡ true → (d : ℕ) × (c : Bool) × (n : Bool) × (z ≡ shape.Access d c n)
-anonymous_shape z view = (let here = shape_there z view in (here.0, here.1, here.2, here.3))
+number_of : (gs : List flow.Signature) (g : flow.Signature) → Has gs g → (n : ℕ) × (get_or gs n (record { formals = []; result = None }) ≡ g)
+number_of [] g has = absurd has
+number_of (z ∷ gs) g (inl same) = (0, same)
+number_of (z ∷ gs) g (inr has) = (let found = number_of gs g has in (suc found.0, found.1))
 
 heads : (x y : TypedSub) (xs ys : List TypedSub) → x ∷ xs ≡ y ∷ ys → x ≡ y
 heads x y xs ys e = cc
@@ -144,10 +142,6 @@ same_anonymous w e = refl
 and_false : (b : Bool) → b && false ≡ false
 and_false true = refl
 and_false false = refl
-
-access_shape : (z : Shape) → flow.is_named_access (view_of z) ≡ true → (d : ℕ) × (c : Bool) × (n : Bool) × (z ≡ shape.Access d c n)
-access_shape (shape.Access d c n) e = (d, c, n, refl)
-access_shape z e = cc
 
 whole_named : (z : Shape) (d : ℕ) (c n : Bool) → counts z ≡ true → z ≡ shape.Access d c n → n ≡ true
 whole_named (shape.Access e k m) d c n whole is = cc
@@ -240,9 +234,8 @@ module _ (files : List (List SourceUnit)) where
     unfolding typed_program
     subs_are = refl
 
-    -- Of the class with formals that own, the program is ready,
-    module _ (main : ℕ) (is_main : (typed_of p).main ≡ Some main) (effects : Effects) (are : AreEffects flow_of_files effects) (none : AreReports flow_of_files effects [])
-        (calls : IsInClass p) where
+    -- The program is ready,
+    module _ (main : ℕ) (is_main : (typed_of p).main ≡ Some main) (effects : Effects) (are : AreEffects flow_of_files effects) (none : AreReports flow_of_files effects []) where
       accepted : Accepted table (typed_of p) effects
       accepted = record {
         no_reports = none;
@@ -303,9 +296,6 @@ module _ (files : List (List SourceUnit)) where
       alike : Agree wide (typing_in p)
       alike = flow_agrees table (typed_of p)
 
-      anonymous_type : (x : ℕ) → flow.is_anonymous (flow.view_of wide x) ≡ true → (d : ℕ) × (c : Bool) × (n : Bool) × (shape_of wide.table (flow.object_at wide x).of ≡ shape.Access d c n)
-      anonymous_type x view = anonymous_shape (shape_of wide.table (flow.object_at wide x).of) view
-
       -- one that is no temporary is a variable, or a formal of mode `in`
       local_there : (x : ℕ) → flow.is_formal wide x ≡ true ⊎ (flow.object_at wide x ≡ flow.object_at (typing_in p) x) → flow.is_anonymous (flow.view_of wide x) ≡ true
           → (flow.is_variable (flow.object_at wide x).kind ≡ true) ⊎ (is_in_formal wide x ≡ true)
@@ -347,15 +337,12 @@ module _ (files : List (List SourceUnit)) where
           owner : (flow.object_at wide x).mode ≡ mode.In → (o : Bool) → is_owning wide.table (flow.object_at wide x).of ≡ o → (a : Bool) → flow.is_anonymous (flow.view_of wide x) ≡ a → IsKindOfFormal wide x
           owner in_mode true owns a view =
               let shown : is_view_formal wide x ≡ true = ap (λ b. b && is_owning wide.table (flow.object_at wide x).of) (of_in in_mode) ∙ owns in
-              elim (calls.formals x shown) [
-                | inl plain ↦ inl plain
-                | inr access ↦ inr (inr (inl (ap (λ b. b || (is_in_formal wide x && flow.is_anonymous (flow.view_of wide x))) shown, access_shape (shape_of wide.table (flow.object_at wide x).of) access)))
-              ]
+              inr (inr (inl (ap (λ b. b || (is_in_formal wide x && flow.is_anonymous (flow.view_of wide x))) shown)))
           owner in_mode false none true view =
               let seen : is_given wide x ≡ true
               = ap (λ b. (is_in_formal wide x && b) || (is_in_formal wide x && flow.is_anonymous (flow.view_of wide x))) none
               ∙ ap (λ b. (b && false) || (b && flow.is_anonymous (flow.view_of wide x))) (of_in in_mode) ∙ view in
-              inr (inr (inl (seen, anonymous_type x view)))
+              inr (inr (inl seen))
           owner in_mode false none false view = inr (inr (inr (in_mode, none, named_type (shape_of wide.table (flow.object_at wide x).of) view)))
 
           back : (m : Mode) → (flow.object_at wide x).mode ≡ m → (m ≡ mode.In → ⊥) → IsKindOfFormal wide x
@@ -384,24 +371,14 @@ module _ (files : List (List SourceUnit)) where
       modes : (n t : ℕ) → (flow.sub_at wide n).result ≡ Some t → (x : ℕ) → Has (flow.sub_at wide n).formals x → (flow.object_at wide x).mode ≡ mode.In
       modes = modes_there p (functions_in p (units_faultless p no_fault) text_orderly.once)
 
-      -- what a procedure is shown is of a named access type
+      -- what a procedure is shown of an access type is of a named access-to-variable type
       procedures : (n : ℕ) → (flow.sub_at wide n).result ≡ None → (x : ℕ) → Has (flow.sub_at wide n).formals x
-          → flow.is_formal wide x ≡ true → is_view_formal wide x ≡ true → flow.is_named_access (flow.view_of wide x) ≡ true
-      procedures n result x has formal view = elim (calls.formals x view) [
-        | inl plain ↦ absurd (let no : true ≡ false = sym view ∙ scalar_none x plain in cc)
-        | inr access ↦ access
-      ]
-
-      lends : LendsApart flow_of_files
-      lends = elim calls.lends [
-        | inr apart ↦ apart
-        | inl first ↦ λ sub has q there n actuals result is a b has_a has_b gives differs given over.
-            (elim (first n a.formal b.formal gives
-            (subst (λ (z : flow.Signature). Has z.formals b.formal) (sym (signature_is flow_of_files n)) (named_has (sub_of flow_of_files n).formals actuals b has_b)) given) [
-              | inl plain ↦ absurd (scalar_ungiven b.formal plain given)
-              | inr same ↦ differs (sym same)
-            ])
-      ]
+          → flow.is_formal wide x ≡ true → is_view_formal wide x ≡ true → IsAccess wide x → flow.is_named_access (flow.view_of wide x) ≡ true
+      procedures n result x has formal view (d, c, k, is) =
+          let named : k ≡ true = sym (owns (flow.object_at wide x).of ∙ ap (owns_of (is_owning wide.table)) is)
+          ∙ and_second (is_in_formal wide x) (is_owning wide.table (flow.object_at wide x).of) view in
+          let variable : c ≡ false = named_variable p (flow.object_at wide x).of d c k (ap (λ (rows : Table). shape_of rows (flow.object_at wide x).of) same_table ∙ is) named in
+          ap (λ z. flow.is_named_access (view_of z)) is ∙ ap (λ b. b && not c) named ∙ ap not variable
 
       passes : PassActuals flow_of_files
       passes =
@@ -413,12 +390,12 @@ module _ (files : List (List SourceUnit)) where
       -- ---- traversal functions
 
       first_there : (n : ℕ) → flow.traverses wide.table (flow.sub_at wide n).result ≡ true
-          → (f : ℕ) × (rest : List ℕ) × ((flow.sub_at wide n).formals ≡ f ∷ rest) × (is_given wide f ≡ true)
+          → (f : ℕ) × (rest : List ℕ) × ((flow.sub_at wide n).formals ≡ f ∷ rest) × (is_given wide f ≡ true) × IsAccess wide f
       first_there n gives =
           let found = files_first files apart ended up named no_fault n gives in
           let has : Has (flow.sub_at wide n).formals found.0 = subst (λ fs. Has fs found.0) (sym found.2) (inl refl) in
           let of_in : is_in_formal wide found.0 ≡ true = ap (λ b. b && is_in (flow.object_at wide found.0).mode) (known_formal n found.0 has) ∙ ap is_in found.3 in
-          (found.0, found.1, found.2, access_given found.0 of_in found.4 found.5 found.6 found.7)
+          (found.0, found.1, found.2, access_given found.0 of_in found.4 found.5 found.6 found.7, (found.4, found.5, found.6, found.7))
         where
           known_formal : (n x : ℕ) → Has (flow.sub_at wide n).formals x → flow.is_formal wide x ≡ true
           known_formal = formals_wide p (λ sub among x has. text_orderly.formals sub among x has)
@@ -447,54 +424,22 @@ module _ (files : List (List SourceUnit)) where
           let name = called_name wide sub.result n actuals result taking from first.0 first.1 first.2 in
           (name.0, name.1, name.2, name.3, name.4, name.5)
 
-      -- one that gives a borrower spares the package objects
-      spared : SparesPackages flow_of_files effects
-      spared sub has q there n actuals result is gives r y path u more at belongs used = by result refl
-        where
-          step : IsTypedStep wide sub.result (Call n actuals result)
-          step = subst (λ i. IsTypedStep wide sub.result i) is (typed sub has q there)
-
-          given_some : (o : Option ℕ) → gives_variable wide o ≡ true → is_some o ≡ true
-          given_some None e = cc
-          given_some (Some t) e = refl
-
-          by : (r : Option ℕ) → result ≡ r → ⊥
-          by None none =
-              (let no : false ≡ true = ap is_some (sym none) ∙ sym step.2 ∙ given_some (flow.sub_at wide n).result gives in cc)
-          by (Some t) some =
-              calls.spared sub has q there n actuals t (is ∙ ap (Call n actuals) some) gives (Name r y path u) more at y (inl refl) belongs effects are used
-
       stored : (sub : FlowSub) → Has flow_of_files.subs sub → (q : FlowPoint) → Has sub.points q → (x : ℕ) → IsStoredAt q.instr x → flow.is_anonymous (flow.view_of wide x) ≡ true
           → flow.is_variable (flow.object_at wide x).kind ≡ true
       stored = are_stored table (typed_of p) effects accepted order views_here.declared
           (λ x view. unnamed_access (flow.view_of wide x) view) (λ x view. (views_here.local x view).0) still
 
       take : (sub : FlowSub) → Has flow_of_files.subs sub → (q : FlowPoint) → Has sub.points q → TakesView wide sub.result q.instr
-      take sub has q there = by q.instr refl (used sub has q there) (calls.borrowed sub has q there)
+      take sub has q there = by q.instr (used sub has q there)
         where
-          borrows : (x : ℕ) → IsStoredAt q.instr x → flow.is_anonymous (flow.view_of wide x) ≡ true → flow.is_borrowing (flow.view_of wide x) ≡ true → flow.is_borrower wide x ≡ true
-          borrows x at view lends = ap (λ b. b && flow.is_borrowing (flow.view_of wide x)) (stored sub has q there x at view) ∙ lends
-
-          by : (i : Instruction) → q.instr ≡ i → IsTypedUse wide sub.result i → TakesBorrower wide sub.result i → TakesView wide sub.result i
-          by (Declare x (More (CallIn k n a) rest)) is taking borrow = λ gives.
-              (let found = declares_view wide parts_here sub.result x k n a rest taking gives in
-              (found.0, found.1, λ lends. borrows x (inl (More (CallIn k n a) rest, is)) found.0 (borrow lends)))
-          by (Assign (Name r x path u) (CallIn k n a)) is taking borrow = λ gives.
+          by : (i : Instruction) → IsTypedUse wide sub.result i → TakesView wide sub.result i
+          by (Declare x (More (CallIn k n a) rest)) taking = λ gives. declares_view wide parts_here sub.result x k n a rest taking gives
+          by (Assign (Name r x path u) (CallIn k n a)) taking = λ gives.
               (let found = assigns_view wide parts_here sub.result r x path u k n a taking gives in
-              let target : Name r x path u ≡ Name r x NoMore u = ap (λ z. Name r x z u) found.0 in (
-                r,
-                x,
-                u,
-                target,
-                found.2,
-                found.3,
-                λ lends. borrows x
-                    (inr (r, u, CallIn k n a, is ∙ ap (λ z. Assign z (CallIn k n a)) target)) found.2
-                    (ap (λ z. flow.is_borrowing (full wide.table z)) found.1 ∙ borrow lends),
-              ))
-          by (Assign target (CallIn k n a)) is taking borrow = λ gives. absurd (taking.0.1)
-          by (Hold (More (CallIn k n a) rest)) is taking borrow = λ gives. (holds_view wide parts_here sub.result k n a rest taking gives, borrow)
-          by i is taking borrow = tt
+              let target : Name r x path u ≡ Name r x NoMore u = ap (λ z. Name r x z u) found.0 in (r, x, u, target, found.2, found.3))
+          by (Assign target (CallIn k n a)) taking = λ gives. absurd (taking.0.1)
+          by (Hold (More (CallIn k n a) rest)) taking = λ gives. holds_view wide parts_here sub.result k n a rest taking gives
+          by i taking = tt
 
       returned : (sub : FlowSub) → Has flow_of_files.subs sub → (q : FlowPoint) → Has sub.points q → (e last : TypedTree) → q.instr ≡ Hold (More e last)
           → (of : ℕ) → sub.result ≡ Some of → flow.is_anonymous (full flow_of_files.table of) ≡ true
@@ -514,7 +459,7 @@ module _ (files : List (List SourceUnit)) where
         integers = subst (λ (rows : Table). is_scalar (full rows integer) ≡ true) same_table integers;
         truths = subst (λ (rows : Table). is_scalar (full rows boolean) ≡ true) same_table truths;
         formals = kinds;
-        functions = λ n t result x has formal is lends. functions_see p text_orderly.once n t x result has lends;
+        functions = λ n t result x has formal is. functions_see p text_orderly.once n t x result has;
         modes = modes;
         procedures = procedures;
         order = order;
@@ -529,11 +474,9 @@ module _ (files : List (List SourceUnit)) where
         main_plain = main_there p order.number order.main main_in (main_formless p no_fault text_orderly.written order.number order.main order.is_main main_in);
         still = still;
         views = views_here;
-        lends = lends;
         firsts = files_firsts files apart ended up named no_fault;
         first = first_there;
         traverse = traverse;
-        spared = spared;
         take = take;
         returned = returned;
         stored = stored;
@@ -548,11 +491,11 @@ module _ (files : List (List SourceUnit)) where
 
   -- So it is if the files are parsed from texts: then their positions are as in a text.
   pub parsed_called_ready : (texts : List (List Cut)) → AreParsed 0 texts files → name_fault files ≡ None → type_fault p ≡ None → (main : ℕ) → (typed_of p).main ≡ Some main
-      → (effects : Effects) → AreEffects flow_of_files effects → AreReports flow_of_files effects [] → IsInClass p → IsReady table (typed_of p) effects
+      → (effects : Effects) → AreEffects flow_of_files effects → AreReports flow_of_files effects [] → IsReady table (typed_of p) effects
   parsed_called_ready texts parsed named no_fault =
       files_called_ready (files_apart texts files parsed) (files_ended (identified files) texts files parsed) (events_ascend texts files parsed) named no_fault
 
   pub parsed_called_sound : (texts : List (List Cut)) → AreParsed 0 texts files → name_fault files ≡ None → type_fault p ≡ None → (main : ℕ) → (typed_of p).main ≡ Some main
-      → (effects : Effects) → AreEffects flow_of_files effects → AreReports flow_of_files effects [] → IsInClass p → (input : List ℕ) → RunIsSound table (typed_of p) input
+      → (effects : Effects) → AreEffects flow_of_files effects → AreReports flow_of_files effects [] → (input : List ℕ) → RunIsSound table (typed_of p) input
   parsed_called_sound texts parsed named no_fault =
       files_called_sound (files_apart texts files parsed) (files_ended (identified files) texts files parsed) (events_ascend texts files parsed) named no_fault

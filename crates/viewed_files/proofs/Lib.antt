@@ -1,3 +1,4 @@
+mod Variables
 pub mod Joined
 pub mod Layers
 pub mod Placed

@@ -23,6 +23,7 @@ use Rattle.typed_runs.specs.Code.{IsNamedOwner, NamesOwner, NamesOwners, IsName,
 use Rattle.soundness.proofs.Contents.{bool_cases}
 use Rattle.soundness.proofs.Passing.{signature_there}
 use Rattle.viewed_soundness.specs.Holds.{IsNamed}
+use Rattle.viewed_soundness.proofs.ViewKinds.{access_bundle}
 use Rattle.ready_laws.proofs.Actuals.{taken_stays}
 use Rattle.scope_laws.specs.Code.{Once}
 use Rattle.flow_paths.specs.Views.{traversed_of}
@@ -67,7 +68,7 @@ module _ (y : Typing) (whole : counts (shape_of y.table integer) ≡ true) (list
   -- what is shown is null, or a name of the formal's type
   shown_seen : (x : ℕ) (e : TypedTree) → IsNamedOwner e → Has y (object_at y x).of e → IsSeen y x e
   unfolding Has
-  shown_seen x typed.Null named has = tt
+  shown_seen x typed.Null named has = access_bundle y x has
   shown_seen x (Name p z path u) named has = (leads y whole listed word_law path (object_at y z).of u has.0, inl (matches y.table u (object_at y x).of has.1))
   shown_seen x e named has = absurd named
 

@@ -1,6 +1,6 @@
 -- The actuals of a call lead to the same in memories that agree: values, scalar places in variables, and
 -- other places in variables, of which nothing is moved.
-use Rattle.std.proofs.Common.{◌≡◌, refl, sym, ap, ◌∙◌, subst, ◌⊎◌, inl, inr, ℕ, Bool, true, false, ◌&&◌, List, [], ◌∷◌, map, arith, length, if◌then◌else◌, Some}
+use Rattle.std.proofs.Common.{◌≡◌, refl, sym, ap, ◌∙◌, subst, ◌⊎◌, inl, inr, ℕ, Bool, true, false, ◌&&◌, List, [], ◌∷◌, map, arith, length, if◌then◌else◌}
 use Rattle.spark_base.specs.Lists.{Has}
 use Rattle.place_names.specs.declared.act.Mode.{Mode}
 use Rattle.place_names.specs.declared.act.Mode.TheVariants as mode
@@ -41,9 +41,10 @@ use Rattle.viewed_nulls.proofs.Copied.{copies_same}
 use Rattle.soundness.proofs.Passing.{reads_keep, plain_type}
 use Rattle.soundness.proofs.Lasting.{keeps}
 use Rattle.owned_loans.specs.Views.{Around, Views}
-use Rattle.owned_loans.proofs.Allowed.{cleared_open, cleared_whole}
-use Rattle.viewed_soundness.specs.Holds.{IsNamed, PartsAreNamed, sees_only, IsOwners, IsAccess}
-use Rattle.viewed_soundness.proofs.Names.{Starts, true_false, view_access, not_view, plain_sees, both_no, plain_named}
+use Rattle.owned_loans.proofs.Allowed.{cleared_open}
+use Rattle.viewed_soundness.specs.Holds.{IsNamed, PartsAreNamed, IsOwners, IsAccess, Seeing}
+use Rattle.viewed_soundness.proofs.Names.{Starts}
+use Rattle.viewed_soundness.proofs.ViewKinds.{true_false, view_access, not_view, plain_sees, both_no, plain_named}
 use Rattle.viewed_soundness.proofs.Stays.{Goes, no_selectors}
 use Rattle.viewed_soundness.proofs.Evaluated.{matches_named, live_trunk}
 use Rattle.viewed_steps.specs.Sound.{IsKindOfFormal}
@@ -59,14 +60,13 @@ use Rattle.null_places.proofs.Direct.{has_deref, past_deref, selectors_direct}
 use Rattle.null_places.proofs.Walks.{SameNow, SameTo, then_same, simply}
 use Rattle.null_places.proofs.Laws.{Premises, Behaves, Finds, IsAt, IsWholeAt}
 use Rattle.null_places.proofs.Scalars.{scalar_none, value_passed_same, to_passed_same, from_passed_same, place_then, steps_on, view_same, none_there}
-use Rattle.viewed_nulls.proofs.Names.{name_same, access_found, view_whole, owner_found}
-use Rattle.viewed_nulls.proofs.Viewed.{viewed_premises, anonymous_access, IsReadyIn, leads, viewed_behaves}
-use Rattle.viewed_steps.proofs.Views.{AreAccess, AreUnseen}
+use Rattle.viewed_nulls.proofs.Names.{name_same, place_whole, view_whole, owner_found}
+use Rattle.viewed_nulls.proofs.Viewed.{viewed_premises, IsReadyIn, leads, viewed_behaves}
+use Rattle.viewed_steps.proofs.Views.{AreAccess, AreUnseen, AreLowFormals}
 use Rattle.viewed_steps.specs.Ready.{is_shown_type}
 use Rattle.viewed_steps.specs.Traversals.{TraversalCall}
 use Rattle.viewed_steps.proofs.Traversing.{first_actual}
 use Rattle.viewed_steps.proofs.Called.{shown_given}
-use Rattle.viewed_soundness.proofs.Given.{IsLow}
 use Rattle.viewed_steps.proofs.Reading.{index_reads}
 use Rattle.viewed_soundness.specs.Holds.{is_given}
 use Rattle.std.proofs.Common.{◌||◌}
@@ -75,8 +75,6 @@ use Rattle.machine.specs.Memory as memory
 use Rattle.machine.specs.Words.{fits_type}
 use Rattle.viewed_soundness.proofs.Outcomes.{named_plain}
 use Rattle.soundness.specs.Ready.{root_of}
-use Rattle.type_definitions.specs.Types as types
-use Rattle.type_definitions.specs.declared.table.Shape.TheVariants as shape
 use Rattle.typed_tree.specs.Trees as typed
 
 -- A name that goes through an access value has steps.
@@ -102,24 +100,24 @@ own_variable table t u way w direct starts named = by_view (is_anonymous (full t
         let none = (view_access (shape_of table t) view).1 in absurd (omega (arith, none, less))
     by_view true view (run.ToDesignated ∷ way) direct starts = absurd (direct w (past_along w (All w) way (under_itself w)))
 
-module _ (h : Here) (settled : IsSettled h.typing.table) (leaks : List Leak) (other : Around (home h.typing h.frame))
+module _ (h : Here) (sees : ℕ → Bool) (seeing : Seeing h.typing sees) (settled : IsSettled h.typing.table) (leaks : List Leak) (other : Around (home h.typing h.frame))
     (alone : (w : Way) → IsNear h.frame w → other.gone w → ⊥) (in_formals : AreAccess h.typing) (index_law : IndexLaw)
     (own_law : OwnsByShape h.typing.table) (v : Views) (parts_named : PartsAreNamed h.typing.table) (m : Memory) (hands : List Waiting) (facts : List Fact)
-    (ready : IsReadyIn h settled leaks other alone in_formals index_law own_law v parts_named m hands facts)
+    (ready : IsReadyIn h sees seeing settled leaks other alone in_formals index_law own_law v parts_named m hands facts)
     (only : OnlyOwners h.typing m)
-    (formals_low : (x : ℕ) (w : Way) → v.way x ≡ Some w → IsLow h.typing h.frame w)
+    (formals_low : AreLowFormals h.typing h.frame v)
     (procedure : Bool) where
   abbrev at : List (List machine.Word) → Now
   at ws = record { memory = m; waits = ws }
 
   abbrev asks : Premises h
-  asks = viewed_premises h parts_named
+  asks = viewed_premises h sees parts_named
 
-  law : Behaves h (viewed_premises h parts_named) m hands facts
-  law = viewed_behaves h settled leaks other alone in_formals index_law own_law v parts_named m hands facts ready only
+  law : Behaves h (viewed_premises h sees parts_named) m hands facts
+  law = viewed_behaves h sees seeing settled leaks other alone in_formals index_law own_law v parts_named m hands facts ready only
 
   live : (w : Way) (l : Loc) → IsOwners h.typing w → Reaches (seen h.typing m hands leaks) w l → (content h.typing m hands (trunk l)).owns ≡ true
-  live = live_trunk h settled leaks [] other alone (keeps h.typing settled own_law) index_law own_law v parts_named m hands ready.viewed.owned
+  live = live_trunk h sees seeing settled leaks [] other alone (keeps h.typing settled own_law) index_law own_law v parts_named m hands ready.viewed.owned
 
   abbrev Kind : ℕ → Type 0
   Kind x = IsKindOfFormal h.typing x
@@ -150,11 +148,11 @@ module _ (h : Here) (settled : IsSettled h.typing.table) (leaks : List Leak) (ot
       (λ j. record { root = number_along way (Object (OfVariable (home h.typing h.frame y) y)) j; sels = goes.sels (Object (OfVariable (home h.typing h.frame y) y)) j }) in
       let unlent = (spared w called).0 in
       let unmoved = (spared w called).1 in
-      let plain : sees_only h.typing y ≡ false =
-      plain_sees h.typing y (both_no (is_anonymous (view_of h.typing y)) (is_view_formal h.typing y)
+      let plain : sees y ≡ false =
+      plain_sees h.typing sees seeing y (both_no (is_anonymous (view_of h.typing y)) (is_view_formal h.typing y)
       (own_variable h.typing.table (object_at h.typing y).of u way (Object (OfVariable (home h.typing h.frame y) y)) nothing_past goes.lead own) owner) in (
         whole_of on u (walked h.typing way (variable_place h y) (at on))
-            (owner_found h settled hands leaks m on other facts v ready.kept ready.viewed ready.holds alone live only in_formals index_law own_law parts_named y u way goes.lead plain
+            (owner_found h sees seeing settled hands leaks m on other facts v ready.kept ready.viewed ready.holds alone live only in_formals index_law own_law parts_named y u way goes.lead plain
             (λ formal none. true_false (is_view_formal h.typing y) formal owner)
             (λ e. cleared_open facts w ((λ b n has over. unlent Borrowed b n has over), unmoved)) (λ b n has over. unlent Borrowed b n has over) unmoved),
         (law.direct on y u path way goes direct).1,
@@ -168,7 +166,7 @@ module _ (h : Here) (settled : IsSettled h.typing.table) (leaks : List Leak) (ot
 
   -- and one that an owner leads to, through access values
   through_finds : (on : List (List machine.Word)) (y u : ℕ) (path : TypedTree) (way : List run.Step)
-      → Goes h.typing.table (object_at h.typing y).of u path way → sees_only h.typing y ≡ false → (way ≡ [] → ⊥)
+      → Goes h.typing.table (object_at h.typing y).of u path way → sees y ≡ false → (way ≡ [] → ⊥)
       → ((w : Way) → ways.name_of w ≡ name_of y path → Unlent facts w × Unmoved facts w) → Finds h asks m hands facts on y way (WholeAt u)
   through_finds on y u path way goes plain on_way spared =
       let w : Way = way_along way (Object (OfVariable (home h.typing h.frame y) y)) in
@@ -177,10 +175,10 @@ module _ (h : Here) (settled : IsSettled h.typing.table) (leaks : List Leak) (ot
       let unlent = (spared w called).0 in
       let unmoved = (spared w called).1 in (
         whole_of on u (walked h.typing way (variable_place h y) (at on))
-            (owner_found h settled hands leaks m on other facts v ready.kept ready.viewed ready.holds alone live only in_formals index_law own_law parts_named y u way goes.lead plain
+            (owner_found h sees seeing settled hands leaks m on other facts v ready.kept ready.viewed ready.holds alone live only in_formals index_law own_law parts_named y u way goes.lead plain
             (λ formal none. on_way none)
             (λ e. cleared_open facts w ((λ b n has over. unlent Borrowed b n has over), unmoved)) (λ b n has over. unlent Borrowed b n has over) unmoved),
-        name_same h settled hands leaks m on other facts v ready.kept ready.viewed ready.holds alone live only in_formals y u way goes.lead
+        name_same h sees seeing settled hands leaks m on other facts v ready.kept ready.viewed ready.holds alone live only in_formals y u way goes.lead
             (λ e. cleared_open facts w ((λ b n has over. unlent Borrowed b n has over), unmoved)),
       )
 
@@ -202,12 +200,11 @@ module _ (h : Here) (settled : IsSettled h.typing.table) (leaks : List Leak) (ot
 
   -- a place of a scalar type, that a name leads to
   place_finds : (on : List (List machine.Word)) (x : ℕ) (p : Pos) (y u : ℕ) (path : TypedTree)
-      → IsOpenActual h.typing h.frame facts (Name p y path u) → (way : List run.Step)
+      → IsOpenActual h.typing sees h.frame facts (Name p y path u) → (way : List run.Step)
       → Goes h.typing.table (object_at h.typing y).of u path way → Finds h asks m hands facts on y way (IsAt h asks m hands facts u)
-  place_finds on x p y u path (inl direct) way goes = law.direct on y u path way goes direct
-  place_finds on x p y u path (inr (sees, opens)) way goes =
+  place_finds on x p y u path (sight, opens) way goes =
       let w : Way = way_along way (Object (OfVariable (home h.typing h.frame y) y)) in
-      leads h settled leaks other alone in_formals index_law own_law v parts_named m hands facts ready only on y u path way goes
+      leads h sees seeing settled leaks other alone in_formals index_law own_law v parts_named m hands facts ready only on y u path way goes
       (opens w (named_along (home h.typing h.frame) way (Object (OfVariable (home h.typing h.frame y) y)) refl)
       (λ j. record { root = number_along way (Object (OfVariable (home h.typing h.frame y) y)) j; sels = goes.sels (Object (OfVariable (home h.typing h.frame y) y)) j }))
 
@@ -222,7 +219,7 @@ module _ (h : Here) (settled : IsSettled h.typing.table) (leaks : List Leak) (ot
 
       copied : SameTo h.typing (evaluate h AsValue e (at before)) (evaluate h AsValue e n')
       copied =
-          copies_same h settled leaks other alone in_formals index_law own_law v parts_named m hands facts ready only e of gives plain named fit before on takes compares allowed n' same
+          copies_same h sees seeing settled leaks other alone in_formals index_law own_law v parts_named m hands facts ready only e of gives plain named fit before on takes compares allowed n' same
 
       last : List machine.Word → Now → Evaluated Passed
       last ws now = followed_by (checked h (type_of h x) ws now) value_passed
@@ -238,31 +235,23 @@ module _ (h : Here) (settled : IsSettled h.typing.table) (leaks : List Leak) (ot
       by_kind false is =
           simply h.typing (value h e (at before)) (value h e n') last last copied (λ ws n n'' now. by_test ws n n'' now (fits_type h.typing.table (type_of h x) ws))
 
-  -- what a formal is shown that owns nothing
-  shown_same : (before on : List (List machine.Word)) (x : ℕ) (e : TypedTree) → IsAccess h.typing x → IsSeen h.typing x e → Takes (waiting e) before on → Compares h.typing e
-      → AllowsAll facts (acts (index_acts h.typing e)) → IsClear h.typing facts e → (n' : Now) → SameNow h.typing (at before) n'
+  -- what a formal is shown that owns nothing, of any type
+  shown_same : (before on : List (List machine.Word)) (x : ℕ) (e : TypedTree) → IsSeen h.typing x e → Takes (waiting e) before on → Compares h.typing e
+      → AllowsAll facts (acts (index_acts h.typing e)) → IsClear h.typing sees facts e → (n' : Now) → SameNow h.typing (at before) n'
       → SameTo h.typing (followed_by (viewed h e (at before)) value_passed) (followed_by (viewed h e n') value_passed)
   unfolding Compares evaluate waiting has_call
-  shown_same before on x typed.Null is seen_there takes compares allowed clears n' same = (refl, same)
-  shown_same before on x (Name p y path u) is (lead, fits) takes compares allowed clears n' same =
+  shown_same before on x typed.Null seen_there takes compares allowed clears n' same = (refl, same)
+  shown_same before on x (Name p y path u) (lead, fits) takes compares allowed clears n' same =
       simply h.typing (viewed h (Name p y path u) (at before)) (viewed h (Name p y path u) n') value_passed value_passed
       (place_then h settled own_law asks m hands facts law before on y u path (held_or_taken h AsView) (held_or_taken h AsView) (IsWholeAt h asks m hands facts u)
-      (λ way goes. finds way goes of_access)
+      finds
       (law.steps (object_at h.typing y).of u path lead before on takes tt allowed).0 n'
       (steps_on h settled own_law asks m hands facts law (object_at h.typing y).of u path lead before on takes tt compares allowed n' same)
       (λ k i j found now. view_same h k i j (none_there h settled own_law asks m hands facts law on u k i found) now))
       (λ ws n n'' now. (refl, now))
     where
-      of_access : (d : ℕ) × (c : Bool) × (b : Bool) × (shape_of h.typing.table u ≡ shape.Access d c b)
-      of_access = elim fits [
-        | inl (inl shapes) ↦ (is.0, is.1, is.2, shapes ∙ is.3)
-        | inl (inr scalar) ↦ absurd (let no : false ≡ true = sym (ap (λ z. is_scalar (types.view_of z)) is.3) ∙ scalar.1 in cc)
-        | inr (d, c, b, k, other_c, other_b, shape_there, other_shape, fits_there) ↦ (d, c, b, shape_there)
-      ]
-
-      finds : (way : List run.Step) → Goes h.typing.table (object_at h.typing y).of u path way → (d : ℕ) × (c : Bool) × (b : Bool) × (shape_of h.typing.table u ≡ shape.Access d c b)
-          → Finds h asks m hands facts on y way (IsWholeAt h asks m hands facts u)
-      finds way goes (d, c, b, shape_is) = by_kind b shape_is
+      finds : (way : List run.Step) → Goes h.typing.table (object_at h.typing y).of u path way → Finds h asks m hands facts on y way (IsWholeAt h asks m hands facts u)
+      finds way goes = by_kind (is_anonymous (full h.typing.table u)) refl
         where
           w : Way
           w = way_along way (Object (OfVariable (home h.typing h.frame y) y))
@@ -272,25 +261,25 @@ module _ (h : Here) (settled : IsSettled h.typing.table) (leaks : List Leak) (ot
 
           alike : (n' : Now) → SameNow h.typing (at on) n' → SameTo h.typing (walked h.typing way (variable_place h y) (at on)) (walked h.typing way (variable_place h y) n')
           alike =
-              name_same h settled hands leaks m on other facts v ready.kept ready.viewed ready.holds alone live only in_formals y u way goes.lead
+              name_same h sees seeing settled hands leaks m on other facts v ready.kept ready.viewed ready.holds alone live only in_formals y u way goes.lead
               (λ e. cleared_open facts w (clears w called e))
 
-          by_kind : (b : Bool) → shape_of h.typing.table u ≡ shape.Access d c b → Finds h asks m hands facts on y way (IsWholeAt h asks m hands facts u)
-          by_kind true shape_is = (
-            access_found h settled hands leaks m on other facts v ready.kept ready.viewed ready.holds alone live only in_formals index_law own_law parts_named y u d c way goes.lead shape_is
-                (λ e. cleared_open facts w (clears w called e)) (λ e. cleared_whole facts w (clears w called e)),
+          by_kind : (b : Bool) → is_anonymous (full h.typing.table u) ≡ b → Finds h asks m hands facts on y way (IsWholeAt h asks m hands facts u)
+          by_kind false plain = (
+            place_whole h sees seeing settled hands leaks m on other facts v ready.kept ready.viewed ready.holds alone live only in_formals index_law own_law parts_named y u way goes.lead
+                (plain_named h.typing.table u plain) (λ e. cleared_open facts w (clears w called e)) (λ e. clears w called e),
             alike,
           )
-          by_kind false shape_is = (
-            view_whole h settled hands leaks m on other facts v ready.kept ready.viewed ready.holds alone live only in_formals y u way goes.lead
-                (ap (λ z. is_anonymous (types.view_of z)) shape_is ∙ anonymous_access c) (λ e. cleared_open facts w (clears w called e)),
+          by_kind true view = (
+            view_whole h sees seeing settled hands leaks m on other facts v ready.kept ready.viewed ready.holds alone live only in_formals y u way goes.lead view
+                (λ e. cleared_open facts w (clears w called e)),
             alike,
           )
-  shown_same before on x e is never takes compares allowed clears n' same = absurd never
+  shown_same before on x e never takes compares allowed clears n' same = absurd never
 
   one_same : (mode_of : Mode) (owning access : Bool) (x : ℕ) (e : TypedTree) → (object_at h.typing x).mode ≡ mode_of → is_owning h.typing.table (object_at h.typing x).of ≡ owning → is_anonymous (view_of h.typing x) ≡ false → Kind x
-      → IsActualTo h.typing x mode_of e → (is_given h.typing x ≡ true → IsClear h.typing facts e)
-      → (is_in mode_of ≡ false → IsOpenActual h.typing h.frame facts e)
+      → IsActualTo h.typing x mode_of e → (is_given h.typing x ≡ true → IsClear h.typing sees facts e)
+      → (is_in mode_of ≡ false → IsOpenActual h.typing sees h.frame facts e)
       → (before on : List (List machine.Word)) → TakesFit h.typing e → Supplies h.typing m (types_taken h.typing e) before on
       → Compares h.typing e → AllowsAll facts (acts (head_of h.typing own_law procedure mode_of owning e))
       → IsSpared x mode_of e → SameFor before on (passing_by mode_of owning access) x e
@@ -307,7 +296,7 @@ module _ (h : Here) (settled : IsSettled h.typing.table) (leaks : List Leak) (ot
     | inr other_kind ↦ elim other_kind [
       | inl back ↦ absurd (back.0 is)
       | inr (inl shown) ↦ (let seen_there = stays.1 (ap (λ b. b || is_anonymous (view_of h.typing x)) fits) in
-          shown_same before on x e shown.1 seen_there (takes_supplied h.typing settled m e before on (seen_types h.typing x e seen_there fit) takes) compares allowed (clears shown.0))
+          shown_same before on x e seen_there (takes_supplied h.typing settled m e before on (seen_types h.typing x e seen_there fit) takes) compares allowed (clears shown))
       | inr (inr plain) ↦ absurd (true_false (is_owning h.typing.table (object_at h.typing x).of) fits plain.1)
     ]
   ]
@@ -346,11 +335,10 @@ module _ (h : Here) (settled : IsSettled h.typing.table) (leaks : List Leak) (ot
           (own_root which many none y (inl refl)) (spared many)
 
       kept_finds : is_scalar (full h.typing.table (object_at h.typing x).of) ≡ false → (way : List run.Step) → Goes h.typing.table (object_at h.typing y).of u path way
-          → IsOpenActual h.typing h.frame facts (Name p y path u) → Finds h asks m hands facts on y way (WholeAt u)
-      kept_finds many way goes (inl none) = direct_finds many way goes none
-      kept_finds many way goes (inr (sees, opens)) = elim (bool_cases (goes_through_none path)) [
+          → IsOpenActual h.typing sees h.frame facts (Name p y path u) → Finds h asks m hands facts on y way (WholeAt u)
+      kept_finds many way goes (sight, opens) = elim (bool_cases (goes_through_none path)) [
         | inl none ↦ direct_finds many way goes none
-        | inr some ↦ through_finds on y u path way goes sees (λ empty. some_selectors h.typing (object_at h.typing y).of u path lead some (no_selectors h.typing.table (object_at h.typing y).of u path way goes empty)) (spared many)
+        | inr some ↦ through_finds on y u path way goes sight (λ empty. some_selectors h.typing (object_at h.typing y).of u path lead some (no_selectors h.typing.table (object_at h.typing y).of u path way goes empty)) (spared many)
       ]
   one_same mode.InOut owning access x e is fits unseen kind (t, never, match, which) clears direct before on fit takes compares allowed spared = absurd never
 
@@ -380,7 +368,7 @@ module _ (h : Here) (settled : IsSettled h.typing.table) (leaks : List Leak) (ot
 
   -- They are read under the facts before the call; the acts of those that are copied back come after them.
   pub all_same : (before on : List (List machine.Word)) (known : List Fact) (done : List PlaceName) (formals : List ℕ) (actuals : TypedTree) → IsKnown known done formals actuals
-      → ((x : ℕ) → Has formals x → Kind x) → AreUnseen h.typing formals → AreActualsTo h.typing formals actuals → AreClear h.typing facts formals actuals → AreOpenActuals h.typing h.frame facts formals actuals → TakesFit h.typing actuals → Supplies h.typing m (types_taken h.typing actuals) before on
+      → ((x : ℕ) → Has formals x → Kind x) → AreUnseen h.typing formals → AreActualsTo h.typing formals actuals → AreClear h.typing sees facts formals actuals → AreOpenActuals h.typing sees h.frame facts formals actuals → TakesFit h.typing actuals → Supplies h.typing m (types_taken h.typing actuals) before on
       → Compares h.typing actuals → AllowsAll facts (acts (actual_values h.typing (map (way_to h.typing own_law procedure) formals) actuals))
       → AllowsAll known (acts (actual_acts (map (way_to h.typing own_law procedure) formals) actuals))
       → (n' : Now) → SameNow h.typing (record { memory = m; waits = before }) n'
@@ -404,12 +392,12 @@ module _ (h : Here) (settled : IsSettled h.typing.table) (leaks : List Leak) (ot
       let each_copy = allows_both known (acts copy) (acts copies_left) (subst (AllowsAll known) (acts_append copy copies_left) copies) in
       let first = one_same mode_of owning access x e refl refl (unseen x (inl refl)) kind stay.0 clears.0 copied.0 before two.0 fit.0 two.1 compares.0 each.0
       (is_spared mode_of owning access x e formals rest known done refl spares each_copy.0) in
-      let given = one_given h settled hands leaks m [] other facts v ready.kept ready.viewed ready.holds alone live in_formals index_law own_law parts_named formals_low procedure before two.0 mode_of owning access x e
+      let given = one_given h sees seeing settled hands leaks m [] other facts v ready.kept ready.viewed ready.holds alone live in_formals index_law own_law parts_named formals_low procedure before two.0 mode_of owning access x e
       refl refl (unseen x (inl refl)) kind stay.0 clears.0 copied.0 fit.0 two.1 each.0 in
       let next : Passed → Now → Evaluated (List Passed) =
       (λ a now. followed_by (all_passed h (map (way_to h.typing own_law procedure) formals) formals rest now) (λ more now. Done (a ∷ more) now)) in
       then_same h.typing
-      (λ y. Quiet (at two.0) (λ a. IsGiven h settled hands leaks m [] other facts v ready.kept ready.viewed ready.holds alone live in_formals index_law own_law parts_named formals_low procedure x mode_of e a) y)
+      (λ y. Quiet (at two.0) (λ a. IsGiven h sees seeing settled hands leaks m [] other facts v ready.kept ready.viewed ready.holds alone live in_formals index_law own_law parts_named formals_low procedure x mode_of e a) y)
       (passed h (way_for x) x e (at before)) (passed h (way_for x) x e n') next next given (first n' same)
       (λ a n n'' q now. subst (λ z. SameTo h.typing (next a z) (next a n'')) (sym q.0)
       (simply h.typing (all_passed h (map (way_to h.typing own_law procedure) formals) formals rest (at two.0)) (all_passed h (map (way_to h.typing own_law procedure) formals) formals rest n'')
@@ -423,33 +411,33 @@ module _ (h : Here) (settled : IsSettled h.typing.table) (leaks : List Leak) (ot
 
   -- those of the call of a traversal function: the first one is seen, and all formals are of mode `in`
   pub traversed_same : (before on : List (List machine.Word)) (known : List Fact) (f : ℕ) (c : TraversalCall) (formals : List ℕ)
-      → IsAccess h.typing f → is_shown_type h.typing f ≡ true → IsSeen h.typing f (first_actual h.typing own_law c) → IsClear h.typing facts (first_actual h.typing own_law c)
+      → IsAccess h.typing f → is_shown_type h.typing f ≡ true → IsSeen h.typing f (first_actual h.typing sees own_law c) → IsClear h.typing sees facts (first_actual h.typing sees own_law c)
       → ((x : ℕ) → Has formals x → (object_at h.typing x).mode ≡ mode.In) → ((x : ℕ) → Has formals x → Kind x) → AreUnseen h.typing formals
-      → AreActualsTo h.typing formals c.others → AreClear h.typing facts formals c.others → AreOpenActuals h.typing h.frame facts formals c.others
-      → TakesFit h.typing (More (first_actual h.typing own_law c) c.others) → Supplies h.typing m (types_taken h.typing (More (first_actual h.typing own_law c) c.others)) before on → Compares h.typing (More (first_actual h.typing own_law c) c.others)
-      → AllowsAll facts (acts (actual_values h.typing (objects.Traversed ∷ (map (way_to h.typing own_law procedure) formals)) (More (first_actual h.typing own_law c) c.others)))
+      → AreActualsTo h.typing formals c.others → AreClear h.typing sees facts formals c.others → AreOpenActuals h.typing sees h.frame facts formals c.others
+      → TakesFit h.typing (More (first_actual h.typing sees own_law c) c.others) → Supplies h.typing m (types_taken h.typing (More (first_actual h.typing sees own_law c) c.others)) before on → Compares h.typing (More (first_actual h.typing sees own_law c) c.others)
+      → AllowsAll facts (acts (actual_values h.typing (objects.Traversed ∷ (map (way_to h.typing own_law procedure) formals)) (More (first_actual h.typing sees own_law c) c.others)))
       → AllowsAll known (acts (actual_acts (map (way_to h.typing own_law procedure) formals) c.others))
       → (n' : Now) → SameNow h.typing (record { memory = m; waits = before }) n'
-      → SameTo h.typing (all_passed h (objects.Traversed ∷ (map (way_to h.typing own_law procedure) formals)) (f ∷ formals) (More (first_actual h.typing own_law c) c.others) (record { memory = m; waits = before }))
-      (all_passed h (objects.Traversed ∷ (map (way_to h.typing own_law procedure) formals)) (f ∷ formals) (More (first_actual h.typing own_law c) c.others) n')
+      → SameTo h.typing (all_passed h (objects.Traversed ∷ (map (way_to h.typing own_law procedure) formals)) (f ∷ formals) (More (first_actual h.typing sees own_law c) c.others) (record { memory = m; waits = before }))
+      (all_passed h (objects.Traversed ∷ (map (way_to h.typing own_law procedure) formals)) (f ∷ formals) (More (first_actual h.typing sees own_law c) c.others) n')
   unfolding Compares has_call waiting TakesFit types_taken
   traversed_same before on known f c formals access shown seen_first opens modes kinds unseen stay opens_others copied fit takes compares allowed copies n' same =
-      let first : TypedTree = first_actual h.typing own_law c in
-      let first_acts : List Placed = index_acts h.typing (first_actual h.typing own_law c) in
+      let first : TypedTree = first_actual h.typing sees own_law c in
+      let first_acts : List Placed = index_acts h.typing (first_actual h.typing sees own_law c) in
       let others : List Placed = actual_values h.typing (map (way_to h.typing own_law procedure) formals) c.others in
       let two = supplies_both h.typing m (types_taken h.typing first) (types_taken h.typing c.others) before on takes in
       let taken_first = takes_supplied h.typing settled m first before two.0 (seen_types h.typing f first seen_first fit.0) two.1 in
       let each = allows_both facts (acts first_acts) (acts others) (subst (AllowsAll facts) (acts_append first_acts others) allowed) in
-      let still : after (acts first_acts) facts ≡ facts = reads_keep first_acts (index_reads h.typing own_law (first_actual h.typing own_law c) c.of (seen_first.0, refl)) facts in
-      let given = shown_given h settled hands leaks m [] other facts v ready.kept ready.viewed ready.holds alone live in_formals index_law own_law parts_named formals_low procedure before two.0 f
-      (first_actual h.typing own_law c) access shown seen_first taken_first each.0 opens in
+      let still : after (acts first_acts) facts ≡ facts = reads_keep first_acts (index_reads h.typing own_law (first_actual h.typing sees own_law c) c.of (seen_first.0, refl)) facts in
+      let given = shown_given h sees seeing settled hands leaks m [] other facts v ready.kept ready.viewed ready.holds alone live in_formals index_law own_law parts_named formals_low procedure before two.0 f
+      (first_actual h.typing sees own_law c) access shown seen_first taken_first each.0 opens in
       let next : Passed → Now → Evaluated (List Passed) =
       (λ a now. followed_by (all_passed h (map (way_to h.typing own_law procedure) formals) formals c.others now) (λ more now. Done (a ∷ more) now)) in
       then_same h.typing
-      (λ y. Quiet (at two.0) (λ a. IsGiven h settled hands leaks m [] other facts v ready.kept ready.viewed ready.holds alone live in_formals index_law own_law parts_named formals_low procedure f mode.In
-      (first_actual h.typing own_law c) a) y)
-      (passed h objects.Traversed f (first_actual h.typing own_law c) (at before)) (passed h objects.Traversed f (first_actual h.typing own_law c) n') next next given
-      (shown_same before two.0 f (first_actual h.typing own_law c) access seen_first taken_first compares.0 each.0 opens n' same)
+      (λ y. Quiet (at two.0) (λ a. IsGiven h sees seeing settled hands leaks m [] other facts v ready.kept ready.viewed ready.holds alone live in_formals index_law own_law parts_named formals_low procedure f mode.In
+      (first_actual h.typing sees own_law c) a) y)
+      (passed h objects.Traversed f (first_actual h.typing sees own_law c) (at before)) (passed h objects.Traversed f (first_actual h.typing sees own_law c) n') next next given
+      (shown_same before two.0 f (first_actual h.typing sees own_law c) seen_first taken_first compares.0 each.0 opens n' same)
       (λ a n n'' q now. subst (λ z. SameTo h.typing (next a z) (next a n'')) (sym q.0)
       (simply h.typing (all_passed h (map (way_to h.typing own_law procedure) formals) formals c.others (at two.0)) (all_passed h (map (way_to h.typing own_law procedure) formals) formals c.others n'')
       (λ more now. Done (a ∷ more) now) (λ more now. Done (a ∷ more) now)

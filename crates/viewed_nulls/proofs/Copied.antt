@@ -27,7 +27,7 @@ use Rattle.soundness.proofs.Passing.{AreReads, reads_keep}
 use Rattle.soundness.proofs.Scalars.{acts, acts_append, allows_both}
 use Rattle.soundness.proofs.Stays.{Quiet}
 use Rattle.owned_loans.specs.Views.{Around, Views}
-use Rattle.viewed_soundness.specs.Holds.{IsNamed, IsOwners, PartsAreNamed, is_fixed, KeepsObserved, AllKeep}
+use Rattle.viewed_soundness.specs.Holds.{IsNamed, IsOwners, PartsAreNamed, is_fixed, KeepsObserved, AllKeep, Seeing}
 use Rattle.viewed_soundness.specs.Taken.{GivesPlainly, types_taken, TakesFit}
 use Rattle.viewed_soundness.proofs.Evaluated.{live_trunk, part_named}
 use Rattle.viewed_steps.proofs.Copies.{copies_read, copy_quiet, part_owns, element_owns, no_cell}
@@ -42,28 +42,28 @@ use Rattle.null_places.proofs.Laws.{Premises}
 use Rattle.null_places.proofs.Walks.{SameNow, SameTo, then_same, simply}
 use Rattle.viewed_nulls.proofs.Viewed.{viewed_premises, viewed_values, IsReadyIn}
 
-module _ (h : Here) (settled : IsSettled h.typing.table) (leaks : List Leak) (other : Around (home h.typing h.frame))
+module _ (h : Here) (sees : ℕ → Bool) (seeing : Seeing h.typing sees) (settled : IsSettled h.typing.table) (leaks : List Leak) (other : Around (home h.typing h.frame))
     (alone : (w : Way) → IsNear h.frame w → other.gone w → ⊥) (in_formals : AreAccess h.typing) (index_law : IndexLaw)
     (own_law : OwnsByShape h.typing.table) (v : Views) (parts_named : PartsAreNamed h.typing.table) (m : Memory) (hands : List Waiting) (facts : List Fact)
-    (ready : IsReadyIn h settled leaks other alone in_formals index_law own_law v parts_named m hands facts)
+    (ready : IsReadyIn h sees seeing settled leaks other alone in_formals index_law own_law v parts_named m hands facts)
     (only : OnlyOwners h.typing m) where
   abbrev at : List (List machine.Word) → Now
   at ws = record { memory = m; waits = ws }
 
   abbrev asks : Premises h
-  asks = viewed_premises h parts_named
+  asks = viewed_premises h sees parts_named
 
   live : (w : Way) (l : Loc) → IsOwners h.typing w → Reaches (seen h.typing m hands leaks) w l → (content h.typing m hands (trunk l)).owns ≡ true
-  live = live_trunk h settled leaks [] other alone (keeps h.typing settled own_law) index_law own_law v parts_named m hands ready.viewed.owned
+  live = live_trunk h sees seeing settled leaks [] other alone (keeps h.typing settled own_law) index_law own_law v parts_named m hands ready.viewed.owned
 
   -- what reads changes nothing
-  pub reads_kept : (ps : List Placed) → AreReads ps → AllKeep (is_fixed h.typing) (acts ps)
+  pub reads_kept : (ps : List Placed) → AreReads ps → AllKeep (is_fixed h.typing sees) (acts ps)
   reads_kept [] reads = tt
   reads_kept (p ∷ ps) reads = (one p.act (reads p (inl refl)).0 (reads p (inl refl)).1, reads_kept ps (λ q has. reads q (inr has)))
     where
-      one : (a : Act) (m : PlaceName) → (a ≡ act.Read m) ⊎ (a ≡ act.Look m) → KeepsObserved (is_fixed h.typing) a
-      one a m (inl e) = subst (KeepsObserved (is_fixed h.typing)) (sym e) tt
-      one a m (inr e) = subst (KeepsObserved (is_fixed h.typing)) (sym e) tt
+      one : (a : Act) (m : PlaceName) → (a ≡ act.Read m) ⊎ (a ≡ act.Look m) → KeepsObserved (is_fixed h.typing sees) a
+      one a m (inl e) = subst (KeepsObserved (is_fixed h.typing sees)) (sym e) tt
+      one a m (inr e) = subst (KeepsObserved (is_fixed h.typing sees)) (sym e) tt
 
   abbrev Fits : ℕ → List machine.Word → Type 0
   Fits t ws = IsFit h.typing m t ws
@@ -81,8 +81,8 @@ module _ (h : Here) (settled : IsSettled h.typing.table) (leaks : List Leak) (ot
       → (before on : List (List machine.Word)) → Takes (waiting e) before on → Compares h.typing e → AllowsAll facts (acts (acts_in h.typing e))
       → (n' : Now) → SameNow h.typing (at before) n' → SameTo h.typing (evaluate h AsValue e (at before)) (evaluate h AsValue e n')
   plainly e want gives none named plain before on takes compares allowed n' same =
-      value_on h settled own_law asks (IsReadyIn h settled leaks other alone in_formals index_law own_law v parts_named)
-      (viewed_values h settled leaks other alone in_formals index_law own_law v parts_named) e want gives tt plain before on takes compares m hands facts ready allowed only named
+      value_on h settled own_law asks (IsReadyIn h sees seeing settled leaks other alone in_formals index_law own_law v parts_named)
+      (viewed_values h sees seeing settled leaks other alone in_formals index_law own_law v parts_named) e want gives tt plain before on takes compares m hands facts ready allowed only named
       (reads_kept (acts_in h.typing e) (copies_read h.typing own_law parts_named e want gives none named)) n' same
 
   mutual
@@ -127,7 +127,7 @@ module _ (h : Here) (settled : IsSettled h.typing.table) (leaks : List Leak) (ot
         let still : after (acts (acts_in h.typing e)) facts ≡ facts = reads_keep (acts_in h.typing e) (copies_read h.typing own_law parts_named e u gives.0 owns named) facts in
         let next : List machine.Word → Now → Evaluated (List machine.Word) = (λ ws now. followed_by (parts_of h t (suc i) rest now) (λ more now. Done (ws ++ more) now)) in
         then_same h.typing (λ y. Quiet (at two.0) (Fits u) y) (evaluate h AsValue e (at before)) (evaluate h AsValue e n') (λ ws now. followed_by (checked h u ws now) next) (λ ws now. followed_by (checked h u ws now) next)
-        (copy_quiet h settled hands leaks m [] other facts v ready.kept ready.viewed ready.holds alone live index_law own_law parts_named e u gives.0 owns named fit.0 before two.0 two.1 each.0).0
+        (copy_quiet h sees seeing settled hands leaks m [] other facts v ready.kept ready.viewed ready.holds alone live index_law own_law parts_named e u gives.0 owns named fit.0 before two.0 two.1 each.0).0
         (copies_same e u gives.0 owns named fit.0 before two.0 two.1 compares.0 each.0 n' same)
         (λ ws n n'' q now. subst (λ z. SameTo h.typing (followed_by (checked h u ws z) next) (followed_by (checked h u ws n'') next)) (sym q.0)
         (then_checked u ws (at two.0) n'' next (subst (λ z. SameNow h.typing z n'') q.0 now)

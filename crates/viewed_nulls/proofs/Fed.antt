@@ -1,5 +1,5 @@
 -- An expression that takes the values that wait for its calls, of any types, gives the same in memories that agree.
-use Rattle.std.proofs.Common.{◌≡◌, refl, sym, ap, ◌∙◌, subst, ℕ, suc, true, ◌||◌, List, [], ◌∷◌, ◌++◌, drop, get_or, append-nil, append_assoc}
+use Rattle.std.proofs.Common.{◌≡◌, refl, sym, ap, ◌∙◌, subst, ℕ, suc, true, ◌||◌, List, [], ◌∷◌, ◌++◌, drop, get_or, append-nil, append_assoc, Bool}
 use Rattle.place_names.specs.declared.fact.Fact.{Fact}
 use Rattle.type_definitions.specs.declared.table.Shape.{Shape}
 use Rattle.type_definitions.specs.Types.{shape_of}
@@ -20,7 +20,7 @@ use Rattle.soundness.proofs.Taking.{Takes}
 use Rattle.soundness.proofs.Evaluated.{regrouped}
 use Rattle.soundness.proofs.Lasting.{keeps}
 use Rattle.owned_loans.specs.Views.{Around, Views}
-use Rattle.viewed_soundness.specs.Holds.{is_fixed, IsNamed, PartsAreNamed, AllKeep}
+use Rattle.viewed_soundness.specs.Holds.{is_fixed, IsNamed, PartsAreNamed, AllKeep, Seeing}
 use Rattle.viewed_soundness.specs.Taken.{GivesPlainly, types_taken, AreScalarTypes, TakesFit, AreOfTypes}
 use Rattle.viewed_soundness.proofs.Evaluated.{keep_both, matches_named, part_named}
 use Rattle.viewed_soundness.proofs.Hands.{blanks, first_words, first_both}
@@ -33,17 +33,17 @@ use Rattle.null_places.proofs.Laws.{Premises, Values, GivenBy, checked_by}
 use Rattle.null_places.proofs.Evaluated.{checked_same, allocated_same, value_on}
 use Rattle.viewed_nulls.proofs.Viewed.{viewed_premises, viewed_values, IsReadyIn, given_by}
 
-module _ (h : Here) (settled : IsSettled h.typing.table) (leaks : List Leak) (other : Around (home h.typing h.frame))
+module _ (h : Here) (sees : ℕ → Bool) (seeing : Seeing h.typing sees) (settled : IsSettled h.typing.table) (leaks : List Leak) (other : Around (home h.typing h.frame))
     (alone : (w : Way) → IsNear h.frame w → other.gone w → ⊥) (in_formals : AreAccess h.typing) (index_law : IndexLaw)
     (own_law : OwnsByShape h.typing.table) (v : Views) (parts_named : PartsAreNamed h.typing.table) where
   abbrev asks : Premises h
-  asks = viewed_premises h parts_named
+  asks = viewed_premises h sees parts_named
 
   abbrev ReadyIn : Memory → List Waiting → List Fact → Type 0
-  ReadyIn m hands facts = IsReadyIn h settled leaks other alone in_formals index_law own_law v parts_named m hands facts
+  ReadyIn m hands facts = IsReadyIn h sees seeing settled leaks other alone in_formals index_law own_law v parts_named m hands facts
 
   laws : Values h asks ReadyIn
-  laws = viewed_values h settled leaks other alone in_formals index_law own_law v parts_named
+  laws = viewed_values h sees seeing settled leaks other alone in_formals index_law own_law v parts_named
 
   abbrev GivenHere : List (List machine.Word) → ℕ → List Waiting → List Fact → Evaluated (List machine.Word) → Type 0
   GivenHere mid want hands facts x = GivenBy h ReadyIn mid want hands facts x
@@ -51,17 +51,17 @@ module _ (h : Here) (settled : IsSettled h.typing.table) (leaks : List Leak) (ot
   -- what the expression comes to
   fed_given : (e : TypedTree) (want : ℕ) → Gives h.typing want e → TakesFit h.typing e → (front : List Waiting) → AreOfTypes h.typing (types_taken h.typing e) front
       → (K below : List Waiting) (on : List (List machine.Word)) (m : Memory) (facts : List Fact)
-      → ReadyIn m (K ++ (front ++ below)) facts → AllowsAll facts (acts (acts_in h.typing e)) → IsNamed h.typing.table want → AllKeep (is_fixed h.typing) (acts (acts_in h.typing e))
+      → ReadyIn m (K ++ (front ++ below)) facts → AllowsAll facts (acts (acts_in h.typing e)) → IsNamed h.typing.table want → AllKeep (is_fixed h.typing sees) (acts (acts_in h.typing e))
       → GivenHere on want (K ++ (blanks front ++ below)) (after (acts (acts_in h.typing e)) facts) (evaluate h AsValue e (record { memory = m; waits = first_words front on }))
   fed_given e want gives takes front fit K below on m facts ready allowed own keep =
-      given_by h settled leaks other alone in_formals index_law own_law v parts_named on want (K ++ (blanks front ++ below)) (after (acts (acts_in h.typing e)) facts)
+      given_by h sees seeing settled leaks other alone in_formals index_law own_law v parts_named on want (K ++ (blanks front ++ below)) (after (acts (acts_in h.typing e)) facts)
       (evaluate h AsValue e (record { memory = m; waits = first_words front on }))
-      (fed h settled leaks [] other alone (keeps h.typing settled own_law) index_law own_law v parts_named e want gives takes front fit K below on m facts ready allowed own keep)
+      (fed h sees seeing settled leaks [] other alone (keeps h.typing settled own_law) index_law own_law v parts_named e want gives takes front fit K below on m facts ready allowed own keep)
 
   -- what takes scalar values alone
   plainly_same : (e : TypedTree) (want : ℕ) → Gives h.typing want e → GivesPlainly h.typing e → AreScalarTypes h.typing (types_taken h.typing e) → Compares h.typing e
       → (front : List Waiting) → AreOfTypes h.typing (types_taken h.typing e) front → (K below : List Waiting) (on : List (List machine.Word)) (m : Memory) (facts : List Fact)
-      → ReadyIn m (K ++ (front ++ below)) facts → AllowsAll facts (acts (acts_in h.typing e)) → IsNamed h.typing.table want → AllKeep (is_fixed h.typing) (acts (acts_in h.typing e))
+      → ReadyIn m (K ++ (front ++ below)) facts → AllowsAll facts (acts (acts_in h.typing e)) → IsNamed h.typing.table want → AllKeep (is_fixed h.typing sees) (acts (acts_in h.typing e))
       → OnlyOwners h.typing m → (n' : Now) → SameNow h.typing (record { memory = m; waits = first_words front on }) n'
       → SameTo h.typing (evaluate h AsValue e (record { memory = m; waits = first_words front on })) (evaluate h AsValue e n')
   plainly_same e want gives plain scalar compares front fit K below on m facts ready allowed own keep only n' same =
@@ -74,7 +74,7 @@ module _ (h : Here) (settled : IsSettled h.typing.table) (leaks : List Leak) (ot
 
     pub fed_same : (e : TypedTree) (want : ℕ) → Gives h.typing want e → TakesFit h.typing e → Compares h.typing e
         → (front : List Waiting) → AreOfTypes h.typing (types_taken h.typing e) front → (K below : List Waiting) (on : List (List machine.Word)) (m : Memory) (facts : List Fact)
-        → ReadyIn m (K ++ (front ++ below)) facts → AllowsAll facts (acts (acts_in h.typing e)) → IsNamed h.typing.table want → AllKeep (is_fixed h.typing) (acts (acts_in h.typing e))
+        → ReadyIn m (K ++ (front ++ below)) facts → AllowsAll facts (acts (acts_in h.typing e)) → IsNamed h.typing.table want → AllKeep (is_fixed h.typing sees) (acts (acts_in h.typing e))
         → OnlyOwners h.typing m → (n' : Now) → SameNow h.typing (record { memory = m; waits = first_words front on }) n'
         → SameTo h.typing (evaluate h AsValue e (record { memory = m; waits = first_words front on })) (evaluate h AsValue e n')
     fed_same (Call p sub actuals) want gives takes compares front fit K below on m facts ready allowed own keep only n' same = (
@@ -93,7 +93,7 @@ module _ (h : Here) (settled : IsSettled h.typing.table) (leaks : List Leak) (ot
         (checked_same h settled own_law asks ReadyIn laws t (evaluate h AsValue e now) (evaluate h AsValue e n')
         (fed_same e t gives takes.0 compares.0 front (subst (λ z. AreOfTypes h.typing z front) types_same fit) K below on m facts ready
         (subst (λ z. AllowsAll facts (acts z)) acts_same allowed)
-        (matches_named h.typing.table d t fits (parts_named.designated want d c n is)) (subst (λ z. AllKeep (is_fixed h.typing) (acts z)) acts_same keep) only n' same))
+        (matches_named h.typing.table d t fits (parts_named.designated want d c n is)) (subst (λ z. AllKeep (is_fixed h.typing sees) (acts z)) acts_same keep) only n' same))
     fed_same (New t w) want (d, c, n, is, fits, none) takes compares front fit K below on m facts ready allowed own keep only n' same = absurd none
     fed_same (Aggregate t es) want (fits, made, count, gives) takes compares front fit K below on m facts ready allowed own keep only n' same =
         parts_fed_same es t 0 gives takes compares front fit made K below on m facts ready allowed keep only n' same
@@ -115,7 +115,7 @@ module _ (h : Here) (settled : IsSettled h.typing.table) (leaks : List Leak) (ot
     parts_fed_same : (es : TypedTree) (t i : ℕ) → GivesParts h.typing t i es → TakesFit h.typing es → Compares h.typing es
         → (front : List Waiting) → AreOfTypes h.typing (types_taken h.typing es) front
         → is_record (shape_of h.typing.table t) || is_array (shape_of h.typing.table t) ≡ true → (K below : List Waiting) (on : List (List machine.Word)) (m : Memory) (facts : List Fact)
-        → ReadyIn m (K ++ (front ++ below)) facts → AllowsAll facts (acts (acts_in h.typing es)) → AllKeep (is_fixed h.typing) (acts (acts_in h.typing es))
+        → ReadyIn m (K ++ (front ++ below)) facts → AllowsAll facts (acts (acts_in h.typing es)) → AllKeep (is_fixed h.typing sees) (acts (acts_in h.typing es))
         → OnlyOwners h.typing m → (n' : Now) → SameNow h.typing (record { memory = m; waits = first_words front on }) n'
         → SameTo h.typing (parts_of h t i es (record { memory = m; waits = first_words front on })) (parts_of h t i es n')
     parts_fed_same (More e more) t i gives takes compares front fit made K below on m facts ready allowed keep only n' same =
@@ -141,9 +141,9 @@ module _ (h : Here) (settled : IsSettled h.typing.table) (leaks : List Leak) (ot
         each : AllowsAll facts (acts (acts_in h.typing e)) × AllowsAll (after (acts (acts_in h.typing e)) facts) (acts (acts_in h.typing more))
         each = allows_both facts (acts (acts_in h.typing e)) (acts (acts_in h.typing more)) (subst (AllowsAll facts) (acts_append (acts_in h.typing e) (acts_in h.typing more)) allowed)
 
-        names : AllKeep (is_fixed h.typing) (acts (acts_in h.typing e)) × AllKeep (is_fixed h.typing) (acts (acts_in h.typing more))
-        names = keep_both (is_fixed h.typing) (acts (acts_in h.typing e)) (acts (acts_in h.typing more))
-            (subst (AllKeep (is_fixed h.typing)) (acts_append (acts_in h.typing e) (acts_in h.typing more)) keep)
+        names : AllKeep (is_fixed h.typing sees) (acts (acts_in h.typing e)) × AllKeep (is_fixed h.typing sees) (acts (acts_in h.typing more))
+        names = keep_both (is_fixed h.typing sees) (acts (acts_in h.typing e)) (acts (acts_in h.typing more))
+            (subst (AllKeep (is_fixed h.typing sees)) (acts_append (acts_in h.typing e) (acts_in h.typing more)) keep)
 
         between : List Fact
         between = after (acts (acts_in h.typing e)) facts

@@ -31,8 +31,8 @@ use Rattle.soundness.proofs.Points.{flow_at}
 use Rattle.soundness.proofs.Scalars.{acts, acts_append}
 use Rattle.soundness.proofs.Taking.{Takes, takes_as, takes_both, nothing_more}
 use Rattle.owned_loans.specs.Views.{Around, Views}
-use Rattle.viewed_soundness.specs.Holds.{is_fixed, IsNamed, AllKeep}
-use Rattle.viewed_soundness.proofs.Names.{plain_named, true_false}
+use Rattle.viewed_soundness.specs.Holds.{is_fixed, IsNamed, AllKeep, Seeing}
+use Rattle.viewed_soundness.proofs.ViewKinds.{plain_named, true_false}
 use Rattle.viewed_soundness.proofs.Evaluated.{keep_both}
 use Rattle.viewed_soundness.proofs.Outcomes.{named_plain, not_views, assigned_acts}
 use Rattle.viewed_steps.specs.Awaited.{TakesScalars}
@@ -48,8 +48,16 @@ use Rattle.null_places.proofs.Each.{each_by}
 use Rattle.viewed_nulls.proofs.Viewed.{viewed_premises, IsReadyIn, viewed_values}
 use Rattle.viewed_nulls.proofs.Sources.{view_declared_same, view_assigned_same, call_declared_same, call_assigned_same}
 use Rattle.viewed_steps.proofs.Views.{AreAccess}
+use Rattle.viewed_steps.specs.Seeing.{sees_in}
+use Rattle.viewed_steps.proofs.Sees.{sees_seeing}
 
 module _ (table : Table) (typed : TypedProgram) (effects : Effects) (input : List ℕ) (ready : IsReady table typed effects) where
+  abbrev sees : ℕ → Bool
+  sees = sees_in (flow_program table typed)
+
+  abbrev seeing : Seeing (flow_typing (flow_program table typed)) sees
+  seeing = sees_seeing (flow_program table typed)
+
   abbrev program : FlowProgram
   program = flow_program table typed
 
@@ -70,20 +78,20 @@ module _ (table : Table) (typed : TypedProgram) (effects : Effects) (input : Lis
 
     abbrev pub Ready : Memory → List Waiting → List Fact → Type 0
     Ready m hands known =
-        IsReadyIn (steps.here t) ready.accepted.settled state.leaks other alone in_formals index_law ready.owns v ready.class.parts_named m hands known
+        IsReadyIn (steps.here t) sees seeing ready.accepted.settled state.leaks other alone in_formals index_law ready.owns v ready.class.parts_named m hands known
 
     abbrev pub asks : Premises (steps.here t)
-    asks = viewed_premises (steps.here t) ready.class.parts_named
+    asks = viewed_premises (steps.here t) sees ready.class.parts_named
 
     pub laws : Values (steps.here t) asks Ready
-    laws = viewed_values (steps.here t) ready.accepted.settled state.leaks other alone in_formals index_law ready.owns v ready.class.parts_named
+    laws = viewed_values (steps.here t) sees seeing ready.accepted.settled state.leaks other alone in_formals index_law ready.owns v ready.class.parts_named
 
     abbrev acts_by : Instruction → List Act
     acts_by i =
         acts (acts_of (record { typing = s; result = named.sub.result; roots = kept_roots own 0 own.objects (sub_facts own named.sub named.points) }) p.pos i)
 
     abbrev Keep : List Act → Type 0
-    Keep all = AllKeep (is_fixed s) all
+    Keep all = AllKeep (is_fixed s sees) all
 
     module _ (so : Ready state.memory (waiting_in state) facts) (only : OnlyOwners s state.memory) (n : Memory) (agrees : Agrees state.memory n) where
       abbrev Same : Instruction → Type 0
@@ -107,7 +115,7 @@ module _ (table : Table) (typed : TypedProgram) (effects : Effects) (input : Lis
       view_declares : (x : ℕ) (q : Pos) (y u : ℕ) (path : TypedTree) → is_anonymous (view_of s x) ≡ true → is_variable (object_at s x).kind ≡ true → DeclaresSame x (More (Name q y path u) NoMore)
       unfolding Compares has_call waits_in
       view_declares x q y u path view variable_here text plainly takes compares allowed keep =
-          view_declared_same t ready.accepted.settled ready.owns other alone in_formals v ready.class.parts_named facts so only n agrees on q x y u path view
+          view_declared_same t sees seeing ready.accepted.settled ready.owns other alone in_formals v ready.class.parts_named facts so only n agrees on q x y u path view
           variable_here text.1
           (takes_as (waits_in path + 0) (waits_in path) (start t).waits on (nothing_more (waits_in path)) takes) compares.0 allowed
 
@@ -122,7 +130,7 @@ module _ (table : Table) (typed : TypedProgram) (effects : Effects) (input : Lis
                 | inl named_is ↦ subst (DeclaresSame x) (sym (found.5 ∙ ap (λ z. More z NoMore) named_is)) (view_declares x found.0 found.1 found.3 found.2 view variable_here)
                     text plainly takes compares allowed keep
                 | inr (r, k, more, call_is, gives) ↦ subst (λ z. Same (Declare x z)) (sym (found.5 ∙ ap (λ z. More z NoMore) call_is))
-                    (call_declared_same t ready.accepted.settled ready.owns other alone in_formals v ready.class.parts_named facts so only n agrees
+                    (call_declared_same t sees seeing ready.accepted.settled ready.owns other alone in_formals v ready.class.parts_named facts so only n agrees
                     x r k (More (Name found.0 found.1 found.2 found.3) more) view)
               ]
           by_view false owner =
@@ -146,7 +154,7 @@ module _ (table : Table) (typed : TypedProgram) (effects : Effects) (input : Lis
           → Source s (object_at s x).of (Name r y path w) → AssignsSame (Name q x NoMore (object_at s x).of) (Name r y path w)
       unfolding Compares has_call waits_in
       view_assigns q x r y w path view variable_here itself source plainly takes compares allowed keep =
-          view_assigned_same t ready.accepted.settled ready.owns other alone in_formals v ready.class.parts_named facts so only n agrees on p.pos q r x y w path view
+          view_assigned_same t sees seeing ready.accepted.settled ready.owns other alone in_formals v ready.class.parts_named facts so only n agrees on p.pos q r x y w path view
           variable_here source
           (takes_as (waits_in path + 0) (waits_in path) (start t).waits on (nothing_more (waits_in path)) takes) itself compares.1 allowed
 
@@ -160,7 +168,7 @@ module _ (table : Table) (typed : TypedProgram) (effects : Effects) (input : Lis
                 (subst (Source s (object_at s x).of) named_is (subst (λ z. Source s z e) (sym type) source)))
             | inr (r, k, more, call_is, gives) ↦ (λ plainly takes compares allowed keep.
                 subst (λ z. Same (Assign (Name q x NoMore (object_at s x).of) z)) (sym call_is)
-                (call_assigned_same t ready.accepted.settled ready.owns other alone in_formals v ready.class.parts_named facts so only n agrees
+                (call_assigned_same t sees seeing ready.accepted.settled ready.owns other alone in_formals v ready.class.parts_named facts so only n agrees
                 q x r k (More (Name found.0 found.1 found.2 found.3) more) view_there))
           ])
         where
@@ -184,13 +192,13 @@ module _ (table : Table) (typed : TypedProgram) (effects : Effects) (input : Lis
               let own_type : IsNamed s.table u = plain_named s.table u owner in
               let same = assigned_acts s p.pos x u (Name q x path u) path e own_type leads in
               let kept_there = subst (λ z. Keep (acts z)) same keep in
-              let before = (keep_both (is_fixed s) (acts (acts_in s e ++ acts_in s path)) (act.Write (name_of x path) ∷ [])
+              let before = (keep_both (is_fixed s sees) (acts (acts_in s e ++ acts_in s path)) (act.Write (name_of x path) ∷ [])
               (subst Keep (acts_append (acts_in s e ++ acts_in s path) (record { pos = q; act = act.Write (name_of x path) } ∷ [])) kept_there)).0 in
               let two = takes_both (waits_in e) (waits_in path) (start t).waits on takes in
               assign_on t ready.accepted.settled ready.owns asks Ready laws facts so only n agrees two.0 on q x u path e owner own_type gives leads
               tt plainly tt two.1 two.2 compares.0 compares.1
               (subst (λ z. AllowsAll facts (acts z)) same allowed)
-              (keep_both (is_fixed s) (acts (acts_in s e)) (acts (acts_in s path)) (subst Keep (acts_append (acts_in s e) (acts_in s path)) before)).0
+              (keep_both (is_fixed s sees) (acts (acts_in s e)) (acts (acts_in s path)) (subst Keep (acts_append (acts_in s e) (acts_in s path)) before)).0
           by_view source_there true view = elim (leads_or s ready.class.parts_named path (object_at s x).of u leads) [
             | inr own_type ↦ absurd (true_false (is_anonymous (full s.table u)) view (named_plain s.table u own_type))
             | inl whole_path ↦ to_view q x path u e is whole_path.0 whole_path.1 source_there view plainly takes compares allowed keep

@@ -1,7 +1,7 @@
 -- Of what a call passes nothing is gone, nor of the formals that it copies back.
 use Rattle.viewed_soundness.specs.Holds.{is_view}
 use Rattle.viewed_steps.proofs.Left.{cells_same}
-use Rattle.std.proofs.Common.{◌≡◌, refl, sym, ap, ◌∙◌, subst, ◌⊎◌, inl, inr, ℕ, suc, false, List, [], ◌∷◌, ◌++◌, length, Some, true}
+use Rattle.std.proofs.Common.{◌≡◌, refl, sym, ap, ◌∙◌, subst, ◌⊎◌, inl, inr, ℕ, suc, false, List, [], ◌∷◌, ◌++◌, length, Some, true, Bool}
 use Rattle.place_names.specs.declared.fact.Fact.{Fact}
 use Rattle.spark_base.specs.Lists.{Has}
 use Rattle.flow_paths.specs.Objects.{Typing, object_at}
@@ -23,7 +23,7 @@ use Rattle.owned_loans.specs.Views.{Views, IsMovedBy}
 use Rattle.viewed_steps.specs.Taken.{IsInside, IsTaken, AreTaken, Lodge, IsPlainPlace, IsCopiedTo}
 use Rattle.viewed_steps.proofs.Between.{OwnersStand, more_gone, same_stand, same_reaches, Begins}
 use Rattle.viewed_steps.proofs.Carried.{inside_at, inside_spot, inside_reached, inside_rooted, inside_owns, inside_begins}
-use Rattle.viewed_steps.proofs.Alike.{IsPlainSpot, IsLaidIn, fixed_plain, plain_place, one_there, Enters, moved_there, stored_there, one_then}
+use Rattle.viewed_steps.proofs.Alike.{IsPlainSpot, IsLaidIn, plain_place, variable_plain, one_there, Enters, moved_there, stored_there, one_then}
 use Rattle.viewed_steps.proofs.Entered as entered
 use Rattle.viewed_steps.proofs.Entered.{ArePassedOn, IsOpen, AreBlank, passed_base, outs_taken, IsPlainPassed, IsPlainOne}
 use Rattle.viewed_steps.proofs.Entering as entering
@@ -33,7 +33,7 @@ use Rattle.viewed_steps.proofs.Backed as backed
 use Rattle.viewed_steps.proofs.Backed.{AwayBy, StandsAway}
 use Rattle.null_places.proofs.Places.{spot_whole, unmoved_whole, moved_only, plain_whole}
 use Rattle.null_places.proofs.Calls.{IsWholly, IsWhollyPassed, AreWhollyPassed, fixed_wholly, AreWhollyBack, IsStanding}
-use Rattle.viewed_steps.proofs.Views.{AreAccess, AreFar}
+use Rattle.viewed_steps.proofs.Views.{AreAccess, AreFar, AreOnly}
 use Rattle.machine.specs.Memory as memory
 use Rattle.viewed_steps.proofs.Shown.{HasCells, then_cells, taken_cells, one_stands}
 use Rattle.viewed_steps.proofs.Lodged.{cell_live}
@@ -69,12 +69,12 @@ inside_wholly s settled hands leaks f depth v facts other k to inside m typed st
 
 -- ---- what is passed
 
-module _ (s : Typing) (settled : IsSettled s.table) (own_law : OwnsByShape s.table) (in_formals : AreAccess s)
-    (hands : List Waiting) (depth : ℕ) (v : Views) (far : AreFar (home s depth) v depth) (sees : (x : ℕ) (w : Way) → v.way x ≡ Some w → is_view s x ≡ true)
+module _ (s : Typing) (sees : ℕ → Bool) (settled : IsSettled s.table) (own_law : OwnsByShape s.table) (in_formals : AreAccess s)
+    (hands : List Waiting) (depth : ℕ) (v : Views) (far : AreFar (home s depth) v depth) (sight : AreOnly s v)
     (facts : List Fact) (scope : List ℕ)
     (cells : List Lodge) (begins : (c : Lodge) → Has cells c → (g : ℕ) × (y : ℕ) × (base_of c.way ≡ OfRoot (OfVariable g y)) × (g ≡ suc depth → ⊥)) where
   -- what a scalar place has isn't gone
-  spot_wholly : (leaks : List Leak) (k : Place) (m : Memory) → IsPlainSpot s settled own_law in_formals hands leaks m k → Kept s m hands → IsWholly s k m
+  spot_wholly : (leaks : List Leak) (k : Place) (m : Memory) → IsPlainSpot s sees settled own_law in_formals hands leaks m k → Kept s m hands → IsWholly s k m
   spot_wholly leaks k m plain typed only = (
     spot_whole s settled m hands only typed k plain.loc plain.spot (plain_whole s settled m hands k plain.loc plain.spot (λ p. no_leaf s.table settled k.of plain.scalar p)),
     moved_only s settled m hands only typed k plain.loc plain.spot (λ p leaf f x is. (let no : true ≡ false = sym leaf ∙ no_leaf s.table settled k.of plain.scalar p in cc)),
@@ -83,10 +83,10 @@ module _ (s : Typing) (settled : IsSettled s.table) (own_law : OwnsByShape s.tab
   abbrev Reached : List Leak → Memory → Type 0
   Reached leaks m = (c : Lodge) → Has cells c → Reaches (seen s m hands leaks) c.way (OfCell c.cell)
 
-  laid_there : (leaks : List Leak) (m : Memory) (a : Passed) → IsPlainPassed s cells a → Kept s m hands → Reached leaks m → IsLaidIn s settled own_law in_formals hands leaks m a
+  laid_there : (leaks : List Leak) (m : Memory) (a : Passed) → IsPlainPassed s cells a → Kept s m hands → Reached leaks m → IsLaidIn s sees settled own_law in_formals hands leaks m a
   laid_there leaks m (Value ws) plain typed there = plain
-  laid_there leaks m (From k) plain typed there = plain_place s settled own_law in_formals hands leaks (suc depth) cells begins m k plain typed there
-  laid_there leaks m (To k) plain typed there = plain_place s settled own_law in_formals hands leaks (suc depth) cells begins m k plain typed there
+  laid_there leaks m (From k) plain typed there = plain_place s sees settled own_law in_formals hands leaks (suc depth) cells begins m k plain typed there
+  laid_there leaks m (To k) plain typed there = plain_place s sees settled own_law in_formals hands leaks (suc depth) cells begins m k plain typed there
 
   plain_wholly : (leaks : List Leak) (x : ℕ) (a : Passed) (before m : Memory) → IsPlainOne s before cells x a → Kept s m hands → Reached leaks m → IsWhollyPassed s a m
   plain_wholly leaks x (Value ws) before m plain typed there = tt
@@ -94,27 +94,27 @@ module _ (s : Typing) (settled : IsSettled s.table) (own_law : OwnsByShape s.tab
   plain_wholly leaks x (To k) before m (inl (scalar, plain)) typed there = (λ only. (spot_wholly leaks k m (laid_there leaks m (To k) plain typed there) typed only).1)
   plain_wholly leaks x (From k) before m (inr (inl (shown, z, is, fits))) typed there = (let never : From k ≡ Value (z ∷ []) = is in cc)
   plain_wholly leaks x (To k) before m (inr (inl (shown, z, is, fits))) typed there = (let never : To k ≡ Value (z ∷ []) = is in cc)
-  plain_wholly leaks x (From k) before m (inr (inr (plain, named, ws, is, fit))) typed there = (let never : From k ≡ Value ws = is in cc)
-  plain_wholly leaks x (To k) before m (inr (inr (plain, named, ws, is, fit))) typed there = (let never : To k ≡ Value ws = is in cc)
+  plain_wholly leaks x (From k) before m (inr (inr (kind, ws, is, fit))) typed there = (let never : From k ≡ Value ws = is in cc)
+  plain_wholly leaks x (To k) before m (inr (inr (kind, ws, is, fit))) typed there = (let never : To k ≡ Value ws = is in cc)
 
   abbrev StandIn : (Way → Type 0) → List Leak → Memory → Type 0
   StandIn other leaks m = OwnersStand (home s depth) v facts other (seen s m hands leaks)
 
   abbrev outs_also : (Way → Type 0) → List Out → Way → Type 0
-  outs_also = entering.outs_also s settled own_law in_formals hands depth v far sees facts scope cells begins
+  outs_also = entering.outs_also s sees settled own_law in_formals hands depth v far sight facts scope cells begins
 
   abbrev away : (Way → Type 0) → Way → Way → Type 0
-  away = entering.away s settled own_law in_formals hands depth v far sees facts scope cells begins
+  away = entering.away s sees settled own_law in_formals hands depth v far sight facts scope cells begins
 
   -- one after the other, with the places that are taken gone, and those that are to be emptied
   pub passed_wholly : (other : Way → Type 0) (leaks : List Leak) (formals : List ℕ) (passed : List Passed) (ways : List Way) (outs : List Out) (before m : Memory)
-      → ArePassedOn s before cells depth v facts scope formals passed ways outs → IsOpen (IsMovedBy (home s depth) v facts) other ways → entering.AtFirst s settled own_law in_formals hands depth v far sees facts scope cells begins before → Kept s m hands
-      → entering.AreThere s settled own_law in_formals hands depth v far sees facts scope cells begins ways leaks m
+      → ArePassedOn s sees before cells depth v facts scope formals passed ways outs → IsOpen (IsMovedBy (home s depth) v facts) other ways → entering.AtFirst s sees settled own_law in_formals hands depth v far sight facts scope cells begins before → Kept s m hands
+      → entering.AreThere s sees settled own_law in_formals hands depth v far sight facts scope cells begins ways leaks m
       → StandIn (outs_also other outs) leaks m → AreBlank s depth m formals → HaveStill s cells depth before m outs → HasCells before m → AreWhollyPassed s (suc depth) formals passed m
   passed_wholly other leaks [] passed ways outs before m are open_there at_first typed cells_there stand blank still had = tt
   passed_wholly other leaks (x ∷ formals) [] ways outs before m are open_there at_first typed cells_there stand blank still had = tt
   passed_wholly other leaks (x ∷ formals) (a ∷ passed) [] outs before m are open_there at_first typed cells_there stand blank still had =
-      let on = one_stands s settled own_law in_formals hands leaks (suc depth) x a before m cells are.0 (λ plain. laid_there leaks m a plain typed (λ c has. (cells_there c has).0)) had typed in
+      let on = one_stands s sees settled own_law in_formals hands leaks (suc depth) x a before m cells are.0 (λ plain. laid_there leaks m a plain typed (λ c has. (cells_there c has).0)) had typed in
       let mid : Memory = with_formal s (suc depth) x a m in (
         plain_wholly leaks x a before m are.0 typed (λ c has. (cells_there c has).0),
         passed_wholly other leaks formals passed [] outs before mid are.1 open_there at_first on.typed
@@ -125,7 +125,7 @@ module _ (s : Typing) (settled : IsSettled s.table) (own_law : OwnsByShape s.tab
             (then_cells before m mid had on.cells),
       )
   passed_wholly other leaks (x ∷ formals) (a ∷ passed) (to ∷ ways) outs before m (inl are) open_there at_first typed cells_there stand blank still had =
-      let on = one_stands s settled own_law in_formals hands leaks (suc depth) x a before m cells are.0 (λ plain. laid_there leaks m a plain typed (λ c has. (cells_there c has).0)) had typed in
+      let on = one_stands s sees settled own_law in_formals hands leaks (suc depth) x a before m cells are.0 (λ plain. laid_there leaks m a plain typed (λ c has. (cells_there c has).0)) had typed in
       let mid : Memory = with_formal s (suc depth) x a m in (
         plain_wholly leaks x a before m are.0 typed (λ c has. (cells_there c has).0),
         passed_wholly other leaks formals passed (to ∷ ways) outs before mid are.1 open_there at_first on.typed
@@ -137,56 +137,56 @@ module _ (s : Typing) (settled : IsSettled s.table) (own_law : OwnsByShape s.tab
       )
   passed_wholly other leaks (x ∷ formals) (a ∷ passed) (to ∷ ways) outs before m (inr (k, later, inl (is, whole, same), one, apart, differ, more)) open_there at_first typed cells_there stand blank still had =
       let new = blank x (inl refl) in
-      let there_now = entering.one_reached s settled own_law in_formals hands depth v far sees facts scope cells begins x k to one leaks m (λ c has. (cells_there c has).0) in
+      let there_now = entering.one_reached s sees settled own_law in_formals hands depth v far sight facts scope cells begins x k to one leaks m (λ c has. (cells_there c has).0) in
       let next : Memory = declared (suc depth) x (words_of s m k) (moved_out s k m) in
-      let among = outs_taken s before cells depth v facts scope formals passed ways later more in
-      let from = passed_base s before cells depth v facts scope formals passed ways later more in
+      let among = outs_taken s sees before cells depth v facts scope formals passed ways later more in
+      let from = passed_base s sees before cells depth v facts scope formals passed ways later more in
       let root : Begins s depth to = inside_begins s depth k to one.inside in
-      let mine = entering.taken_open s settled own_law in_formals hands depth v far sees facts scope cells begins other to ways later among from apart open_there in
+      let mine = entering.taken_open s sees settled own_law in_formals hands depth v far sight facts scope cells begins other to ways later among from apart open_there in
       let here : StandIn (outs_also other later) leaks m = subst (λ z. StandIn (outs_also other z) leaks m) same stand in
       subst (λ z. AreWhollyPassed s (suc depth) (x ∷ formals) (z ∷ passed) m) (sym is) (
         inside_wholly s settled hands leaks depth depth v facts (outs_also other later) k to one.inside m typed here there_now
-            (entered.clean s settled own_law in_formals hands leaks depth v far sees facts scope cells (outs_also other later) x k to one whole mine m typed here new there_now),
+            (entered.clean s sees settled own_law in_formals hands leaks depth v far sight facts scope cells (outs_also other later) x k to one whole mine m typed here new there_now),
         passed_wholly (away other to) leaks formals passed ways later before next more
-            (entering.others_open s settled own_law in_formals hands depth v far sees facts scope cells begins other to ways root apart open_there) at_first
-            (entered.kept_next s settled own_law in_formals hands leaks depth v far sees facts scope cells (outs_also other later) x k to one whole mine m typed here new there_now)
+            (entering.others_open s sees settled own_law in_formals hands depth v far sight facts scope cells begins other to ways root apart open_there) at_first
+            (entered.kept_next s sees settled own_law in_formals hands leaks depth v far sight facts scope cells (outs_also other later) x k to one whole mine m typed here new there_now)
             (λ c has. (
               (let begin = begins c has in
-                  entered.one_stays s settled own_law in_formals hands leaks depth v far sees facts scope cells (outs_also other later) x k to one whole mine m typed here new there_now
+                  entered.one_stays s sees settled own_law in_formals hands leaks depth v far sight facts scope cells (outs_also other later) x k to one whole mine m typed here new there_now
                   c.way begin.0 begin.1 begin.2 begin.3 ((cells_there c has).1 to (inl refl)) c.cell (cells_there c has).0),
               (λ z there. (cells_there c has).1 z (inr there)),
             ))
-            (entering.beside_outs s settled own_law in_formals hands depth v far sees facts scope cells begins other to later leaks next
-            (entered.stand_next s settled own_law in_formals hands leaks depth v far sees facts scope cells (outs_also other later) x k to one whole mine m typed here new there_now))
-            (λ y has p. entered.one_blank s settled own_law in_formals hands leaks depth v far sees facts scope cells (outs_also other later) x k to one whole mine m typed here new there_now y (differ y has) p
+            (entering.beside_outs s sees settled own_law in_formals hands depth v far sight facts scope cells begins other to later leaks next
+            (entered.stand_next s sees settled own_law in_formals hands leaks depth v far sight facts scope cells (outs_also other later) x k to one whole mine m typed here new there_now))
+            (λ y has p. entered.one_blank s sees settled own_law in_formals hands leaks depth v far sight facts scope cells (outs_also other later) x k to one whole mine m typed here new there_now y (differ y has) p
             (blank y (inr has) p))
             (λ o has. still_then s cells depth before m next o.way (still o (subst (λ z. Has z o) (sym same) has))
-            (entered.one_still s settled own_law in_formals hands leaks depth v far sees facts scope cells (outs_also other later) x k to one whole mine m typed here new there_now (λ c has_c. (cells_there c has_c).0) o.way (apart o.way (among o has))))
+            (entered.one_still s sees settled own_law in_formals hands leaks depth v far sight facts scope cells (outs_also other later) x k to one whole mine m typed here new there_now (λ c has_c. (cells_there c has_c).0) o.way (apart o.way (among o has))))
             (then_cells before m next had (taken_cells s k (suc depth) x (words_of s m k) m)),
       )
   passed_wholly other leaks (x ∷ formals) (a ∷ passed) (to ∷ ways) outs before m (inr (k, later, inr (pos, is, same), one, apart, differ, more)) open_there at_first typed cells_there stand blank still had =
       let new = blank x (inl refl) in
-      let there_now = entering.one_reached s settled own_law in_formals hands depth v far sees facts scope cells begins x k to one leaks m (λ c has. (cells_there c has).0) in
+      let there_now = entering.one_reached s sees settled own_law in_formals hands depth v far sight facts scope cells begins x k to one leaks m (λ c has. (cells_there c has).0) in
       let next : Memory = declared (suc depth) x (default s.table (object_at s x).of) (moved_out s k m) in
-      let among = outs_taken s before cells depth v facts scope formals passed ways later more in
+      let among = outs_taken s sees before cells depth v facts scope formals passed ways later more in
       let root : Begins s depth to = inside_begins s depth k to one.inside in
       let out : Out = record { way = to; place = k; pos = pos } in
       let here : StandIn (outs_also other (out ∷ later)) leaks m = subst (λ z. StandIn (outs_also other z) leaks m) same stand in
       let found : List Leak = leaks ++ leaks_at s pos before k in
-      let mine = entering.still_checks s settled own_law in_formals hands depth v far sees facts scope cells begins x k to one pos leaks before m at_first
+      let mine = entering.still_checks s sees settled own_law in_formals hands depth v far sight facts scope cells begins x k to one pos leaks before m at_first
       (still out (subst (λ z. Has z out) (sym same) (inl refl))) in
       subst (λ z. AreWhollyPassed s (suc depth) (x ∷ formals) (z ∷ passed) m) (sym is) (
         (λ only. moved_only s settled m hands only typed k (inside_at s depth k to one.inside) (inside_spot s depth k to one.inside settled m hands leaks typed there_now)
             (λ p leaf. in_owner s depth k to one.inside)),
         passed_wholly (away other to) found formals passed ways later before next more
-            (entering.others_open s settled own_law in_formals hands depth v far sees facts scope cells begins other to ways root apart open_there) at_first
-            (emptying.out_kept s settled own_law in_formals hands leaks depth v sees facts scope cells (outs_also other (out ∷ later)) (outs_also (away other to) later) x k to one m typed here new there_now found)
+            (entering.others_open s sees settled own_law in_formals hands depth v far sight facts scope cells begins other to ways root apart open_there) at_first
+            (emptying.out_kept s sees settled own_law in_formals hands leaks depth v sight facts scope cells (outs_also other (out ∷ later)) (outs_also (away other to) later) x k to one m typed here new there_now found)
             (λ c has. (
-              emptying.out_stays s settled own_law in_formals hands leaks depth v sees facts scope cells (outs_also other (out ∷ later)) (outs_also (away other to) later) x k to one
+              emptying.out_stays s sees settled own_law in_formals hands leaks depth v sight facts scope cells (outs_also other (out ∷ later)) (outs_also (away other to) later) x k to one
                   m typed here new there_now found mine c.way ((cells_there c has).1 to (inl refl)) c.cell (cells_there c has).0,
               (λ z there. (cells_there c has).1 z (inr there)),
             ))
-            (emptying.out_stand s settled own_law in_formals hands leaks depth v sees facts scope cells (outs_also other (out ∷ later)) (outs_also (away other to) later) x k to one m typed here new there_now found mine
+            (emptying.out_stand s sees settled own_law in_formals hands leaks depth v sight facts scope cells (outs_also other (out ∷ later)) (outs_also (away other to) later) x k to one m typed here new there_now found mine
             (λ w o off. elim o [
               | inl gone ↦ inl (inl gone)
               | inr (other_one, has_one, under) ↦ elim has_one [
@@ -194,19 +194,19 @@ module _ (s : Typing) (settled : IsSettled s.table) (own_law : OwnsByShape s.tab
                 | inr rest ↦ inr (other_one, rest, under)
               ]
             ]) (λ p. inl (inr (p, refl))))
-            (λ y has p. emptying.out_blank s settled own_law in_formals hands leaks depth v sees facts scope cells (outs_also other (out ∷ later)) (outs_also (away other to) later) x k to one m typed here new there_now found
+            (λ y has p. emptying.out_blank s sees settled own_law in_formals hands leaks depth v sight facts scope cells (outs_also other (out ∷ later)) (outs_also (away other to) later) x k to one m typed here new there_now found
             y (differ y has) p (blank y (inr has) p))
             (λ o has. still_then s cells depth before m next o.way (still o (subst (λ z. Has z o) (sym same) (inr has)))
-            (emptying.out_still s settled own_law in_formals hands leaks depth v sees facts scope cells (outs_also other (out ∷ later)) (outs_also (away other to) later) x k to one m typed here new there_now found mine (λ c has_c. (cells_there c has_c).0)
+            (emptying.out_still s sees settled own_law in_formals hands leaks depth v sight facts scope cells (outs_also other (out ∷ later)) (outs_also (away other to) later) x k to one m typed here new there_now found mine (λ c has_c. (cells_there c has_c).0)
             o.way (apart o.way (among o has))))
             (then_cells before m next had (taken_cells s k (suc depth) x (default s.table (object_at s x).of) m)),
       )
 
 -- ---- what is copied back
 
-module _ (t : Turn) (settled : IsSettled (typing t).table) (own_law : OwnsByShape (typing t).table) (in_formals : AreAccess (typing t))
+module _ (t : Turn) (sees : ℕ → Bool) (settled : IsSettled (typing t).table) (own_law : OwnsByShape (typing t).table) (in_formals : AreAccess (typing t))
     (hands : List Waiting) (leaks : List Leak) (depth : ℕ) (deep : length t.outer ≡ suc depth) (v : Views)
-    (far : AreFar (home (typing t) depth) v depth) (sees : (x : ℕ) (w : Way) → v.way x ≡ Some w → is_view (typing t) x ≡ true) (facts : List Fact) (scope : List ℕ)
+    (far : AreFar (home (typing t) depth) v depth) (sight : (x : ℕ) (w : Way) → v.way x ≡ Some w → is_view (typing t) x ≡ true) (facts : List Fact) (scope : List ℕ)
     (other : Way → Type 0)
     (free : (h : ℕ) (w : Way) → Under (Object (OfHand h)) w → IsMovedBy (home (typing t) depth) v facts w ⊎ other w → ⊥)
     (whole : (x : ℕ) (w : Way) → base_of w ≡ OfRoot (OfVariable (suc depth) x) → IsMovedBy (home (typing t) depth) v facts w ⊎ other w → ⊥)
@@ -215,18 +215,18 @@ module _ (t : Turn) (settled : IsSettled (typing t).table) (own_law : OwnsByShap
   s = typing t
 
   abbrev StandNow : List Return → List Way → Memory → Type 0
-  StandNow returns ways m = StandsAway t settled own_law in_formals hands leaks depth deep v far sees facts scope other free whole cells begins returns ways m
+  StandNow returns ways m = StandsAway t sees settled own_law in_formals hands leaks depth deep v far sight facts scope other free whole cells begins returns ways m
 
   abbrev There : List Way → Memory → Type 0
-  There ways m = backed.AreThere t settled own_law in_formals hands leaks depth deep v far sees facts scope other free whole cells begins ways m
+  There ways m = backed.AreThere t sees settled own_law in_formals hands leaks depth deep v far sight facts scope other free whole cells begins ways m
 
   stands : (m : Memory) (k : Place) → IsPlainPlace s cells k → Kept s m hands → Owned (seen s m hands leaks)
       → ((c : Lodge) → Has cells c → Reaches (seen s m hands leaks) c.way (OfCell c.cell)) → IsStanding m k.base
-  stands m k (inl fixed) typed owned there = subst (IsStanding m) (sym fixed.base) tt
+  stands m k (inl (fixed, bare)) typed owned there = subst (IsStanding m) (sym fixed.base) tt
   stands m k (inr (c, has, lodged, plain)) typed owned there =
       let begin = begins c has in subst (IsStanding m) (sym lodged.base) (cell_live s settled m hands leaks typed c.way begin.0 begin.1 c.cell begin.2 owned (there c has))
 
-  taken_stands : (m : Memory) (r : Return) (to : Way) → IsTaken s cells m depth v facts scope r to → Kept s m hands → Owned (seen s m hands leaks)
+  taken_stands : (m : Memory) (r : Return) (to : Way) → IsTaken s sees cells m depth v facts scope r to → Kept s m hands → Owned (seen s m hands leaks)
       → ((c : Lodge) → Has cells c → Reaches (seen s m hands leaks) c.way (OfCell c.cell)) → IsStanding m r.to.base
   taken_stands m r to taken typed owned there = elim (taken.0).inside.stands [
     | inl variable ↦ subst (IsStanding m) (sym variable.2) tt
@@ -239,43 +239,43 @@ module _ (t : Turn) (settled : IsSettled (typing t).table) (own_law : OwnsByShap
 
   -- a scalar one
   copied_wholly : (r : Return) (rest : List Return) (ways : List Way) (m : Memory) → IsCopiedTo s cells r → There ways m → Kept s m hands → StandNow (r ∷ rest) ways m
-      → AreTaken s cells m depth v facts scope rest ways
-      → ((next : Memory) → There ways next → Kept s next hands → StandNow rest ways next → AreTaken s cells next depth v facts scope rest ways → AreWhollyBack t rest next)
+      → AreTaken s sees cells m depth v facts scope rest ways
+      → ((next : Memory) → There ways next → Kept s next hands → StandNow rest ways next → AreTaken s sees cells next depth v facts scope rest ways → AreWhollyBack t rest next)
       → AreWhollyBack t (r ∷ rest) m
   copied_wholly r rest ways m copied cells_there typed stand taken more =
       let formal : Place = variable_place (here t) r.formal in
       let ws : List machine.Word = words_of s m formal in
       let fixed : IsFixed s formal = formal_fixed t r.formal copied.0 in
-      let plain : IsPlainSpot s settled own_law in_formals hands leaks m formal = fixed_plain s settled own_law in_formals hands leaks formal fixed m in
+      let plain : IsPlainSpot s sees settled own_law in_formals hands leaks m formal = variable_plain s sees settled own_law in_formals hands leaks formal (home s (here t).frame r.formal) r.formal fixed refl copied.0 m in
       let mid : Memory = moved_out s formal m in
       let next : Memory = stored s r.to ws mid in
-      let first = moved_there s settled own_law in_formals hands leaks formal m plain typed in
-      let second = stored_there s settled own_law in_formals hands leaks r.to mid
-      (plain_place s settled own_law in_formals hands leaks (suc depth) cells begins mid r.to copied.1 first.typed
+      let first = moved_there s sees settled own_law in_formals hands leaks formal m plain typed in
+      let second = stored_there s sees settled own_law in_formals hands leaks r.to mid
+      (plain_place s sees settled own_law in_formals hands leaks (suc depth) cells begins mid r.to copied.1 first.typed
       (λ c has. same_reaches (seen s m hands leaks) (seen s mid hands leaks) first.same c.way (OfCell c.cell) (cells_there c has).0))
-      ws (one_there s settled own_law in_formals hands leaks m formal plain typed) first.typed in
-      let on : Enters s settled own_law in_formals hands leaks m next = one_then s settled own_law in_formals hands leaks m mid next first second in (
+      ws (one_there s sees settled own_law in_formals hands leaks m formal plain typed) first.typed in
+      let on : Enters s sees settled own_law in_formals hands leaks m next = one_then s sees settled own_law in_formals hands leaks m mid next first second in (
         stands m r.to copied.1 typed stand.owned (λ c has. (cells_there c has).0),
         fixed_wholly s settled own_law hands formal fixed m typed,
         more next (λ c has. (same_reaches (seen s m hands leaks) (seen s next hands leaks) on.same c.way (OfCell c.cell) (cells_there c has).0, (cells_there c has).1)) on.typed
-            (more_gone (home s depth) v facts (AwayBy t settled own_law in_formals hands leaks depth deep v far sees facts scope other free whole cells begins (r ∷ rest) ways)
-            (AwayBy t settled own_law in_formals hands leaks depth deep v far sees facts scope other free whole cells begins rest ways) (seen s next hands leaks)
+            (more_gone (home s depth) v facts (AwayBy t sees settled own_law in_formals hands leaks depth deep v far sight facts scope other free whole cells begins (r ∷ rest) ways)
+            (AwayBy t sees settled own_law in_formals hands leaks depth deep v far sight facts scope other free whole cells begins rest ways) (seen s next hands leaks)
             (λ w o. elim o [
               | inl away_there ↦ inl away_there
               | inr later ↦ elim later [
                 | inl taken_there ↦ inr (inl taken_there)
-                | inr left ↦ inr (inr (backed.left_more t settled own_law in_formals hands leaks depth deep v far sees facts scope other free whole cells begins r rest w left))
+                | inr left ↦ inr (inr (backed.left_more t sees settled own_law in_formals hands leaks depth deep v far sight facts scope other free whole cells begins r rest w left))
               ]
             ])
-            (same_stand (home s depth) v facts (AwayBy t settled own_law in_formals hands leaks depth deep v far sees facts scope other free whole cells begins (r ∷ rest) ways)
+            (same_stand (home s depth) v facts (AwayBy t sees settled own_law in_formals hands leaks depth deep v far sight facts scope other free whole cells begins (r ∷ rest) ways)
             (seen s m hands leaks) (seen s next hands leaks) on.same stand))
-            (backed.taken_on t settled own_law in_formals hands leaks depth deep v far sees facts scope other free whole cells begins m next rest ways
+            (backed.taken_on t sees settled own_law in_formals hands leaks depth deep v far sight facts scope other free whole cells begins m next rest ways
             (λ k w has there among bare p c held. bare p c
-            (sym (backed.start_same t settled own_law in_formals hands leaks depth deep v far sees facts scope other free whole cells begins m next k w there on.hold
+            (sym (backed.start_same t sees settled own_law in_formals hands leaks depth deep v far sight facts scope other free whole cells begins m next k w there on.hold
             (λ n q. cells_same s m next hands leaks on.same n q) (p ++ there.steps)) ∙ held)) taken),
       )
 
-  pub back_wholly : (returns : List Return) (ways : List Way) (m : Memory) → AreTaken s cells m depth v facts scope returns ways → There ways m → Kept s m hands → StandNow returns ways m
+  pub back_wholly : (returns : List Return) (ways : List Way) (m : Memory) → AreTaken s sees cells m depth v facts scope returns ways → There ways m → Kept s m hands → StandNow returns ways m
       → AreWhollyBack t returns m
   back_wholly [] ways m taken there typed stand = tt
   back_wholly (r ∷ rest) [] m taken there typed stand =
@@ -284,24 +284,24 @@ module _ (t : Turn) (settled : IsSettled (typing t).table) (own_law : OwnsByShap
       copied_wholly r rest (to ∷ ways) m copied.0 there typed stand copied.1 (λ next on kept seen_next later. back_wholly rest (to ∷ ways) next later on kept seen_next)
   back_wholly (r ∷ rest) (to ∷ ways) m (inr (taken, apart, another, more)) there typed stand =
       let reach_cells : (c : Lodge) → Has cells c → Reaches (seen s m hands leaks) c.way (OfCell c.cell) = λ c has. (there c has).0 in
-      let begin = backed.taken_base t settled own_law in_formals hands leaks depth deep v far sees facts scope other free whole cells begins m rest ways more in
+      let begin = backed.taken_base t sees settled own_law in_formals hands leaks depth deep v far sight facts scope other free whole cells begins m rest ways more in
       let next : Memory = stored s r.to (words_of s m (variable_place (here t) r.formal)) (moved_out s (variable_place (here t) r.formal) m) in (
         taken_stands m r to taken typed stand.owned reach_cells,
         inside_wholly s settled hands leaks (suc depth) depth v facts
-            (AwayBy t settled own_law in_formals hands leaks depth deep v far sees facts scope other free whole cells begins (r ∷ rest) (to ∷ ways))
+            (AwayBy t sees settled own_law in_formals hands leaks depth deep v far sight facts scope other free whole cells begins (r ∷ rest) (to ∷ ways))
             (variable_place (here t) r.formal) (Object (OfVariable (suc depth) r.formal))
-            (backed.formal_inside t settled own_law in_formals hands leaks depth deep v far sees facts scope other free whole cells begins r rest to ways m taken apart another begin typed stand reach_cells) m typed stand
-            (backed.formal_there t settled own_law in_formals hands leaks depth deep v far sees facts scope other free whole cells begins r rest to ways m taken apart another begin typed stand reach_cells (seen s m hands leaks))
-            (backed.clean t settled own_law in_formals hands leaks depth deep v far sees facts scope other free whole cells begins r rest to ways m taken apart another begin typed stand reach_cells),
+            (backed.formal_inside t sees settled own_law in_formals hands leaks depth deep v far sight facts scope other free whole cells begins r rest to ways m taken apart another begin typed stand reach_cells) m typed stand
+            (backed.formal_there t sees settled own_law in_formals hands leaks depth deep v far sight facts scope other free whole cells begins r rest to ways m taken apart another begin typed stand reach_cells (seen s m hands leaks))
+            (backed.clean t sees settled own_law in_formals hands leaks depth deep v far sight facts scope other free whole cells begins r rest to ways m taken apart another begin typed stand reach_cells),
         back_wholly rest ways next
-            (backed.taken_on t settled own_law in_formals hands leaks depth deep v far sees facts scope other free whole cells begins m next rest ways
-            (λ k w has inside_it among bare. backed.one_bare t settled own_law in_formals hands leaks depth deep v far sees facts scope other free whole cells begins r rest to ways m taken apart another begin typed stand reach_cells k w has inside_it among bare) more)
+            (backed.taken_on t sees settled own_law in_formals hands leaks depth deep v far sight facts scope other free whole cells begins m next rest ways
+            (λ k w has inside_it among bare. backed.one_bare t sees settled own_law in_formals hands leaks depth deep v far sight facts scope other free whole cells begins r rest to ways m taken apart another begin typed stand reach_cells k w has inside_it among bare) more)
             (λ c has. (
               (let from = begins c has in
-                  backed.one_stays t settled own_law in_formals hands leaks depth deep v far sees facts scope other free whole cells begins r rest to ways m taken apart another begin typed stand reach_cells
+                  backed.one_stays t sees settled own_law in_formals hands leaks depth deep v far sight facts scope other free whole cells begins r rest to ways m taken apart another begin typed stand reach_cells
                   c.way from.0 from.1 from.2 from.3 ((there c has).1 to (inl refl)) c.cell (there c has).0),
               (λ k later. (there c has).1 k (inr later)),
             ))
-            (backed.one_kept t settled own_law in_formals hands leaks depth deep v far sees facts scope other free whole cells begins r rest to ways m taken apart another begin typed stand reach_cells)
-            (backed.one_stand t settled own_law in_formals hands leaks depth deep v far sees facts scope other free whole cells begins r rest to ways m taken apart another begin typed stand reach_cells),
+            (backed.one_kept t sees settled own_law in_formals hands leaks depth deep v far sight facts scope other free whole cells begins r rest to ways m taken apart another begin typed stand reach_cells)
+            (backed.one_stand t sees settled own_law in_formals hands leaks depth deep v far sight facts scope other free whole cells begins r rest to ways m taken apart another begin typed stand reach_cells),
       )

@@ -33,7 +33,7 @@ use Rattle.soundness.proofs.Lasting.{keeps}
 use Rattle.soundness.proofs.Numbers.{index_law}
 use Rattle.owned_loans.specs.Views.{Around, Views}
 use Rattle.owned_loans.proofs.Allowed.{Cleared, cleared_open, cleared_whole, borrow_clears, observe_clears, reborrow_clears}
-use Rattle.viewed_soundness.specs.Holds.{PartsAreNamed, IsOwners, sees_only}
+use Rattle.viewed_soundness.specs.Holds.{PartsAreNamed, IsOwners, Seeing}
 use Rattle.viewed_soundness.proofs.Stays.{Goes}
 use Rattle.viewed_soundness.proofs.Evaluated.{live_trunk}
 use Rattle.viewed_steps.proofs.Sources.{view_shape, observer_only}
@@ -60,10 +60,10 @@ source_of s want q y u path view (inr (lead, inr scalar)) =
     let sh = view_shape (shape_of s.table want) view in
     absurd (let no : false ≡ true = sym (ap (λ z. is_scalar (view_of_shape z)) sh.3) ∙ scalar.1 in cc)
 
-module _ (t : Turn) (settled : IsSettled (typing t).table) (own_law : OwnsByShape (typing t).table) (other : Around (home (typing t) (length t.outer)))
+module _ (t : Turn) (sees : ℕ → Bool) (seeing : Seeing (typing t) sees) (settled : IsSettled (typing t).table) (own_law : OwnsByShape (typing t).table) (other : Around (home (typing t) (length t.outer)))
     (alone : (w : Way) → IsNear (length t.outer) w → other.gone w → ⊥) (in_formals : AreAccess (typing t)) (v : Views)
     (parts_named : PartsAreNamed (typing t).table) (facts : List Fact)
-    (so : IsReadyIn (here t) settled t.state.leaks other alone in_formals index_law own_law v parts_named t.state.memory (waiting_in t.state) facts)
+    (so : IsReadyIn (here t) sees seeing settled t.state.leaks other alone in_formals index_law own_law v parts_named t.state.memory (waiting_in t.state) facts)
     (only : OnlyOwners (typing t) t.state.memory) (n : Memory) (agrees : Agrees t.state.memory n) where
   abbrev s : Typing
   s = typing t
@@ -84,26 +84,26 @@ module _ (t : Turn) (settled : IsSettled (typing t).table) (own_law : OwnsByShap
   at = record { memory = t.state.memory; waits = (start t).waits }
 
   abbrev asks : Premises h
-  asks = viewed_premises h parts_named
+  asks = viewed_premises h sees parts_named
 
   abbrev ready_in : Memory → List Waiting → List Fact → Type 0
-  ready_in m' hands' known = IsReadyIn h settled t.state.leaks other alone in_formals index_law own_law v parts_named m' hands' known
+  ready_in m' hands' known = IsReadyIn h sees seeing settled t.state.leaks other alone in_formals index_law own_law v parts_named m' hands' known
 
   laws : Values h asks ready_in
-  laws = viewed_values h settled t.state.leaks other alone in_formals index_law own_law v parts_named
+  laws = viewed_values h sees seeing settled t.state.leaks other alone in_formals index_law own_law v parts_named
 
   law : Behaves h asks m hands facts
-  law = viewed_behaves h settled t.state.leaks other alone in_formals index_law own_law v parts_named m hands facts so only
+  law = viewed_behaves h sees seeing settled t.state.leaks other alone in_formals index_law own_law v parts_named m hands facts so only
 
   live : (w : Way) (l : Loc) → IsOwners s w → Reaches (seen s m hands t.state.leaks) w l → (content s m hands (trunk l)).owns ≡ true
-  live = live_trunk h settled t.state.leaks [] other alone (keeps s settled own_law) index_law own_law v parts_named m hands so.viewed.owned
+  live = live_trunk h sees seeing settled t.state.leaks [] other alone (keeps s settled own_law) index_law own_law v parts_named m hands so.viewed.owned
 
   abbrev variable : ℕ → Way
   variable x = Object (OfVariable (home s h.frame x) x)
 
   -- what is looked at, unless through an observer, is neither moved nor borrowed
   abbrev Clears : ℕ → TypedTree → Type 0
-  Clears y path = (w : Way) → ways.name_of w ≡ name_of y path → sees_only s y ≡ false → Cleared facts w
+  Clears y path = (w : Way) → ways.name_of w ≡ name_of y path → sees y ≡ false → Cleared facts w
 
   leads_to : (on : List (List machine.Word)) (y u d : ℕ) (c b : Bool) (path : TypedTree) (way : List run.Step) → Goes s.table (object_at s y).of u path way
       → shape_of s.table u ≡ shape.Access d c b → Clears y path → LeadsWhole h asks m hands facts on y u way
@@ -117,17 +117,17 @@ module _ (t : Turn) (settled : IsSettled (typing t).table) (own_law : OwnsByShap
 
       same : (n' : Now) → SameNow s (record { memory = m; waits = on }) n' → SameTo s (walked s way (variable_place h y) (record { memory = m; waits = on })) (walked s way (variable_place h y) n')
       same =
-          name_same h settled hands t.state.leaks m on other facts v so.kept so.viewed so.holds alone live only in_formals y u way goes.lead
+          name_same h sees seeing settled hands t.state.leaks m on other facts v so.kept so.viewed so.holds alone live only in_formals y u way goes.lead
           (λ e. cleared_open facts w (clears w called e))
 
       by_kind : (b : Bool) → shape_of s.table u ≡ shape.Access d c b → LeadsWhole h asks m hands facts on y u way
       by_kind true is = (
-        access_found h settled hands t.state.leaks m on other facts v so.kept so.viewed so.holds alone live only in_formals index_law own_law parts_named y u d c way goes.lead is
+        access_found h sees seeing settled hands t.state.leaks m on other facts v so.kept so.viewed so.holds alone live only in_formals index_law own_law parts_named y u d c way goes.lead is
             (λ e. cleared_open facts w (clears w called e)) (λ e. cleared_whole facts w (clears w called e)),
         same,
       )
       by_kind false is = (
-        view_whole h settled hands t.state.leaks m on other facts v so.kept so.viewed so.holds alone live only in_formals y u way goes.lead
+        view_whole h sees seeing settled hands t.state.leaks m on other facts v so.kept so.viewed so.holds alone live only in_formals y u way goes.lead
             (ap (λ z. is_anonymous (view_of_shape z)) is ∙ anonymous_access c) (λ e. cleared_open facts w (clears w called e)),
         same,
       )
@@ -151,7 +151,7 @@ module _ (t : Turn) (settled : IsSettled (typing t).table) (own_law : OwnsByShap
   pub taken_same : (on : List (List machine.Word)) (x u' : ℕ) (p : Pos) (y u : ℕ) (path : TypedTree) (a : PlaceName → Act) → is_anonymous (full (typing t).table u') ≡ true
       → Source (typing t) u' (Name p y path u) → Takes (waits_in path) (start t).waits on → Compares (typing t) path
       → AllowsAll facts (acts (acts_in (typing t) path) ++ a (name_of y path) ∷ [])
-      → ((w : Way) → ways.name_of w ≡ name_of y path → sees_only (typing t) y ≡ false → Allows facts (a (name_of y path)) → Cleared facts w)
+      → ((w : Way) → ways.name_of w ≡ name_of y path → sees y ≡ false → Allows facts (a (name_of y path)) → Cleared facts w)
       → SameTo (typing t) (taken_by t u' (Name p y path u) (record { memory = t.state.memory; waits = (start t).waits })) (taken_by t u' (Name p y path u) (start (twin t n)))
   taken_same on x u' p y u path a view source_there takes compares allowed clears =
       let from = source_of s u' p y u path view source_there in
@@ -185,11 +185,11 @@ module _ (t : Turn) (settled : IsSettled (typing t).table) (own_law : OwnsByShap
       e = Name q y path u
 
       by_kind : (b : Bool) → is_observer s x ≡ b → Same (declare t x (More (Name q y path u) NoMore)) (declare (twin t n) x (More (Name q y path u) NoMore))
-      by_kind true sees =
+      by_kind true sight =
           let same : declared_acts s x (More (Name q y path u) NoMore) ≡ source_acts s (Name q y path u) (observe s x) =
           ap (λ b. if b then source_acts s (Name q y path u) (act.Borrow x)
-          else (if is_observer s x then source_acts s (Name q y path u) (observe s x) else acts_in s (More (Name q y path u) NoMore))) (observer_only s x sees)
-          ∙ ap (λ b. if b then source_acts s (Name q y path u) (observe s x) else acts_in s (More (Name q y path u) NoMore)) sees in
+          else (if is_observer s x then source_acts s (Name q y path u) (observe s x) else acts_in s (More (Name q y path u) NoMore))) (observer_only s x sight)
+          ∙ ap (λ b. if b then source_acts s (Name q y path u) (observe s x) else acts_in s (More (Name q y path u) NoMore)) sight in
           declared_at x (Name q y path u)
           (taken_same on x (object_at s x).of q y u path (observe s x) view source_there takes compares
           (subst (AllowsAll facts) (ap acts same ∙ acts_append (acts_in s path) (record { pos = q; act = observe s x (name_of y path) } ∷ [])) allowed)
@@ -256,12 +256,12 @@ module _ (t : Turn) (settled : IsSettled (typing t).table) (own_law : OwnsByShap
 
       by_kind : (b : Bool) → is_observer s x ≡ b
           → Same (assign t (Name r x NoMore (object_at s x).of) (Name q y path u)) (assign (twin t n) (Name r x NoMore (object_at s x).of) (Name q y path u))
-      by_kind true sees =
+      by_kind true sight =
           let e : TypedTree = Name q y path u in
           let same : assigned_to s pos (Some x) (Name r x NoMore (object_at s x).of) e ≡ acts_in s path ++ record { pos = q; act = observe s x (name_of y path) } ∷ [] =
           ap (λ b. if b then index_acts s e ++ reborrow (acts_target_pos pos (written (Name r x NoMore (object_at s x).of))) x (source e)
-          else (if is_observer s x then source_acts s e (observe s x) else stored_acts s (Name r x NoMore (object_at s x).of) e)) (observer_only s x sees)
-          ∙ ap (λ b. if b then source_acts s e (observe s x) else stored_acts s (Name r x NoMore (object_at s x).of) e) sees in
+          else (if is_observer s x then source_acts s e (observe s x) else stored_acts s (Name r x NoMore (object_at s x).of) e)) (observer_only s x sight)
+          ∙ ap (λ b. if b then source_acts s e (observe s x) else stored_acts s (Name r x NoMore (object_at s x).of) e) sight in
           assigned_at r x e
           (taken_same on x (object_at s x).of q y u path (observe s x) view source_there takes compares
           (subst (AllowsAll facts) (ap acts same ∙ acts_append (acts_in s path) (record { pos = q; act = observe s x (name_of y path) } ∷ [])) allowed)

@@ -3,7 +3,7 @@
 use Rattle.viewed_soundness.specs.Taken.{types_taken, TakesFit}
 use Rattle.viewed_steps.proofs.Supplied.{Supplies}
 use Rattle.std.proofs.Common.{take, ◌≡◌, refl, sym, ap, ◌∙◌, subst, ◌⊎◌, inl, inr, ℕ, suc, Bool, true, false, not, List, [], ◌∷◌, length, is_some, Option, Some, None, if◌then◌else◌}
-use Rattle.viewed_soundness.proofs.Names.{plain_named}
+use Rattle.viewed_soundness.proofs.ViewKinds.{plain_named}
 use Rattle.viewed_steps.specs.Awaited.{temporaries_of, TakesPassed, AreAwaited, awaited, lasting_of, TakesScalars}
 use Rattle.owned_ways.specs.Ways.{after}
 use Rattle.viewed_soundness.proofs.Evaluated.{gives_plainly}
@@ -32,7 +32,7 @@ use Rattle.machine.specs.Step.{Turn, turn, start}
 use Rattle.machine.specs.Step as steps
 use Rattle.machine.specs.Owners.{waiting_in}
 use Rattle.machine.specs.Run.{step}
-use Rattle.owned_ways.specs.Ways.{Way, Allows, AllowsAll}
+use Rattle.owned_ways.specs.Ways.{Step, Way, Allows, AllowsAll}
 use Rattle.soundness.specs.Seen.{IsNear, home}
 use Rattle.soundness.specs.Typed.{Kept}
 use Rattle.soundness.specs.Sound.{Stage, facts_of, AreStages, IsRunnable, IsNoCall, IsPlain, InScope, IsNamedSub, IsAtPoint, view_of as view_here}
@@ -44,7 +44,7 @@ use Rattle.soundness.proofs.Eased.{eased}
 use Rattle.soundness.proofs.Stays.{Quiet}
 use Rattle.soundness.proofs.Taking.{Takes, takes_as, no_takes, nothing_more}
 use Rattle.owned_loans.specs.Views.{Around, known_gone, Views, ViewedAlone, Viewed}
-use Rattle.viewed_soundness.specs.Holds.{is_fixed, IsNamed, AllKeep, sees_only}
+use Rattle.viewed_soundness.specs.Holds.{is_fixed, IsNamed, AllKeep, Seeing}
 use Rattle.viewed_steps.specs.Sound.{IsBeyond, IsResting, HoldsAt, ArePlaced, NoneAbove, ViewStage, stages_of, GoneElsewhere, AreWaiting, IsRunning, IsSound, HasTraversals}
 use Rattle.viewed_steps.specs.Ready.{IsReady}
 use Rattle.viewed_steps.proofs.Standing as standing
@@ -88,6 +88,8 @@ use Rattle.owned_loans.proofs.Allowed.{give_clears}
 use Rattle.soundness.proofs.Contents.{bool_cases}
 use Rattle.soundness.proofs.Scalars.{acts_append}
 use Rattle.owned_loans.proofs.Alone.{alone_viewed}
+use Rattle.viewed_steps.specs.Seeing.{sees_in}
+use Rattle.viewed_steps.proofs.Sees.{sees_seeing}
 
 -- whether the scope of an object ends
 end_or : (i : Instruction) → ((x : ℕ) × (i ≡ EndScope x)) ⊎ ((x : ℕ) → i ≡ EndScope x → ⊥)
@@ -96,6 +98,12 @@ end_or i = inr (λ x e. cc)
 
 module _ (table : Table) (typed : TypedProgram) (effects : Effects) (input : List ℕ) (ready : IsReady table typed effects)
     (compared : AreCompared (flow_program table typed)) where
+  abbrev sees : ℕ → Bool
+  sees = sees_in (flow_program table typed)
+
+  abbrev seeing : Seeing (flow_typing (flow_program table typed)) sees
+  seeing = sees_seeing (flow_program table typed)
+
   abbrev program : FlowProgram
   program = flow_program table typed
 
@@ -114,11 +122,12 @@ module _ (table : Table) (typed : TypedProgram) (effects : Effects) (input : Lis
   -- ---- the package objects
 
   module _ (state : State) (top : Stage) (named : NamedSub) (p : NamedPoint) (frames : state.frames ≡ top.frame ∷ []) (views : Views)
-      (running : (top.frame.sub ≡ 0) × IsPlain top × ((x : ℕ) → views.way x ≡ None) × (top.depth ≡ 0))
+      (running : (top.frame.sub ≡ 0) × IsPlain top × ((x : ℕ) → views.way x ≡ None) × (top.depth ≡ 0)
+      × ((x : ℕ) (q : List Step) → views.part_way x q ≡ None))
       (of_sub : IsNamedSub (flow_named table typed) top.frame.sub named) (at_point : IsAtPoint named.points top.frame.next p)
       (path : ControlPath (path_points program effects (sub_of program top.frame.sub)) top.before top.frame.next)
-      (viewed_before : ViewedAlone (home s 0) (sees_only s) (known_gone (home s 0) (GoneElsewhere program effects [])) views (view_here s state) (facts_of program effects top))
-      (kept : Kept s state.memory (waiting_in state)) (holds : HoldsAt s 0 views state.memory p)
+      (viewed_before : ViewedAlone (home s 0) sees (known_gone (home s 0) (GoneElsewhere program effects [])) views (view_here s state) (facts_of program effects top))
+      (kept : Kept s state.memory (waiting_in state)) (holds : HoldsAt s sees 0 views state.memory p)
       (only : OnlyOwners s state.memory) (n : Memory) (agrees : Agrees state.memory n) where
     abbrev first_turn : Turn
     first_turn = standing.t table typed effects input ready state top [] [] named p frames of_sub at_point
@@ -140,10 +149,11 @@ module _ (table : Table) (typed : TypedProgram) (effects : Effects) (input : Lis
         subst (λ (z : FlowSub). Has z.points first_turn.point)
         (sym (standing.sub_is table typed effects input ready state top [] [] named p frames of_sub at_point) ∙ ap (sub_of program) running.0) in_first
 
-    viewed_first : Viewed (home s 0) (sees_only s) nowhere views (view_here s state) facts_first
+    viewed_first : Viewed (home s 0) sees nowhere views (view_here s state) facts_first
     viewed_first =
-        alone_viewed (home s 0) (sees_only s) views (view_here s state) facts_first (GoneElsewhere program effects []) (λ x w has. none_some w (sym (running.2 x) ∙ has))
-        (subst (ViewedAlone (home s 0) (sees_only s) (known_gone (home s 0) (GoneElsewhere program effects [])) views (view_here s state))
+        alone_viewed (home s 0) sees views (view_here s state) facts_first (GoneElsewhere program effects []) (λ x w has. none_some w (sym (running.2 x) ∙ has))
+        (λ x q w has. none_some w (sym (running.4 x q) ∙ has))
+        (subst (ViewedAlone (home s 0) sees (known_gone (home s 0) (GoneElsewhere program effects [])) views (view_here s state))
         (standing.facts_are table typed effects input ready state top [] [] named p frames of_sub at_point path) viewed_before)
       where
         none_some : (w : Way) → None ≡ Some w → ⊥
@@ -162,7 +172,7 @@ module _ (table : Table) (typed : TypedProgram) (effects : Effects) (input : Lis
         (record {
           viewed = viewed_first;
           kept = kept;
-          holds = all_held s in_formals 0 views state.memory (λ y k view at. holds.held y k (λ fading. no_end fading.0 fading.1) view at) holds.only holds.owners holds.own;
+          holds = all_held s sees in_formals 0 views state.memory (λ y k view bare at. holds.held y k (λ fading. no_end fading.0 fading.1) view bare at) holds.only holds.owners holds.own holds.taken holds.parts;
         }) only n agrees p.instr refl no_call
         (λ is. (let no : Declare x v ≡ Finish = sym e ∙ is in cc)) (λ w is. absurd (let no : Declare x v ≡ Hold w = sym e ∙ is in cc))
         (standing.fine table typed effects input ready state top [] [] named p frames of_sub at_point)
@@ -189,9 +199,9 @@ module _ (table : Table) (typed : TypedProgram) (effects : Effects) (input : Lis
       (awaiting : AreAwaited table typed None (top ∷ stages_of (below ∷ more_frames)))
       (of_sub : IsNamedSub (flow_named table typed) top.frame.sub named) (at_point : IsAtPoint named.points top.frame.next p)
       (path : ControlPath (path_points program effects (sub_of program top.frame.sub)) top.before top.frame.next) (views : Views)
-      (viewed_before : ViewedAlone (home s (suc (length rest))) (sees_only s) (known_gone (home s (suc (length rest))) (GoneElsewhere program effects (below ∷ more_frames))) views
+      (viewed_before : ViewedAlone (home s (suc (length rest))) sees (known_gone (home s (suc (length rest))) (GoneElsewhere program effects (below ∷ more_frames))) views
       (view_here s state) (facts_of program effects top))
-      (kept : Kept s state.memory (waiting_in state)) (scope : InScope s state.memory (suc (length rest)) (lasting_of s p.scope)) (holds : HoldsAt s (suc (length rest)) views state.memory p)
+      (kept : Kept s state.memory (waiting_in state)) (scope : InScope s state.memory (suc (length rest)) (lasting_of s p.scope)) (holds : HoldsAt s sees (suc (length rest)) views state.memory p)
       (placed_before : ArePlaced program (suc (length rest)) (facts_of program effects top) views p.scope × IsBeyond program effects (suc (length rest)) views (below ∷ more_frames)) (above : NoneAbove s (suc (length rest)) state.memory
       × HasTraversals table typed (view_here s state) (record { stage = top; views = views; cells = [] } ∷ (below ∷ more_frames)))
       (only : OnlyOwners s state.memory) (n : Memory) (agrees : Agrees state.memory n) where
@@ -234,15 +244,15 @@ module _ (table : Table) (typed : TypedProgram) (effects : Effects) (input : Lis
     -- ---- where no scope ends
 
     module _ (going : (x : ℕ) → p.instr ≡ EndScope x → ⊥) where
-      abbrev so : IsReadyIn (steps.here main_turn) ready.accepted.settled state.leaks other alone in_formals index_law ready.owns views ready.class.parts_named
+      abbrev so : IsReadyIn (steps.here main_turn) sees seeing ready.accepted.settled state.leaks other alone in_formals index_law ready.owns views ready.class.parts_named
           state.memory (waiting_in state) facts_now
       so = taken_values.so table typed effects input ready compared state top below more_frames rest named p frames deep stages running awaiting of_sub at_point path views viewed_before kept scope holds placed_before above only n agrees going
 
       abbrev asks : Premises (steps.here main_turn)
-      asks = viewed_premises (steps.here main_turn) ready.class.parts_named
+      asks = viewed_premises (steps.here main_turn) sees ready.class.parts_named
 
       abbrev ready_in : Memory → List Waiting → List Fact → Type 0
-      ready_in m hands known = IsReadyIn (steps.here main_turn) ready.accepted.settled state.leaks other alone in_formals index_law ready.owns views ready.class.parts_named m hands known
+      ready_in m hands known = IsReadyIn (steps.here main_turn) sees seeing ready.accepted.settled state.leaks other alone in_formals index_law ready.owns views ready.class.parts_named m hands known
 
       abbrev laws : Values (steps.here main_turn) asks ready_in
       laws = taken_values.laws table typed effects input ready compared state top below more_frames rest named p frames deep stages running awaiting of_sub at_point path views viewed_before kept scope holds placed_before above only n agrees going
@@ -256,7 +266,7 @@ module _ (table : Table) (typed : TypedProgram) (effects : Effects) (input : Lis
       abbrev allowed_now : IsNoCall p.instr → (p.instr ≡ Finish → ⊥) → AllowsAll facts_now (acts_of_main p.instr)
       allowed_now = taken_values.allowed_now table typed effects input ready compared state top below more_frames rest named p frames deep stages running awaiting of_sub at_point path views viewed_before kept scope holds placed_before above only n agrees going
 
-      abbrev keeps_there : AllKeep (is_fixed s) (acts_of_main p.instr)
+      abbrev keeps_there : AllKeep (is_fixed s sees) (acts_of_main p.instr)
       keeps_there = taken_values.keeps_there table typed effects input ready compared state top below more_frames rest named p frames deep stages running awaiting of_sub at_point path views viewed_before kept scope holds placed_before above only n agrees going
 
       -- ---- a return
@@ -269,7 +279,7 @@ module _ (table : Table) (typed : TypedProgram) (effects : Effects) (input : Lis
       returned_acts = taken_values.returned_acts table typed effects input ready compared state top below more_frames rest named p frames deep stages running awaiting of_sub at_point path views viewed_before kept scope holds placed_before above only n agrees going
 
       value_same : Plain → (e : TypedTree) (of : ℕ) → p.instr ≡ Hold (More e NoMore) → named.sub.result ≡ Some of → is_anonymous (full s.table of) ≡ false → Source s of e → TakesScalars s (Hold (More e NoMore))
-          → ComparesIn s (Hold (More e NoMore)) → AllowsAll facts_now (acts_of_main (Hold (More e NoMore))) → AllKeep (is_fixed s) (acts_of_main (Hold (More e NoMore)))
+          → ComparesIn s (Hold (More e NoMore)) → AllowsAll facts_now (acts_of_main (Hold (More e NoMore))) → AllKeep (is_fixed s sees) (acts_of_main (Hold (More e NoMore)))
           → SameTo s (steps.taken_by main_turn of e (start main_turn)) (steps.taken_by main_turn of e (start (twin main_turn n)))
       unfolding acts_in waits_in Compares
       value_same plain e of is result owner source takes_plainly compares_there allowed keep =
@@ -278,7 +288,7 @@ module _ (table : Table) (typed : TypedProgram) (effects : Effects) (input : Lis
           source_same main_turn ready.accepted.settled ready.owns asks ready_in laws facts_now so only n agrees [] of e owner own_type (given_there of e owner source)
           tt (gives_both s e NoMore takes_plainly).0
           (takes_as (taken (Hold (More e NoMore))) (waits_in e) (start main_turn).waits [] (nothing_more (waits_in e)) (takes_of plain (Hold (More e NoMore)) is))
-          compares_there.0 (subst (AllowsAll facts_now) same allowed) (subst (AllKeep (is_fixed s)) same keep)
+          compares_there.0 (subst (AllowsAll facts_now) same allowed) (subst (AllKeep (is_fixed s sees)) same keep)
         where
           given_there : (of : ℕ) (e : TypedTree) → is_anonymous (full s.table of) ≡ false → Source s of e → Gives s of e
           given_there of e owner (inl view) = absurd (let no : true ≡ false = sym view.0 ∙ owner in cc)
@@ -291,16 +301,16 @@ module _ (table : Table) (typed : TypedProgram) (effects : Effects) (input : Lis
       unfolding waits_in Compares
       view_same plain e of is result view source compares_there allowed =
           elim (ready.traversing.returned top.frame.sub (running.0).entered named of_sub p (innermost.point_there_now table typed effects input ready state top below more_frames rest named p frames deep stages running awaiting of_sub at_point path views viewed_before kept scope holds placed_before above) e NoMore is of result view) [
-            | inl null ↦ subst TakenSame (sym null) (null_taken main_turn ready.accepted.settled ready.owns other alone in_formals views ready.class.parts_named facts_now so only n agrees of view)
+            | inl null ↦ subst TakenSame (sym null) (null_taken main_turn sees seeing ready.accepted.settled ready.owns other alone in_formals views ready.class.parts_named facts_now so only n agrees of view)
             | inr (q, y, steps_there, u, inl name) ↦ subst TakenSame (sym name)
-                (taken_same main_turn ready.accepted.settled ready.owns other alone in_formals views ready.class.parts_named facts_now so only n agrees [] 0 of q y u steps_there (λ m. act.Give m borrows) view (subst (Source s of) name source)
+                (taken_same main_turn sees seeing ready.accepted.settled ready.owns other alone in_formals views ready.class.parts_named facts_now so only n agrees [] 0 of q y u steps_there (λ m. act.Give m borrows) view (subst (Source s of) name source)
                 (takes_as (taken (Hold (More (Name q y steps_there u) NoMore))) (waits_in steps_there) (start main_turn).waits [] (nothing_more (waits_in steps_there))
                 (takes_of plain (Hold (More (Name q y steps_there u) NoMore)) (is ∙ ap (λ z. Hold (More z NoMore)) name)))
                 (subst (λ z. ComparesIn s (Hold (More z NoMore))) name compares_there).0
                 (subst (AllowsAll facts_now) (acts_append (acts_in s steps_there) (record { pos = q; act = act.Give (name_of y steps_there) borrows } ∷ []))
                 (subst (λ z. AllowsAll facts_now (acts (flow.source_acts s z (λ m. act.Give m borrows)))) name (subst (AllowsAll facts_now) acts_are allowed)))
-                (λ w called sees mine. give_clears facts_now borrows w (subst (λ z. Allows facts_now (act.Give z borrows)) (sym called) mine)))
-            | inr (q, y, steps_there, u, inr (r, k, more, call_is, gives)) ↦ subst TakenSame (sym call_is) (call_taken main_turn ready.accepted.settled ready.owns other alone in_formals views ready.class.parts_named facts_now so only n agrees of r k (More (Name q y steps_there u) more) view)
+                (λ w called sight mine. give_clears facts_now borrows w (subst (λ z. Allows facts_now (act.Give z borrows)) (sym called) mine)))
+            | inr (q, y, steps_there, u, inr (r, k, more, call_is, gives)) ↦ subst TakenSame (sym call_is) (call_taken main_turn sees seeing ready.accepted.settled ready.owns other alone in_formals views ready.class.parts_named facts_now so only n agrees of r k (More (Name q y steps_there u) more) view)
           ]
         where
           TakenSame : TypedTree → Type 0
@@ -315,7 +325,7 @@ module _ (table : Table) (typed : TypedProgram) (effects : Effects) (input : Lis
               ∙ ap (λ b. acts (if b then flow.source_acts s e (λ m. act.Give m (flow.gives_variable s (Some of))) else acts_in s (More e NoMore))) view
 
       returns : Plain → (v : TypedTree) (r : Option ℕ) → p.instr ≡ Hold v → named.sub.result ≡ r → Returns s r v → TakesScalars s (Hold v) → ComparesIn s (Hold v)
-          → AllowsAll facts_now (acts_of_main (Hold v)) → AllKeep (is_fixed s) (acts_of_main (Hold v)) → Goal (Hold v)
+          → AllowsAll facts_now (acts_of_main (Hold v)) → AllKeep (is_fixed s sees) (acts_of_main (Hold v)) → Goal (Hold v)
       returns plain v None is result none takes_plainly compares_there allowed keep =
           subst Goal (sym (ap Hold none)) (goes_same main_turn n agrees state.memory n 0 agrees only)
       returns plain v (Some of) is result (e, same, source) takes_plainly compares_there allowed keep =
@@ -325,7 +335,7 @@ module _ (table : Table) (typed : TypedProgram) (effects : Effects) (input : Lis
           (holds_value e of result (elim (bool_cases (is_anonymous (full s.table of))) [
             | inl view ↦ view_same plain e of (is ∙ ap Hold same) result view source compares_here allowed_there
             | inr owner ↦ value_same plain e of (is ∙ ap Hold same) result owner source (subst (λ z. TakesScalars s (Hold z)) same takes_plainly) compares_here allowed_there
-                (subst (λ z. AllKeep (is_fixed s) (acts_of_main (Hold z))) same keep)
+                (subst (λ z. AllKeep (is_fixed s sees) (acts_of_main (Hold z))) same keep)
           ]))
 
       goes_plainly : Plain × TakesScalars s p.instr → IsNoCall p.instr → (p.instr ≡ Finish → ⊥) → Goal p.instr
@@ -334,7 +344,7 @@ module _ (table : Table) (typed : TypedProgram) (effects : Effects) (input : Lis
           (innermost.orderly table typed effects input ready state top below more_frames rest named p frames deep stages running awaiting of_sub at_point path views viewed_before kept scope holds placed_before above) []
           so only n agrees p.instr refl no_call end
           (λ v is. returns plain v named.sub.result is refl (subst (IsFine s named.sub.result) is text) (subst (TakesScalars s) is takes_plainly) (subst (ComparesIn s) is compares)
-          (subst (λ i. AllowsAll facts_now (acts_of_main i)) is (allowed_now no_call end)) (subst (λ i. AllKeep (is_fixed s) (acts_of_main i)) is keeps_there))
+          (subst (λ i. AllowsAll facts_now (acts_of_main i)) is (allowed_now no_call end)) (subst (λ i. AllKeep (is_fixed s sees) (acts_of_main i)) is keeps_there))
           text takes_plainly (takes_of plain p.instr refl) compares (allowed_now no_call end) keeps_there
 
       -- ---- a call
@@ -354,7 +364,7 @@ module _ (table : Table) (typed : TypedProgram) (effects : Effects) (input : Lis
         supplied_call = innermost.supplied_call table typed effects input ready state top below more_frames rest named p frames deep stages running awaiting of_sub at_point path views viewed_before kept scope holds placed_before above k actuals result e
 
         -- without these
-        so_easy : IsReadyIn (steps.here main_turn) ready.accepted.settled state.leaks other alone in_formals index_law ready.owns views ready.class.parts_named
+        so_easy : IsReadyIn (steps.here main_turn) sees seeing ready.accepted.settled state.leaks other alone in_formals index_law ready.owns views ready.class.parts_named
             state.memory (waiting_in (eased main_turn).state) facts_now
         so_easy = record {
           viewed = (innermost.ownless_easy table typed effects input ready state top below more_frames rest named p frames deep stages running awaiting of_sub at_point path views viewed_before kept scope holds placed_before above plain_call.0).0;
@@ -383,7 +393,7 @@ module _ (table : Table) (typed : TypedProgram) (effects : Effects) (input : Lis
         plain_same : traverses s.table (sub_of program k).result ≡ false → SameBy (passings s (sub_at s k)) formals actuals
         plain_same none =
             subst (λ z. SameBy z formals actuals) (sym (passes_to program k none))
-            (all_same (steps.here main_turn) ready.accepted.settled state.leaks other alone in_formals index_law ready.owns views ready.class.parts_named state.memory (waiting_in easy)
+            (all_same (steps.here main_turn) sees seeing ready.accepted.settled state.leaks other alone in_formals index_law ready.owns views ready.class.parts_named state.memory (waiting_in easy)
             facts_now so_easy only (calling.formals_low table typed effects input ready state top below more_frames rest named p frames deep stages running awaiting of_sub at_point path views viewed_before kept scope holds placed_before above k actuals result e) (not (is_some (sub_of program k).result)) (start main_turn).waits [] facts_now [] formals actuals
             (elim no_overlap [ inl none ↦ inl (spares_first s facts_now formals actuals none) | inr plain ↦ inr plain ])
             (calling.kinds table typed effects input ready state top below more_frames rest named p frames deep stages running awaiting of_sub at_point path views viewed_before kept scope holds placed_before above k actuals result e) (acting.unseen_plain table typed effects input ready state top below more_frames rest named p frames deep stages running awaiting of_sub at_point path views viewed_before kept scope holds placed_before above k actuals result e none)
@@ -404,7 +414,7 @@ module _ (table : Table) (typed : TypedProgram) (effects : Effects) (input : Lis
           traversing = calling.traversing table typed effects input ready state top below more_frames rest named p frames deep stages running awaiting of_sub at_point path views viewed_before kept scope holds placed_before above k actuals result e f traversed
 
           abbrev first_tree : TypedTree
-          first_tree = first_actual s ready.owns made.call
+          first_tree = first_actual s sees ready.owns made.call
 
           copies_these : AllowsAll (after (acts (flow.actual_act (passing s false f) first_tree)) facts_now) (acts (flow.actual_acts (map (passing s false) traversing.rest) (made.call).others))
           copies_these =
@@ -416,7 +426,7 @@ module _ (table : Table) (typed : TypedProgram) (effects : Effects) (input : Lis
           traversal_same : SameBy (passings s (sub_at s k)) formals actuals
           traversal_same =
               subst (λ z. z) (λ j. SameBy (sym traversing.ways j) (sym traversing.formals j) (sym made.actuals_are j))
-              (traversed_same (steps.here main_turn) ready.accepted.settled state.leaks other alone in_formals index_law ready.owns views ready.class.parts_named state.memory (waiting_in easy)
+              (traversed_same (steps.here main_turn) sees seeing ready.accepted.settled state.leaks other alone in_formals index_law ready.owns views ready.class.parts_named state.memory (waiting_in easy)
               facts_now so_easy only (calling.formals_low table typed effects input ready state top below more_frames rest named p frames deep stages running awaiting of_sub at_point path views viewed_before kept scope holds placed_before above k actuals result e) false (start main_turn).waits []
               (after (acts (flow.actual_act (passing s false f) first_tree)) facts_now) f made.call traversing.rest
               (followed.access table typed effects input ready state top older outer named p frames of_sub at_point path k actuals result e f traversed)
@@ -441,8 +451,8 @@ module _ (table : Table) (typed : TypedProgram) (effects : Effects) (input : Lis
 
         whole_there : (passed : List Passed) → Given passed → AreWhollyPassed s (suc (suc (length rest))) formals passed state.memory
         whole_there passed given =
-            passed_wholly s ready.accepted.settled ready.owns in_formals (waiting_in easy) (suc (length rest)) views
-            (calling.far_views table typed effects input ready state top below more_frames rest named p frames deep stages running awaiting of_sub at_point path views viewed_before kept scope holds placed_before above k actuals result e passed given) holds.only
+            passed_wholly s sees ready.accepted.settled ready.owns in_formals (waiting_in easy) (suc (length rest)) views
+            (calling.far_views table typed effects input ready state top below more_frames rest named p frames deep stages running awaiting of_sub at_point path views viewed_before kept scope holds placed_before above k actuals result e passed given) (holds.only, holds.parts.only)
             (calling.facts_all table typed effects input ready state top below more_frames rest named p frames deep stages running awaiting of_sub at_point path views viewed_before kept scope holds placed_before above k actuals result e)
             (calling.next_there table typed effects input ready state top below more_frames rest named p frames deep stages running awaiting of_sub at_point path views viewed_before kept scope holds placed_before above k actuals result e)
             (calling.cells table typed effects input ready state top below more_frames rest named p frames deep stages running awaiting of_sub at_point path views viewed_before kept scope holds placed_before above k actuals result e passed given)
@@ -478,7 +488,7 @@ module _ (table : Table) (typed : TypedProgram) (effects : Effects) (input : Lis
       where
         by_rest : (r : List Frame) (m : List ViewStage) → rest ≡ r → AreStages (stages_of (below ∷ m)) (below.stage.frame ∷ r)
             → AreWaiting table typed effects state top.frame.sub top.frame.returns (below ∷ m)
-            → ViewedAlone (home s (suc (length rest))) (sees_only s) (known_gone (home s (suc (length rest))) (GoneElsewhere program effects (below ∷ m))) views (view_here s state)
+            → ViewedAlone (home s (suc (length rest))) sees (known_gone (home s (suc (length rest))) (GoneElsewhere program effects (below ∷ m))) views (view_here s state)
             (standing.facts table typed effects input ready state top older outer named p frames of_sub at_point path)
             → AreAwaited table typed (awaited (sub_of program top.frame.sub) top.before) (stages_of (below ∷ m))
             → AreWhollyBack main_turn top.frame.returns state.memory
@@ -488,7 +498,7 @@ module _ (table : Table) (typed : TypedProgram) (effects : Effects) (input : Lis
         by_rest (f ∷ r) (h ∷ m) same there waiting well still =
             let stages_there : AreStages (stages_of (below ∷ (h ∷ m))) (below.stage.frame ∷ rest) =
             subst (λ z. AreStages (stages_of (below ∷ (h ∷ m))) (below.stage.frame ∷ z)) (sym same) there in
-            back_wholly main_turn ready.accepted.settled ready.owns in_formals (waiting_in state) state.leaks below.stage.depth
+            back_wholly main_turn sees ready.accepted.settled ready.owns in_formals (waiting_in state) state.leaks below.stage.depth
             (ends.deep_low table typed effects input ready state top below more_frames rest named p frames deep stages running awaiting of_sub at_point path views viewed_before kept scope holds placed_before above h m stages_there waiting well still is)
             below.views (ends.far_low table typed effects input ready state top below more_frames rest named p frames deep stages running awaiting of_sub at_point path views viewed_before kept scope holds placed_before above h m stages_there waiting well still is) waiting.0.holds.only (facts_of program effects below.stage) (lasting_of s waiting.0.point.scope)
             (ends.gone_around table typed effects input ready state top below more_frames rest named p frames deep stages running awaiting of_sub at_point path views viewed_before kept scope holds placed_before above h m stages_there waiting well still is)
@@ -522,20 +532,20 @@ module _ (table : Table) (typed : TypedProgram) (effects : Effects) (input : Lis
   by_stages : (state : State) (top : Stage) (views : Views) (older : List ViewStage) (fs : List Frame) → state.frames ≡ fs → AreStages (top ∷ stages_of older) fs
       → IsRunning table typed effects state (record { stage = top; views = views; cells = [] }) older → AreAwaited table typed None (top ∷ stages_of older)
       → ControlPath (path_points program effects (sub_of program top.frame.sub)) top.before top.frame.next
-      → ViewedAlone (home s top.depth) (sees_only s) (known_gone (home s top.depth) (GoneElsewhere program effects older)) views (view_here s state) (facts_of program effects top)
+      → ViewedAlone (home s top.depth) sees (known_gone (home s top.depth) (GoneElsewhere program effects older)) views (view_here s state) (facts_of program effects top)
       → Kept s state.memory (waiting_in state)
       → (named : NamedSub) → IsNamedSub (flow_named table typed) top.frame.sub named → (p : NamedPoint) → IsAtPoint named.points top.frame.next p
-      → InScope s state.memory top.depth (lasting_of s p.scope) → HoldsAt s top.depth views state.memory p
+      → InScope s state.memory top.depth (lasting_of s p.scope) → HoldsAt s sees top.depth views state.memory p
       → ArePlaced program top.depth (facts_of program effects top) views p.scope × IsBeyond program effects top.depth views older
       → NoneAbove s top.depth state.memory × HasTraversals table typed (view_here s state) (record { stage = top; views = views; cells = [] } ∷ older) → OnlyOwners s state.memory → (n : Memory) → Agrees state.memory n → SameAt state n
   by_stages state top views [] (f ∷ []) is (frame, deep, none) running awaiting path seen_well kept named of_sub p at_point scope holds there above only n agrees =
-      package_same state top named p (is ∙ ap (λ z. z ∷ []) (sym frame)) views (running.0, running.1, running.2, running.3) of_sub at_point path
-      (subst (λ d. ViewedAlone (home s d) (sees_only s) (known_gone (home s d) (GoneElsewhere program effects [])) views (view_here s state) (facts_of program effects top)) deep seen_well) kept
-      (subst (λ d. HoldsAt s d views state.memory p) deep holds) only n agrees
+      package_same state top named p (is ∙ ap (λ z. z ∷ []) (sym frame)) views (running.0, running.1, running.2, running.3, running.5) of_sub at_point path
+      (subst (λ d. ViewedAlone (home s d) sees (known_gone (home s d) (GoneElsewhere program effects [])) views (view_here s state) (facts_of program effects top)) deep seen_well) kept
+      (subst (λ d. HoldsAt s sees d views state.memory p) deep holds) only n agrees
   by_stages state top views (below ∷ more) (f ∷ (g ∷ rest)) is (frame, deep, (around_frame, deeper, others)) running awaiting path seen_well kept named of_sub p at_point scope holds there above only n agrees =
       main_same state top below more rest named p (is ∙ (λ j. sym frame j ∷ (sym around_frame j ∷ rest))) deep (refl, deeper, others) running awaiting of_sub at_point path views
-      (subst (λ d. ViewedAlone (home s d) (sees_only s) (known_gone (home s d) (GoneElsewhere program effects (below ∷ more))) views (view_here s state) (facts_of program effects top)) deep seen_well) kept
-      (subst (λ d. InScope s state.memory d (lasting_of s p.scope)) deep scope) (subst (λ d. HoldsAt s d views state.memory p) deep holds)
+      (subst (λ d. ViewedAlone (home s d) sees (known_gone (home s d) (GoneElsewhere program effects (below ∷ more))) views (view_here s state) (facts_of program effects top)) deep seen_well) kept
+      (subst (λ d. InScope s state.memory d (lasting_of s p.scope)) deep scope) (subst (λ d. HoldsAt s sees d views state.memory p) deep holds)
       (subst (λ d. ArePlaced program d (facts_of program effects top) views p.scope × IsBeyond program effects d views (below ∷ more)) deep there)
       (subst (λ d. NoneAbove s d state.memory) deep above.0, above.1) only n agrees
   by_stages state top views [] [] is stages running awaiting path seen_well kept named of_sub p at_point scope holds there above only n agrees = absurd stages

@@ -1,6 +1,6 @@
 -- What functions gave is taken, alone or within a value that is made of it: the step is the same in memories that agree.
 use Rattle.std.proofs.Common.{◌≡◌, refl, sym, ap, ◌∙◌, subst, inl, inr, ℕ, suc, Bool, true, false, List, [], ◌∷◌, ◌++◌, length, append-nil, Option, Some, None, if◌then◌else◌, drop, get_or}
-use Rattle.viewed_soundness.proofs.Names.{plain_named}
+use Rattle.viewed_soundness.proofs.ViewKinds.{plain_named}
 use Rattle.viewed_steps.specs.Awaited.{AreAwaited, lasting_of, TakesAlone}
 use Rattle.viewed_steps.proofs.Alone as alone_value
 use Rattle.viewed_steps.proofs.Within as steps_within
@@ -53,7 +53,7 @@ use Rattle.soundness.proofs.Eased.{eased}
 use Rattle.soundness.proofs.Stays.{Quiet}
 use Rattle.soundness.proofs.Taking.{Takes, no_takes}
 use Rattle.owned_loans.specs.Views.{Around, known_gone, Views, ViewedAlone}
-use Rattle.viewed_soundness.specs.Holds.{is_fixed, IsNamed, AllKeep, sees_only}
+use Rattle.viewed_soundness.specs.Holds.{is_fixed, IsNamed, AllKeep, Seeing}
 use Rattle.viewed_soundness.proofs.Outcomes.{named_plain}
 use Rattle.viewed_steps.specs.Sound.{IsBeyond, IsResting, HoldsAt, ArePlaced, NoneAbove, ViewStage, stages_of, GoneElsewhere, AreWaiting, HasTraversals}
 use Rattle.viewed_steps.specs.Ready.{IsReady}
@@ -73,9 +73,17 @@ use Rattle.viewed_steps.proofs.Views.{AreAccess, all_held}
 use Rattle.viewed_steps.proofs.Sources.{leads_or}
 use Rattle.viewed_nulls.proofs.Sources.{call_declared_same, call_assigned_same, call_taken}
 use Rattle.soundness.proofs.Contents.{bool_cases}
+use Rattle.viewed_steps.specs.Seeing.{sees_in}
+use Rattle.viewed_steps.proofs.Sees.{sees_seeing}
 
 module _ (table : Table) (typed : TypedProgram) (effects : Effects) (input : List ℕ) (ready : IsReady table typed effects)
     (compared : AreCompared (flow_program table typed)) where
+  abbrev sees : ℕ → Bool
+  sees = sees_in (flow_program table typed)
+
+  abbrev seeing : Seeing (flow_typing (flow_program table typed)) sees
+  seeing = sees_seeing (flow_program table typed)
+
   abbrev program : FlowProgram
   program = flow_program table typed
 
@@ -95,9 +103,9 @@ module _ (table : Table) (typed : TypedProgram) (effects : Effects) (input : Lis
       (awaiting : AreAwaited table typed None (top ∷ stages_of (below ∷ more_frames)))
       (of_sub : IsNamedSub (flow_named table typed) top.frame.sub named) (at_point : IsAtPoint named.points top.frame.next p)
       (path : ControlPath (path_points program effects (sub_of program top.frame.sub)) top.before top.frame.next) (views : Views)
-      (viewed_before : ViewedAlone (home s (suc (length rest))) (sees_only s) (known_gone (home s (suc (length rest))) (GoneElsewhere program effects (below ∷ more_frames))) views
+      (viewed_before : ViewedAlone (home s (suc (length rest))) sees (known_gone (home s (suc (length rest))) (GoneElsewhere program effects (below ∷ more_frames))) views
       (view_here s state) (facts_of program effects top))
-      (kept : Kept s state.memory (waiting_in state)) (scope : InScope s state.memory (suc (length rest)) (lasting_of s p.scope)) (holds : HoldsAt s (suc (length rest)) views state.memory p)
+      (kept : Kept s state.memory (waiting_in state)) (scope : InScope s state.memory (suc (length rest)) (lasting_of s p.scope)) (holds : HoldsAt s sees (suc (length rest)) views state.memory p)
       (placed_before : ArePlaced program (suc (length rest)) (facts_of program effects top) views p.scope × IsBeyond program effects (suc (length rest)) views (below ∷ more_frames)) (above : NoneAbove s (suc (length rest)) state.memory
       × HasTraversals table typed (view_here s state) (record { stage = top; views = views; cells = [] } ∷ (below ∷ more_frames)))
       (only : OnlyOwners s state.memory) (n : Memory) (agrees : Agrees state.memory n) where
@@ -140,22 +148,22 @@ module _ (table : Table) (typed : TypedProgram) (effects : Effects) (input : Lis
     -- ---- where no scope ends
 
     module _ (going : (x : ℕ) → p.instr ≡ EndScope x → ⊥) where
-      pub so : IsReadyIn (steps.here main_turn) ready.accepted.settled state.leaks other alone in_formals index_law ready.owns views ready.class.parts_named
+      pub so : IsReadyIn (steps.here main_turn) sees seeing ready.accepted.settled state.leaks other alone in_formals index_law ready.owns views ready.class.parts_named
           state.memory (waiting_in state) facts_now
       so = record {
         viewed = innermost.viewed table typed effects input ready state top below more_frames rest named p frames deep stages running awaiting of_sub at_point path views viewed_before kept scope holds placed_before above;
         kept = kept;
-        holds = all_held s in_formals (suc (length rest)) views state.memory (λ x k view at. holds.held x k (λ fading. going fading.0 fading.1) view at) holds.only holds.owners holds.own;
+        holds = all_held s sees in_formals (suc (length rest)) views state.memory (λ x k view bare at. holds.held x k (λ fading. going fading.0 fading.1) view bare at) holds.only holds.owners holds.own holds.taken holds.parts;
       }
 
       abbrev pub asks : Premises (steps.here main_turn)
-      asks = viewed_premises (steps.here main_turn) ready.class.parts_named
+      asks = viewed_premises (steps.here main_turn) sees ready.class.parts_named
 
       abbrev pub ready_in : Memory → List Waiting → List Fact → Type 0
-      ready_in m hands known = IsReadyIn (steps.here main_turn) ready.accepted.settled state.leaks other alone in_formals index_law ready.owns views ready.class.parts_named m hands known
+      ready_in m hands known = IsReadyIn (steps.here main_turn) sees seeing ready.accepted.settled state.leaks other alone in_formals index_law ready.owns views ready.class.parts_named m hands known
 
       pub laws : Values (steps.here main_turn) asks ready_in
-      laws = viewed_values (steps.here main_turn) ready.accepted.settled state.leaks other alone in_formals index_law ready.owns views ready.class.parts_named
+      laws = viewed_values (steps.here main_turn) sees seeing ready.accepted.settled state.leaks other alone in_formals index_law ready.owns views ready.class.parts_named
 
       abbrev pub Plain : Type 0
       Plain = innermost.Plain table typed effects input ready state top below more_frames rest named p frames deep stages running awaiting of_sub at_point path views viewed_before kept scope holds placed_before above
@@ -169,7 +177,7 @@ module _ (table : Table) (typed : TypedProgram) (effects : Effects) (input : Lis
           (each.spares table typed effects input ready state top below more_frames rest named p frames deep stages running awaiting of_sub at_point path views viewed_before kept scope holds placed_before above going no_call end)
           (standing.allowed table typed effects input ready state top older outer named p frames of_sub at_point path no_call)
 
-      pub keeps_there : AllKeep (is_fixed s) (acts_of_main p.instr)
+      pub keeps_there : AllKeep (is_fixed s sees) (acts_of_main p.instr)
       keeps_there = standing.keeps_there table typed effects input ready state top older outer named p frames of_sub at_point
 
       -- ---- a return
@@ -236,7 +244,7 @@ module _ (table : Table) (typed : TypedProgram) (effects : Effects) (input : Lis
           where
             by_view : (b : Bool) → is_anonymous (view_of s y) ≡ b → Goal (Declare y (More (CallIn by_itself.3 by_itself.4 by_itself.5) NoMore))
             by_view true view =
-                call_declared_same main_turn ready.accepted.settled ready.owns other alone in_formals views ready.class.parts_named facts_now so only n agrees
+                call_declared_same main_turn sees seeing ready.accepted.settled ready.owns other alone in_formals views ready.class.parts_named facts_now so only n agrees
                 y by_itself.3 by_itself.4 by_itself.5 view
             by_view false owner =
                 declared_by main_turn ready.accepted.settled ready.owns asks ready_in laws facts_now so only n agrees y (More call NoMore)
@@ -276,7 +284,7 @@ module _ (table : Table) (typed : TypedProgram) (effects : Effects) (input : Lis
             → Goal (Assign (Name r y path_there u) (CallIn by_itself.3 by_itself.4 by_itself.5))
         assigns_view r y path_there u nothing type view =
             subst (λ z. Goal (Assign z (CallIn by_itself.3 by_itself.4 by_itself.5))) (λ j. Name r y (sym nothing j) (type j))
-            (call_assigned_same main_turn ready.accepted.settled ready.owns other alone in_formals views ready.class.parts_named facts_now so only n agrees
+            (call_assigned_same main_turn sees seeing ready.accepted.settled ready.owns other alone in_formals views ready.class.parts_named facts_now so only n agrees
             r y by_itself.3 by_itself.4 by_itself.5 (ap (λ z. is_anonymous (full s.table z)) type ∙ view))
 
         assigns_it : (r : Pos) (y : ℕ) (path_there : TypedTree) (u : ℕ) → p.instr ≡ Assign (Name r y path_there u) (CallIn by_itself.3 by_itself.4 by_itself.5) → has_call path_there ≡ false
@@ -302,7 +310,7 @@ module _ (table : Table) (typed : TypedProgram) (effects : Effects) (input : Lis
                 → Returns s r (More (CallIn by_itself.3 by_itself.4 by_itself.5) NoMore) → Goal (Hold (More (CallIn by_itself.3 by_itself.4 by_itself.5) NoMore))
             by_result None is result none = absurd (let no : ◌≡◌ {A = TypedTree} (More call NoMore) NoMore = none in cc)
             by_result (Some of) is result fine = holds_value call of result (elim (bool_cases (is_anonymous (full s.table of))) [
-              | inl view ↦ call_taken main_turn ready.accepted.settled ready.owns other alone in_formals views ready.class.parts_named facts_now so only n agrees of by_itself.3 by_itself.4 by_itself.5 view
+              | inl view ↦ call_taken main_turn sees seeing ready.accepted.settled ready.owns other alone in_formals views ready.class.parts_named facts_now so only n agrees of by_itself.3 by_itself.4 by_itself.5 view
               | inr owner ↦ call_same_value of (plain_named s.table of owner)
             ])
 
@@ -320,7 +328,7 @@ module _ (table : Table) (typed : TypedProgram) (effects : Effects) (input : Lis
 
         -- scalar values may wait above those that it takes
         held_same : (u : ℕ) → IsNamed s.table u → Source s u held → (later first : List Waiting) → front ≡ later ++ first → AreOfTypes s (types_taken s held) first
-            → Compares s held → AllowsAll facts_now (acts (acts_in s held)) → AllKeep (is_fixed s) (acts (acts_in s held))
+            → Compares s held → AllowsAll facts_now (acts (acts_in s held)) → AllKeep (is_fixed s sees) (acts (acts_in s held))
             → SameTo s (steps.taken_by main_turn u held (start main_turn)) (steps.taken_by main_turn u held (start (twin main_turn n)))
         held_same u own_type (inl view) later first split fit compares_there allowed keep = absurd (let no : true ≡ false = sym view.0 ∙ named_plain s.table u own_type in cc)
         held_same u own_type (inr gives) later first split fit compares_there allowed keep =
@@ -332,7 +340,7 @@ module _ (table : Table) (typed : TypedProgram) (effects : Effects) (input : Lis
             (sym (named_plain s.table u own_type))
             (checked_same h ready.accepted.settled ready.owns asks ready_in laws u x y
             (subst (λ ws. SameTo s (evaluate h AsValue held (record { memory = state.memory; waits = ws })) y) (sym words_are)
-            (fed_same h ready.accepted.settled state.leaks other alone in_formals index_law ready.owns views ready.class.parts_named
+            (fed_same h sees seeing ready.accepted.settled state.leaks other alone in_formals index_law ready.owns views ready.class.parts_named
             held u gives together.2 compares_there first fit later left_hands (first_words later []) state.memory facts_now
             (subst (λ z. ready_in state.memory z facts_now) (ap (λ z. z ++ left_hands) split ∙ append_assoc later first left_hands)
             (steps_within.ready_value table typed effects input ready state top below more_frames rest named p frames deep stages running awaiting of_sub at_point path views viewed_before kept scope holds placed_before above going together)) allowed own_type keep only
@@ -369,7 +377,7 @@ module _ (table : Table) (typed : TypedProgram) (effects : Effects) (input : Lis
             (followed_by (steps.taken_by main_turn u held (start main_turn)) placed) (followed_by (steps.taken_by main_turn u held (start (twin main_turn n))) placed)
             (then_same s (GivenBy (steps.here main_turn) ready_in mid u left_hands facts_then)
             (steps.taken_by main_turn u held (start main_turn)) (steps.taken_by main_turn u held (start (twin main_turn n))) placed placed
-            (given_by (steps.here main_turn) ready.accepted.settled state.leaks other alone in_formals index_law ready.owns views ready.class.parts_named mid u left_hands facts_then
+            (given_by (steps.here main_turn) sees seeing ready.accepted.settled state.leaks other alone in_formals index_law ready.owns views ready.class.parts_named mid u left_hands facts_then
             (steps.taken_by main_turn u held (start main_turn))
             (steps_within.source_within table typed effects input ready state top below more_frames rest named p frames deep stages running awaiting of_sub at_point path views viewed_before kept scope holds placed_before above going together u own_type source fronts.0 fronts.1 fronts.2
             (scalar_values s (types_taken s path_there) fronts.0 fronts.3 scalar) fronts.4 allows.0 keep.0))
@@ -381,7 +389,7 @@ module _ (table : Table) (typed : TypedProgram) (effects : Effects) (input : Lis
         same_first a b e = cc
 
         returns_within : p.instr ≡ Hold (More held NoMore) → ((t : ℕ) → named.sub.result ≡ Some t → is_anonymous (full s.table t) ≡ false) → (r : Option ℕ) → named.sub.result ≡ r → Returns s r (More held NoMore)
-            → AllowsAll facts_now (acts_of_main (Hold (More held NoMore))) → AllKeep (is_fixed s) (acts_of_main (Hold (More held NoMore))) → Goal (Hold (More held NoMore))
+            → AllowsAll facts_now (acts_of_main (Hold (More held NoMore))) → AllKeep (is_fixed s sees) (acts_of_main (Hold (More held NoMore))) → Goal (Hold (More held NoMore))
         unfolding Compares types_taken
         returns_within is plain None result none allowed keep = absurd (let no : ◌≡◌ {A = TypedTree} (More held NoMore) NoMore = none in cc)
         returns_within is plain (Some of) result (e, same, source) allowed keep =
@@ -390,7 +398,7 @@ module _ (table : Table) (typed : TypedProgram) (effects : Effects) (input : Lis
             let fit : AreOfTypes s (types_taken s held) front = steps_within.values_fit table typed effects input ready state top below more_frames rest named p frames deep stages running awaiting of_sub at_point path views viewed_before kept scope holds placed_before above going together (Hold (More held NoMore)) is in
             holds_value held of result
             (held_same of own_type (subst (Source s of) (sym (same_first held e same)) source) [] front refl fit (subst (ComparesIn s) is compares).0
-            (subst (AllowsAll facts_now) acts_same allowed) (subst (AllKeep (is_fixed s)) acts_same keep))
+            (subst (AllowsAll facts_now) acts_same allowed) (subst (AllKeep (is_fixed s sees)) acts_same keep))
 
         pub goes_together : Goal p.instr
         goes_together = elim together.1 [
@@ -398,6 +406,6 @@ module _ (table : Table) (typed : TypedProgram) (effects : Effects) (input : Lis
           | inr more ↦ elim more [
             | inl (r, y, path_there, u, is, place, scalar) ↦ subst Goal (sym is) (assigns_within r y path_there u is scalar place)
             | inr (is, plain) ↦ subst Goal (sym is) (returns_within is plain named.sub.result refl (subst (IsFine s named.sub.result) is text)
-                (subst (λ i. AllowsAll facts_now (acts_of_main i)) is (allowed_now no_call end)) (subst (λ i. AllKeep (is_fixed s) (acts_of_main i)) is keeps_there))
+                (subst (λ i. AllowsAll facts_now (acts_of_main i)) is (allowed_now no_call end)) (subst (λ i. AllKeep (is_fixed s sees) (acts_of_main i)) is keeps_there))
           ]
         ]

@@ -1,21 +1,21 @@
 -- Names and expressions in programs with borrowers and observers behave as instructions ask.
-use Rattle.std.proofs.Common.{◌≡◌, refl, sym, ap, ◌∙◌, subst, inl, ℕ, Bool, true, false, List, [], ◌∷◌, length, arith}
+use Rattle.std.proofs.Common.{◌≡◌, refl, sym, ap, ◌∙◌, subst, inl, ℕ, Bool, true, false, List, [], ◌∷◌}
 use Rattle.place_names.specs.declared.act.Act.TheVariants as act
 use Rattle.place_names.specs.declared.fact.Fact.{Fact}
 use Rattle.place_names.specs.declared.rule.Loan.TheVariants.{Borrowed}
 use Rattle.place_names.specs.Names.{Name as PlaceName}
 use Rattle.type_definitions.specs.declared.table.Shape.TheVariants as shape
-use Rattle.type_definitions.specs.Types.{Table, shape_of, view_of as view_of_shape, parts, components_of}
+use Rattle.type_definitions.specs.Types.{Table, shape_of, view_of as view_of_shape, parts}
 use Rattle.typed_tree.specs.Trees.{TypedTree, Parens, Aggregate, Alike, New, More}
 use Rattle.flow_paths.specs.Objects.{Typing, object_at, is_anonymous}
 use Rattle.flow_paths.specs.Names.{name_of}
 use Rattle.flow_paths.specs.Acts.{acts_in}
 use Rattle.machine.specs.Words as machine
 use Rattle.machine.specs.Memory.{Memory}
-use Rattle.machine.specs.Evaluate.{Here, Now, AsValue, Evaluated, Done, Raises, Traps, evaluate, variable_place, walked}
+use Rattle.machine.specs.Evaluate.{Here, Now, AsValue, Evaluated, Done, Raises, Traps, evaluate, variable_place, component_place, element_place, walked}
 use Rattle.machine.specs.Evaluate as run
 use Rattle.machine.specs.States.{Waiting, Leak}
-use Rattle.owned_ways.specs.Ways.{OfVariable, Loc, OfRoot, Way, Object, All, Reaches, Past, Allows, after}
+use Rattle.owned_ways.specs.Ways.{Component, Element, OfVariable, Loc, OfRoot, Way, Object, All, Reaches, Past, Allows, after}
 use Rattle.owned_ways.specs.Ways as ways
 use Rattle.owned_ways.proofs.Locations.{under_itself}
 use Rattle.part_offsets.specs.Parts.{IsSettled}
@@ -30,18 +30,18 @@ use Rattle.owned_loans.specs.Views.{Around, Views, expand, ExcusedBy}
 use Rattle.owned_loans.proofs.Safe.{Open, OpenWhole}
 use Rattle.owned_loans.proofs.Allowed.{read_open, look_open, look_whole, move_open, move_unlent, move_unmoved, write_open, free_open, free_whole}
 use Rattle.viewed_soundness.specs.Taken.{GivesPlainly}
-use Rattle.viewed_soundness.specs.Holds.{is_fixed, IsNamed, PartsAreNamed, AllKeep, IsOwners}
-use Rattle.viewed_soundness.proofs.Names.{Starts, name_walked, free_sees, free_formal}
+use Rattle.viewed_soundness.specs.Holds.{is_fixed, IsNamed, PartsAreNamed, AllKeep, IsOwners, Seeing}
+use Rattle.viewed_soundness.proofs.Names.{Starts, name_walked}
+use Rattle.viewed_soundness.proofs.ViewKinds.{free_sees, free_formal}
 use Rattle.viewed_soundness.proofs.Stays.{Goes, taking, steps_taking, no_selectors}
 use Rattle.viewed_soundness.proofs.Evaluated.{keep_both, matches_named, part_named, Ready, GivenOn, live_trunk, evaluated_on}
 use Rattle.null_places.proofs.Only.{OnlyOwners}
 use Rattle.viewed_nulls.proofs.Led.{owners_same}
-use Rattle.viewed_soundness.proofs.Walks.{walk}
+use Rattle.viewed_soundness.proofs.Walks.{walk, component_spot, element_spot}
 use Rattle.null_places.proofs.Direct.{has_deref, past_deref, selectors_direct}
 use Rattle.null_places.proofs.Laws.{Premises, LeadsSame, LeadsWhole, Behaves, GivenBy, Values, IsMovableAt, Finds}
-use Rattle.viewed_nulls.proofs.Names.{name_same, found_at, view_whole, access_found, owner_found}
+use Rattle.viewed_nulls.proofs.Names.{name_same, own_at, found_at, view_whole, access_found, owner_found}
 use Rattle.viewed_steps.proofs.Views.{AreAccess}
-use Rattle.machine.specs.Words.{count_of}
 
 -- the type of a view
 pub anonymous_access : (c : Bool) → is_anonymous (view_of_shape (shape.Access 0 c false)) ≡ true
@@ -71,8 +71,8 @@ gives_both s e rest plain = plain
 
 -- What may own takes results of scalar types alone, but for a call alone. Nothing is moved, written or
 -- freed through an observer, and no value is taken for a view.
-abbrev pub viewed_premises : (h : Here) → PartsAreNamed h.typing.table → Premises h
-viewed_premises h parts_named = record {
+abbrev pub viewed_premises : (h : Here) (sees : ℕ → Bool) → PartsAreNamed h.typing.table → Premises h
+viewed_premises h sees parts_named = record {
   calls = λ b. Unit {0};
   both_calls = λ a b any. (tt, tt);
   gives = GivesPlainly h.typing;
@@ -81,8 +81,8 @@ viewed_premises h parts_named = record {
   alike = gives_alike h.typing;
   made = gives_made h.typing;
   both_give = gives_both h.typing;
-  keeps = AllKeep (is_fixed h.typing);
-  both_keep = keep_both (is_fixed h.typing);
+  keeps = AllKeep (is_fixed h.typing sees);
+  both_keep = keep_both (is_fixed h.typing sees);
   takes = IsNamed h.typing.table;
   part = λ t i made. part_named h.typing.table parts_named t i (shape_of h.typing.table t) refl made;
   element = parts_named.element;
@@ -97,16 +97,16 @@ direct_lead table t u (run.ToComponent i ∷ way) w direct lead = lead
 direct_lead table t u (run.ToElement n ∷ way) w direct lead = lead
 direct_lead table t u (run.ToDesignated ∷ way) w direct lead = absurd (direct w (past_along w (All w) way (under_itself w)))
 
-module _ (h : Here) (settled : IsSettled h.typing.table) (leaks : List Leak) (other : Around (home h.typing h.frame))
+module _ (h : Here) (sees : ℕ → Bool) (seeing : Seeing h.typing sees) (settled : IsSettled h.typing.table) (leaks : List Leak) (other : Around (home h.typing h.frame))
     (alone : (w : Way) → IsNear h.frame w → other.gone w → ⊥) (in_formals : AreAccess h.typing) (index_law : IndexLaw)
     (own_law : OwnsByShape h.typing.table) (v : Views) (parts_named : PartsAreNamed h.typing.table) where
   abbrev pub IsReadyIn : Memory → List Waiting → List Fact → Type 0
-  IsReadyIn m hands facts = Ready h settled leaks [] other alone (keeps h.typing settled own_law) index_law own_law v parts_named m hands facts
+  IsReadyIn m hands facts = Ready h sees seeing settled leaks [] other alone (keeps h.typing settled own_law) index_law own_law v parts_named m hands facts
 
   -- ---- names and scalar expressions
 
   module _ (m : Memory) (hands : List Waiting) (facts : List Fact)
-      (ready : Ready h settled leaks [] other alone (keeps h.typing settled own_law) index_law own_law v parts_named m hands facts)
+      (ready : Ready h sees seeing settled leaks [] other alone (keeps h.typing settled own_law) index_law own_law v parts_named m hands facts)
       (only : OnlyOwners h.typing m) where
     abbrev at : List (List machine.Word) → Now
     at ws = record { memory = m; waits = ws }
@@ -115,16 +115,16 @@ module _ (h : Here) (settled : IsSettled h.typing.table) (leaks : List Leak) (ot
     variable x = Object (OfVariable (home h.typing h.frame x) x)
 
     live : (w : Way) (l : Loc) → IsOwners h.typing w → Reaches (seen h.typing m hands leaks) w l → (content h.typing m hands (trunk l)).owns ≡ true
-    live = live_trunk h settled leaks [] other alone (keeps h.typing settled own_law) index_law own_law v parts_named m hands ready.viewed.owned
+    live = live_trunk h sees seeing settled leaks [] other alone (keeps h.typing settled own_law) index_law own_law v parts_named m hands ready.viewed.owned
 
     abbrev Along : ℕ → ℕ → TypedTree → List run.Step → Type 0
     Along x t steps way = Goes h.typing.table (object_at h.typing x).of t steps way
 
     abbrev Same : List (List machine.Word) → ℕ → ℕ → List run.Step → Type 0
-    Same on x t way = LeadsSame h (viewed_premises h parts_named) m hands facts on x t way
+    Same on x t way = LeadsSame h (viewed_premises h sees parts_named) m hands facts on x t way
 
     abbrev Whole : List (List machine.Word) → ℕ → ℕ → List run.Step → Type 0
-    Whole on x t way = LeadsWhole h (viewed_premises h parts_named) m hands facts on x t way
+    Whole on x t way = LeadsWhole h (viewed_premises h sees parts_named) m hands facts on x t way
 
     called : (x t : ℕ) (steps : TypedTree) (way : List run.Step) → Along x t steps way → ways.name_of (way_along way (variable x)) ≡ name_of x steps
     called x t steps way goes = (λ j. record { root = number_along way (variable x) j; sels = goes.sels (variable x) j })
@@ -137,19 +137,19 @@ module _ (h : Here) (settled : IsSettled h.typing.table) (leaks : List Leak) (ot
     pub leads : (on : List (List machine.Word)) (x t : ℕ) (steps : TypedTree) (way : List run.Step) → Along x t steps way → Open facts (way_along way (variable x))
         → Same on x t way
     leads on x t steps way goes opens = (
-      found_at h settled hands leaks m on other facts v ready.kept ready.viewed ready.holds alone live only in_formals (expand v (way_along way (variable x))) t
+      found_at h sees seeing settled hands leaks m on other facts v ready.kept ready.viewed ready.holds alone live only in_formals (expand v (way_along way (variable x))) t
           (walked h.typing way (variable_place h x) (at on))
-          (name_walked h settled hands leaks m on other facts v ready.kept ready.viewed ready.holds alone live x t way goes.lead (λ e. opens)),
-      name_same h settled hands leaks m on other facts v ready.kept ready.viewed ready.holds alone live only in_formals x t way goes.lead (λ e. opens),
+          (name_walked h sees seeing settled hands leaks m on other facts v ready.kept ready.viewed ready.holds alone live x t way goes.lead (λ e. opens)),
+      name_same h sees seeing settled hands leaks m on other facts v ready.kept ready.viewed ready.holds alone live only in_formals x t way goes.lead (λ e. opens),
     )
 
     -- an access value of a named type
     pub leads_access : (on : List (List machine.Word)) (x t : ℕ) (steps : TypedTree) (way : List run.Step) → Along x t steps way → (d : ℕ) (c : Bool)
         → shape_of h.typing.table t ≡ shape.Access d c true → Open facts (way_along way (variable x)) → OpenWhole facts (way_along way (variable x)) → Whole on x t way
     leads_access on x t steps way goes d c is opens whole = (
-      access_found h settled hands leaks m on other facts v ready.kept ready.viewed ready.holds alone live only in_formals index_law own_law parts_named x t d c way goes.lead is
+      access_found h sees seeing settled hands leaks m on other facts v ready.kept ready.viewed ready.holds alone live only in_formals index_law own_law parts_named x t d c way goes.lead is
           (λ e. opens) (λ e. whole),
-      name_same h settled hands leaks m on other facts v ready.kept ready.viewed ready.holds alone live only in_formals x t way goes.lead (λ e. opens),
+      name_same h sees seeing settled hands leaks m on other facts v ready.kept ready.viewed ready.holds alone live only in_formals x t way goes.lead (λ e. opens),
     )
 
     look_at : (on : List (List machine.Word)) (x t : ℕ) (steps : TypedTree) (way : List run.Step) → Along x t steps way → (d : ℕ) (c n : Bool)
@@ -159,9 +159,9 @@ module _ (h : Here) (settled : IsSettled h.typing.table) (leaks : List Leak) (ot
         leads_access on x t steps way goes d c is (look_open facts (way_along way (variable x)) mine) (look_whole facts (way_along way (variable x)) mine)
     look_at on x t steps way goes d c false is looks =
         let opens = look_open facts (way_along way (variable x)) (of_way x t steps way goes (λ z. Allows facts (act.Look z)) looks) in (
-          view_whole h settled hands leaks m on other facts v ready.kept ready.viewed ready.holds alone live only in_formals x t way goes.lead
+          view_whole h sees seeing settled hands leaks m on other facts v ready.kept ready.viewed ready.holds alone live only in_formals x t way goes.lead
               (ap (λ z. is_anonymous (view_of_shape z)) is ∙ anonymous_access c) (λ e. opens),
-          name_same h settled hands leaks m on other facts v ready.kept ready.viewed ready.holds alone live only in_formals x t way goes.lead (λ e. opens),
+          name_same h sees seeing settled hands leaks m on other facts v ready.kept ready.viewed ready.holds alone live only in_formals x t way goes.lead (λ e. opens),
         )
 
     free_at : (on : List (List machine.Word)) (x t : ℕ) (steps : TypedTree) (way : List run.Step) → Along x t steps way → (d : ℕ)
@@ -171,16 +171,16 @@ module _ (h : Here) (settled : IsSettled h.typing.table) (leaks : List Leak) (ot
         leads_access on x t steps way goes d false is (free_open facts (way_along way (variable x)) mine) (free_whole facts (way_along way (variable x)) mine)
 
     move_at : (on : List (List machine.Word)) (x t : ℕ) (steps : TypedTree) (way : List run.Step) → Along x t steps way
-        → Allows facts (act.Move (name_of x steps) (parts h.typing.table t)) → is_fixed h.typing (name_of x steps) ≡ false
-        → Finds h (viewed_premises h parts_named) m hands facts on x way (IsMovableAt h (viewed_premises h parts_named) m hands facts t)
+        → Allows facts (act.Move (name_of x steps) (parts h.typing.table t)) → is_fixed h.typing sees (name_of x steps) ≡ false
+        → Finds h (viewed_premises h sees parts_named) m hands facts on x way (IsMovableAt h (viewed_premises h sees parts_named) m hands facts t)
     move_at on x t steps way goes moves free =
         let u : Way = way_along way (variable x) in
         let mine = of_way x t steps way goes (λ z. Allows facts (act.Move z (parts h.typing.table t))) moves in
         let opens = move_open facts u (parts h.typing.table t) mine in (
-          owner_found h settled hands leaks m on other facts v ready.kept ready.viewed ready.holds alone live only in_formals index_law own_law parts_named x t way goes.lead (free_sees h.typing (name_of x steps) free)
-              (λ formal none. free_formal h.typing (name_of x steps) free formal (no_selectors h.typing.table (object_at h.typing x).of t steps way goes none))
+          owner_found h sees seeing settled hands leaks m on other facts v ready.kept ready.viewed ready.holds alone live only in_formals index_law own_law parts_named x t way goes.lead (free_sees h.typing sees (name_of x steps) free)
+              (λ formal none. free_formal h.typing sees (name_of x steps) free formal (no_selectors h.typing.table (object_at h.typing x).of t steps way goes none))
               (λ e. opens) (λ b n has over. move_unlent facts u (parts h.typing.table t) mine Borrowed b n has over) (move_unmoved facts u (parts h.typing.table t) mine),
-          name_same h settled hands leaks m on other facts v ready.kept ready.viewed ready.holds alone live only in_formals x t way goes.lead (λ e. opens),
+          name_same h sees seeing settled hands leaks m on other facts v ready.kept ready.viewed ready.holds alone live only in_formals x t way goes.lead (λ e. opens),
         )
 
     -- one that goes through no access value
@@ -195,13 +195,18 @@ module _ (h : Here) (settled : IsSettled h.typing.table) (leaks : List Leak) (ot
         spot : Spot h.typing m hands (variable_place h x) (OfRoot (OfVariable (home h.typing h.frame x) x))
         spot = record { base = refl; made = tt; at = refl; there = refl; of = inl refl }
 
-        -- a formal that owns nothing is of an access type, so it is the whole of it
+        -- a formal that owns nothing
         itself : (way : List run.Step) → is_view_formal h.typing x ≡ true → ((z : Way) → Past z (way_along way (variable x)) → ⊥)
             → Starts h.typing.table (object_at h.typing x).of way t → Same on x t way
         itself [] formal nothing starts = ((refl, (OfRoot (OfVariable (home h.typing h.frame x) x), spot, starts)), λ n' same. (refl, same))
         itself (run.ToComponent i ∷ rest) formal nothing (less, lead) =
-            (let none = ap (λ z. length (components_of z)) ((in_formals x formal).0).3 in absurd (omega (arith, none, less)))
-        itself (run.ToElement n ∷ rest) formal nothing (less, lead) = (let none = ap count_of ((in_formals x formal).0).3 in absurd (omega (arith, none, less)))
+            own_at h sees seeing settled hands leaks m on other facts v ready.kept ready.viewed ready.holds alone live only in_formals x t rest (Component i ∷ [])
+            (component_place h.typing.table i (variable_place h x))
+            (component_spot h.typing settled hands leaks m (variable_place h x) (OfRoot (OfVariable (home h.typing h.frame x) x)) i spot less) lead nothing
+        itself (run.ToElement n ∷ rest) formal nothing (less, lead) =
+            own_at h sees seeing settled hands leaks m on other facts v ready.kept ready.viewed ready.holds alone live only in_formals x t rest (Element n ∷ [])
+            (element_place h.typing.table n (variable_place h x))
+            (element_spot h.typing settled hands leaks m (variable_place h x) (OfRoot (OfVariable (home h.typing h.frame x) x)) n spot less) lead nothing
         itself (run.ToDesignated ∷ rest) formal nothing starts = absurd (nothing (variable x) (past_along (variable x) (All (variable x)) rest (under_itself (variable x))))
 
         moved : Way → Type 0
@@ -211,7 +216,7 @@ module _ (h : Here) (settled : IsSettled h.typing.table) (leaks : List Leak) (ot
         by_kind true formal = itself way formal nothing_past goes.lead
         by_kind false owner =
             let lead = direct_lead h.typing.table (object_at h.typing x).of t way (variable x) nothing_past goes.lead in (
-              found_at h settled hands leaks m on other facts v ready.kept ready.viewed ready.holds alone live only in_formals (way_along way (variable x)) t
+              found_at h sees seeing settled hands leaks m on other facts v ready.kept ready.viewed ready.holds alone live only in_formals (way_along way (variable x)) t
                   (walked h.typing way (variable_place h x) (at on))
                   (walk h.typing settled hands leaks m on moved ready.kept ready.viewed.owned ready.viewed.known live way (variable_place h x)
                   (OfRoot (OfVariable (home h.typing h.frame x) x)) (variable x) t spot owner refl lead (λ z past gone. nothing_past z past)),
@@ -221,14 +226,14 @@ module _ (h : Here) (settled : IsSettled h.typing.table) (leaks : List Leak) (ot
 
     -- ---- all together
 
-    pub viewed_behaves : Behaves h (viewed_premises h parts_named) m hands facts
+    pub viewed_behaves : Behaves h (viewed_premises h sees parts_named) m hands facts
     viewed_behaves = record {
       kept = ready.kept;
       only = only;
       quiet = λ u e stays before on takes calls allowed.
-          taking h settled hands leaks m [] other facts v ready.kept ready.viewed ready.holds alone live index_law own_law parts_named u e stays before on takes allowed;
+          taking h sees seeing settled hands leaks m [] other facts v ready.kept ready.viewed ready.holds alone live index_law own_law parts_named u e stays before on takes allowed;
       steps = λ t u path lead before on takes calls allowed.
-          steps_taking h settled hands leaks m [] other facts v ready.kept ready.viewed ready.holds alone live index_law own_law parts_named t u path lead before on takes allowed;
+          steps_taking h sees seeing settled hands leaks m [] other facts v ready.kept ready.viewed ready.holds alone live index_law own_law parts_named t u path lead before on takes allowed;
       read = λ on x t path way goes reads.
           leads on x t path way goes (read_open facts (way_along way (variable x)) (of_way x t path way goes (λ z. Allows facts (act.Read z)) reads));
       write = λ on x t path way goes writes.
@@ -242,18 +247,18 @@ module _ (h : Here) (settled : IsSettled h.typing.table) (leaks : List Leak) (ot
   -- ---- values
 
   pub given_by : (on : List (List machine.Word)) (want : ℕ) (hands : List Waiting) (facts : List Fact) (y : Evaluated (List machine.Word))
-      → GivenOn h settled leaks [] other alone (keeps h.typing settled own_law) index_law own_law v parts_named on want hands facts y
+      → GivenOn h sees seeing settled leaks [] other alone (keeps h.typing settled own_law) index_law own_law v parts_named on want hands facts y
       → GivenBy h IsReadyIn on want hands facts y
   given_by on want hands facts (Done ws n) given = given
   given_by on want hands facts (Raises e n) given = tt
   given_by on want hands facts (Traps e n) none = none
 
-  pub viewed_values : Values h (viewed_premises h parts_named)
-      (λ m hands facts. Ready h settled leaks [] other alone (keeps h.typing settled own_law) index_law own_law v parts_named m hands facts)
+  pub viewed_values : Values h (viewed_premises h sees parts_named)
+      (λ m hands facts. Ready h sees seeing settled leaks [] other alone (keeps h.typing settled own_law) index_law own_law v parts_named m hands facts)
   viewed_values = record {
     behaves = λ m hands facts ready only. viewed_behaves m hands facts ready only;
     given = λ e want gives calls own_calls before on takes m hands facts ready allowed own keep.
         given_by on want hands (after (acts (acts_in h.typing e)) facts) (evaluate h AsValue e (record { memory = m; waits = before }))
-        (evaluated_on h settled leaks [] other alone (keeps h.typing settled own_law) index_law own_law v parts_named e want gives own_calls before on takes m hands facts
+        (evaluated_on h sees seeing settled leaks [] other alone (keeps h.typing settled own_law) index_law own_law v parts_named e want gives own_calls before on takes m hands facts
         ready allowed own keep);
   }

@@ -48,9 +48,10 @@ use Rattle.soundness.proofs.Evaluated.{regrouped, changed_hand, blank_hand, Keep
 use Rattle.owned_loans.specs.Views.{Around, Views, expand, ExcusedBy, Viewed}
 use Rattle.owned_loans.proofs.Allowed.{read_open, move_open}
 use Rattle.owned_loans.proofs.Moves.{as_sound, same_viewed}
-use Rattle.viewed_soundness.specs.Holds.{IsNamed, PartsAreNamed, sees_only, is_fixed, IsOwners, Holds, KeepsObserved, AllKeep}
+use Rattle.viewed_soundness.specs.Holds.{IsNamed, PartsAreNamed, is_fixed, IsOwners, Holds, KeepsObserved, AllKeep, Seeing}
 use Rattle.viewed_soundness.proofs.Spared.{gone_off}
-use Rattle.viewed_soundness.proofs.Names.{free_sees, free_formal, changed_owners}
+use Rattle.viewed_soundness.proofs.Names.{changed_owners, parts_same}
+use Rattle.viewed_soundness.proofs.ViewKinds.{free_sees, free_formal}
 use Rattle.soundness.proofs.Waits.{drop_none}
 use Rattle.viewed_soundness.specs.Taken.{GivesPlainly}
 use Rattle.viewed_soundness.proofs.Moments.{from_sound, hands_spared, other_hands, with_cell, taken_viewed}
@@ -90,14 +91,14 @@ gives_plainly s (More e rest) calls =
     (let both = both_plainly s (has_call e) (has_call rest) calls in (gives_plainly s e both.0, gives_plainly s rest both.1))
 gives_plainly s e calls = tt
 
-module _ (h : Here) (settled : IsSettled h.typing.table) (leaks : List Leak) (waits : List (List machine.Word)) (other : Around (home h.typing h.frame))
+module _ (h : Here) (sees : ℕ → Bool) (seeing : Seeing h.typing sees) (settled : IsSettled h.typing.table) (leaks : List Leak) (waits : List (List machine.Word)) (other : Around (home h.typing h.frame))
     (alone : (w : Way) → IsNear h.frame w → other.gone w → ⊥) (keeps : Keeps h.typing)
     (index_law : IndexLaw) (own_law : OwnsByShape h.typing.table)
     (v : Views) (parts_named : PartsAreNamed h.typing.table) where
   pub record Ready (m : Memory) (hands : List Waiting) (facts : List Fact) : Type 0 where
-    pub viewed : Viewed (home h.typing h.frame) (sees_only h.typing) other v (seen h.typing m hands leaks) facts
+    pub viewed : Viewed (home h.typing h.frame) sees other v (seen h.typing m hands leaks) facts
     pub kept : Kept h.typing m hands
-    pub holds : Holds h.typing h.frame v m
+    pub holds : Holds h.typing sees h.frame v m
 
   -- What an expression comes to: a value in hand, or an exception; never a trap. These wait on.
   abbrev pub GivenOn : List (List machine.Word) → ℕ → List Waiting → List Fact → Evaluated (List machine.Word) → Type 0
@@ -131,7 +132,7 @@ module _ (h : Here) (settled : IsSettled h.typing.table) (leaks : List Leak) (wa
   scalar_on on m hands facts facts' want ready same scalar (Done ws n) (is, one) = (
     subst (λ z. Ready z.memory (record { of = want; words = ws } ∷ hands) facts') (sym is)
         (subst (Ready m (record { of = want; words = ws } ∷ hands)) same (record {
-          viewed = same_viewed (home h.typing h.frame) (sees_only h.typing) other v _ _ facts (blank_hand h.typing m leaks (record { of = want; words = ws }) hands
+          viewed = same_viewed (home h.typing h.frame) sees other v _ _ facts (blank_hand h.typing m leaks (record { of = want; words = ws }) hands
               (λ p. word_no h.typing.table (in_hand (record { of = want; words = ws })) p (no_leaf h.typing.table settled want scalar p))) ready.viewed;
           kept = keeps.scalar m (record { of = want; words = ws }) hands scalar ready.kept;
           holds = ready.holds;
@@ -167,7 +168,7 @@ module _ (h : Here) (settled : IsSettled h.typing.table) (leaks : List Leak) (wa
       → GivenOn on t hands facts x → GivenOn on want hands facts x
   retyped_given on t want hands facts fits (Done ws n) (ready, long, same) = (
     record {
-      viewed = same_viewed (home h.typing h.frame) (sees_only h.typing) other v _ _ facts
+      viewed = same_viewed (home h.typing h.frame) sees other v _ _ facts
           (changed_hand h.typing n.memory leaks (record { of = t; words = ws }) (record { of = want; words = ws }) hands (shows (alike h.typing.table settled t want fits))) ready.viewed;
       kept = keeps.retyped n.memory t want ws hands fits ready.kept;
       holds = ready.holds;
@@ -193,22 +194,24 @@ module _ (h : Here) (settled : IsSettled h.typing.table) (leaks : List Leak) (wa
   -- What a name comes to, before it is said what the variables of views have.
   abbrev pub Bare : List (List machine.Word) → ℕ → List Waiting → List Fact → Evaluated (List machine.Word) → Type 0
   Bare on want hands facts (Done ws n) =
-      Viewed (home h.typing h.frame) (sees_only h.typing) other v (seen h.typing n.memory (record { of = want; words = ws } ∷ hands) leaks) facts
+      Viewed (home h.typing h.frame) sees other v (seen h.typing n.memory (record { of = want; words = ws } ∷ hands) leaks) facts
       × Kept h.typing n.memory (record { of = want; words = ws } ∷ hands) × (length ws ≡ words h.typing.table want) × (n.waits ≡ on)
   Bare on want hands facts (Raises e n) = Unit {0}
   Bare on want hands facts (Traps t n) = ⊥
 
   -- words of variables stay in evaluations
-  pub holds_on : (m n : Memory) → Fades h.typing m n → Holds h.typing h.frame v m → Holds h.typing h.frame v n
+  pub holds_on : (m n : Memory) → Fades h.typing m n → Holds h.typing sees h.frame v m → Holds h.typing sees h.frame v n
   holds_on m n fade holds = record {
-    held = λ x k view e. holds.held x k view (sym (fade (home h.typing h.frame x) x 0).word ∙ e);
+    held = λ x k view bare e. holds.held x k view bare (sym (fade (home h.typing h.frame x) x 0).word ∙ e);
     only = holds.only;
     owners = holds.owners;
     access = holds.access;
     own = holds.own;
+    taken = holds.taken;
+    parts = parts_same h.typing sees h.frame v m n (λ x p bundle. (fade (home h.typing h.frame x) x (offset_in h.typing.table (object_at h.typing x).of p)).word) holds.parts;
   }
 
-  held_on : (on : List (List machine.Word)) (m : Memory) (want : ℕ) (hands : List Waiting) (facts : List Fact) (x : Evaluated (List machine.Word)) → Holds h.typing h.frame v m
+  held_on : (on : List (List machine.Word)) (m : Memory) (want : ℕ) (hands : List Waiting) (facts : List Fact) (x : Evaluated (List machine.Word)) → Holds h.typing sees h.frame v m
       → FadesTo h m x → Bare on want hands facts x → GivenOn on want hands facts x
   held_on on m want hands facts (Done ws n) holds fade (sound, kept, long, same) =
       (record { viewed = sound; kept = kept; holds = holds_on m n.memory fade holds }, long, same)
@@ -217,7 +220,7 @@ module _ (h : Here) (settled : IsSettled h.typing.table) (leaks : List Leak) (wa
 
   -- what a place has is taken, where its type owns
   owner_taken : (on : List (List machine.Word)) (m : Memory) (hands : List Waiting) (facts : List Fact) (u : Way) (t : ℕ) → Ready m hands facts → Named (home h.typing h.frame) u
-      → sees_only h.typing (number_of u) ≡ false
+      → sees (number_of u) ≡ false
       → ((l : Loc) → Reaches (seen h.typing m hands leaks) (expand v u) l → IsOwners h.typing (expand v u))
       → is_owning h.typing.table t ≡ true → Allows facts (act.Move (ways.name_of u) (parts h.typing.table t)) → (x : Evaluated Place)
       → Walked h.typing settled hands leaks m on (expand v u) t x
@@ -227,9 +230,9 @@ module _ (h : Here) (settled : IsSettled h.typing.table) (leaks : List Leak) (wa
       (subst (λ b. Bare on t hands (effect (act.Move (ways.name_of u) (parts h.typing.table t)) facts)
       (Done (words_of h.typing m k) (if b then record { memory = moved_out h.typing k m; waits = on } else record { memory = m; waits = on })))
       (sym (ap (is_owning h.typing.table) of ∙ owns)) (
-        subst (λ z. Viewed (home h.typing h.frame) (sees_only h.typing) other v (seen h.typing (moved_out h.typing k m) (record { of = z; words = words_of h.typing m k } ∷ hands) leaks)
+        subst (λ z. Viewed (home h.typing h.frame) sees other v (seen h.typing (moved_out h.typing k m) (record { of = z; words = words_of h.typing m k } ∷ hands) leaks)
             (effect (act.Move (ways.name_of u) (parts h.typing.table z)) facts)) of
-            (taken_viewed h.typing settled (home h.typing h.frame) (sees_only h.typing) other v m hands leaks facts k l u ready.viewed spared_there ready.kept spot
+            (taken_viewed h.typing settled (home h.typing h.frame) sees other v m hands leaks facts k l u ready.viewed spared_there ready.kept spot
             named plain reaches
             (live_trunk m hands ready.viewed.owned (expand v u) l (owners l reaches) reaches)
             (subst (λ z. Allows facts (act.Move (ways.name_of u) (parts h.typing.table z))) (sym of) allowed)),
@@ -240,7 +243,7 @@ module _ (h : Here) (settled : IsSettled h.typing.table) (leaks : List Leak) (wa
     where
       spared_there : Spares other.gone (expand v u)
       spared_there z under gone =
-          gone_off h.typing h.frame other v (seen h.typing m hands leaks) facts ready.viewed alone u z named plain (inr under) gone
+          gone_off h.typing sees h.frame other v (seen h.typing m hands leaks) facts ready.viewed alone u z named plain (inr under) gone
 
       long : (k : Place) (l : Loc) → Spot h.typing m hands k l → k.of ≡ t → length (words_of h.typing m k) ≡ words h.typing.table t
       long k l spot of =
@@ -267,8 +270,8 @@ module _ (h : Here) (settled : IsSettled h.typing.table) (leaks : List Leak) (wa
       subst (λ z. Bare on t hands facts (taken h k z)) (sym same)
       (subst (λ b. Bare on t hands facts (Done (words_of h.typing m k) (if b then record { memory = moved_out h.typing k m; waits = on } else record { memory = m; waits = on })))
       (sym (ap (is_owning h.typing.table) of ∙ none)) (
-        subst (λ z. Viewed (home h.typing h.frame) (sees_only h.typing) other v (seen h.typing m (record { of = z; words = words_of h.typing m k } ∷ hands) leaks) facts) of
-            (same_viewed (home h.typing h.frame) (sees_only h.typing) other v _ _ facts (blank_hand h.typing m leaks (record { of = k.of; words = words_of h.typing m k }) hands
+        subst (λ z. Viewed (home h.typing h.frame) sees other v (seen h.typing m (record { of = z; words = words_of h.typing m k } ∷ hands) leaks) facts) of
+            (same_viewed (home h.typing h.frame) sees other v _ _ facts (blank_hand h.typing m leaks (record { of = k.of; words = words_of h.typing m k }) hands
             (λ p. word_no h.typing.table (in_hand (record { of = k.of; words = words_of h.typing m k })) p
             (keeps.ownerless k.of (ap (is_owning h.typing.table) of ∙ none) p))) ready.viewed),
         subst (λ z. Kept h.typing m (record { of = z; words = words_of h.typing m k } ∷ hands)) of (keeps.copied m hands k l spot ready.kept),
@@ -284,7 +287,7 @@ module _ (h : Here) (settled : IsSettled h.typing.table) (leaks : List Leak) (wa
   pub blank_ready : (m : Memory) (hands : List Waiting) (facts : List Fact) (want : ℕ) (ws : List machine.Word) → NoCell ws → Ready m hands facts
       → Ready m (record { of = want; words = ws } ∷ hands) facts
   blank_ready m hands facts want ws none ready = record {
-    viewed = same_viewed (home h.typing h.frame) (sees_only h.typing) other v _ _ facts (blank_hand h.typing m leaks (record { of = want; words = ws }) hands
+    viewed = same_viewed (home h.typing h.frame) sees other v _ _ facts (blank_hand h.typing m leaks (record { of = want; words = ws }) hands
         (λ p. blank_word h.typing.table (in_hand (record { of = want; words = ws })) ws refl none p)) ready.viewed;
     kept = keeps.plain m (record { of = want; words = ws }) hands none ready.kept;
     holds = ready.holds;
@@ -306,19 +309,19 @@ module _ (h : Here) (settled : IsSettled h.typing.table) (leaks : List Leak) (wa
           (if b then Done (machine.Cell (suc (length k.memory.cells)) ∷ []) (record k { memory = with_new_cell t ws k.memory }) else Raises StorageError k)
       by_test true = (
         record {
-          viewed = from_sound (home h.typing h.frame) (sees_only h.typing) other v
+          viewed = from_sound (home h.typing h.frame) sees other v
               (seen h.typing k.memory (record { of = t; words = ws } ∷ record { of = want; words = [] } ∷ hands) leaks)
               (seen h.typing (with_new_cell t ws k.memory) (record { of = want; words = machine.Cell (suc (length k.memory.cells)) ∷ [] } ∷ hands) leaks)
               facts ready.viewed
               (made_sound h.typing settled k.memory t want ws hands leaks long own (home h.typing h.frame) (ExcusedBy (home h.typing h.frame) v other facts) []
-              (hands_spared (home h.typing h.frame) (sees_only h.typing) other v
+              (hands_spared (home h.typing h.frame) sees other v
               (seen h.typing k.memory (record { of = t; words = ws } ∷ record { of = want; words = [] } ∷ hands) leaks) facts ready.viewed spared_hand)
-              (as_sound (home h.typing h.frame) (sees_only h.typing) other v
+              (as_sound (home h.typing h.frame) sees other v
               (seen h.typing k.memory (record { of = t; words = ws } ∷ record { of = want; words = [] } ∷ hands) leaks) facts ready.viewed))
               (with_cell h.typing k.memory t ws (record { of = t; words = ws } ∷ record { of = want; words = [] } ∷ hands)
               (record { of = want; words = machine.Cell (suc (length k.memory.cells)) ∷ [] } ∷ hands) leaks);
           kept = keeps.made k.memory t want d c n ws hands long is fits ready.kept;
-          holds = record { held = ready.holds.held; only = ready.holds.only; owners = ready.holds.owners; access = ready.holds.access; own = ready.holds.own };
+          holds = record { held = ready.holds.held; only = ready.holds.only; owners = ready.holds.owners; access = ready.holds.access; own = ready.holds.own; taken = ready.holds.taken; parts = record { held = ready.holds.parts.held; only = ready.holds.parts.only; owners = ready.holds.parts.owners; looks = ready.holds.parts.looks } };
         },
         sym one_word,
         same,
@@ -333,13 +336,13 @@ module _ (h : Here) (settled : IsSettled h.typing.table) (leaks : List Leak) (wa
       → AllowsAll facts (acts (acts_in h.typing e))
       → GivenOn on want hands (after (acts (acts_in h.typing e)) facts) (evaluate h AsValue e (record { memory = m; waits = before }))
   by_quiet e want scalar stays before on takes m hands facts ready allowed =
-      let q = taking h settled hands leaks m waits other facts v ready.kept ready.viewed ready.holds alone (live_trunk m hands ready.viewed.owned) index_law own_law parts_named
+      let q = taking h sees seeing settled hands leaks m waits other facts v ready.kept ready.viewed ready.holds alone (live_trunk m hands ready.viewed.owned) index_law own_law parts_named
       AsValue e stays before on takes allowed in
       scalar_on on m hands facts (after (acts (acts_in h.typing e)) facts) want ready (sym q.1) scalar (evaluate h AsValue e (record { memory = m; waits = before })) q.0
 
   -- a name that is moved, or read
   by_owning : (on : List (List machine.Word)) (p : Pos) (x : ℕ) (steps : TypedTree) (t : ℕ) (m : Memory) (hands : List Waiting) (facts : List Fact) (ready : Ready m hands facts)
-      → Allows facts (used h.typing (name_of x steps) t) → KeepsObserved (is_fixed h.typing) (used h.typing (name_of x steps) t)
+      → Allows facts (used h.typing (name_of x steps) t) → KeepsObserved (is_fixed h.typing sees) (used h.typing (name_of x steps) t)
       → (way : List run.Step) → Goes h.typing.table (object_at h.typing x).of t steps way
       → (b : Bool) → is_owning h.typing.table t ≡ b
       → Bare on t hands (effect (used h.typing (name_of x steps) t) facts)
@@ -354,24 +357,24 @@ module _ (h : Here) (settled : IsSettled h.typing.table) (leaks : List Leak) (wa
       }) in
       let moves : Allows facts (act.Move (ways.name_of u) (parts h.typing.table t)) =
       subst (λ z. Allows facts (act.Move z (parts h.typing.table t))) (sym called) (subst (Allows facts) is mine) in
-      let free : is_fixed h.typing (name_of x steps) ≡ false = subst (KeepsObserved (is_fixed h.typing)) is keep in
-      let plain : sees_only h.typing x ≡ false = free_sees h.typing (name_of x steps) free in
-      let where_ = name_on h settled hands leaks m waits other facts v ready.kept ready.viewed ready.holds alone (live_trunk m hands ready.viewed.owned) index_law own_law parts_named
+      let free : is_fixed h.typing sees (name_of x steps) ≡ false = subst (KeepsObserved (is_fixed h.typing sees)) is keep in
+      let plain : sees x ≡ false = free_sees h.typing sees (name_of x steps) free in
+      let where_ = name_on h sees seeing settled hands leaks m waits other facts v ready.kept ready.viewed ready.holds alone (live_trunk m hands ready.viewed.owned) index_law own_law parts_named
       on x steps t way goes (λ w named same. move_open facts w (parts h.typing.table t)
       (subst (λ z. Allows facts (act.Move z (parts h.typing.table t))) (called ∙ sym same) moves)) in
       subst (λ z. Bare on t hands (effect z facts) (followed_by (walked h.typing way (variable_place h x) (record { memory = m; waits = on })) (held_or_taken h AsValue)))
       (ap (λ z. act.Move z (parts h.typing.table t)) called ∙ sym is)
       (owner_taken on m hands facts u t ready (named_along (home h.typing h.frame) way (Object (OfVariable (home h.typing h.frame x) x)) refl)
-      (ap (sees_only h.typing) (number_along way (Object (OfVariable (home h.typing h.frame x) x))) ∙ plain)
-      (changed_owners h settled hands leaks m on other facts v ready.kept ready.viewed ready.holds alone (live_trunk m hands ready.viewed.owned) x t way
-      (λ formal none. free_formal h.typing (name_of x steps) free formal (no_selectors h.typing.table (object_at h.typing x).of t steps way goes none)) goes.lead) owns moves
+      (ap sees (number_along way (Object (OfVariable (home h.typing h.frame x) x))) ∙ plain)
+      (changed_owners h sees seeing settled hands leaks m on other facts v ready.kept ready.viewed ready.holds alone (live_trunk m hands ready.viewed.owned) x t way plain
+      (λ formal none. free_formal h.typing sees (name_of x steps) free formal (no_selectors h.typing.table (object_at h.typing x).of t steps way goes none)) goes.lead) owns moves
       (walked h.typing way (variable_place h x) (record { memory = m; waits = on })) where_)
   by_owning on p x steps t m hands facts ready mine keep way goes false owns =
       let u : Way = way_along way (Object (OfVariable (home h.typing h.frame x) x)) in
       let is : used h.typing (name_of x steps) t ≡ act.Read (name_of x steps) =
       ap (λ b. if b then act.Move (name_of x steps) (parts h.typing.table t) else act.Read (name_of x steps)) owns in
       let reads : Allows facts (act.Read (name_of x steps)) = subst (Allows facts) is mine in
-      let where_ = name_on h settled hands leaks m waits other facts v ready.kept ready.viewed ready.holds alone (live_trunk m hands ready.viewed.owned) index_law own_law parts_named
+      let where_ = name_on h sees seeing settled hands leaks m waits other facts v ready.kept ready.viewed ready.holds alone (live_trunk m hands ready.viewed.owned) index_law own_law parts_named
       on x steps t way goes (λ w named same. read_open facts w (subst (λ z. Allows facts (act.Read z)) (sym same) reads)) in
       subst (λ z. Bare on t hands z (followed_by (walked h.typing way (variable_place h x) (record { memory = m; waits = on })) (held_or_taken h AsValue)))
       (sym (ap (λ z. effect z facts) is ∙ read_effect (name_of x steps) facts))
@@ -386,15 +389,15 @@ module _ (h : Here) (settled : IsSettled h.typing.table) (leaks : List Leak) (wa
       → Ready m (record { of = u; words = ws } ∷ record { of = t; words = acc } ∷ hands) facts
       → Ready m (record { of = t; words = acc ++ ws } ∷ hands) facts
   part_joined m hands facts t u acc ws step there offset is long ready = record {
-    viewed = from_sound (home h.typing h.frame) (sees_only h.typing) other v
+    viewed = from_sound (home h.typing h.frame) sees other v
         (seen h.typing m (record { of = u; words = ws } ∷ record { of = t; words = acc } ∷ hands) leaks)
         (seen h.typing m (record { of = t; words = acc ++ ws } ∷ hands) leaks) facts ready.viewed
         (joined_sound h.typing settled m u t ws acc hands leaks step there offset (long ∙ ap (words h.typing.table) (sym is))
         (subst (AlikeTypes h.typing.table u) (sym is) (alike h.typing.table settled u u (inl refl)))
         (home h.typing h.frame) (ExcusedBy (home h.typing h.frame) v other facts) []
-        (hands_spared (home h.typing h.frame) (sees_only h.typing) other v
+        (hands_spared (home h.typing h.frame) sees other v
         (seen h.typing m (record { of = u; words = ws } ∷ record { of = t; words = acc } ∷ hands) leaks) facts ready.viewed spared_hand)
-        (as_sound (home h.typing h.frame) (sees_only h.typing) other v
+        (as_sound (home h.typing h.frame) sees other v
         (seen h.typing m (record { of = u; words = ws } ∷ record { of = t; words = acc } ∷ hands) leaks) facts ready.viewed))
         (other_hands h.typing m (record { of = u; words = ws } ∷ record { of = t; words = acc } ∷ hands)
         (record { of = t; words = acc ++ ws } ∷ hands) leaks);
@@ -449,7 +452,7 @@ module _ (h : Here) (settled : IsSettled h.typing.table) (leaks : List Leak) (wa
       let el : ℕ = machine.element_type h.typing.table t in
       let all : List machine.Word = machine.repeated (machine.element_count h.typing.table t) ws in (
         record {
-          viewed = same_viewed (home h.typing h.frame) (sees_only h.typing) other v _ _ facts
+          viewed = same_viewed (home h.typing h.frame) sees other v _ _ facts
               (changed_hand h.typing n.memory leaks (record { of = el; words = ws }) (record { of = t; words = all }) hands
               (λ p. word_no h.typing.table (in_hand (record { of = t; words = all })) p
               (keeps.ownerless t (elements_plain t (shape_of h.typing.table t) refl array none) p)
@@ -491,7 +494,7 @@ module _ (h : Here) (settled : IsSettled h.typing.table) (leaks : List Leak) (wa
     pub evaluated_on : (e : TypedTree) (want : ℕ) → Gives h.typing want e → GivesPlainly h.typing e → (before on : List (List machine.Word))
         → Takes (waiting e) before on → (m : Memory) (hands : List Waiting) (facts : List Fact)
         → Ready m hands facts → AllowsAll facts (acts (acts_in h.typing e)) → IsNamed h.typing.table want
-        → AllKeep (is_fixed h.typing) (acts (acts_in h.typing e))
+        → AllKeep (is_fixed h.typing sees) (acts (acts_in h.typing e))
         → GivenOn on want hands (after (acts (acts_in h.typing e)) facts) (evaluate h AsValue e (record { memory = m; waits = before }))
     evaluated_on (Number v) want scalar calls before on takes m hands facts ready allowed own keep =
         scalar_on on m hands facts facts want ready refl scalar (Done (machine.Int v ∷ []) (record { memory = m; waits = before })) (still m before on takes, refl)
@@ -516,9 +519,9 @@ module _ (h : Here) (settled : IsSettled h.typing.table) (leaks : List Leak) (wa
         let live = live_trunk m hands ready.viewed.owned in
         let each = allows_both facts (acts (acts_in h.typing steps)) (used h.typing name t ∷ [])
         (subst (AllowsAll facts) (acts_append (acts_in h.typing steps) (record { pos = p; act = used h.typing name t } ∷ [])) allowed) in
-        let kept_names = keep_both (is_fixed h.typing) (acts (acts_in h.typing steps)) (used h.typing name t ∷ [])
-        (subst (AllKeep (is_fixed h.typing)) (acts_append (acts_in h.typing steps) (record { pos = p; act = used h.typing name t } ∷ [])) keep) in
-        let inner = steps_taking h settled hands leaks m waits other facts v ready.kept ready.viewed ready.holds alone live index_law own_law parts_named
+        let kept_names = keep_both (is_fixed h.typing sees) (acts (acts_in h.typing steps)) (used h.typing name t ∷ [])
+        (subst (AllKeep (is_fixed h.typing sees)) (acts_append (acts_in h.typing steps) (record { pos = p; act = used h.typing name t } ∷ [])) keep) in
+        let inner = steps_taking h sees seeing settled hands leaks m waits other facts v ready.kept ready.viewed ready.holds alone live index_law own_law parts_named
         (object_at h.typing x).of t steps lead before on takes each.0 in
         let mine : Allows facts (used h.typing name t) = subst (λ z. Allows z (used h.typing name t)) inner.1 each.1.0 in
         let whole : after (acts (acts_in h.typing steps ++ record { pos = p; act = used h.typing name t } ∷ [])) facts ≡ effect (used h.typing name t) facts =
@@ -539,7 +542,7 @@ module _ (h : Here) (settled : IsSettled h.typing.table) (leaks : List Leak) (wa
         (takes_as (waiting e + waiting rest) (waiting e) before on alone_there takes) m (record { of = want; words = [] } ∷ hands) facts
         (blank_ready m hands facts want [] (λ k h. h) ready) (subst (λ z. AllowsAll facts (acts z)) acts_same allowed)
         (matches_named h.typing.table d t fits (parts_named.designated want d c n is))
-        (subst (λ z. AllKeep (is_fixed h.typing) (acts z)) acts_same keep) in
+        (subst (λ z. AllKeep (is_fixed h.typing sees) (acts z)) acts_same keep) in
         subst (λ z. GivenOn on want hands (after (acts z) facts) (followed_by (followed_by (evaluate h AsValue e now) (checked h t)) (allocated t))) (sym acts_same)
         (allocated_given on t want d c n hands (after (acts (acts_in h.typing e)) facts) own is fits (followed_by (evaluate h AsValue e now) (checked h t))
         (checked_on on t t (record { of = want; words = [] } ∷ hands) (after (acts (acts_in h.typing e)) facts) (evaluate h AsValue e now) inner))
@@ -576,7 +579,7 @@ module _ (h : Here) (settled : IsSettled h.typing.table) (leaks : List Leak) (wa
     -- the result of a function waits
     evaluated_on (Call p sub actuals) want (t, result, fits) calls before on takes m hands facts ready allowed own keep =
         scalar_on on m hands facts facts want ready refl (matches_plain t want fits (calls t result)) (run.waited (record { memory = m; waits = before }))
-        (waited_quiet h settled hands leaks m waits other facts v ready.kept ready.viewed ready.holds alone (live_trunk m hands ready.viewed.owned) index_law own_law parts_named
+        (waited_quiet h sees seeing settled hands leaks m waits other facts v ready.kept ready.viewed ready.holds alone (live_trunk m hands ready.viewed.owned) index_law own_law parts_named
         before on takes)
     evaluated_on e want gives calls before on takes m hands facts ready allowed own keep = absurd gives
 
@@ -588,7 +591,7 @@ module _ (h : Here) (settled : IsSettled h.typing.table) (leaks : List Leak) (wa
         → (m : Memory) (acc : List machine.Word) (hands : List Waiting) (facts : List Fact)
         → length acc ≡ words_to (words h.typing.table) (shape_of h.typing.table t) i
         → Ready m (record { of = t; words = acc } ∷ hands) facts → AllowsAll facts (acts (acts_in h.typing es))
-        → AllKeep (is_fixed h.typing) (acts (acts_in h.typing es))
+        → AllKeep (is_fixed h.typing sees) (acts (acts_in h.typing es))
         → Grows on t acc hands (after (acts (acts_in h.typing es)) facts) (parts_of h t i es (record { memory = m; waits = before }))
     parts_given (More e rest) t i gives calls count made before on takes m acc hands facts long ready allowed keep =
         let now : Now = record { memory = m; waits = before } in
@@ -598,8 +601,8 @@ module _ (h : Here) (settled : IsSettled h.typing.table) (leaks : List Leak) (wa
         let two = takes_both (waiting e) (waiting rest) before on takes in
         let each = allows_both facts (acts (acts_in h.typing e)) (acts (acts_in h.typing rest))
         (subst (AllowsAll facts) (acts_append (acts_in h.typing e) (acts_in h.typing rest)) allowed) in
-        let names = keep_both (is_fixed h.typing) (acts (acts_in h.typing e)) (acts (acts_in h.typing rest))
-        (subst (AllKeep (is_fixed h.typing)) (acts_append (acts_in h.typing e) (acts_in h.typing rest)) keep) in
+        let names = keep_both (is_fixed h.typing sees) (acts (acts_in h.typing e)) (acts (acts_in h.typing rest))
+        (subst (AllKeep (is_fixed h.typing sees)) (acts_append (acts_in h.typing e) (acts_in h.typing rest)) keep) in
         let between : List Fact = after (acts (acts_in h.typing e)) facts in
         let behind : List Fact = after (acts (acts_in h.typing rest)) between in
         let next : List machine.Word → Now → Evaluated (List machine.Word) =
@@ -634,7 +637,7 @@ module _ (h : Here) (settled : IsSettled h.typing.table) (leaks : List Leak) (wa
   -- without calls nothing that waits is taken
   pub evaluated : (e : TypedTree) (want : ℕ) → Gives h.typing want e → has_call e ≡ false → (m : Memory) (hands : List Waiting) (facts : List Fact)
       → Ready m hands facts → AllowsAll facts (acts (acts_in h.typing e)) → IsNamed h.typing.table want
-      → AllKeep (is_fixed h.typing) (acts (acts_in h.typing e))
+      → AllKeep (is_fixed h.typing sees) (acts (acts_in h.typing e))
       → Given want hands (after (acts (acts_in h.typing e)) facts) (evaluate h AsValue e (record { memory = m; waits = waits }))
   evaluated e want gives calls m hands facts ready allowed own keep =
       evaluated_on e want gives (gives_plainly h.typing e (inl calls)) waits waits (no_takes e calls waits) m hands facts ready allowed own keep

@@ -29,7 +29,7 @@ use Rattle.soundness.proofs.Steps.{plain_shape}
 use Rattle.soundness.proofs.Taking.{IsWord, Takes, takes_none}
 use Rattle.soundness.proofs.Waits.{drop_none}
 use Rattle.owned_loans.specs.Views.{Around, Views}
-use Rattle.viewed_soundness.specs.Holds.{IsNamed, PartsAreNamed, is_fixed, AllKeep}
+use Rattle.viewed_soundness.specs.Holds.{IsNamed, PartsAreNamed, is_fixed, AllKeep, Seeing}
 use Rattle.viewed_soundness.specs.Taken.{GivesPlainly, type_given, types_taken, AreScalarTypes, TakesFit, IsOfType, AreOfTypes, AreScalarValues}
 use Rattle.viewed_soundness.proofs.Evaluated.{keep_both, matches_named, part_named}
 use Rattle.viewed_soundness.proofs.Evaluated as evaluating
@@ -116,18 +116,18 @@ takes_values s settled (t ∷ types) (v ∷ values) fit scalar on =
     (takes_values s settled types values fit.1 scalar.1 (v.words ∷ on)) mine in
     subst (λ k. Takes k (first_words values (v.words ∷ on)) on) (let same : length types + 1 ≡ suc (length types) = omega arith in same) all
 
-module _ (h : Here) (settled : IsSettled h.typing.table) (leaks : List Leak) (waits : List (List machine.Word)) (other : Around (home h.typing h.frame))
+module _ (h : Here) (sees : ℕ → Bool) (seeing : Seeing h.typing sees) (settled : IsSettled h.typing.table) (leaks : List Leak) (waits : List (List machine.Word)) (other : Around (home h.typing h.frame))
     (alone : (w : Way) → IsNear h.frame w → other.gone w → ⊥) (keeps : Keeps h.typing)
     (index_law : IndexLaw) (own_law : OwnsByShape h.typing.table)
     (v : Views) (parts_named : PartsAreNamed h.typing.table) where
   abbrev Ready : Memory → List Waiting → List Fact → Type 0
-  Ready = evaluating.Ready h settled leaks waits other alone keeps index_law own_law v parts_named
+  Ready = evaluating.Ready h sees seeing settled leaks waits other alone keeps index_law own_law v parts_named
 
   abbrev GivenOn : List (List machine.Word) → ℕ → List Waiting → List Fact → Evaluated (List machine.Word) → Type 0
-  GivenOn = evaluating.GivenOn h settled leaks waits other alone keeps index_law own_law v parts_named
+  GivenOn = evaluating.GivenOn h sees seeing settled leaks waits other alone keeps index_law own_law v parts_named
 
   abbrev Grows : List (List machine.Word) → ℕ → List machine.Word → List Waiting → List Fact → Evaluated (List machine.Word) → Type 0
-  Grows = evaluating.Grows h settled leaks waits other alone keeps index_law own_law v parts_named
+  Grows = evaluating.Grows h sees seeing settled leaks waits other alone keeps index_law own_law v parts_named
 
   then_fed : (mid on : List (List machine.Word)) (u t : ℕ) (acc : List machine.Word) (above below : List Waiting) (facts facts' : List Fact) (x : Evaluated (List machine.Word))
       (f : List machine.Word → Now → Evaluated (List machine.Word)) → GivenOn mid u above facts x
@@ -139,20 +139,20 @@ module _ (h : Here) (settled : IsSettled h.typing.table) (leaks : List Leak) (wa
 
   -- the type that is taken fits, so that of the value does
   value_matches : (t want : ℕ) (w : Waiting) → Matches h.typing.table t want → IsOfType h.typing t w → Matches h.typing.table w.of want
-  value_matches t want w fits (inl both, long) = inr (both.1, evaluating.matches_plain h settled leaks waits other alone keeps index_law own_law v parts_named t want fits both.0)
+  value_matches t want w fits (inl both, long) = inr (both.1, evaluating.matches_plain h sees seeing settled leaks waits other alone keeps index_law own_law v parts_named t want fits both.0)
   value_matches t want w fits (inr same, long) = subst (λ z. Matches h.typing.table z want) same fits
 
   -- what takes scalar values alone
   plainly : (e : TypedTree) (want : ℕ) → Gives h.typing want e → GivesPlainly h.typing e → AreScalarTypes h.typing (types_taken h.typing e)
       → (front : List Waiting) → AreOfTypes h.typing (types_taken h.typing e) front → (K below : List Waiting) (on : List (List machine.Word)) (m : Memory) (facts : List Fact)
       → Ready m (K ++ (front ++ below)) facts → AllowsAll facts (acts (acts_in h.typing e)) → IsNamed h.typing.table want
-      → AllKeep (is_fixed h.typing) (acts (acts_in h.typing e))
+      → AllKeep (is_fixed h.typing sees) (acts (acts_in h.typing e))
       → GivenOn on want (K ++ (blanks front ++ below)) (after (acts (acts_in h.typing e)) facts) (evaluate h AsValue e (record { memory = m; waits = first_words front on }))
   plainly e want gives plain scalar front fit K below on m facts ready allowed own keep =
-      evaluating.evaluated_on h settled leaks waits other alone keeps index_law own_law v parts_named e want gives plain (first_words front on) on
+      evaluating.evaluated_on h sees seeing settled leaks waits other alone keeps index_law own_law v parts_named e want gives plain (first_words front on) on
       (subst (λ k. Takes k (first_words front on) on) (types_count h.typing e) (takes_values h.typing settled (types_taken h.typing e) front fit scalar on))
       m (K ++ (blanks front ++ below)) facts
-      (hand.all_blanked h settled leaks waits other alone keeps index_law own_law v parts_named m K front below facts (scalar_values h.typing (types_taken h.typing e) front fit scalar) ready) allowed own keep
+      (hand.all_blanked h sees seeing settled leaks waits other alone keeps index_law own_law v parts_named m K front below facts (scalar_values h.typing (types_taken h.typing e) front fit scalar) ready) allowed own keep
 
   -- where values of a second part lie above those of a first one
   two_fronts : (K later first below : List Waiting) → K ++ ((later ++ first) ++ below) ≡ (K ++ later) ++ (first ++ below)
@@ -168,14 +168,14 @@ module _ (h : Here) (settled : IsSettled h.typing.table) (leaks : List Leak) (wa
     pub fed : (e : TypedTree) (want : ℕ) → Gives h.typing want e → TakesFit h.typing e → (front : List Waiting) → AreOfTypes h.typing (types_taken h.typing e) front
         → (K below : List Waiting) (on : List (List machine.Word)) (m : Memory) (facts : List Fact)
         → Ready m (K ++ (front ++ below)) facts → AllowsAll facts (acts (acts_in h.typing e)) → IsNamed h.typing.table want
-        → AllKeep (is_fixed h.typing) (acts (acts_in h.typing e))
+        → AllKeep (is_fixed h.typing sees) (acts (acts_in h.typing e))
         → GivenOn on want (K ++ (blanks front ++ below)) (after (acts (acts_in h.typing e)) facts) (evaluate h AsValue e (record { memory = m; waits = first_words front on }))
     fed (Call p sub actuals) want gives takes [] fit K below on m facts ready allowed own keep = absurd fit
     fed (Call p sub actuals) want gives takes (w ∷ x ∷ front) fit K below on m facts ready allowed own keep = absurd fit.1
     fed (Call p sub actuals) want (t, result, fits) takes (w ∷ []) fit K below on m facts ready allowed own keep =
         let mine : IsOfType h.typing t w = subst (λ z. IsOfType h.typing z w) (ap type_given result) fit.0 in
-        evaluating.retyped_given h settled leaks waits other alone keeps index_law own_law v parts_named on w.of want (K ++ (no_value ∷ below)) facts (value_matches t want w fits mine)
-        (Done w.words (record { memory = m; waits = drop 1 (w.words ∷ on) })) (hand.lifted h settled leaks waits other alone keeps index_law own_law v parts_named m K w below facts mine.1 ready, mine.1, drop_none on)
+        evaluating.retyped_given h sees seeing settled leaks waits other alone keeps index_law own_law v parts_named on w.of want (K ++ (no_value ∷ below)) facts (value_matches t want w fits mine)
+        (Done w.words (record { memory = m; waits = drop 1 (w.words ∷ on) })) (hand.lifted h sees seeing settled leaks waits other alone keeps index_law own_law v parts_named m K w below facts mine.1 ready, mine.1, drop_none on)
     fed (Parens e) want gives takes front fit K below on m facts ready allowed own keep = fed e want gives takes front fit K below on m facts ready allowed own keep
     fed (New t NoMore) want gives takes front fit K below on m facts ready allowed own keep =
         plainly (New t NoMore) want gives tt tt front fit K below on m facts ready allowed own keep
@@ -185,21 +185,21 @@ module _ (h : Here) (settled : IsSettled h.typing.table) (leaks : List Leak) (wa
         let types_same : types_taken h.typing more ++ types_taken h.typing e ≡ types_taken h.typing e = ap (λ z. types_taken h.typing z ++ types_taken h.typing e) none in
         let blank : Waiting = record { of = want; words = [] } in
         let inner = fed e t gives takes.0 front (subst (λ z. AreOfTypes h.typing z front) types_same fit) (blank ∷ K) below on m facts
-        (evaluating.blank_ready h settled leaks waits other alone keeps index_law own_law v parts_named m (K ++ (front ++ below)) facts want [] (λ k h. h) ready)
+        (evaluating.blank_ready h sees seeing settled leaks waits other alone keeps index_law own_law v parts_named m (K ++ (front ++ below)) facts want [] (λ k h. h) ready)
         (subst (λ z. AllowsAll facts (acts z)) acts_same allowed) (matches_named h.typing.table d t fits (parts_named.designated want d c n is))
-        (subst (λ z. AllKeep (is_fixed h.typing) (acts z)) acts_same keep) in
+        (subst (λ z. AllKeep (is_fixed h.typing sees) (acts z)) acts_same keep) in
         subst (λ z. GivenOn on want (K ++ (blanks front ++ below)) (after (acts z) facts) (followed_by (followed_by (evaluate h AsValue e now) (checked h t)) (allocated t))) (sym acts_same)
-        (evaluating.allocated_given h settled leaks waits other alone keeps index_law own_law v parts_named on t want d c n (K ++ (blanks front ++ below)) (after (acts (acts_in h.typing e)) facts) own is fits
+        (evaluating.allocated_given h sees seeing settled leaks waits other alone keeps index_law own_law v parts_named on t want d c n (K ++ (blanks front ++ below)) (after (acts (acts_in h.typing e)) facts) own is fits
         (followed_by (evaluate h AsValue e now) (checked h t))
-        (evaluating.checked_on h settled leaks waits other alone keeps index_law own_law v parts_named on t t (blank ∷ (K ++ (blanks front ++ below))) (after (acts (acts_in h.typing e)) facts) (evaluate h AsValue e now) inner))
+        (evaluating.checked_on h sees seeing settled leaks waits other alone keeps index_law own_law v parts_named on t t (blank ∷ (K ++ (blanks front ++ below))) (after (acts (acts_in h.typing e)) facts) (evaluate h AsValue e now) inner))
     fed (New t v) want (d, c, n, is, fits, none) takes front fit K below on m facts ready allowed own keep = absurd none
     fed (Aggregate t es) want (fits, made, count, gives) takes front fit K below on m facts ready allowed own keep =
         let now : Now = record { memory = m; waits = first_words front on } in
-        evaluating.retyped_given h settled leaks waits other alone keeps index_law own_law v parts_named on t want (K ++ (blanks front ++ below)) (after (acts (acts_in h.typing es)) facts) fits (parts_of h t 0 es now)
-        (evaluating.all_grown h settled leaks waits other alone keeps index_law own_law v parts_named on t (K ++ (blanks front ++ below)) (after (acts (acts_in h.typing es)) facts) (parts_of h t 0 es now)
+        evaluating.retyped_given h sees seeing settled leaks waits other alone keeps index_law own_law v parts_named on t want (K ++ (blanks front ++ below)) (after (acts (acts_in h.typing es)) facts) fits (parts_of h t 0 es now)
+        (evaluating.all_grown h sees seeing settled leaks waits other alone keeps index_law own_law v parts_named on t (K ++ (blanks front ++ below)) (after (acts (acts_in h.typing es)) facts) (parts_of h t 0 es now)
         (parts_fed es t 0 gives takes front fit (let n : 0 + tree_count es ≡ field_count (shape_of h.typing.table t) = omega (arith, count) in n) made K below on m [] facts
         (sym (words_none (words h.typing.table) (shape_of h.typing.table t)))
-        (evaluating.blank_ready h settled leaks waits other alone keeps index_law own_law v parts_named m (K ++ (front ++ below)) facts t [] (λ k h. h) ready) allowed keep))
+        (evaluating.blank_ready h sees seeing settled leaks waits other alone keeps index_law own_law v parts_named m (K ++ (front ++ below)) facts t [] (λ k h. h) ready) allowed keep))
     fed (Alike t e) want (fits, array, plain, gives) takes front fit K below on m facts ready allowed own keep = elim plain [
       | inr null ↦ plainly (Alike t e) want (fits, array, inr null, gives) (subst (GivesPlainly h.typing) (sym null) tt)
           (subst (λ z. AreScalarTypes h.typing (types_taken h.typing z)) (sym null) tt) front fit K below on m facts ready allowed own keep
@@ -208,10 +208,10 @@ module _ (h : Here) (settled : IsSettled h.typing.table) (leaks : List Leak) (wa
           let el : ℕ = machine.element_type h.typing.table t in
           let hands : List Waiting = K ++ (blanks front ++ below) in
           let facts_then : List Fact = after (acts (acts_in h.typing e)) facts in
-          evaluating.retyped_given h settled leaks waits other alone keeps index_law own_law v parts_named on t want hands facts_then fits (followed_by (evaluate h AsValue e now) (λ ws now. followed_by (checked h el ws now) (evaluating.repeats h settled leaks waits other alone keeps index_law own_law v parts_named t)))
-          (subst (GivenOn on t hands facts_then) (regrouped (evaluate h AsValue e now) (checked h el) (evaluating.repeats h settled leaks waits other alone keeps index_law own_law v parts_named t))
-          (evaluating.repeated_given h settled leaks waits other alone keeps index_law own_law v parts_named on t hands facts_then array none (followed_by (evaluate h AsValue e now) (checked h el))
-          (evaluating.checked_on h settled leaks waits other alone keeps index_law own_law v parts_named on el el hands facts_then (evaluate h AsValue e now)
+          evaluating.retyped_given h sees seeing settled leaks waits other alone keeps index_law own_law v parts_named on t want hands facts_then fits (followed_by (evaluate h AsValue e now) (λ ws now. followed_by (checked h el ws now) (evaluating.repeats h sees seeing settled leaks waits other alone keeps index_law own_law v parts_named t)))
+          (subst (GivenOn on t hands facts_then) (regrouped (evaluate h AsValue e now) (checked h el) (evaluating.repeats h sees seeing settled leaks waits other alone keeps index_law own_law v parts_named t))
+          (evaluating.repeated_given h sees seeing settled leaks waits other alone keeps index_law own_law v parts_named on t hands facts_then array none (followed_by (evaluate h AsValue e now) (checked h el))
+          (evaluating.checked_on h sees seeing settled leaks waits other alone keeps index_law own_law v parts_named on el el hands facts_then (evaluate h AsValue e now)
           (fed e el gives takes front fit K below on m facts ready allowed (parts_named.element t) keep)))))
     ]
     fed (More e more) want gives takes front fit K below on m facts ready allowed own keep = absurd gives
@@ -223,7 +223,7 @@ module _ (h : Here) (settled : IsSettled h.typing.table) (leaks : List Leak) (wa
         → (K below : List Waiting) (on : List (List machine.Word)) (m : Memory) (acc : List machine.Word) (facts : List Fact)
         → length acc ≡ words_to (words h.typing.table) (shape_of h.typing.table t) i
         → Ready m (record { of = t; words = acc } ∷ (K ++ (front ++ below))) facts → AllowsAll facts (acts (acts_in h.typing es))
-        → AllKeep (is_fixed h.typing) (acts (acts_in h.typing es))
+        → AllKeep (is_fixed h.typing sees) (acts (acts_in h.typing es))
         → Grows on t acc (K ++ (blanks front ++ below)) (after (acts (acts_in h.typing es)) facts) (parts_of h t i es (record { memory = m; waits = first_words front on }))
     parts_fed (More e more) t i gives takes front fit count made K below on m acc facts fills ready allowed keep =
         let two = split_values h.typing (types_taken h.typing more) (types_taken h.typing e) front fit in
@@ -251,9 +251,9 @@ module _ (h : Here) (settled : IsSettled h.typing.table) (leaks : List Leak) (wa
         each = allows_both facts (acts (acts_in h.typing e)) (acts (acts_in h.typing more))
             (subst (AllowsAll facts) (acts_append (acts_in h.typing e) (acts_in h.typing more)) allowed)
 
-        names : AllKeep (is_fixed h.typing) (acts (acts_in h.typing e)) × AllKeep (is_fixed h.typing) (acts (acts_in h.typing more))
-        names = keep_both (is_fixed h.typing) (acts (acts_in h.typing e)) (acts (acts_in h.typing more))
-            (subst (AllKeep (is_fixed h.typing)) (acts_append (acts_in h.typing e) (acts_in h.typing more)) keep)
+        names : AllKeep (is_fixed h.typing sees) (acts (acts_in h.typing e)) × AllKeep (is_fixed h.typing sees) (acts (acts_in h.typing more))
+        names = keep_both (is_fixed h.typing sees) (acts (acts_in h.typing e)) (acts (acts_in h.typing more))
+            (subst (AllKeep (is_fixed h.typing sees)) (acts_append (acts_in h.typing e) (acts_in h.typing more)) keep)
 
         between : List Fact
         between = after (acts (acts_in h.typing e)) facts
@@ -269,7 +269,7 @@ module _ (h : Here) (settled : IsSettled h.typing.table) (leaks : List Leak) (wa
         grows w n hands mid given = (
           (let size : length (acc ++ w) ≡ length acc + length w = length-append acc w in let step = words_next (words h.typing.table) sh i lt in let own = given.1 in
               omega (arith, size, step, fills, own)),
-          evaluating.part_joined h settled leaks waits other alone keeps index_law own_law v parts_named n.memory hands between t u acc w (nth_part sh i) (part_there h.typing.table t sh refl i lt)
+          evaluating.part_joined h sees seeing settled leaks waits other alone keeps index_law own_law v parts_named n.memory hands between t u acc w (nth_part sh i) (part_there h.typing.table t sh refl i lt)
               (part_offset h.typing.table t sh refl i lt ∙ sym fills) (part_is h.typing.table t sh refl i lt) given.1 given.0,
         )
 
@@ -288,8 +288,8 @@ module _ (h : Here) (settled : IsSettled h.typing.table) (leaks : List Leak) (wa
             (subst (Grows on t acc (K ++ (blanks (later ++ first) ++ below)) behind) (regrouped (evaluate h AsValue e now) (checked h u) next)
             (then_fed mid on u t acc (part ∷ (K ++ (later ++ (blanks first ++ below)))) (K ++ (blanks (later ++ first) ++ below)) between behind
             (followed_by (evaluate h AsValue e now) (checked h u)) next
-            (evaluating.checked_on h settled leaks waits other alone keeps index_law own_law v parts_named mid u u (part ∷ (K ++ (later ++ (blanks first ++ below)))) between (evaluate h AsValue e now) value_first)
-            (λ w n given. evaluating.grown h settled leaks waits other alone keeps index_law own_law v parts_named on t acc w (K ++ (blanks (later ++ first) ++ below)) behind (parts_of h t (suc i) more n)
+            (evaluating.checked_on h sees seeing settled leaks waits other alone keeps index_law own_law v parts_named mid u u (part ∷ (K ++ (later ++ (blanks first ++ below)))) between (evaluate h AsValue e now) value_first)
+            (λ w n given. evaluating.grown h sees seeing settled leaks waits other alone keeps index_law own_law v parts_named on t acc w (K ++ (blanks (later ++ first) ++ below)) behind (parts_of h t (suc i) more n)
             (subst (λ z. Grows on t (acc ++ w) (K ++ (blanks (later ++ first) ++ below)) behind (parts_of h t (suc i) more (record { memory = n.memory; waits = z }))) (sym given.2)
             (subst (λ z. Grows on t (acc ++ w) z behind (parts_of h t (suc i) more (record { memory = n.memory; waits = mid }))) (then_blank K later first below)
             (others w n (grows w n (K ++ (later ++ (blanks first ++ below))) mid given).0 (grows w n (K ++ (later ++ (blanks first ++ below))) mid given).1))))))
@@ -320,7 +320,7 @@ module _ (h : Here) (settled : IsSettled h.typing.table) (leaks : List Leak) (wa
   pub fed_alone : (e : TypedTree) (want : ℕ) → Gives h.typing want e → TakesFit h.typing e → (later front : List Waiting) → AreScalarValues h.typing later
       → AreOfTypes h.typing (types_taken h.typing e) front → (below : List Waiting) (on : List (List machine.Word)) (m : Memory) (facts : List Fact)
       → Ready m ((later ++ front) ++ below) facts → AllowsAll facts (acts (acts_in h.typing e)) → IsNamed h.typing.table want
-      → AllKeep (is_fixed h.typing) (acts (acts_in h.typing e))
+      → AllKeep (is_fixed h.typing sees) (acts (acts_in h.typing e))
       → GivenOn (first_words later on) want below (after (acts (acts_in h.typing e)) facts) (evaluate h AsValue e (record { memory = m; waits = first_words (later ++ front) on }))
   fed_alone e want gives takes later front scalar fit below on m facts ready allowed own keep =
       subst (λ z. GivenOn mid want below facts_then (evaluate h AsValue e (record { memory = m; waits = z }))) (sym (first_both later front on))
@@ -336,9 +336,9 @@ module _ (h : Here) (settled : IsSettled h.typing.table) (leaks : List Leak) (wa
       falls : (x : Evaluated (List machine.Word)) → GivenOn mid want (later ++ (blanks front ++ below)) facts_then x → GivenOn mid want below facts_then x
       falls (Done w n) (well, size, same) =
           let value : Waiting = record { of = want; words = w } in (
-            hand.all_dropped h settled leaks waits other alone keeps index_law own_law v parts_named n.memory value front below facts_then size
-                (hand.all_dropped h settled leaks waits other alone keeps index_law own_law v parts_named n.memory value later (blanks front ++ below) facts_then size
-                (hand.all_blanked h settled leaks waits other alone keeps index_law own_law v parts_named n.memory (value ∷ []) later (blanks front ++ below) facts_then scalar well)),
+            hand.all_dropped h sees seeing settled leaks waits other alone keeps index_law own_law v parts_named n.memory value front below facts_then size
+                (hand.all_dropped h sees seeing settled leaks waits other alone keeps index_law own_law v parts_named n.memory value later (blanks front ++ below) facts_then size
+                (hand.all_blanked h sees seeing settled leaks waits other alone keeps index_law own_law v parts_named n.memory (value ∷ []) later (blanks front ++ below) facts_then scalar well)),
             size,
             same,
           )

@@ -3,49 +3,48 @@
 use Rattle.std.proofs.Common.{◌≡◌, refl, sym, ap, ◌∙◌, subst, ◌⊎◌, inl, inr, ℕ, suc, ◌<◌, Bool, true, false, List, Some, arith, if◌then◌else◌}
 use Rattle.place_names.specs.declared.fact.Fact.{Fact}
 use Rattle.flow_paths.specs.Objects.{Typing, is_package_object}
-use Rattle.owned_ways.specs.Ways.{OfVariable, OfRoot, Way, All, View, Under, Past, Named, base_of, number_of, name_of}
+use Rattle.owned_ways.specs.Ways.{Step, OfVariable, OfRoot, Way, All, View, Under, Past, Named, base_of, number_of, name_of}
 use Rattle.owned_ways.proofs.Dropped.{named_base}
 use Rattle.owned_ways.proofs.Locations.{under_itself}
 use Rattle.soundness.specs.Seen.{IsNear, home}
 use Rattle.soundness.proofs.Around.{package_named}
 use Rattle.owned_loans.specs.Views.{on, Around, Views, expand, ExcusedBy, IsForeign, Viewed}
-use Rattle.owned_loans.proofs.Ways.{Meet, meets_front, beginnings, under_on, on_under, Lifted, lifted_way, next_of}
-use Rattle.owned_loans.proofs.Meeting.{next}
+use Rattle.owned_loans.proofs.Ways.{Meet, meets_front, beginnings, under_on, on_under, Lifted, lifted_way, next_of, InPart, in_part_way}
+use Rattle.owned_loans.proofs.Meeting.{next, no_part}
 use Rattle.place_names.specs.Names.{overlaps}
 use Rattle.place_names.proofs.Names.{overlaps-sym}
-use Rattle.owned_loans.proofs.Safe.{Unlent, Unborrowed, designated_over, unlent_below, unborrowed_below, unmoved_below, over_below, apart_names, off_view}
+use Rattle.owned_loans.proofs.Safe.{Unlent, Unborrowed, designated_over, unlent_below, unborrowed_below, unmoved_below, over_below, apart_names, off_parts, off_view}
 use Rattle.owned_loans.proofs.Allowed.{Cleared, cleared_whole}
-use Rattle.owned_loans.proofs.Others.{off_kept, above_away, clean_away, seen_above_away, seen_away_below}
+use Rattle.owned_loans.proofs.Others.{off_kept, above_away, clean_away, seen_above_away, seen_away_below, part_above_away, part_away_below}
 use Rattle.owned_loans.proofs.Moves.{IsPlace}
-use Rattle.viewed_soundness.specs.Holds.{sees_only}
 use Rattle.viewed_soundness.proofs.Spared.{gone_off}
 use Rattle.viewed_soundness.proofs.Viewing.{expand_down}
 
-module _ (s : Typing) (frame : ℕ) (other : Around (home s frame)) (v : Views) (view : View) (facts : List Fact)
-    (viewed : Viewed (home s frame) (sees_only s) other v view facts) (alone : (w : Way) → IsNear frame w → other.gone w → ⊥) where
+module _ (s : Typing) (sees : ℕ → Bool) (frame : ℕ) (other : Around (home s frame)) (v : Views) (view : View) (facts : List Fact)
+    (viewed : Viewed (home s frame) sees other v view facts) (alone : (w : Way) → IsNear frame w → other.gone w → ⊥) where
   -- One of two ways begins the other.
   abbrev Meets : Way → Way → Type 0
   Meets z w = Under z w ⊎ Under w z
 
   -- by a name of an owner or a borrower
-  pub owner_whole : (u : Way) → Named (home s frame) u → sees_only s (number_of u) ≡ false → IsPlace v u → Cleared facts u
+  pub owner_whole : (u : Way) → Named (home s frame) u → sees (number_of u) ≡ false → IsPlace v u → Cleared facts u
       → (z : Way) → ExcusedBy (home s frame) v other facts z → Meets z (expand v (All u)) → ⊥
   owner_whole u named plain place clear z excused meets =
-      by_case excused (subst (Meets z) (expand_down v u place) meets)
+      by_case excused (subst (Meets z) (expand_down v u place (inr (no_part (home s frame) sees v view facts viewed.views u plain))) meets)
     where
       by_case : ExcusedBy (home s frame) v other facts z → Meets z (All (expand v u)) → ⊥
-      by_case (inr gone) met = gone_off s frame other v view facts viewed alone u z named plain (meets_front (expand v u) (All (expand v u)) z (inr (under_itself (expand v u))) met) gone
+      by_case (inr gone) met = gone_off s sees frame other v view facts viewed alone u z named plain (meets_front (expand v u) (All (expand v u)) z (inr (under_itself (expand v u))) met) gone
       by_case (inl away) (inr below) =
-          clean_away (home s frame) (sees_only s) other v view facts viewed u z (named, plain) clear.0 clear.1
+          clean_away (home s frame) sees other v view facts viewed u z (named, plain) clear.0 clear.1
           (under_on (expand v u) (All (expand v u)) z (inr (under_itself (expand v u))) below) away
       by_case (inl away) (inl (inl same)) =
-          clean_away (home s frame) (sees_only s) other v view facts viewed u z (named, plain) clear.0 clear.1
+          clean_away (home s frame) sees other v view facts viewed u z (named, plain) clear.0 clear.1
           (subst (Under (expand v u)) (sym same) (inr (under_itself (expand v u)))) away
       by_case (inl away) (inl (inr above)) =
-          above_away (home s frame) (sees_only s) other v view facts viewed u z (named, plain) (cleared_whole facts u clear) above away
+          above_away (home s frame) sees other v view facts viewed u z (named, plain) (cleared_whole facts u clear) above away
 
   -- by the way of what is designated, of a formal itself, too
-  pub lent_whole : (u : Way) → Named (home s frame) u → sees_only s (number_of u) ≡ false → Cleared facts u
+  pub lent_whole : (u : Way) → Named (home s frame) u → sees (number_of u) ≡ false → Cleared facts u
       → (z : Way) → ExcusedBy (home s frame) v other facts z → Meets z (expand v (All u)) → ⊥
   lent_whole u named plain clear z excused meets = by_case excused meets
     where
@@ -53,23 +52,23 @@ module _ (s : Typing) (frame : ℕ) (other : Around (home s frame)) (v : Views) 
       clear_below = (unborrowed_below facts u clear.0, unmoved_below facts u clear.1)
 
       by_case : ExcusedBy (home s frame) v other facts z → Meets z (expand v (All u)) → ⊥
-      by_case (inr gone) met = gone_off s frame other v view facts viewed alone (All u) z named plain met gone
+      by_case (inr gone) met = gone_off s sees frame other v view facts viewed alone (All u) z named plain met gone
       by_case (inl away) (inr below) =
-          clean_away (home s frame) (sees_only s) other v view facts viewed (All u) z (named, plain) clear_below.0 clear_below.1 below away
+          clean_away (home s frame) sees other v view facts viewed (All u) z (named, plain) clear_below.0 clear_below.1 below away
       by_case (inl away) (inl above) =
-          above_away (home s frame) (sees_only s) other v view facts viewed (All u) z (named, plain) (cleared_whole facts (All u) clear_below) above away
+          above_away (home s frame) sees other v view facts viewed (All u) z (named, plain) (cleared_whole facts (All u) clear_below) above away
 
   -- through an observer or another formal
-  pub seen_whole : (u : Way) → Named (home s frame) u → (l : Lifted v (All u)) → sees_only s l.object ≡ true
+  pub seen_whole : (u : Way) → Named (home s frame) u → (l : Lifted v (All u)) → sees l.object ≡ true
       → (z : Way) → ExcusedBy (home s frame) v other facts z → Meets z (expand v (All u)) → ⊥
-  seen_whole u named l sees z (inl away) (inl above) =
-      seen_above_away (home s frame) (sees_only s) other v view facts viewed (All u) z l named sees above away
-  seen_whole u named l sees z (inl away) (inr below) =
-      seen_away_below (home s frame) (sees_only s) other v view facts viewed (All u) z l named sees below away
-  seen_whole u named l sees z (inr gone) meets = elim (viewed.views l.object l.way l.has) [
+  seen_whole u named l sight z (inl away) (inl above) =
+      seen_above_away (home s frame) sees other v view facts viewed (All u) z l named sight above away
+  seen_whole u named l sight z (inl away) (inr below) =
+      seen_away_below (home s frame) sees other v view facts viewed (All u) z l named sight below away
+  seen_whole u named l sight z (inr gone) meets = elim (viewed.views.0 l.object l.way l.has) [
     | inl own ↦ (
-        let on = next (home s frame) (sees_only s) v view facts viewed.views (All u) l own named in
-        gone_off s frame other v view facts viewed alone (next_of v (All u) l) z on.plain.0 on.plain.1 (subst (Meets z) (sym on.same) meets) gone)
+        let on = next (home s frame) sees v view facts viewed.views (All u) l own named in
+        gone_off s sees frame other v view facts viewed alone (next_of v (All u) l) z on.plain.0 on.plain.1 (subst (Meets z) (sym on.same) meets) gone)
     | inr passed ↦ viewed.whole l.object l.way z l.has (inr passed.given) gone (nearer (subst (Meets z) (lifted_way v (All u) l) meets))
   ]
     where
@@ -77,31 +76,46 @@ module _ (s : Typing) (frame : ℕ) (other : Around (home s frame)) (v : Views) 
       nearer (inl above) = beginnings z l.way (on l.way l.rest) above (on_under l.way l.rest)
       nearer (inr below) = inr (under_on l.way (on l.way l.rest) z (on_under l.way l.rest) below)
 
+  -- through a part of a formal
+  pub part_whole : (u : Way) → (l : InPart v u) → (z : Way) → ExcusedBy (home s frame) v other facts z → Meets z (expand v u) → ⊥
+  part_whole u l z (inl away) (inl above) = part_above_away (home s frame) sees other v view facts viewed u z l above away
+  part_whole u l z (inl away) (inr below) = part_away_below (home s frame) sees other v view facts viewed u z l below away
+  part_whole u l z (inr gone) meets = viewed.whole_parts l.object l.steps l.way z l.has gone (nearer (subst (Meets z) (in_part_way v u l) meets))
+    where
+      nearer : Meets z (on l.way l.rest) → Meets z l.way
+      nearer (inl above) = beginnings z l.way (on l.way l.rest) above (on_under l.way l.rest)
+      nearer (inr below) = inr (under_on l.way (on l.way l.rest) z (on_under l.way l.rest) below)
+
 -- What a formal changes: nothing of it is lent, so no view of the frame goes past it, and none of others; and
 -- what names designate that don't overlap doesn't meet.
-module _ (s : Typing) (frame : ℕ) (other : Around (home s frame)) (v : Views) (view : View) (facts : List Fact)
-    (viewed : Viewed (home s frame) (sees_only s) other v view facts) where
-  pub lent_past : (u : Way) → Named (home s frame) u → sees_only s (number_of u) ≡ false → Unlent facts u
+module _ (s : Typing) (sees : ℕ → Bool) (frame : ℕ) (other : Around (home s frame)) (v : Views) (view : View) (facts : List Fact)
+    (viewed : Viewed (home s frame) sees other v view facts) where
+  pub lent_past : (u : Way) → Named (home s frame) u → sees (number_of u) ≡ false → Unlent facts u
       → (x : ℕ) (w : Way) → v.way x ≡ Some w → Past (expand v (All u)) w → ⊥
   lent_past u named plain unlent x w has past =
-      off_view (home s frame) (sees_only s) other v view facts viewed (All u) x w (named, plain) (unlent_below facts u unlent) has past
+      off_view (home s frame) sees other v view facts viewed (All u) x w (named, plain) (unlent_below facts u unlent) has past
 
-  pub lent_far : (u : Way) → Named (home s frame) u → sees_only s (number_of u) ≡ false → Unlent facts u
+  pub lent_past_part : (u : Way) → Named (home s frame) u → sees (number_of u) ≡ false → Unlent facts u
+      → (x : ℕ) (p : List Step) (w : Way) → v.part_way x p ≡ Some w → Past (expand v (All u)) w → ⊥
+  lent_past_part u named plain unlent x p w has past =
+      off_parts (home s frame) sees other v view facts viewed (All u) x p w (named, plain) (unlent_below facts u unlent) has past
+
+  pub lent_far : (u : Way) → Named (home s frame) u → sees (number_of u) ≡ false → Unlent facts u
       → (w : Way) (n : ℕ) → other.kept w n → Past (expand v (All u)) w → ⊥
   lent_far u named plain unlent w n keeps past =
-      off_kept (home s frame) (sees_only s) other v view facts viewed (All u) w n (named, plain) (unlent_below facts u unlent) keeps past
+      off_kept (home s frame) sees other v view facts viewed (All u) w n (named, plain) (unlent_below facts u unlent) keeps past
 
-  pub lent_apart : (u y : Way) → Named (home s frame) u → Named (home s frame) y → sees_only s (number_of u) ≡ false → sees_only s (number_of y) ≡ false
+  pub lent_apart : (u y : Way) → Named (home s frame) u → Named (home s frame) y → sees (number_of u) ≡ false → sees (number_of y) ≡ false
       → Unborrowed facts u → Unborrowed facts y → (overlaps (name_of u) (name_of y) ≡ true → ⊥) → Meet (expand v (All u)) (expand v (All y)) → ⊥
   lent_apart u y named named_y plain plain_y free free_y apart meets =
-      apart_names (home s frame) (sees_only s) other v view facts viewed (All u) (All y) (named, plain) (named_y, plain_y)
+      apart_names (home s frame) sees other v view facts viewed (All u) (All y) (named, plain) (named_y, plain_y)
       (unborrowed_below facts u free) (unborrowed_below facts y free_y) (λ over. apart (over_below u y over)) meets
 
   -- nor what a name designates and another place
-  pub lent_beside : (u y : Way) → Named (home s frame) u → Named (home s frame) y → sees_only s (number_of u) ≡ false → sees_only s (number_of y) ≡ false
+  pub lent_beside : (u y : Way) → Named (home s frame) u → Named (home s frame) y → sees (number_of u) ≡ false → sees (number_of y) ≡ false
       → Unborrowed facts u → Unborrowed facts y → (overlaps (name_of u) (name_of y) ≡ true → ⊥) → Meet (expand v (All u)) (expand v y) → ⊥
   lent_beside u y named named_y plain plain_y free free_y apart meets =
-      apart_names (home s frame) (sees_only s) other v view facts viewed (All u) y (named, plain) (named_y, plain_y) (unborrowed_below facts u free) free_y
+      apart_names (home s frame) sees other v view facts viewed (All u) y (named, plain) (named_y, plain_y) (unborrowed_below facts u free) free_y
       (λ over. apart (overlaps-sym (name_of u) (name_of y) ∙ designated_over (name_of y) u (overlaps-sym (name_of y) (name_of (All u)) ∙ over))) meets
 
 -- A way of a frame, or one that is foreign there and begins below the next frame.

@@ -1,6 +1,6 @@
 -- Values that wait are hands below those of an expression. They go to a new hand where they are taken; those that
 -- show no cell fall empty, and empty hands fall from below a value.
-use Rattle.std.proofs.Common.{◌≡◌, refl, sym, ap, ◌∙◌, subst, inl, inr, ℕ, suc, ◌==◌, true, List, [], ◌∷◌, ◌++◌, length, reverse, map, arith, append_assoc, length-append, if◌then◌else◌}
+use Rattle.std.proofs.Common.{◌≡◌, refl, sym, ap, ◌∙◌, subst, inl, inr, ℕ, suc, ◌==◌, true, List, [], ◌∷◌, ◌++◌, length, reverse, map, arith, append_assoc, length-append, if◌then◌else◌, Bool}
 use mathlib.Core.List.{reverse_aux}
 use Rattle.place_names.specs.declared.fact.Fact.{Fact}
 use Rattle.type_definitions.specs.Types.{words}
@@ -25,7 +25,7 @@ use Rattle.soundness.proofs.Steps.{hand_top, hand_below, no_leaf}
 use Rattle.type_definitions.specs.Types.{full, is_scalar}
 use Rattle.owned_loans.specs.Views.{Around, Views, ExcusedBy, Viewed}
 use Rattle.owned_loans.proofs.Moves.{as_sound, same_viewed}
-use Rattle.viewed_soundness.specs.Holds.{PartsAreNamed, sees_only}
+use Rattle.viewed_soundness.specs.Holds.{PartsAreNamed, Seeing}
 use Rattle.viewed_soundness.specs.Taken.{AreScalarValues}
 use Rattle.viewed_soundness.proofs.Evaluated as evaluating
 use Rattle.viewed_soundness.proofs.Lifted.{lifted_sound, lifted_kept}
@@ -78,12 +78,12 @@ words_reversed (x ∷ xs) ys = words_reversed xs (x ∷ ys)
 pub words_first : (xs : List Waiting) → map words_of_value (reverse xs) ≡ first_words xs []
 words_first xs = words_reversed xs []
 
-module _ (h : Here) (settled : IsSettled h.typing.table) (leaks : List Leak) (waits : List (List machine.Word)) (other : Around (home h.typing h.frame))
+module _ (h : Here) (sees : ℕ → Bool) (seeing : Seeing h.typing sees) (settled : IsSettled h.typing.table) (leaks : List Leak) (waits : List (List machine.Word)) (other : Around (home h.typing h.frame))
     (alone : (w : Way) → IsNear h.frame w → other.gone w → ⊥) (keeps : Keeps h.typing)
     (index_law : IndexLaw) (own_law : OwnsByShape h.typing.table)
     (v : Views) (parts_named : PartsAreNamed h.typing.table) where
   abbrev Ready : Memory → List Waiting → List Fact → Type 0
-  Ready = evaluating.Ready h settled leaks waits other alone keeps index_law own_law v parts_named
+  Ready = evaluating.Ready h sees seeing settled leaks waits other alone keeps index_law own_law v parts_named
 
   -- the value goes to a new hand
   pub lifted : (m : Memory) (K : List Waiting) (x : Waiting) (rest : List Waiting) (facts : List Fact) → length x.words ≡ words h.typing.table x.of
@@ -92,7 +92,7 @@ module _ (h : Here) (settled : IsSettled h.typing.table) (leaks : List Leak) (wa
       let before : List Waiting = K ++ x ∷ rest in
       let a : List Waiting = record { of = x.of; words = [] } ∷ before in
       let b : List Waiting = x ∷ (K ++ no_value ∷ rest) in
-      let blanked : Ready m a facts = evaluating.blank_ready h settled leaks waits other alone keeps index_law own_law v parts_named m before facts x.of [] (λ c has. has) ready in
+      let blanked : Ready m a facts = evaluating.blank_ready h sees seeing settled leaks waits other alone keeps index_law own_law v parts_named m before facts x.of [] (λ c has. has) ready in
       let differ : length before ≡ length rest → ⊥ = deeper K x rest in
       let from : waiting_at a (length rest) ≡ x = hand_below (record { of = x.of; words = [] }) before (length rest) (λ e. differ (sym e)) ∙ deep K x rest in
       let left : waiting_at b (length rest) ≡ no_value =
@@ -102,11 +102,11 @@ module _ (h : Here) (settled : IsSettled h.typing.table) (leaks : List Leak) (wa
       let others : (j : ℕ) → (j ≡ length rest → ⊥) → (j ≡ length before → ⊥) → waiting_at b j ≡ waiting_at a j =
       (λ j off top. hand_below x (K ++ no_value ∷ rest) j (λ e. top (e ∙ sym (same_length K x no_value rest))) ∙ elsewhere K no_value x rest j off
       ∙ sym (hand_below (record { of = x.of; words = [] }) before j top)) in record {
-        viewed = from_sound (home h.typing h.frame) (sees_only h.typing) other v (seen h.typing m a leaks) (seen h.typing m b leaks) facts blanked.viewed
+        viewed = from_sound (home h.typing h.frame) sees other v (seen h.typing m a leaks) (seen h.typing m b leaks) facts blanked.viewed
             (lifted_sound h.typing settled m leaks a b (length rest) (length before) x differ from left free to others long (home h.typing h.frame)
             (ExcusedBy (home h.typing h.frame) v other facts) []
-            (hands_spared (home h.typing h.frame) (sees_only h.typing) other v (seen h.typing m a leaks) facts blanked.viewed (evaluating.spared_hand h settled leaks waits other alone keeps index_law own_law v parts_named))
-            (as_sound (home h.typing h.frame) (sees_only h.typing) other v (seen h.typing m a leaks) facts blanked.viewed))
+            (hands_spared (home h.typing h.frame) sees other v (seen h.typing m a leaks) facts blanked.viewed (evaluating.spared_hand h sees seeing settled leaks waits other alone keeps index_law own_law v parts_named))
+            (as_sound (home h.typing h.frame) sees other v (seen h.typing m a leaks) facts blanked.viewed))
             (other_hands h.typing m a b leaks);
         kept = lifted_kept h.typing settled m leaks a b (length rest) (length before) x differ from left free to others long blanked.kept;
         holds = ready.holds;
@@ -117,7 +117,7 @@ module _ (h : Here) (settled : IsSettled h.typing.table) (leaks : List Leak) (wa
       → ((p : List Step) → word_in h.typing.table (in_hand y) p ≡ Empty) → ((p : List Step) → word_in h.typing.table (in_hand z) p ≡ Empty)
       → Points h.typing m (in_hand z) → Ready m (K ++ y ∷ rest) facts → Ready m (K ++ z ∷ rest) facts
   replaced m K y z rest facts none_y none_z points_z ready = record {
-    viewed = same_viewed (home h.typing h.frame) (sees_only h.typing) other v (seen h.typing m (K ++ y ∷ rest) leaks) (seen h.typing m (K ++ z ∷ rest) leaks) facts
+    viewed = same_viewed (home h.typing h.frame) sees other v (seen h.typing m (K ++ y ∷ rest) leaks) (seen h.typing m (K ++ z ∷ rest) leaks) facts
         (record { word = λ l. by_trunk l (steps_in l); made = refl; freed = λ n. refl; leaked = λ n. refl }) ready.viewed;
     kept = record { variables = ready.kept.variables; cells = ready.kept.cells; points = points };
     holds = ready.holds;
@@ -175,7 +175,7 @@ module _ (h : Here) (settled : IsSettled h.typing.table) (leaks : List Leak) (wa
       let a : List Waiting = x ∷ blank ∷ rest in
       let b : List Waiting = no_value ∷ x ∷ rest in
       let swapped : Ready m a facts = replaced m (x ∷ []) no_value blank rest facts (nothing_shown no_value.of) (nothing_shown x.of) (nothing_points m x.of) ready in
-      let well : Viewed (home h.typing h.frame) (sees_only h.typing) other v (seen h.typing m a leaks) facts = swapped.viewed in
+      let well : Viewed (home h.typing h.frame) sees other v (seen h.typing m a leaks) facts = swapped.viewed in
       let kept : Kept h.typing m a = swapped.kept in
       let differ : length rest ≡ suc (length rest) → ⊥ = (λ e. omega (arith, e)) in
       let from : waiting_at a (suc (length rest)) ≡ x = hand_top x (blank ∷ rest) in
@@ -184,16 +184,16 @@ module _ (h : Here) (settled : IsSettled h.typing.table) (leaks : List Leak) (wa
       let to : waiting_at b (length rest) ≡ x = hand_below no_value (x ∷ rest) (length rest) differ ∙ hand_top x rest in
       let others : (j : ℕ) → (j ≡ suc (length rest) → ⊥) → (j ≡ length rest → ⊥) → waiting_at b j ≡ waiting_at a j =
       (λ j off top. hand_below no_value (x ∷ rest) j off ∙ hand_below x rest j top ∙ sym (hand_below x (blank ∷ rest) j off ∙ hand_below blank rest j top)) in
-      let moved : Viewed (home h.typing h.frame) (sees_only h.typing) other v (seen h.typing m b leaks) facts =
-      from_sound (home h.typing h.frame) (sees_only h.typing) other v (seen h.typing m a leaks) (seen h.typing m b leaks) facts well
+      let moved : Viewed (home h.typing h.frame) sees other v (seen h.typing m b leaks) facts =
+      from_sound (home h.typing h.frame) sees other v (seen h.typing m a leaks) (seen h.typing m b leaks) facts well
       (lifted_sound h.typing settled m leaks a b (suc (length rest)) (length rest) x differ from left free to others long (home h.typing h.frame)
       (ExcusedBy (home h.typing h.frame) v other facts) []
-      (hands_spared (home h.typing h.frame) (sees_only h.typing) other v (seen h.typing m a leaks) facts well (evaluating.spared_hand h settled leaks waits other alone keeps index_law own_law v parts_named))
-      (as_sound (home h.typing h.frame) (sees_only h.typing) other v (seen h.typing m a leaks) facts well))
+      (hands_spared (home h.typing h.frame) sees other v (seen h.typing m a leaks) facts well (evaluating.spared_hand h sees seeing settled leaks waits other alone keeps index_law own_law v parts_named))
+      (as_sound (home h.typing h.frame) sees other v (seen h.typing m a leaks) facts well))
       (other_hands h.typing m a b leaks) in
       let kept_then : Kept h.typing m b =
       lifted_kept h.typing settled m leaks a b (suc (length rest)) (length rest) x differ from left free to others long kept in record {
-        viewed = same_viewed (home h.typing h.frame) (sees_only h.typing) other v (seen h.typing m b leaks) (seen h.typing m (x ∷ rest) leaks) facts
+        viewed = same_viewed (home h.typing h.frame) sees other v (seen h.typing m b leaks) (seen h.typing m (x ∷ rest) leaks) facts
             (flipped (seen h.typing m (x ∷ rest) leaks) (seen h.typing m b leaks)
             (blank_hand h.typing m leaks no_value (x ∷ rest) (λ p. blank_word h.typing.table (in_hand no_value) [] refl (λ c has. has) p))) moved;
         kept = record { variables = kept_then.variables; cells = kept_then.cells; points = less h.typing settled m no_value (x ∷ rest) kept_then.points };

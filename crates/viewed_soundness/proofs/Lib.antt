@@ -1,5 +1,6 @@
 pub mod Walks
 pub mod Spared
+pub mod ViewKinds
 pub mod Names
 pub mod Stays
 pub mod Moments
@@ -10,6 +11,7 @@ pub mod Fed
 pub mod Stored
 pub mod Viewing
 pub mod Sources
+pub mod Bundles
 pub mod Outcomes
 pub mod Lends
 -- what waits for borrowers and observers

@@ -30,7 +30,7 @@ use Rattle.owned_loans.specs.Views.{Around, Views, expand, ExcusedBy, Viewed}
 use Rattle.owned_loans.proofs.Meeting.{IsPlain}
 use Rattle.owned_loans.proofs.Others.{clean_away}
 use Rattle.owned_loans.proofs.Allowed.{move_unlent, move_unmoved}
-use Rattle.owned_loans.proofs.Moves.{IsPlace, rests_there, rooted_way, view_rooted, reached, view_on, all_known, no_hand, taken, put}
+use Rattle.owned_loans.proofs.Moves.{IsPlace, rests_there, rooted_way, view_rooted, reached, view_on, parts_on, all_known, no_hand, taken, put}
 use Rattle.owned_loans.proofs.Ended.{Leaves, ended}
 
 -- ---- ways through words that stay
@@ -71,13 +71,20 @@ module _ (home : ℕ → ℕ) (observer : ℕ → Bool) (other : Around home) (v
     known = all_known home observer other v t facts sound.known;
     clear = viewed.clear;
     lends = viewed.lends;
-    views = λ x w has. (let view = viewed.views x w has in
-        let root = view_rooted home observer other v s facts viewed.views x w has in
-        view_on home observer other v s t facts facts x w view (λ seen n loan. loan)
-        (far_reaches s t viewed.owned same w (OfCell (v.cell x)) root.0 root.1 root.2 (reached home observer other v s facts x w view)));
+    views = (
+      λ x w has. (let view = viewed.views.0 x w has in
+          let root = view_rooted home observer other v s facts viewed.views x w has in
+          view_on home observer other v s t facts facts x w view (λ seen n loan. loan)
+          (far_reaches s t viewed.owned same w (OfCell (v.cell x)) root.0 root.1 root.2 (reached home observer other v s facts x w view))),
+      parts_on home observer other v s t viewed.views.1
+          (λ x p w has reach. (let root = (viewed.views.1 x p w has).begins in
+          far_reaches s t viewed.owned same w (OfCell (v.part_cell x p)) root.0 root.1 root.2 reach)),
+    );
     whole = viewed.whole;
     whole_away = viewed.whole_away;
     shown = viewed.shown;
+    whole_parts = viewed.whole_parts;
+    parts_away = viewed.parts_away;
     past = viewed.past;
     far = λ w n keeps. (let root = other.begins w n keeps in far_reaches s t viewed.owned same w (OfCell n) root.0 root.1 root.2 (viewed.far w n keeps));
     bare = λ w l p bare q c held. (let root = other.bares w l p bare in

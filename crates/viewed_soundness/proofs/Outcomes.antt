@@ -21,7 +21,7 @@ use Rattle.machine.specs.States.{Waiting, Leak, State, Outcome, Goes, Ends}
 use Rattle.machine.specs.Step.{Turn, counted, typing, here, start, waiting, Stored, first_value, taken_by, declare, assign, goes, behind, led, successor, leaking_goes, target_pos}
 use Rattle.machine.specs.Step as steps
 use Rattle.machine.specs.Owners.{waiting_in, WellOwned}
-use Rattle.owned_ways.specs.Ways.{Loc, Way, All, Reaches, IsRooted, Under, Named, Allows, after, AllowsAll, number_of, base_of, OfRoot}
+use Rattle.owned_ways.specs.Ways.{Step, Loc, Way, All, Reaches, IsRooted, Under, Named, Allows, after, AllowsAll, number_of, base_of, OfRoot}
 use Rattle.owned_ways.specs.Ways as ways
 use Rattle.part_offsets.specs.Parts.{IsSettled}
 use Rattle.soundness.specs.Seen.{IsNear, content, trunk, seen, home, is_view_formal}
@@ -48,9 +48,9 @@ use Rattle.soundness.proofs.Stays.{Quiet, One}
 use Rattle.soundness.proofs.Taking.{Takes, no_takes}
 use Rattle.soundness.proofs.Waits.{take_none, drop_none, waits_of, led_waits}
 use Rattle.owned_loans.specs.Views.{Around, Views, Viewed, HasLoan}
-use Rattle.viewed_soundness.specs.Holds.{IsNamed, PartsAreNamed, is_view, sees_only, is_fixed, IsOwners, Holds, AllKeep}
+use Rattle.viewed_soundness.specs.Holds.{IsNamed, PartsAreNamed, is_view, is_bundle, is_fixed, IsOwners, Holds, AllKeep, Seeing}
 use Rattle.viewed_soundness.specs.Taken.{GivesPlainly}
-use Rattle.viewed_soundness.proofs.Names.{not_view}
+use Rattle.viewed_soundness.proofs.ViewKinds.{not_view}
 use Rattle.viewed_soundness.proofs.Stays.{taking}
 use Rattle.viewed_soundness.proofs.Evaluated.{live_trunk}
 use Rattle.viewed_soundness.proofs.Stored.{Assigns, assigned_on}
@@ -95,7 +95,7 @@ assigned_acts s pos x u target path e named lead = refl
 
 -- ---- outcomes
 
-module _ (t : Turn) (settled : IsSettled (typing t).table) (own_law : OwnsByShape (typing t).table) (other : Around (home (typing t) (length t.outer)))
+module _ (t : Turn) (sees : ℕ → Bool) (seeing : Seeing (typing t) sees) (settled : IsSettled (typing t).table) (own_law : OwnsByShape (typing t).table) (other : Around (home (typing t) (length t.outer)))
     (alone : (w : Way) → IsNear (length t.outer) w → other.gone w → ⊥)
     (v : Views) (parts_named : PartsAreNamed (typing t).table) (may : ℕ → ℕ → Type 0)
     (frames : t.state.frames ≡ t.frame ∷ t.outer) (none : taken t.point.instr ≡ 0) where
@@ -110,9 +110,9 @@ module _ (t : Turn) (settled : IsSettled (typing t).table) (own_law : OwnsByShap
 
   -- What a state has to be: sound with views under these facts, with typed words.
   pub record IsGood (views : Views) (facts : List Fact) (state : State) : Type 0 where
-    pub viewed : Viewed (home s depth) (sees_only s) other views (sound.view_of s state) facts
+    pub viewed : Viewed (home s depth) sees other views (sound.view_of s state) facts
     pub kept : Kept s state.memory (waiting_in state)
-    pub holds : Holds s depth views state.memory
+    pub holds : Holds s sees depth views state.memory
 
   -- A view has what it had.
   pub record IsSame (views : Views) (x : ℕ) : Type 0 where
@@ -120,18 +120,23 @@ module _ (t : Turn) (settled : IsSettled (typing t).table) (own_law : OwnsByShap
     pub loan : views.loan x ≡ v.loan x
     pub up : views.up x ≡ v.up x
 
-  -- A view got its way from an object, or from the way of one that is a view itself.
+  -- A view got its way from an object, or from the way of one that is a view itself, or of a part of one.
   pub record Comes (views : Views) (facts : List Fact) (x y : ℕ) (w : Way) : Type 0 where
-    pub up : (number_of (views.up x) ≡ y)
+    pub up : Named (home s depth) (views.up x) → (number_of (views.up x) ≡ y)
         ⊎ ((k : Way) × (v.way y ≡ Some k) × (number_of (views.up x) ≡ number_of (v.up y)) × (Named (home s depth) (views.up x) → Named (home s depth) (v.up y)))
-    pub root : ((base_of w ≡ OfRoot (ways.OfVariable (home s depth y) y)) × (y ≡ x → ⊥)) ⊎ ((k : Way) × (v.way y ≡ Some k) × (base_of w ≡ base_of k))
-    pub loan : sees_only s x ≡ true → (Has facts (Lent Observed x (ways.name_of (views.loan x))))
-        ⊎ ((k : Way) × (v.way y ≡ Some k) × (sees_only s y ≡ true) × (views.loan x ≡ v.loan y) × (Named (home s depth) (views.up x) → Named (home s depth) (v.up y)))
-    pub under : is_view s y ≡ true → (k : Way) × (v.way y ≡ Some k) × Under k w
+    pub root : ((base_of w ≡ OfRoot (ways.OfVariable (home s depth y) y)) × (y ≡ x → ⊥))
+        ⊎ (((k : Way) × (v.way y ≡ Some k) × (base_of w ≡ base_of k)) ⊎ ((p : List Step) × (k : Way) × (v.part_way y p ≡ Some k) × (base_of w ≡ base_of k)))
+    pub loan : Named (home s depth) (views.up x) → sees x ≡ true → (Has facts (Lent Observed x (ways.name_of (views.loan x))))
+        ⊎ ((k : Way) × (v.way y ≡ Some k) × (sees y ≡ true) × (views.loan x ≡ v.loan y) × (Named (home s depth) (views.up x) → Named (home s depth) (v.up y)))
+    pub under : is_bundle s y ≡ false → is_view s y ≡ true → (k : Way) × (v.way y ≡ Some k) × Under k w
 
   -- Each view has what it had, or got its way from an object that it may have it from.
+  -- The parts of formals have what they had.
+  abbrev pub SameParts : Views → Type 0
+  SameParts views = (x : ℕ) (p : List Step) → (views.part_way x p ≡ v.part_way x p) × (views.part_cell x p ≡ v.part_cell x p)
+
   abbrev pub Turned : Views → List Fact → Type 0
-  Turned views facts = (x : ℕ) (w : Way) → views.way x ≡ Some w → IsSame views x ⊎ ((y : ℕ) × may x y × Comes views facts x y w)
+  Turned views facts = ((x : ℕ) (w : Way) → views.way x ≡ Some w → IsSame views x ⊎ ((y : ℕ) × may x y × Comes views facts x y w)) × SameParts views
 
   -- What an outcome has to be: such a state, where views may have got other ways; and no trap, in a
   -- well owned state.
@@ -167,32 +172,48 @@ module _ (t : Turn) (settled : IsSettled (typing t).table) (own_law : OwnsByShap
       ∙ sym (ap (flat_map waits_of) frames)
 
   pub unturned : (facts : List Fact) → Turned v facts
-  unturned facts x w e = inl (record { way = refl; loan = refl; up = refl })
+  unturned facts = (λ x w e. inl (record { way = refl; loan = refl; up = refl }), λ x p. (refl, refl))
 
   -- the state afterwards
-  pub goes_to : (m : Memory) (k : ℕ) (views : Views) (facts : List Fact) → Turned views facts → Viewed (home s depth) (sees_only s) other views (seen s m hands t.state.leaks) facts
-      → Kept s m hands → Holds s depth views m → Leads_on facts (goes t m k)
+  pub goes_to : (m : Memory) (k : ℕ) (views : Views) (facts : List Fact) → Turned views facts → Viewed (home s depth) sees other views (seen s m hands t.state.leaks) facts
+      → Kept s m hands → Holds s sees depth views m → Leads_on facts (goes t m k)
   goes_to m k views facts turned viewed kept holds = (
     views,
     turned,
     record {
-      viewed = subst (λ z. Viewed (home s depth) (sees_only s) other views (seen s m z t.state.leaks) facts) (sym (hands_behind m k)) viewed;
+      viewed = subst (λ z. Viewed (home s depth) sees other views (seen s m z t.state.leaks) facts) (sym (hands_behind m k)) viewed;
       kept = subst (Kept s m) (sym (hands_behind m k)) kept;
-      holds = record { held = holds.held; only = holds.only; owners = holds.owners; access = holds.access; own = holds.own };
+      holds = record {
+        held = holds.held;
+        only = holds.only;
+        owners = holds.owners;
+        access = holds.access;
+        own = holds.own;
+        taken = holds.taken;
+        parts = record { held = holds.parts.held; only = holds.parts.only; owners = holds.parts.owners; looks = holds.parts.looks };
+      };
     },
   )
 
   pub goes_on : (m : Memory) (checks : List (List Leak)) (leaks : List Leak) → flat_map (λ (z : List Leak). z) checks ≡ leaks → (views : Views)
-      → (facts : List Fact) → Turned views facts → Viewed (home s depth) (sees_only s) other views (seen s m hands (t.state.leaks ++ leaks)) facts → Kept s m hands
-      → Holds s depth views m → Leads_on facts (leaking_goes checks (goes t m 0))
+      → (facts : List Fact) → Turned views facts → Viewed (home s depth) sees other views (seen s m hands (t.state.leaks ++ leaks)) facts → Kept s m hands
+      → Holds s sees depth views m → Leads_on facts (leaking_goes checks (goes t m 0))
   goes_on m checks leaks same views facts turned viewed kept holds = (
     views,
     turned,
     record {
-      viewed = subst (λ z. Viewed (home s depth) (sees_only s) other views (seen s m z (t.state.leaks ++ flat_map (λ (z : List Leak). z) checks)) facts) (sym (hands_behind m 0))
-          (subst (λ z. Viewed (home s depth) (sees_only s) other views (seen s m hands (t.state.leaks ++ z)) facts) (sym same) viewed);
+      viewed = subst (λ z. Viewed (home s depth) sees other views (seen s m z (t.state.leaks ++ flat_map (λ (z : List Leak). z) checks)) facts) (sym (hands_behind m 0))
+          (subst (λ z. Viewed (home s depth) sees other views (seen s m hands (t.state.leaks ++ z)) facts) (sym same) viewed);
       kept = subst (Kept s m) (sym (hands_behind m 0)) kept;
-      holds = record { held = holds.held; only = holds.only; owners = holds.owners; access = holds.access; own = holds.own };
+      holds = record {
+        held = holds.held;
+        only = holds.only;
+        owners = holds.owners;
+        access = holds.access;
+        own = holds.own;
+        taken = holds.taken;
+        parts = record { held = holds.parts.held; only = holds.parts.only; owners = holds.parts.owners; looks = holds.parts.looks };
+      };
     },
   )
 
@@ -200,7 +221,7 @@ module _ (t : Turn) (settled : IsSettled (typing t).table) (own_law : OwnsByShap
 
   pub live : (facts : List Fact) (good : IsGood v facts t.state) → (w : Way) (l : Loc) → IsOwners s w → Reaches (seen s t.state.memory hands t.state.leaks) w l
       → (content s t.state.memory hands (trunk l)).owns ≡ true
-  live facts good = live_trunk (here t) settled t.state.leaks [] other alone (keeps s settled own_law) index_law own_law v parts_named t.state.memory hands good.viewed.owned
+  live facts good = live_trunk (here t) sees seeing settled t.state.leaks [] other alone (keeps s settled own_law) index_law own_law v parts_named t.state.memory hands good.viewed.owned
 
   then_on : {A : Type 0} (P : A → Type 0) (facts : List Fact) → IsGood v facts t.state → (y : Evaluated A) → Quiet now P y → (k : A → ℕ)
       → Leads_on facts (steps.evaluated t y (λ a m. goes t m (k a)))
@@ -213,7 +234,7 @@ module _ (t : Turn) (settled : IsSettled (typing t).table) (own_law : OwnsByShap
   pub scalar_taken : (ws : List (List machine.Word)) (e : TypedTree) → Stays s e → Takes (waits_in e) ws [] → (facts : List Fact) → IsGood v facts t.state
       → AllowsAll facts (acts (acts_in s e)) → Quiet now One (value (here t) e (at ws)) × (after (acts (acts_in s e)) facts ≡ facts)
   scalar_taken ws e stays takes facts good allowed =
-      taking (here t) settled hands t.state.leaks t.state.memory [] other facts v good.kept good.viewed good.holds alone (live facts good)
+      taking (here t) sees seeing settled hands t.state.leaks t.state.memory [] other facts v good.kept good.viewed good.holds alone (live facts good)
       index_law own_law parts_named AsValue e stays ws [] takes allowed
 
   -- its value says where it goes on
@@ -258,7 +279,7 @@ module _ (t : Turn) (settled : IsSettled (typing t).table) (own_law : OwnsByShap
   -- ---- assignments to targets that aren't views
 
   abbrev Assigns_here : List Fact → Evaluated Stored → Type 0
-  Assigns_here facts x = Assigns (here t) settled t.state.leaks [] other alone (keeps s settled own_law) index_law own_law v parts_named hands facts x
+  Assigns_here facts x = Assigns (here t) sees seeing settled t.state.leaks [] other alone (keeps s settled own_law) index_law own_law v parts_named hands facts x
 
   -- what was found is stored
   pub stored_goes : (facts : List Fact) (pos : Pos) (st : Stored) (n : Now) → Assigns_here facts (Done st n)
@@ -276,7 +297,7 @@ module _ (t : Turn) (settled : IsSettled (typing t).table) (own_law : OwnsByShap
   pub assign_on : (ws mid : List (List machine.Word)) (pos p : Pos) (x u : ℕ) (path e : TypedTree) → IsNamed s.table u → Gives s u e
       → Leads s (object_at s x).of path u → GivesPlainly s e → Takes (waits_in e) ws mid → Takes (waits_in path) mid [] → (facts : List Fact) → IsGood v facts t.state
       → AllowsAll facts (acts (assigned_to s pos (whole (Name p x path u)) (Name p x path u) e))
-      → AllKeep (is_fixed s) (acts (assigned_to s pos (whole (Name p x path u)) (Name p x path u) e))
+      → AllKeep (is_fixed s sees) (acts (assigned_to s pos (whole (Name p x path u)) (Name p x path u) e))
       → Leads_on (after (acts (assigned_to s pos (whole (Name p x path u)) (Name p x path u) e)) facts)
       (steps.evaluated t (followed_by (taken_by t u e (at ws)) (λ ws now. followed_by (place_of (here t) (Name p x path u) now) (λ k now. Done (record { words = ws; place = k }) now)))
       (λ (st : Stored) m. leaking_goes (checks_at s (target_pos t (Name p x path u)) m st.place) (goes t (stored s st.place st.words m) 0)))
@@ -291,9 +312,9 @@ module _ (t : Turn) (settled : IsSettled (typing t).table) (own_law : OwnsByShap
       (subst (λ b. Leads_on (after (acts (stored_acts s target e)) facts)
       (steps.evaluated t (followed_by (if b then viewed h e (at ws) else followed_by (value h e (at ws)) (checked h u)) placed) after_that)) (sym (named_plain s.table u named))
       (then_stored (raises facts good) (after (acts (stored_acts s target e)) facts) (target_pos t target) (followed_by (followed_by (evaluate h AsValue e (at ws)) (checked h u)) placed)
-      (assigned_on h settled t.state.leaks [] other alone (keeps s settled own_law) index_law own_law v parts_named ws mid [] p x u path e named gives lead calls takes takes'
+      (assigned_on h sees seeing settled t.state.leaks [] other alone (keeps s settled own_law) index_law own_law v parts_named ws mid [] p x u path e named gives lead calls takes takes'
       t.state.memory hands facts (record { viewed = good.viewed; kept = good.kept; holds = good.holds })
-      (subst (λ z. AllowsAll facts (acts z)) same allowed) (subst (λ z. AllKeep (is_fixed s) (acts z)) same keep))))
+      (subst (λ z. AllowsAll facts (acts z)) same allowed) (subst (λ z. AllKeep (is_fixed s sees) (acts z)) same keep))))
 
   abbrev m : Memory
   m = t.state.memory
@@ -305,29 +326,29 @@ module _ (t : Turn) (settled : IsSettled (typing t).table) (own_law : OwnsByShap
   pub record LeavesOthers (views : Views) (x : ℕ) (facts : List Fact) : Type 0 where
     pub no_value : views.way x ≡ None
     pub roots : (y : ℕ) (w : Way) → views.way y ≡ Some w → Named (home s depth) w → number_of w ≡ x → ⊥
-    pub loans : (y : ℕ) (w : Way) → views.way y ≡ Some w → Named (home s depth) (views.up y) → sees_only s y ≡ true → HasLoan (sees_only s) true y facts (ways.name_of (views.loan y))
+    pub loans : (y : ℕ) (w : Way) → views.way y ≡ Some w → Named (home s depth) (views.up y) → sees y ≡ true → HasLoan sees true y facts (ways.name_of (views.loan y))
     pub unlent : (l : Loan) (n : PlaceName) → other.lent l n → n.root ≡ x → ⊥
 
   -- What is left when a scope ends, with the memory then.
   abbrev pub Is_left : Views → ℕ → List Fact → Outcome → Type 0
   Is_left views x facts (Goes state) =
-      Viewed (home s depth) (sees_only s) other views (sound.view_of s state) facts × Kept s state.memory (waiting_in state)
+      Viewed (home s depth) sees other views (sound.view_of s state) facts × Kept s state.memory (waiting_in state)
       × (state.memory ≡ undeclared depth x m)
   Is_left views x facts (Ends e state) = ⊥
 
   is_left : (views : Views) (x : ℕ) (checks : List (List Leak)) (leaks : List Leak) (facts : List Fact) → flat_map (λ (z : List Leak). z) checks ≡ leaks
-      → Viewed (home s depth) (sees_only s) other views (seen s (undeclared depth x m) hands (t.state.leaks ++ leaks)) facts
+      → Viewed (home s depth) sees other views (seen s (undeclared depth x m) hands (t.state.leaks ++ leaks)) facts
       → Kept s (undeclared depth x m) hands → Is_left views x facts (leaking_goes checks (goes t (undeclared depth x m) 0))
   is_left views x checks leaks facts same viewed kept = (
-    subst (λ z. Viewed (home s depth) (sees_only s) other views (seen s (undeclared depth x m) z (t.state.leaks ++ flat_map (λ (z : List Leak). z) checks)) facts) (sym (hands_behind (undeclared depth x m) 0))
-        (subst (λ z. Viewed (home s depth) (sees_only s) other views (seen s (undeclared depth x m) hands (t.state.leaks ++ z)) facts) (sym same) viewed),
+    subst (λ z. Viewed (home s depth) sees other views (seen s (undeclared depth x m) z (t.state.leaks ++ flat_map (λ (z : List Leak). z) checks)) facts) (sym (hands_behind (undeclared depth x m) 0))
+        (subst (λ z. Viewed (home s depth) sees other views (seen s (undeclared depth x m) hands (t.state.leaks ++ z)) facts) (sym same) viewed),
     subst (Kept s (undeclared depth x m)) (sym (hands_behind (undeclared depth x m) 0)) kept,
     refl,
   )
 
   -- the scope of an object ends that has no way of its own
   pub scope_left : (views : Views) (x : ℕ) (borrower : Bool) → home s depth x ≡ depth → is_view_formal s x ≡ false → (facts : List Fact)
-      → Viewed (home s depth) (sees_only s) other views (seen s m hands t.state.leaks) facts → Kept s m hands
+      → Viewed (home s depth) sees other views (seen s m hands t.state.leaks) facts → Kept s m hands
       → LeavesOthers views x (effect (act.EndScope x borrower) facts) → Is_left views x (effect (act.EndScope x borrower) facts) (steps.end_scope t x)
   scope_left views x borrower mine owns facts viewed kept leaves =
       let leaks : List Leak = leaks_at s t.point.pos m (run.variable_place (here t) x) in
@@ -336,8 +357,8 @@ module _ (t : Turn) (settled : IsSettled (typing t).table) (own_law : OwnsByShap
       (ap not owns) (alike s.table settled (object_at s x).of (object_at s x).of (inl refl)) in
       is_left views x (checks_at s t.point.pos m (run.variable_place (here t) x)) leaks (effect (act.EndScope x borrower) facts)
       (all_checks s t.point.pos m (run.variable_place (here t) x))
-      (subst (λ f. Viewed (home s depth) (sees_only s) other views (seen s (undeclared f x m) hands (t.state.leaks ++ leaks)) (effect (act.EndScope x borrower) facts)) mine
-      (ended_viewed s settled (home s depth) (sees_only s) other views m hands t.state.leaks (t.state.leaks ++ leaks) facts x borrower viewed checks
+      (subst (λ f. Viewed (home s depth) sees other views (seen s (undeclared f x m) hands (t.state.leaks ++ leaks)) (effect (act.EndScope x borrower) facts)) mine
+      (ended_viewed s settled (home s depth) sees other views m hands t.state.leaks (t.state.leaks ++ leaks) facts x borrower viewed checks
       (record { none = leaves.no_value; roots = leaves.roots; loans = leaves.loans; unlent = leaves.unlent })))
       (removed_kept s settled m depth x hands kept)
 

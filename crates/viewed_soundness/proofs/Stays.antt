@@ -37,7 +37,7 @@ use Rattle.soundness.proofs.Taking.{Takes, takes_as, takes_both, takes_zero, no_
 use Rattle.owned_loans.specs.Views.{Around, Views, expand, Viewed}
 use Rattle.owned_loans.proofs.Safe.{Open}
 use Rattle.owned_loans.proofs.Allowed.{read_open, look_open}
-use Rattle.viewed_soundness.specs.Holds.{PartsAreNamed, sees_only, IsOwners, Holds}
+use Rattle.viewed_soundness.specs.Holds.{PartsAreNamed, IsOwners, Holds, Seeing}
 use Rattle.viewed_soundness.proofs.Names.{Starts, starts_leads, name_walked}
 use Rattle.std.proofs.lemmas.List.{length-map}
 use Rattle.soundness.proofs.Steps.{plain_shape, room, taken_slots}
@@ -80,11 +80,11 @@ decided_quiet : {A : Type 0} (before now : Now) (P : A → Type 0) → before �
 decided_quiet before now P same true x y p q = (same, p)
 decided_quiet before now P same false x y p q = q
 
-module _ (h : Here) (settled : IsSettled h.typing.table) (hands : List Waiting) (leaks : List Leak) (m : Memory) (waits : List (List machine.Word))
+module _ (h : Here) (sees : ℕ → Bool) (seeing : Seeing h.typing sees) (settled : IsSettled h.typing.table) (hands : List Waiting) (leaks : List Leak) (m : Memory) (waits : List (List machine.Word))
     (other : Around (home h.typing h.frame)) (facts : List Fact) (v : Views)
     (kept : Kept h.typing m hands)
-    (viewed : Viewed (home h.typing h.frame) (sees_only h.typing) other v (seen h.typing m hands leaks) facts)
-    (holds : Holds h.typing h.frame v m)
+    (viewed : Viewed (home h.typing h.frame) sees other v (seen h.typing m hands leaks) facts)
+    (holds : Holds h.typing sees h.frame v m)
     (alone : (w : Way) → IsNear h.frame w → other.gone w → ⊥)
     (live : (w : Way) (l : Loc) → IsOwners h.typing w → Reaches (seen h.typing m hands leaks) w l → (content h.typing m hands (trunk l)).owns ≡ true)
     (index_law : IndexLaw)
@@ -122,7 +122,7 @@ module _ (h : Here) (settled : IsSettled h.typing.table) (hands : List Waiting) 
       → Walked h.typing settled hands leaks m on (expand v (named_by x way)) t
       (walked h.typing way (variable_place h x) (at on))
   name_on on x steps t way goes opens =
-      name_walked h settled hands leaks m on other facts v kept viewed holds alone live x t way goes.lead
+      name_walked h sees seeing settled hands leaks m on other facts v kept viewed holds alone live x t way goes.lead
       (λ is. opens (named_by x way) (named_along (home h.typing h.frame) way (Object (OfVariable (home h.typing h.frame x) x)) refl)
       (λ j. record {
         root = number_along way (Object (OfVariable (home h.typing h.frame x) x)) j;

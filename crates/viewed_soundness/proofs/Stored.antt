@@ -20,7 +20,7 @@ use Rattle.machine.specs.Step.{Stored}
 use Rattle.machine.specs.States.{Waiting, Leak}
 use Rattle.owned_ways.specs.Ways.{Root, OfVariable, OfHand, Loc, OfRoot, Way, Object, Reaches, Named, Allows, after, AllowsAll, number_of}
 use Rattle.owned_ways.specs.Ways as ways
-use Rattle.part_offsets.specs.Parts.{type_in, has_part, IsSettled}
+use Rattle.part_offsets.specs.Parts.{type_in, offset_in, has_part, IsSettled}
 use Rattle.soundness.specs.Seen.{IsNear, content, trunk, steps_in, seen, home, is_view_formal}
 use Rattle.soundness.specs.Changes.{leaks_at}
 use Rattle.soundness.specs.Typed.{Matches, OwnsByShape, Kept, Spot, loc_of}
@@ -36,8 +36,9 @@ use Rattle.soundness.proofs.Memories.{put_other}
 use Rattle.soundness.proofs.Steps.{plain_end}
 use Rattle.owned_loans.specs.Views.{Around, Views, expand, Viewed}
 use Rattle.owned_loans.proofs.Allowed.{write_open}
-use Rattle.viewed_soundness.specs.Holds.{IsNamed, PartsAreNamed, is_view, sees_only, is_fixed, Holds, AllKeep}
-use Rattle.viewed_soundness.proofs.Names.{Starts, either, free_sees, free_formal, changed_owners, view_access, not_view, is_place}
+use Rattle.viewed_soundness.specs.Holds.{IsNamed, PartsAreNamed, is_view, is_fixed, Holds, AllKeep, Seeing}
+use Rattle.viewed_soundness.proofs.Names.{Starts, changed_owners, is_place, parts_same}
+use Rattle.viewed_soundness.proofs.ViewKinds.{either, free_sees, free_formal, view_access, not_view, bundle_view}
 use Rattle.viewed_soundness.proofs.Stays.{Goes, no_selectors, steps_taking, name_on}
 use Rattle.viewed_soundness.proofs.Moments.{stored_viewed}
 use Rattle.viewed_soundness.specs.Taken.{GivesPlainly}
@@ -46,7 +47,7 @@ use Rattle.viewed_soundness.proofs.Evaluated.{keep_both, matches_named, gives_pl
 other_base : (f x g y : ℕ) → OfVariable f x ≡ OfVariable g y → memory.OfVariable f x ≡ memory.OfVariable g y
 other_base f x g y e = (let a : f ≡ g = cc in let b : x ≡ y = cc in cc)
 
-module _ (h : Here) (settled : IsSettled h.typing.table) (leaks : List Leak) (waits : List (List machine.Word)) (other : Around (home h.typing h.frame))
+module _ (h : Here) (sees : ℕ → Bool) (seeing : Seeing h.typing sees) (settled : IsSettled h.typing.table) (leaks : List Leak) (waits : List (List machine.Word)) (other : Around (home h.typing h.frame))
     (alone : (w : Way) → IsNear h.frame w → other.gone w → ⊥) (keeps : Keeps h.typing)
     (index_law : IndexLaw) (own_law : OwnsByShape h.typing.table)
     (v : Views) (parts_named : PartsAreNamed h.typing.table) where
@@ -54,34 +55,34 @@ module _ (h : Here) (settled : IsSettled h.typing.table) (leaks : List Leak) (wa
   -- checks, or an exception.
   abbrev pub Assigns : List Waiting → List Fact → Evaluated Stored → Type 0
   Assigns hands facts (Done st n) =
-      ((pos : Pos) → Viewed (home h.typing h.frame) (sees_only h.typing) other v
+      ((pos : Pos) → Viewed (home h.typing h.frame) sees other v
       (seen h.typing (stored h.typing st.place st.words n.memory) hands (leaks ++ leaks_at h.typing pos n.memory st.place)) facts)
       × Kept h.typing (stored h.typing st.place st.words n.memory) hands
-      × Holds h.typing h.frame v (stored h.typing st.place st.words n.memory)
+      × Holds h.typing sees h.frame v (stored h.typing st.place st.words n.memory)
   Assigns hands facts (Raises e n) = Unit {0}
   Assigns hands facts (Traps t n) = ⊥
 
   -- where a name leads that isn't a formal itself that owns nothing
   pub place_owns : (m : Memory) (hands : List Waiting) (facts : List Fact) (x t : ℕ) (way : List run.Step)
-      → Ready h settled leaks waits other alone keeps index_law own_law v parts_named m hands facts → (is_view_formal h.typing x ≡ true → way ≡ [] → ⊥)
+      → Ready h sees seeing settled leaks waits other alone keeps index_law own_law v parts_named m hands facts → sees x ≡ false → (is_view_formal h.typing x ≡ true → way ≡ [] → ⊥)
       → Starts h.typing.table (object_at h.typing x).of way t → (l : Loc)
       → Reaches (seen h.typing m hands leaks) (expand v (way_along way (Object (OfVariable (home h.typing h.frame x) x)))) l
       → (content h.typing m hands (trunk l)).owns ≡ true
-  place_owns m hands facts x t way ready whole starts l reaches =
+  place_owns m hands facts x t way ready plain whole starts l reaches =
       let w : Way = way_along way (Object (OfVariable (home h.typing h.frame x) x)) in
-      let live = live_trunk h settled leaks waits other alone keeps index_law own_law v parts_named m hands ready.viewed.owned in
+      let live = live_trunk h sees seeing settled leaks waits other alone keeps index_law own_law v parts_named m hands ready.viewed.owned in
       live (expand v w) l
-      (changed_owners h settled hands leaks m waits other facts v ready.kept ready.viewed ready.holds alone live x t way whole starts l reaches) reaches
+      (changed_owners h sees seeing settled hands leaks m waits other facts v ready.kept ready.viewed ready.holds alone live x t way plain whole starts l reaches) reaches
 
   -- no place of a named type is in the variable of a view
   pub no_view_place : (m : Memory) (hands : List Waiting) (t : ℕ) (k : Place) (l : Loc) → IsNamed h.typing.table t → k.of ≡ t → Spot h.typing m hands k l
       → (content h.typing m hands (trunk l)).owns ≡ true
       → (y : ℕ) → is_view h.typing y ≡ true → k.base ≡ memory.OfVariable (home h.typing h.frame y) y → ⊥
-  no_view_place m hands t k l named of spot owns y sees base =
+  no_view_place m hands t k l named of spot owns y sight base =
       let root : trunk l ≡ OfRoot (OfVariable (home h.typing h.frame y) y) = spot.base ∙ ap loc_of base in
       let own : is_view_formal h.typing y ≡ false =
       not_true (is_view_formal h.typing y) (sym (ap (λ z. (content h.typing m hands z).owns) root) ∙ owns) in
-      let view : is_anonymous (view_of h.typing y) ≡ true = either (is_anonymous (view_of h.typing y)) (is_view_formal h.typing y) sees own in
+      let view : is_anonymous (view_of h.typing y) ≡ true = either (is_anonymous (view_of h.typing y)) (is_view_formal h.typing y) sight own in
       let plain = view_access (shape_of h.typing.table (object_at h.typing y).of) view in
       let there : has_part h.typing.table (object_at h.typing y).of (steps_in l) ≡ true =
       subst (λ z. has_part h.typing.table (content h.typing m hands z).of (steps_in l) ≡ true) root spot.there in
@@ -98,13 +99,17 @@ module _ (h : Here) (settled : IsSettled h.typing.table) (leaks : List Leak) (wa
   -- a store elsewhere leaves what the variables of views have
   pub holds_stored : (m : Memory) (k : Place) (ws : List machine.Word)
       → ((y : ℕ) → is_view h.typing y ≡ true → k.base ≡ memory.OfVariable (home h.typing h.frame y) y → ⊥)
-      → Holds h.typing h.frame v m → Holds h.typing h.frame v (stored h.typing k ws m)
+      → Holds h.typing sees h.frame v m → Holds h.typing sees h.frame v (stored h.typing k ws m)
   holds_stored m k ws off holds = record {
-    held = λ y n view e. holds.held y n view (sym (ap (λ z. (get_or z 0 no_slot).word) (same y view k.base (off y view))) ∙ e);
+    held = λ y n view bare e. holds.held y n view bare (sym (ap (λ z. (get_or z 0 no_slot).word) (same y view k.base (off y view))) ∙ e);
     only = holds.only;
     owners = holds.owners;
     access = holds.access;
     own = holds.own;
+    taken = holds.taken;
+    parts = parts_same h.typing sees h.frame v m (stored h.typing k ws m)
+        (λ y p bundle. ap (λ z. (get_or z (offset_in h.typing.table (object_at h.typing y).of p) no_slot).word) (same y (bundle_view h.typing y bundle) k.base (off y (bundle_view h.typing y bundle))))
+        holds.parts;
   }
     where
       same : (y : ℕ) → is_view h.typing y ≡ true → (b : Base) → (b ≡ memory.OfVariable (home h.typing h.frame y) y → ⊥)
@@ -116,15 +121,15 @@ module _ (h : Here) (settled : IsSettled h.typing.table) (leaks : List Leak) (wa
           (take k.at (slots_at h.typing m k.base) ++ fresh ws ++ drop (k.at + length (fresh ws)) (slots_at h.typing m k.base)) m.variables
 
   -- what is written isn't a formal itself
-  pub whole : (x t : ℕ) (steps : TypedTree) (way : List run.Step) → is_fixed h.typing (name_of x steps) ≡ false
+  pub whole : (x t : ℕ) (steps : TypedTree) (way : List run.Step) → is_fixed h.typing sees (name_of x steps) ≡ false
       → Goes h.typing.table (object_at h.typing x).of t steps way → is_view_formal h.typing x ≡ true → way ≡ [] → ⊥
   whole x t steps way free goes formal none =
-      free_formal h.typing (name_of x steps) free formal (no_selectors h.typing.table (object_at h.typing x).of t steps way goes none)
+      free_formal h.typing sees (name_of x steps) free formal (no_selectors h.typing.table (object_at h.typing x).of t steps way goes none)
 
   -- the place is found, with the value in hand
   found : (on : List (List machine.Word)) (m : Memory) (hands : List Waiting) (facts : List Fact) (x t : ℕ) (steps : TypedTree) (ws : List machine.Word)
-      → Ready h settled leaks waits other alone keeps index_law own_law v parts_named m (record { of = t; words = ws } ∷ hands) facts
-      → length ws ≡ words h.typing.table t → IsNamed h.typing.table t → is_fixed h.typing (name_of x steps) ≡ false
+      → Ready h sees seeing settled leaks waits other alone keeps index_law own_law v parts_named m (record { of = t; words = ws } ∷ hands) facts
+      → length ws ≡ words h.typing.table t → IsNamed h.typing.table t → is_fixed h.typing sees (name_of x steps) ≡ false
       → (way : List run.Step) → Goes h.typing.table (object_at h.typing x).of t steps way → Allows facts (act.Write (name_of x steps))
       → (y : Evaluated Place) → Walked h.typing settled (record { of = t; words = ws } ∷ hands) leaks m on (expand v (way_along way (Object (OfVariable (home h.typing h.frame x) x)))) t y
       → Assigns hands (effect (act.Write (name_of x steps)) facts) (followed_by y (λ k now. Done (record { words = ws; place = k }) now))
@@ -136,21 +141,21 @@ module _ (h : Here) (settled : IsSettled h.typing.table) (leaks : List Leak) (wa
           root = number_along way (Object (OfVariable (home h.typing h.frame x) x)) j;
           sels = goes.sels (Object (OfVariable (home h.typing h.frame x) x)) j;
         }) in
-        subst (λ z. Viewed (home h.typing h.frame) (sees_only h.typing) other v (seen h.typing (stored h.typing k ws z.memory) hands (leaks ++ leaks_at h.typing pos z.memory k)) (effect (act.Write (name_of x steps)) facts))
+        subst (λ z. Viewed (home h.typing h.frame) sees other v (seen h.typing (stored h.typing k ws z.memory) hands (leaks ++ leaks_at h.typing pos z.memory k)) (effect (act.Write (name_of x steps)) facts))
         (sym same)
-        (subst (λ z. Viewed (home h.typing h.frame) (sees_only h.typing) other v (seen h.typing (stored h.typing k ws m) hands (leaks ++ leaks_at h.typing pos m k)) (effect (act.Write z) facts)) called
-        (stored_viewed h.typing settled (home h.typing h.frame) (sees_only h.typing) other v m (record { of = t; words = ws }) hands leaks facts k l w pos ready.viewed (λ z b u o. alone b (near_under h.frame (Object (OfHand z)) b u tt) o)
-        ready.kept spot named (ap (sees_only h.typing) (number_along way (Object (OfVariable (home h.typing h.frame x) x))) ∙ free_sees h.typing (name_of x steps) free)
+        (subst (λ z. Viewed (home h.typing h.frame) sees other v (seen h.typing (stored h.typing k ws m) hands (leaks ++ leaks_at h.typing pos m k)) (effect (act.Write z) facts)) called
+        (stored_viewed h.typing settled (home h.typing h.frame) sees other v m (record { of = t; words = ws }) hands leaks facts k l w pos ready.viewed (λ z b u o. alone b (near_under h.frame (Object (OfHand z)) b u tt) o)
+        ready.kept spot named (ap sees (number_along way (Object (OfVariable (home h.typing h.frame x) x))) ∙ free_sees h.typing sees (name_of x steps) free)
         (is_place h.typing v (home h.typing h.frame x) x t way goes.lead own (whole x t steps way free goes) ready.holds.only) reaches
-        (place_owns m (record { of = t; words = ws } ∷ hands) facts x t way ready (whole x t steps way free goes) goes.lead l reaches)
+        (place_owns m (record { of = t; words = ws } ∷ hands) facts x t way ready (free_sees h.typing sees (name_of x steps) free) (whole x t steps way free goes) goes.lead l reaches)
         (subst (λ z. Allows facts (act.Write z)) (sym called) allowed)
         (long ∙ ap (words h.typing.table) (sym of)) (inl (ap (shape_of h.typing.table) (sym of)))))),
     subst (λ z. Kept h.typing (stored h.typing k ws z.memory) hands) (sym same)
         (put_away h.typing settled m (record { of = t; words = ws }) hands k l ready.kept spot (long ∙ ap (words h.typing.table) (sym of))
         (inl (ap (shape_of h.typing.table) (sym of)))),
-    subst (λ z. Holds h.typing h.frame v (stored h.typing k ws z.memory)) (sym same)
+    subst (λ z. Holds h.typing sees h.frame v (stored h.typing k ws z.memory)) (sym same)
         (holds_stored m k ws (no_view_place m (record { of = t; words = ws } ∷ hands) t k l own of spot
-        (place_owns m (record { of = t; words = ws } ∷ hands) facts x t way ready (whole x t steps way free goes) goes.lead l reaches)) ready.holds),
+        (place_owns m (record { of = t; words = ws } ∷ hands) facts x t way ready (free_sees h.typing sees (name_of x steps) free) (whole x t steps way free goes) goes.lead l reaches)) ready.holds),
   )
   found on m hands facts x t steps ws ready long own free way goes allowed (Raises e n) is = tt
   found on m hands facts x t steps ws ready long own free way goes allowed (Traps e n) none = none
@@ -163,17 +168,17 @@ module _ (h : Here) (settled : IsSettled h.typing.table) (leaks : List Leak) (wa
 
   -- the value is there
   pub then_placed : (mid on : List (List machine.Word)) (p : Pos) (x t : ℕ) (steps : TypedTree) (hands : List Waiting) (facts : List Fact) → IsNamed h.typing.table t
-      → is_fixed h.typing (name_of x steps) ≡ false → Leads h.typing (object_at h.typing x).of steps t
+      → is_fixed h.typing sees (name_of x steps) ≡ false → Leads h.typing (object_at h.typing x).of steps t
       → Takes (waiting steps) mid on → AllowsAll facts (acts (acts_in h.typing steps) ++ act.Write (name_of x steps) ∷ []) → (y : Evaluated (List machine.Word))
-      → GivenOn h settled leaks waits other alone keeps index_law own_law v parts_named mid t hands facts y
+      → GivenOn h sees seeing settled leaks waits other alone keeps index_law own_law v parts_named mid t hands facts y
       → Assigns hands (effect (act.Write (name_of x steps)) (after (acts (acts_in h.typing steps)) facts))
       (followed_by y (λ ws now. followed_by (place_of h (Name p x steps t) now) (λ k now. Done (record { words = ws; place = k }) now)))
   then_placed mid on p x t steps hands facts own free lead takes allowed (Done ws n) (ready, long, same) =
       let now : Now = record { memory = n.memory; waits = mid } in
       let got : Waiting = record { of = t; words = ws } in
       let each = allows_both facts (acts (acts_in h.typing steps)) (act.Write (name_of x steps) ∷ []) allowed in
-      let live = live_trunk h settled leaks waits other alone keeps index_law own_law v parts_named n.memory (got ∷ hands) ready.viewed.owned in
-      let inner = steps_taking h settled (got ∷ hands) leaks n.memory waits other facts v ready.kept ready.viewed ready.holds alone live index_law own_law parts_named
+      let live = live_trunk h sees seeing settled leaks waits other alone keeps index_law own_law v parts_named n.memory (got ∷ hands) ready.viewed.owned in
+      let inner = steps_taking h sees seeing settled (got ∷ hands) leaks n.memory waits other facts v ready.kept ready.viewed ready.holds alone live index_law own_law parts_named
       (object_at h.typing x).of t steps lead mid on takes each.0 in
       let writes : Allows facts (act.Write (name_of x steps)) = subst (λ z. Allows z (act.Write (name_of x steps))) inner.1 each.1.0 in
       subst (λ z. Assigns hands (effect (act.Write (name_of x steps)) (after (acts (acts_in h.typing steps)) facts))
@@ -185,7 +190,7 @@ module _ (h : Here) (settled : IsSettled h.typing.table) (leaks : List Leak) (wa
       (then_found (record { memory = n.memory; waits = on }) (λ way. Goes h.typing.table (object_at h.typing x).of t steps way) hands (effect (act.Write (name_of x steps)) facts) (steps_of h steps now)
       (λ way now. followed_by (walked h.typing way (variable_place h x) now) (λ k now. Done (record { words = ws; place = k }) now)) inner.0
       (λ way goes. found on n.memory hands facts x t steps ws ready long own free way goes writes (walked h.typing way (variable_place h x) (record { memory = n.memory; waits = on }))
-      (name_on h settled (got ∷ hands) leaks n.memory waits other facts v ready.kept ready.viewed ready.holds alone live index_law own_law parts_named on x steps t way goes
+      (name_on h sees seeing settled (got ∷ hands) leaks n.memory waits other facts v ready.kept ready.viewed ready.holds alone live index_law own_law parts_named on x steps t way goes
       (λ w named same. write_open facts w (subst (λ z. Allows facts (act.Write z)) (sym same) writes)))))))
   then_placed mid on p x t steps hands facts own free lead takes allowed (Raises e n) given = tt
   then_placed mid on p x t steps hands facts own free lead takes allowed (Traps e n) none = none
@@ -194,8 +199,8 @@ module _ (h : Here) (settled : IsSettled h.typing.table) (leaks : List Leak) (wa
   pub assigned_on : (before mid on : List (List machine.Word)) (p : Pos) (x t : ℕ) (steps e : TypedTree) → IsNamed h.typing.table t → Gives h.typing t e
       → Leads h.typing (object_at h.typing x).of steps t
       → GivesPlainly h.typing e → Takes (waiting e) before mid → Takes (waiting steps) mid on → (m : Memory) (hands : List Waiting) (facts : List Fact)
-      → Ready h settled leaks waits other alone keeps index_law own_law v parts_named m hands facts
-      → AllowsAll facts (acts (stored_acts h.typing (Name p x steps t) e)) → AllKeep (is_fixed h.typing) (acts (stored_acts h.typing (Name p x steps t) e))
+      → Ready h sees seeing settled leaks waits other alone keeps index_law own_law v parts_named m hands facts
+      → AllowsAll facts (acts (stored_acts h.typing (Name p x steps t) e)) → AllKeep (is_fixed h.typing sees) (acts (stored_acts h.typing (Name p x steps t) e))
       → Assigns hands (after (acts (stored_acts h.typing (Name p x steps t) e)) facts)
       (followed_by (followed_by (evaluate h AsValue e (record { memory = m; waits = before })) (checked h t))
       (λ ws now. followed_by (place_of h (Name p x steps t) now) (λ k now. Done (record { words = ws; place = k }) now)))
@@ -207,11 +212,11 @@ module _ (h : Here) (settled : IsSettled h.typing.table) (leaks : List Leak) (wa
       ∙ ap (λ z. z ++ (act.Write (name_of x steps) ∷ [])) (acts_append (acts_in h.typing e) (acts_in h.typing steps))
       ∙ append_assoc a b (act.Write (name_of x steps) ∷ []) in
       let each = allows_both facts a (b ++ act.Write (name_of x steps) ∷ []) (subst (AllowsAll facts) whole allowed) in
-      let names = keep_both (is_fixed h.typing) a (b ++ act.Write (name_of x steps) ∷ []) (subst (AllKeep (is_fixed h.typing)) whole keep) in
-      let last = keep_both (is_fixed h.typing) b (act.Write (name_of x steps) ∷ []) names.1 in
-      let given = checked_on h settled leaks waits other alone keeps index_law own_law v parts_named mid t t hands (after a facts)
+      let names = keep_both (is_fixed h.typing sees) a (b ++ act.Write (name_of x steps) ∷ []) (subst (AllKeep (is_fixed h.typing sees)) whole keep) in
+      let last = keep_both (is_fixed h.typing sees) b (act.Write (name_of x steps) ∷ []) names.1 in
+      let given = checked_on h sees seeing settled leaks waits other alone keeps index_law own_law v parts_named mid t t hands (after a facts)
       (evaluate h AsValue e (record { memory = m; waits = before }))
-      (evaluated_on h settled leaks waits other alone keeps index_law own_law v parts_named e t gives calls before mid takes m hands facts ready each.0 own names.0) in
+      (evaluated_on h sees seeing settled leaks waits other alone keeps index_law own_law v parts_named e t gives calls before mid takes m hands facts ready each.0 own names.0) in
       let behind : after (acts (stored_acts h.typing (Name p x steps t) e)) facts ≡ effect (act.Write (name_of x steps)) (after b (after a facts)) =
       ap (λ z. after z facts) whole ∙ after_append a (b ++ act.Write (name_of x steps) ∷ []) facts
       ∙ after_append b (act.Write (name_of x steps) ∷ []) (after a facts) in
@@ -221,8 +226,8 @@ module _ (h : Here) (settled : IsSettled h.typing.table) (leaks : List Leak) (wa
 
   pub assigned : (p : Pos) (x t : ℕ) (steps e : TypedTree) → IsNamed h.typing.table t → Gives h.typing t e → Leads h.typing (object_at h.typing x).of steps t
       → has_call e ≡ false → has_call steps ≡ false → (m : Memory) (hands : List Waiting) (facts : List Fact)
-      → Ready h settled leaks waits other alone keeps index_law own_law v parts_named m hands facts
-      → AllowsAll facts (acts (stored_acts h.typing (Name p x steps t) e)) → AllKeep (is_fixed h.typing) (acts (stored_acts h.typing (Name p x steps t) e))
+      → Ready h sees seeing settled leaks waits other alone keeps index_law own_law v parts_named m hands facts
+      → AllowsAll facts (acts (stored_acts h.typing (Name p x steps t) e)) → AllKeep (is_fixed h.typing sees) (acts (stored_acts h.typing (Name p x steps t) e))
       → Assigns hands (after (acts (stored_acts h.typing (Name p x steps t) e)) facts)
       (followed_by (followed_by (evaluate h AsValue e (record { memory = m; waits = waits })) (checked h t))
       (λ ws now. followed_by (place_of h (Name p x steps t) now) (λ k now. Done (record { words = ws; place = k }) now)))

@@ -35,7 +35,7 @@ owners_rooted s (Into w i) o = owners_rooted s w o
 owners_rooted s (All w) o = owners_rooted s w o
 
 module _ (s : Typing) (settled : IsSettled s.table) (hands : List Waiting) (leaks : List Leak) where
-  component_spot : (m : Memory) (k : Place) (l : Loc) (i : ℕ) → Spot s m hands k l → i < length (fields s.table k.of)
+  pub component_spot : (m : Memory) (k : Place) (l : Loc) (i : ℕ) → Spot s m hands k l → i < length (fields s.table k.of)
       → Spot s m hands (component_place s.table i k) (Inside l (Component i))
   component_spot m k l i spot lt = by_type spot.of
     where
@@ -61,7 +61,7 @@ module _ (s : Typing) (settled : IsSettled s.table) (hands : List Waiting) (leak
       by_type (inr (a, b)) =
           let none = ap length (no_fields (shape_of s.table k.of) a) in absurd (omega (arith, lt, none))
 
-  element_spot : (m : Memory) (k : Place) (l : Loc) (n : ℕ) → Spot s m hands k l → n < element_count s.table k.of
+  pub element_spot : (m : Memory) (k : Place) (l : Loc) (n : ℕ) → Spot s m hands k l → n < element_count s.table k.of
       → Spot s m hands (element_place s.table n k) (Inside l (Element n))
   element_spot m k l n spot lt = by_type spot.of
     where

@@ -31,9 +31,10 @@ use Rattle.soundness.proofs.Steps.{no_leaf}
 use Rattle.soundness.proofs.Fixed.{matches_scalar}
 use Rattle.soundness.proofs.Scalars.{acts, acts_append, after_append, read_effect}
 use Rattle.owned_loans.specs.Views.{Around, Views, Viewed, expand, way_at}
-use Rattle.viewed_soundness.specs.Holds.{PartsAreNamed, Holds, sees_only, is_view, IsOwners}
-use Rattle.viewed_soundness.proofs.Names.{true_false}
-use Rattle.viewed_steps.proofs.Views.{AreAccess}
+use Rattle.viewed_soundness.specs.Holds.{PartsAreNamed, Holds, is_view, IsOwners, Seeing}
+use Rattle.viewed_soundness.proofs.ViewKinds.{bundle_view, plain_sees, true_false}
+use Rattle.viewed_soundness.proofs.Names.{seen_parts}
+use Rattle.viewed_steps.proofs.Views.{AreAccess, AreLowFormals}
 use Rattle.viewed_steps.proofs.Emptied.{out_left, taken_back}
 use Rattle.viewed_steps.proofs.Outs.{Out, IsUnderOne}
 use Rattle.viewed_steps.proofs.LaidOut.{IsValueLaid, IsPlainAt, IsPlaceLaid, IsBackLaid, IsLaidOne, AreLaidOut, place_out, back_out, out_of, outs_of, IsOwnPut, IsHoused, own_out}
@@ -44,58 +45,61 @@ use Rattle.viewed_steps.proofs.Between.{OwnersStand}
 use Rattle.viewed_steps.proofs.Entered.{own_named, own_number, own_itself, own_plain}
 use Rattle.owned_loans.proofs.Moves.{IsPlace, expand_under}
 use Rattle.owned_ways.proofs.Assigned.{is_false, kept_fact}
-use Rattle.owned_ways.proofs.Named.{covered_under}
-use Rattle.place_names.specs.Names.{covers}
+use Rattle.owned_ways.proofs.Named.{covered_under, longer}
+use Rattle.place_names.specs.Names.{Name as PlaceName, covers}
 use Rattle.place_names.specs.declared.fact.Fact.TheVariants.{Moved}
 use Rattle.viewed_steps.proofs.Released.{ends_there}
-use Rattle.viewed_soundness.proofs.Given.{IsLow}
 
-module _ (h : Here) (settled : IsSettled h.typing.table) (hands : List Waiting) (leaks : List Leak) (m : Memory) (waits : List (List machine.Word))
+module _ (h : Here) (sees : ℕ → Bool) (seeing : Seeing h.typing sees) (settled : IsSettled h.typing.table) (hands : List Waiting) (leaks : List Leak) (m : Memory) (waits : List (List machine.Word))
     (other : Around (home h.typing h.frame)) (facts : List Fact) (v : Views)
     (kept : Kept h.typing m hands)
-    (well : Viewed (home h.typing h.frame) (sees_only h.typing) other v (seen h.typing m hands leaks) facts)
-    (holds : Holds h.typing h.frame v m)
+    (well : Viewed (home h.typing h.frame) sees other v (seen h.typing m hands leaks) facts)
+    (holds : Holds h.typing sees h.frame v m)
     (alone : (w : Way) → IsNear h.frame w → other.gone w → ⊥)
     (live : (w : Way) (l : Loc) → IsOwners h.typing w → Reaches (seen h.typing m hands leaks) w l → (content h.typing m hands (trunk l)).owns ≡ true)
     (in_formals : AreAccess h.typing)
     (index_law : IndexLaw)
     (own_law : OwnsByShape h.typing.table)
     (parts_named : PartsAreNamed h.typing.table)
-    (formals_low : (x : ℕ) (w : Way) → v.way x ≡ Some w → IsLow h.typing h.frame w)
+    (formals_low : AreLowFormals h.typing h.frame v)
     (procedure : Bool) where
   abbrev ways_of : List ℕ → List Passing
-  ways_of = called.ways_of h settled hands leaks m waits other facts v kept well holds alone live in_formals index_law own_law parts_named formals_low procedure
+  ways_of = called.ways_of h sees seeing settled hands leaks m waits other facts v kept well holds alone live in_formals index_law own_law parts_named formals_low procedure
 
-  abbrev plain_type_at : (e : TypedTree) (k : Place) → IsPlainAt h.typing h.frame v (seen h.typing m hands leaks) e k → is_scalar (full h.typing.table k.of) ≡ true
-  plain_type_at = puts.plain_type_at h settled hands leaks m waits other facts v kept well holds alone live in_formals index_law own_law parts_named formals_low procedure
+  abbrev plain_type_at : (e : TypedTree) (k : Place) → IsPlainAt h.typing sees h.frame v (seen h.typing m hands leaks) e k → is_scalar (full h.typing.table k.of) ≡ true
+  plain_type_at = puts.plain_type_at h sees seeing settled hands leaks m waits other facts v kept well holds alone live in_formals index_law own_law parts_named formals_low procedure
 
   abbrev IsPlaceGiven : ℕ → TypedTree → Place → Type 0
-  IsPlaceGiven = called.IsPlaceGiven h settled hands leaks m waits other facts v kept well holds alone live in_formals index_law own_law parts_named formals_low procedure
+  IsPlaceGiven = called.IsPlaceGiven h sees seeing settled hands leaks m waits other facts v kept well holds alone live in_formals index_law own_law parts_named formals_low procedure
 
   abbrev IsBackGiven : ℕ → TypedTree → Place → Type 0
-  IsBackGiven = called.IsBackGiven h settled hands leaks m waits other facts v kept well holds alone live in_formals index_law own_law parts_named formals_low procedure
+  IsBackGiven = called.IsBackGiven h sees seeing settled hands leaks m waits other facts v kept well holds alone live in_formals index_law own_law parts_named formals_low procedure
 
   abbrev IsValueGiven : ℕ → TypedTree → List machine.Word → Type 0
-  IsValueGiven = called.IsValueGiven h settled hands leaks m waits other facts v kept well holds alone live in_formals index_law own_law parts_named formals_low procedure
+  IsValueGiven = called.IsValueGiven h sees seeing settled hands leaks m waits other facts v kept well holds alone live in_formals index_law own_law parts_named formals_low procedure
 
   abbrev IsGiven : ℕ → Mode → TypedTree → Passed → Type 0
-  IsGiven = called.IsGiven h settled hands leaks m waits other facts v kept well holds alone live in_formals index_law own_law parts_named formals_low procedure
+  IsGiven = called.IsGiven h sees seeing settled hands leaks m waits other facts v kept well holds alone live in_formals index_law own_law parts_named formals_low procedure
 
   abbrev AreGiven : List ℕ → TypedTree → List Passed → Type 0
-  AreGiven = called.AreGiven h settled hands leaks m waits other facts v kept well holds alone live in_formals index_law own_law parts_named formals_low procedure
+  AreGiven = called.AreGiven h sees seeing settled hands leaks m waits other facts v kept well holds alone live in_formals index_law own_law parts_named formals_low procedure
 
   abbrev pub value_laid : (x : ℕ) (e : TypedTree) (ws : List machine.Word) → IsValueGiven x e ws → IsValueLaid h.typing m x ws
-  value_laid x e ws given = (given.0, λ own. (let seen_as = given.1 own in (seen_as.0, seen_as.1, seen_as.2)))
+  value_laid x e ws given = (
+    given.0,
+    λ own bare. (let seen_as = given.1 own bare in (seen_as.0, seen_as.1, seen_as.2)),
+    λ bundle. (given.2 bundle).fit,
+  )
 
-  abbrev pub place_laid : (x : ℕ) (e : TypedTree) (k : Place) → IsPlaceGiven x e k → IsPlaceLaid h.typing h.frame v (seen h.typing m hands leaks) x e k
+  abbrev pub place_laid : (x : ℕ) (e : TypedTree) (k : Place) → IsPlaceGiven x e k → IsPlaceLaid h.typing sees h.frame v (seen h.typing m hands leaks) x e k
   place_laid x e k (inl (plain, put)) = inl (plain, put.0)
   place_laid x e k (inr own) = inr own
 
-  abbrev pub back_laid : (x : ℕ) (e : TypedTree) (k : Place) → IsBackGiven x e k → IsBackLaid h.typing h.frame v (seen h.typing m hands leaks) x e k
+  abbrev pub back_laid : (x : ℕ) (e : TypedTree) (k : Place) → IsBackGiven x e k → IsBackLaid h.typing sees h.frame v (seen h.typing m hands leaks) x e k
   back_laid x e k (inl put) = inl (place_laid x e k put)
   back_laid x e k (inr housed) = inr housed
 
-  abbrev pub laid_one : (x : ℕ) (mode_of : Mode) (e : TypedTree) (a : Passed) → IsGiven x mode_of e a → IsLaidOne h.typing m h.frame v (seen h.typing m hands leaks) x mode_of e a
+  abbrev pub laid_one : (x : ℕ) (mode_of : Mode) (e : TypedTree) (a : Passed) → IsGiven x mode_of e a → IsLaidOne h.typing sees m h.frame v (seen h.typing m hands leaks) x mode_of e a
   laid_one x mode.In e (Value ws) is = value_laid x e ws is
   laid_one x mode.In e (From k) is = absurd is
   laid_one x mode.In e (To k) is = absurd is
@@ -106,11 +110,15 @@ module _ (h : Here) (settled : IsSettled h.typing.table) (hands : List Waiting) 
   laid_one x mode.InOut e (From k) is = back_laid x e k is
   laid_one x mode.InOut e (To k) is = absurd is
 
-  abbrev pub all_laid_out : (formals : List ℕ) (actuals : TypedTree) (passed : List Passed) → AreGiven formals actuals passed → AreLaidOut h.typing m h.frame v (seen h.typing m hands leaks) formals actuals passed
+  abbrev pub all_laid_out : (formals : List ℕ) (actuals : TypedTree) (passed : List Passed) → AreGiven formals actuals passed → AreLaidOut h.typing sees m h.frame v (seen h.typing m hands leaks) formals actuals passed
   all_laid_out (x ∷ formals) (More e rest) (a ∷ passed) are = (laid_one x (object_at h.typing x).mode e a are.0, all_laid_out formals rest passed are.1)
   all_laid_out (x ∷ formals) (More e rest) [] are = absurd are
   all_laid_out [] actuals passed are = are
   all_laid_out (x ∷ formals) actuals passed are = are
+
+  -- a formal with parts that see only sees
+  bare : (z : ℕ) → sees z ≡ false → (p : List ways.Step) → v.part_way z p ≡ None
+  bare z plain p = seen_parts h sees seeing settled hands leaks m waits other facts v kept well holds alone live z plain p
 
   -- ---- what the facts say then
 
@@ -142,13 +150,13 @@ module _ (h : Here) (settled : IsSettled h.typing.table) (hands : List Waiting) 
     AreGone outs = (w : Way) → IsUnderOne outs w → gone w
 
     own_acted : (owning access : Bool) (p : Pos) (y : ℕ) (path : TypedTree) (k : Place) (known : List Fact) (to name : Way) → Named (home h.typing h.frame) name
-        → IsPlace v name → expand v name ≡ to → ways.name_of name ≡ name_of y path → AreGone (record { way = to; place = k; pos = p } ∷ []) → StandsWith known
-        → StandsWith (effect (act.Actual (name_of y path) mode.Out owning access) known)
-    own_acted owning access p y path k known to name named place means called adds there =
+        → sees (ways.number_of name) ≡ false → IsPlace v name → expand v name ≡ to → ways.name_of name ≡ name_of y path
+        → AreGone (record { way = to; place = k; pos = p } ∷ []) → StandsWith known → StandsWith (effect (act.Actual (name_of y path) mode.Out owning access) known)
+    own_acted owning access p y path k known to name named plain place means called adds there =
         subst (λ z. StandsWith (effect (act.Actual z mode.Out owning access) known)) called
         (taken_back (home h.typing h.frame) v gone gone (seen h.typing m hands leaks) (expand v name) known
         (effect (act.Actual (ways.name_of name) mode.Out owning access) known) there
-        (out_left (home h.typing h.frame) v known name owning access named place)
+        (out_left (home h.typing h.frame) v known name owning access named place (bare (ways.number_of name) plain))
         (λ w o. o) (λ w under. adds w (record { way = to; place = k; pos = p }, inl refl, subst (λ z. Under z w) means under)))
 
     -- the way of a place in a variable is its name
@@ -157,7 +165,8 @@ module _ (h : Here) (settled : IsSettled h.typing.table) (hands : List Waiting) 
         → StandsWith (effect (act.Actual (name_of y path) mode.Out owning access) known)
     variable_acted owning access x p y u path k known (to, inside, called, is, fits, own) adds there =
         own_acted owning access p y path k known to to (own_named h.typing settled h.frame k to inside own)
-        (λ r is_root. no_way r (own_number h.typing settled h.frame k to inside own) is_root) (own_itself h.typing settled h.frame k to inside own v holds.only) called adds there
+        (ap sees (own_number h.typing settled h.frame k to inside own) ∙ plain_sees h.typing sees seeing inside.object none_here)
+        (λ r is_root. no_way r (own_number h.typing settled h.frame k to inside own) is_root) (own_itself h.typing settled h.frame k to inside own v holds.only (λ z q w has. bundle_view h.typing z (holds.parts.only z q w has))) called adds there
       where
         none_here : is_view h.typing inside.object ≡ false
         none_here = own_plain h.typing settled h.frame k to inside own
@@ -174,16 +183,17 @@ module _ (h : Here) (settled : IsSettled h.typing.table) (hands : List Waiting) 
             by_way (Some w) e = absurd (true_false (is_view h.typing z) (holds.only z w e) (ap (is_view h.typing) (sym same) ∙ none_here))
 
     -- a name of a place in a cell is no view by itself
-    housed_place : (x y : ℕ) (path : TypedTree) (k : Place) → (h' : IsHoused h.typing h.frame v (seen h.typing m hands leaks) x y path k) → IsPlace v h'.name
+    housed_place : (x y : ℕ) (path : TypedTree) (k : Place) → (h' : IsHoused h.typing sees h.frame v (seen h.typing m hands leaks) x y path k) → IsPlace v h'.name
     housed_place x y path k h' r is = absurd (h'.deep r (subst (λ z. h'.front ≡ z) is (only_front h'.front h'.name r is h'.begins)))
       where
         only_front : (a b : Way) (r : ways.Root) → b ≡ ways.Object r → Under a b → a ≡ b
         only_front a b r is under = subst (λ z. Under a z → a ≡ z) (sym is) (λ e. e) under
 
     -- an act that writes a place without access parts
-    nothing_stands : (w : Way) (l : Loc) (known : List Fact) → Named (home h.typing h.frame) w → IsPlace v w → Reaches (seen h.typing m hands leaks) (expand v w) l
-        → ((p : List Step) → (seen h.typing m hands leaks).word (part l p) ≡ Empty) → StandsWith known → StandsWith (effect (act.Write (ways.name_of w)) known)
-    nothing_stands w l known named place reaches empty there = record {
+    nothing_stands : (w : Way) (l : Loc) (known : List Fact) → Named (home h.typing h.frame) w → sees (ways.number_of w) ≡ false → IsPlace v w
+        → Reaches (seen h.typing m hands leaks) (expand v w) l → ((p : List Step) → (seen h.typing m hands leaks).word (part l p) ≡ Empty) → StandsWith known
+        → StandsWith (effect (act.Write (ways.name_of w)) known)
+    nothing_stands w l known named plain place reaches empty there = record {
       owned = there.owned;
       covered = there.covered;
       known = λ z at rooted r is. elim (there.known z at rooted r is) [
@@ -194,7 +204,8 @@ module _ (h : Here) (settled : IsSettled h.typing.table) (hands : List Waiting) 
             moved.0,
             kept_fact (act.Write (ways.name_of w)) known (Moved (ways.name_of u)) moved.1
                 (is_false (covers (ways.name_of w) (ways.name_of u)) (λ e. (
-                let under = subst (Under (expand v w)) leads (expand_under v w u place (covered_under (home h.typing h.frame) w u named moved.0 e)) in
+                let below = covered_under (home h.typing h.frame) w u named moved.0 e in
+                let under = subst (Under (expand v w)) leads (expand_under v w u place (bare (ways.number_of u) (ap sees (longer w u below).root ∙ plain)) below) in
                 let b = ends_there (seen h.typing m hands leaks) (expand v w) l reaches empty z at r under in
                 let no : Gone ≡ Empty = sym is ∙ ap (seen h.typing m hands leaks).word b.1 ∙ empty b.0 in cc))),
           ),
@@ -204,26 +215,27 @@ module _ (h : Here) (settled : IsSettled h.typing.table) (hands : List Waiting) 
     }
 
     place_acted : (owning access : Bool) (x : ℕ) (e : TypedTree) (k : Place) (known : List Fact) → (given : IsPlaceGiven x e k)
-        → AreGone (place_out h.typing h.frame v (seen h.typing m hands leaks) x e k (place_laid x e k given)) → StandsWith known
+        → AreGone (place_out h.typing sees h.frame v (seen h.typing m hands leaks) x e k (place_laid x e k given)) → StandsWith known
         → StandsWith (after (acts (actual_act (passing_by mode.Out owning access) e)) known)
-    place_acted owning access x (Name p y path u) k known (inl (plain, (at_place, (w, l, named, called, place, reaches, spot)))) adds there =
+    place_acted owning access x (Name p y path u) k known (inl (plain, (at_place, (w, l, named, called, place, reaches, spot, sight)))) adds there =
         subst (λ z. StandsWith (effect (act.Write z) known)) called
-        (nothing_stands w l known named place reaches
+        (nothing_stands w l known named (ap (λ (z : PlaceName). sees z.root) called ∙ sight) place reaches
         (plain_there k l spot (plain_type_at (Name p y path u) k at_place)) there)
     place_acted owning access x (Name p y path u) k known (inr (many, own)) adds there = variable_acted owning access x p y u path k known own adds there
     place_acted owning access x e k known (inl (plain, (fixed, never))) adds there = absurd never
     place_acted owning access x e k known (inr (many, never)) adds there = absurd never
 
     back_acted : (owning access : Bool) (x : ℕ) (e : TypedTree) (k : Place) (known : List Fact) → (given : IsBackGiven x e k)
-        → AreGone (back_out h.typing h.frame v (seen h.typing m hands leaks) x e k (back_laid x e k given)) → StandsWith known
+        → AreGone (back_out h.typing sees h.frame v (seen h.typing m hands leaks) x e k (back_laid x e k given)) → StandsWith known
         → StandsWith (after (acts (actual_act (passing_by mode.Out owning access) e)) known)
     back_acted owning access x e k known (inl given) adds there = place_acted owning access x e k known given adds there
     back_acted owning access x (Name p y path u) k known (inr (many, housed)) adds there =
-        own_acted owning access p y path k known housed.to housed.name housed.named (housed_place x y path k housed) housed.means housed.called adds there
+        own_acted owning access p y path k known housed.to housed.name housed.named (ap (λ (z : PlaceName). sees z.root) housed.called ∙ housed.plain)
+        (housed_place x y path k housed) housed.means housed.called adds there
     back_acted owning access x e k known (inr (many, never)) adds there = absurd never
 
     pub head_acted : (mode_of : Mode) (owning access : Bool) (x : ℕ) (e : TypedTree) (a : Passed) (known : List Fact)
-        → (given : IsGiven x mode_of e a) → AreGone (out_of h.typing m h.frame v (seen h.typing m hands leaks) x mode_of e a (laid_one x mode_of e a given)) → StandsWith known
+        → (given : IsGiven x mode_of e a) → AreGone (out_of h.typing sees m h.frame v (seen h.typing m hands leaks) x mode_of e a (laid_one x mode_of e a given)) → StandsWith known
         → StandsWith (after (acts (actual_act (passing_by mode_of owning access) e)) known)
     head_acted mode.In false access x e a known is adds there = there
     head_acted mode.In true access x e a known is adds there = subst StandsWith (sym (naming_sees (written e) true access known)) there
@@ -233,13 +245,13 @@ module _ (h : Here) (settled : IsSettled h.typing.table) (hands : List Waiting) 
     head_acted mode.Out owning access x e (From k) known is adds there = absurd is
 
     pub all_acted : (formals : List ℕ) (actuals : TypedTree) (passed : List Passed) (known : List Fact)
-        → (given : AreGiven formals actuals passed) → AreGone (outs_of h.typing m h.frame v (seen h.typing m hands leaks) formals actuals passed (all_laid_out formals actuals passed given)) → StandsWith known
+        → (given : AreGiven formals actuals passed) → AreGone (outs_of h.typing sees m h.frame v (seen h.typing m hands leaks) formals actuals passed (all_laid_out formals actuals passed given)) → StandsWith known
         → StandsWith (after (acts (actual_acts (ways_of formals) actuals)) known)
     all_acted (x ∷ formals) (More e rest) (a ∷ passed) known are adds there =
         let first : List Placed = actual_act (way_to h.typing own_law procedure x) e in
         let others : List Placed = actual_acts (ways_of formals) rest in
-        let out : List Out = out_of h.typing m h.frame v (seen h.typing m hands leaks) x (object_at h.typing x).mode e a (laid_one x (object_at h.typing x).mode e a are.0) in
-        let outs : List Out = outs_of h.typing m h.frame v (seen h.typing m hands leaks) formals rest passed (all_laid_out formals rest passed are.1) in
+        let out : List Out = out_of h.typing sees m h.frame v (seen h.typing m hands leaks) x (object_at h.typing x).mode e a (laid_one x (object_at h.typing x).mode e a are.0) in
+        let outs : List Out = outs_of h.typing sees m h.frame v (seen h.typing m hands leaks) formals rest passed (all_laid_out formals rest passed are.1) in
         subst StandsWith (sym (ap (λ z. after z known) (acts_append first others) ∙ after_append (acts first) (acts others) known))
         (all_acted formals rest passed (after (acts first) known) are.1
         (λ w under. adds w (under.0, Has-append_right out outs under.0 under.1, under.2))

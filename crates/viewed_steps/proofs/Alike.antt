@@ -25,30 +25,30 @@ use Rattle.soundness.proofs.Loops.{same_word, scalar_same}
 use Rattle.soundness.proofs.Stays.{One}
 use Rattle.soundness.proofs.Returning.{Backs}
 use Rattle.viewed_steps.specs.Taken.{Lodge, IsLodged, IsPlainPlace}
-use Rattle.viewed_soundness.specs.Holds.{is_view}
-use Rattle.viewed_steps.proofs.Views.{AreAccess, view_access, scalar_no_view}
+use Rattle.viewed_soundness.specs.Holds.{is_bundle, is_view}
+use Rattle.viewed_steps.proofs.Views.{AreAccess, view_access, scalar_bundle, scalar_no_view}
 use Rattle.viewed_steps.proofs.Beside.{put_beside}
 use Rattle.viewed_steps.proofs.Lodged.{lodged_spot}
 
 -- ---- memories that owners see alike
 
 -- a scalar place isn't in the variable of a view
-no_view_fixed : (s : Typing) (settled : IsSettled s.table) → AreAccess s → (k : Place) → IsFixed s k → (g y : ℕ) → is_view s y ≡ true
-    → k.base ≡ memory.OfVariable g y → ⊥
-no_view_fixed s settled in_formals k fixed g y view base =
+no_view_fixed : (s : Typing) (sees : ℕ → Bool) (settled : IsSettled s.table) → AreAccess s → (k : Place) (fixed : IsFixed s k) → is_bundle s fixed.object ≡ false → (g y : ℕ)
+    → is_view s y ≡ true → k.base ≡ memory.OfVariable g y → ⊥
+no_view_fixed s sees settled in_formals k fixed bare g y view base =
     let same : fixed.object ≡ y = same_variable fixed.frame fixed.object g y (sym fixed.base ∙ base) in
-    let access = view_access s in_formals y view in
+    let access = view_access s sees in_formals y view (subst (λ z. is_bundle s z ≡ false) same bare) in
     let there : has_part s.table (object_at s y).of fixed.steps ≡ true = subst (λ z. has_part s.table (object_at s z).of fixed.steps ≡ true) same fixed.there in
     let none = plain_end s.table settled (object_at s y).of (ap components_of access.3) (ap machine.count_of access.3) fixed.steps there in
     let fits : Matches s.table k.of (object_at s y).of =
     subst (λ p. Matches s.table k.of (type_in s.table (object_at s y).of p)) none
     (subst (λ z. Matches s.table k.of (type_in s.table (object_at s z).of fixed.steps)) same fixed.of) in
-    scalar_no_view s in_formals y (matches_scalar s k.of (object_at s y).of fits fixed.scalar) view
+    scalar_no_view s sees in_formals y (matches_scalar s k.of (object_at s y).of fits fixed.scalar) view
   where
     same_variable : (f x g y : ℕ) → memory.OfVariable f x ≡ memory.OfVariable g y → x ≡ y
     same_variable f x g y e = cc
 
-module _ (s : Typing) (settled : IsSettled s.table) (own_law : OwnsByShape s.table) (in_formals : AreAccess s) (hands : List Waiting) (leaks : List Leak) where
+module _ (s : Typing) (sees : ℕ → Bool) (settled : IsSettled s.table) (own_law : OwnsByShape s.table) (in_formals : AreAccess s) (hands : List Waiting) (leaks : List Leak) where
   abbrev Scalar : ℕ → Type 0
   Scalar x = is_scalar (full s.table (object_at s x).of) ≡ true
 
@@ -57,15 +57,15 @@ module _ (s : Typing) (settled : IsSettled s.table) (own_law : OwnsByShape s.tab
     pub same : IsSame (seen s m hands leaks) (seen s n hands leaks)
     pub typed : Kept s n hands
     pub hold : (g y : ℕ) (p : List Step) → word_in s.table (content s n [] (OfRoot (OfVariable g y))) p ≡ word_in s.table (content s m [] (OfRoot (OfVariable g y))) p
-    pub views : (g y : ℕ) → is_view s y ≡ true
-        → (get_or (variable_slots s g y n.variables) 0 no_slot).word ≡ (get_or (variable_slots s g y m.variables) 0 no_slot).word
+    pub views : (g y i : ℕ) → is_view s y ≡ true
+        → (get_or (variable_slots s g y n.variables) i no_slot).word ≡ (get_or (variable_slots s g y m.variables) i no_slot).word
 
   pub nothing : (m : Memory) → Kept s m hands → Enters m m
   nothing m typed = record {
     same = record { word = λ l. refl; made = refl; freed = λ n. refl; leaked = λ n. refl };
     typed = typed;
     hold = λ g y p. refl;
-    views = λ g y view. refl;
+    views = λ g y i view. refl;
   }
 
   pub one_then : (a b c : Memory) → Enters a b → Enters b c → Enters a c
@@ -78,7 +78,7 @@ module _ (s : Typing) (settled : IsSettled s.table) (own_law : OwnsByShape s.tab
     };
     typed = second.typed;
     hold = λ g y p. second.hold g y p ∙ first.hold g y p;
-    views = λ g y view. second.views g y view ∙ first.views g y view;
+    views = λ g y i view. second.views g y i view ∙ first.views g y i view;
   }
 
   -- ---- scalar places
@@ -90,13 +90,21 @@ module _ (s : Typing) (settled : IsSettled s.table) (own_law : OwnsByShape s.tab
     pub scalar : is_scalar (full s.table k.of) ≡ true
     pub off : (g y : ℕ) → is_view s y ≡ true → k.base ≡ memory.OfVariable g y → ⊥
 
-  pub fixed_plain : (k : Place) → IsFixed s k → (m : Memory) → IsPlainSpot m k
-  fixed_plain k fixed m = record {
+  fixed_plain : (k : Place) (fixed : IsFixed s k) → is_bundle s fixed.object ≡ false → (m : Memory) → IsPlainSpot m k
+  fixed_plain k fixed bare m = record {
     loc = fixed_at s settled k fixed;
     spot = fixed_spot s settled k fixed m hands;
     scalar = fixed.scalar;
-    off = no_view_fixed s settled in_formals k fixed;
+    off = no_view_fixed s sees settled in_formals k fixed bare;
   }
+
+  -- a scalar variable
+  pub variable_plain : (k : Place) (g y : ℕ) → IsFixed s k → k.base ≡ memory.OfVariable g y → Scalar y → (m : Memory) → IsPlainSpot m k
+  variable_plain k g y fixed base scalar m =
+      fixed_plain k fixed (subst (λ z. is_bundle s z ≡ false) (sym (same_object fixed.frame fixed.object g y (sym fixed.base ∙ base))) (scalar_bundle s sees in_formals y scalar)) m
+    where
+      same_object : (f x g y : ℕ) → memory.OfVariable f x ≡ memory.OfVariable g y → x ≡ y
+      same_object f x g y e = cc
 
   pub lodged_plain : (k : Place) (c : Lodge) → IsLodged s k c → is_scalar (full s.table k.of) ≡ true → (f x : ℕ) → base_of c.way ≡ OfRoot (OfVariable f x)
       → (m : Memory) → Kept s m hands → Reaches (seen s m hands leaks) c.way (OfCell c.cell) → IsPlainSpot m k
@@ -114,7 +122,7 @@ module _ (s : Typing) (settled : IsSettled s.table) (own_law : OwnsByShape s.tab
   pub plain_place : (f : ℕ) (cells : List Lodge) → ((c : Lodge) → Has cells c → (g : ℕ) × (y : ℕ) × (base_of c.way ≡ OfRoot (OfVariable g y)) × (g ≡ f → ⊥))
       → (m : Memory) (k : Place) → IsPlainPlace s cells k → Kept s m hands → ((c : Lodge) → Has cells c → Reaches (seen s m hands leaks) c.way (OfCell c.cell))
       → IsPlainSpot m k
-  plain_place f cells begins m k (inl fixed) typed there = fixed_plain k fixed m
+  plain_place f cells begins m k (inl (fixed, bare)) typed there = fixed_plain k fixed bare m
   plain_place f cells begins m k (inr (c, has, lodged, plain)) typed there =
       let begin = begins c has in lodged_plain k c lodged plain begin.0 begin.1 begin.2 m typed (there c has)
 
@@ -131,7 +139,7 @@ module _ (s : Typing) (settled : IsSettled s.table) (own_law : OwnsByShape s.tab
     same = put_same_view s settled m hands k plain.loc plain.spot typed plain.scalar slots long leaks;
     typed = typed_then;
     hold = λ g y p. put_word s settled m hands k plain.loc plain.spot typed plain.scalar slots long (OfRoot (OfVariable g y)) p refl;
-    views = λ g y view. ap (λ z. (get_or z 0 no_slot).word)
+    views = λ g y i view. ap (λ z. (get_or z i no_slot).word)
         (put_beside s 0 k.base (take k.at (slots_at s m k.base) ++ slots ++ drop (k.at + length slots) (slots_at s m k.base)) m g y (plain.off g y view));
   }
 
@@ -179,8 +187,8 @@ module _ (s : Typing) (settled : IsSettled s.table) (own_law : OwnsByShape s.tab
         same = scalar_same s settled m hands leaks f x plain (declared f x ws m).variables others;
         typed = declared_kept s settled m f x got hands (scalar s settled m got hands plain typed) long (inl refl);
         hold = λ g y p. same_word s settled m [] [] f x plain (declared f x ws m).variables others (OfRoot (OfVariable g y)) p refl;
-        views = λ g y view. ap (λ z. (get_or z 0 no_slot).word) (others g y (λ e.
-            scalar_no_view s in_formals x plain (subst (λ z. is_view s z ≡ true) (sym (same_object f x g y e)) view)));
+        views = λ g y i view. ap (λ z. (get_or z i no_slot).word) (others g y (λ e.
+            scalar_no_view s sees in_formals x plain (subst (λ z. is_view s z ≡ true) (sym (same_object f x g y e)) view)));
       }
 
   -- What is passed for a formal of a scalar type: a value, or a scalar place.

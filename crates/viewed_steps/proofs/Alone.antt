@@ -6,7 +6,7 @@ use Rattle.viewed_soundness.proofs.Stored.{Assigns, then_placed}
 use Rattle.viewed_steps.specs.Traversals.{IsSourceIn}
 use Rattle.machine.specs.Calls.{checks_at}
 use Rattle.spark_base.specs.declared.position.Pos.{Pos}
-use Rattle.viewed_soundness.proofs.Names.{plain_named, true_false}
+use Rattle.viewed_soundness.proofs.ViewKinds.{plain_named, true_false}
 use Rattle.std.proofs.Common.{◌≡◌, refl, sym, ap, ◌∙◌, subst, ◌⊎◌, inl, inr, ℕ, suc, ◌+◌, ◌<◌, Bool, true, false, List, [], ◌∷◌, ◌++◌, drop, length, arith, Some, None, if◌then◌else◌, take, map}
 use Rattle.spark_base.specs.Lists.{Has}
 use Rattle.place_names.specs.declared.act.Act.{Act}
@@ -50,7 +50,7 @@ use Rattle.soundness.proofs.Taking.{no_takes}
 use Rattle.soundness.proofs.Waited.{FillsNone}
 use Rattle.soundness.proofs.Eased.{eased, goes_same}
 use Rattle.owned_loans.specs.Views.{Around, known_gone, Views, Viewed, ViewedAlone}
-use Rattle.viewed_soundness.specs.Holds.{IsNamed, AllKeep, is_view, sees_only, is_fixed}
+use Rattle.viewed_soundness.specs.Holds.{IsNamed, AllKeep, is_view, is_fixed, Seeing}
 use Rattle.viewed_soundness.proofs.Outcomes.{named_plain, Leads_on, stored_goes, not_views, assigned_acts}
 use Rattle.viewed_steps.specs.Awaited.{AreFor, AreValues, temporaries_of, lasting_of, AreAwaited, TakesAlone}
 use Rattle.viewed_steps.proofs.Waited.{temporary_first, Shares, others_only}
@@ -67,18 +67,23 @@ use Rattle.std.specs.Prelude.{flat_map, reverse}
 use Rattle.type_definitions.specs.Types.{words}
 use Rattle.machine.specs.Step.{led}
 use Rattle.machine.specs.Evaluate.{Raises, Traps}
-use Rattle.soundness.specs.Seen.{seen}
-use Rattle.soundness.specs.Sound.{is_temporary_object, temporaries_in}
 use Rattle.soundness.specs.Ready.{IsSupplied}
-use Rattle.soundness.proofs.Waits.{take_none, waits_of}
 use Rattle.soundness.proofs.Numbers.{index_law}
 use Rattle.soundness.proofs.Lasting.{keeps}
 use Rattle.viewed_soundness.proofs.Evaluated.{Given, Ready, checked_given, call_given, keep_both}
 use Rattle.viewed_steps.proofs.Declared.{declared_goes, first_fades}
 use Rattle.viewed_steps.proofs.EachInstruction as each
 use Rattle.viewed_steps.proofs.Views.{AreAccess, all_held}
+use Rattle.viewed_steps.specs.Seeing.{sees_in}
+use Rattle.viewed_steps.proofs.Sees.{sees_seeing}
 
 module _ (table : Table) (typed : TypedProgram) (effects : Effects) (input : List ℕ) (ready : IsReady table typed effects) where
+  abbrev sees : ℕ → Bool
+  sees = sees_in (flow_program table typed)
+
+  abbrev seeing : Seeing (flow_typing (flow_program table typed)) sees
+  seeing = sees_seeing (flow_program table typed)
+
   abbrev program : FlowProgram
   program = flow_program table typed
 
@@ -104,9 +109,9 @@ module _ (table : Table) (typed : TypedProgram) (effects : Effects) (input : Lis
       (awaiting : AreAwaited table typed None (top ∷ stages_of (below ∷ more_frames)))
       (of_sub : IsNamedSub (flow_named table typed) top.frame.sub named) (at_point : IsAtPoint named.points top.frame.next p)
       (path : ControlPath (path_points program effects (sub_of program top.frame.sub)) top.before top.frame.next) (views : Views)
-      (viewed_before : ViewedAlone (home s (suc (length rest))) (sees_only s) (known_gone (home s (suc (length rest))) (GoneElsewhere program effects (below ∷ more_frames))) views
+      (viewed_before : ViewedAlone (home s (suc (length rest))) sees (known_gone (home s (suc (length rest))) (GoneElsewhere program effects (below ∷ more_frames))) views
       (view_here s state) (facts_of program effects top))
-      (kept : Kept s state.memory (waiting_in state)) (scope : InScope s state.memory (suc (length rest)) (lasting_of s p.scope)) (holds : HoldsAt s (suc (length rest)) views state.memory p)
+      (kept : Kept s state.memory (waiting_in state)) (scope : InScope s state.memory (suc (length rest)) (lasting_of s p.scope)) (holds : HoldsAt s sees (suc (length rest)) views state.memory p)
       (placed_before : ArePlaced program (suc (length rest)) (facts_of program effects top) views p.scope × IsBeyond program effects (suc (length rest)) views (below ∷ more_frames)) (above : NoneAbove s (suc (length rest)) state.memory
       × HasTraversals table typed (view_here s state) (record { stage = top; views = views; cells = [] } ∷ (below ∷ more_frames))) where
     abbrev outer : List Frame
@@ -146,7 +151,7 @@ module _ (table : Table) (typed : TypedProgram) (effects : Effects) (input : Lis
         → AllowsAll facts_now (acts_of_main p.instr)
     allowed_now = innermost.allowed_now table typed effects input ready state top below more_frames rest named p frames deep stages running awaiting of_sub at_point path views viewed_before kept scope holds placed_before above
 
-    abbrev viewed : Viewed (home s depth) (sees_only s) other views (view_here s state) facts_now
+    abbrev viewed : Viewed (home s depth) sees other views (view_here s state) facts_now
     viewed = innermost.viewed table typed effects input ready state top below more_frames rest named p frames deep stages running awaiting of_sub at_point path views viewed_before kept scope holds placed_before above
 
     abbrev left_scope : List ℕ
@@ -186,7 +191,7 @@ module _ (table : Table) (typed : TypedProgram) (effects : Effects) (input : Lis
     may x y = MayBe program (scope_behind p) x y × IsStoredAt p.instr x × IsSourceIn (sub_acts (sub_of program top.frame.sub)) x y
 
     abbrev LeadsFrom : Instruction → Outcome → Type 0
-    LeadsFrom i outcome = Leads_on easy ready.accepted.settled ready.owns other alone views ready.class.parts_named may refl refl (after (acts_of_main i) facts_now) outcome
+    LeadsFrom i outcome = Leads_on easy sees seeing ready.accepted.settled ready.owns other alone views ready.class.parts_named may refl refl (after (acts_of_main i) facts_now) outcome
 
     abbrev orderly : AreOrderly program p (λ q. (n : ℕ) × Has (map (number_in named.points) p.next) n × IsAtPoint named.points n q)
     orderly = innermost.orderly table typed effects input ready state top below more_frames rest named p frames deep stages running awaiting of_sub at_point path views viewed_before kept scope holds placed_before above
@@ -258,16 +263,16 @@ module _ (table : Table) (typed : TypedProgram) (effects : Effects) (input : Lis
                 ),
               )
 
-      ready_value : Ready (steps.here main_turn) ready.accepted.settled state.leaks [] other alone (keeps s ready.accepted.settled ready.owns) index_law ready.owns views
+      ready_value : Ready (steps.here main_turn) sees seeing ready.accepted.settled state.leaks [] other alone (keeps s ready.accepted.settled ready.owns) index_law ready.owns views
           ready.class.parts_named state.memory (first_value.0 ∷ waiting_in easy.state) facts_now
       ready_value = record {
-        viewed = subst (λ z. Viewed (home s depth) (sees_only s) other views (seen s state.memory z state.leaks) facts_now) first_value.1.2 viewed;
+        viewed = subst (λ z. Viewed (home s depth) sees other views (seen s state.memory z state.leaks) facts_now) first_value.1.2 viewed;
         kept = subst (Kept s state.memory) first_value.1.2 kept;
-        holds = all_held s in_formals depth views state.memory (λ y n view e. holds.held y n (λ fading. going fading.0 fading.1) view e) holds.only holds.owners holds.own;
+        holds = all_held s sees in_formals depth views state.memory (λ y n view bare e. holds.held y n (λ fading. going fading.0 fading.1) view bare e) holds.only holds.owners holds.own holds.taken holds.parts;
       }
 
       pub source_alone : (u : ℕ) → IsNamed s.table u → Source s u call
-          → Given (steps.here main_turn) ready.accepted.settled state.leaks [] other alone (keeps s ready.accepted.settled ready.owns) index_law ready.owns views
+          → Given (steps.here main_turn) sees seeing ready.accepted.settled state.leaks [] other alone (keeps s ready.accepted.settled ready.owns) index_law ready.owns views
           ready.class.parts_named u (waiting_in easy.state) (after (acts (acts_in s call)) facts_now) (steps.taken_by main_turn u call (start main_turn))
       unfolding acts_in Gives
       source_alone u named_type (inl (view, is)) = absurd (true_false (is_anonymous (full s.table u)) view (named_plain s.table u named_type))
@@ -276,15 +281,15 @@ module _ (table : Table) (typed : TypedProgram) (effects : Effects) (input : Lis
           let types : Some t ≡ Some (object_at s x).of = sym result ∙ alone_taken.6 in
           let type : v.of ≡ t = first_value.1.0 ∙ sym (some_is types) in
           let now : List (List machine.Word) → Now = (λ ws. record { memory = state.memory; waits = ws }) in
-          subst (λ b. Given (steps.here main_turn) ready.accepted.settled state.leaks [] other alone (keeps s ready.accepted.settled ready.owns) index_law ready.owns views
+          subst (λ b. Given (steps.here main_turn) sees seeing ready.accepted.settled state.leaks [] other alone (keeps s ready.accepted.settled ready.owns) index_law ready.owns views
           ready.class.parts_named u (waiting_in easy.state) facts_now
           (if b then run.viewed (steps.here main_turn) call (start main_turn) else followed_by (value (steps.here main_turn) call (start main_turn)) (checked (steps.here main_turn) u)))
           (sym (named_plain s.table u named_type))
-          (checked_given (steps.here main_turn) ready.accepted.settled state.leaks [] other alone (keeps s ready.accepted.settled ready.owns) index_law ready.owns views
+          (checked_given (steps.here main_turn) sees seeing ready.accepted.settled state.leaks [] other alone (keeps s ready.accepted.settled ready.owns) index_law ready.owns views
           ready.class.parts_named u u (waiting_in easy.state) facts_now (value (steps.here main_turn) call (start main_turn))
-          (subst (λ ws. Given (steps.here main_turn) ready.accepted.settled state.leaks [] other alone (keeps s ready.accepted.settled ready.owns) index_law ready.owns views
+          (subst (λ ws. Given (steps.here main_turn) sees seeing ready.accepted.settled state.leaks [] other alone (keeps s ready.accepted.settled ready.owns) index_law ready.owns views
           ready.class.parts_named u (waiting_in easy.state) facts_now (value (steps.here main_turn) call (now ws))) (sym first_value.1.3)
-          (call_given (steps.here main_turn) ready.accepted.settled state.leaks [] other alone (keeps s ready.accepted.settled ready.owns) index_law ready.owns views
+          (call_given (steps.here main_turn) sees seeing ready.accepted.settled state.leaks [] other alone (keeps s ready.accepted.settled ready.owns) index_law ready.owns views
           ready.class.parts_named [] state.memory (waiting_in easy.state) facts_now alone_taken.3 alone_taken.4 alone_taken.5 v.of u v.words
           (subst (λ z. Matches s.table z u) (sym type) fits) first_value.1.1 ready_value)))
         where
@@ -302,7 +307,7 @@ module _ (table : Table) (typed : TypedProgram) (effects : Effects) (input : Lis
           allowed_now (each.spares table typed effects input ready state top below more_frames rest named p frames deep stages running awaiting of_sub at_point path views viewed_before kept scope holds placed_before above going no_calls end)
           (standing.allowed table typed effects input ready state top older outer named p frames of_sub at_point path no_calls)
 
-      keeps_there : AllKeep (is_fixed s) (acts_of_main p.instr)
+      keeps_there : AllKeep (is_fixed s sees) (acts_of_main p.instr)
       keeps_there = standing.keeps_there table typed effects input ready state top older outer named p frames of_sub at_point
 
       -- an object that is no view
@@ -328,14 +333,14 @@ module _ (table : Table) (typed : TypedProgram) (effects : Effects) (input : Lis
         facts_same = ap (λ z. after z facts_now) (sym acts_same)
 
         declared_value : (z : Evaluated (List machine.Word))
-            → Given (steps.here main_turn) ready.accepted.settled state.leaks [] other alone (keeps s ready.accepted.settled ready.owns) index_law ready.owns views
+            → Given (steps.here main_turn) sees seeing ready.accepted.settled state.leaks [] other alone (keeps s ready.accepted.settled ready.owns) index_law ready.owns views
             ready.class.parts_named (object_at s y).of (waiting_in easy.state) (after (acts_of_main (Declare y v)) facts_now) z
             → FadesTo (steps.here main_turn) state.memory z
             → LeadsFrom (Declare y v) (steps.evaluated main_turn z (λ vs m. steps.goes main_turn (declared depth y vs m) 0))
         declared_value (Done ws n) given faint =
             each.goes_too table typed effects input ready state top below more_frames rest named p frames deep stages running awaiting of_sub at_point path views viewed_before kept scope holds placed_before above going no_calls
             (Declare y v) (declared depth y ws n.memory) 0
-            (declared_goes easy ready.accepted.settled ready.owns other alone in_formals views ready.class.parts_named may refl refl y (after (acts_of_main (Declare y v)) facts_now)
+            (declared_goes easy sees seeing ready.accepted.settled ready.owns other alone in_formals views ready.class.parts_named may refl refl y (after (acts_of_main (Declare y v)) facts_now)
             named_object (orderly.begun y v is) ws n given faint
             (λ q. each.blank table typed effects input ready state top below more_frames rest named p frames deep stages running awaiting of_sub at_point path views viewed_before kept scope holds placed_before above going no_calls y v is q
             (word_in s.table (content s state.memory [] (OfRoot (OfVariable depth y))) q) refl)
@@ -350,10 +355,10 @@ module _ (table : Table) (typed : TypedProgram) (effects : Effects) (input : Lis
         unfolding initial
         declares_alone =
             declared_value (steps.first_value main_turn (object_at s y).of v (start main_turn))
-            (subst (λ z. Given (steps.here main_turn) ready.accepted.settled state.leaks [] other alone (keeps s ready.accepted.settled ready.owns) index_law ready.owns views
+            (subst (λ z. Given (steps.here main_turn) sees seeing ready.accepted.settled state.leaks [] other alone (keeps s ready.accepted.settled ready.owns) index_law ready.owns views
             ready.class.parts_named (object_at s y).of (waiting_in easy.state) z (steps.taken_by main_turn (object_at s y).of held_call (start main_turn))) facts_same
             (source_alone going alone_taken (object_at s y).of named_object source_here))
-            (first_fades easy ready.accepted.settled ready.owns other alone in_formals views ready.class.parts_named may refl refl given_words (object_at s y).of v (refl, source_here))
+            (first_fades easy sees seeing ready.accepted.settled ready.owns other alone in_formals views ready.class.parts_named may refl refl given_words (object_at s y).of v (refl, source_here))
 
       -- a place that is no view
       module _ (r : Pos) (y : ℕ) (path_there : TypedTree) (u : ℕ) (is : p.instr ≡ Assign (Name r y path_there u) held_call) (calls : has_call path_there ≡ false) (end : p.instr ≡ Finish → ⊥)
@@ -382,10 +387,10 @@ module _ (table : Table) (typed : TypedProgram) (effects : Effects) (input : Lis
         pub allowed_steps : AllowsAll facts_now (acts (acts_in s path_there) ++ act.Write (name_of y path_there) ∷ [])
         allowed_steps = subst (AllowsAll facts_now) acts_there (subst (λ i. AllowsAll facts_now (acts_of_main i)) is (allowed_there end))
 
-        pub plain_root : is_fixed s (name_of y path_there) ≡ false
+        pub plain_root : is_fixed s sees (name_of y path_there) ≡ false
         plain_root =
-            (keep_both (is_fixed s) (acts (acts_in s path_there)) (act.Write (name_of y path_there) ∷ [])
-            (subst (AllKeep (is_fixed s)) acts_there (subst (λ i. AllKeep (is_fixed s) (acts_of_main i)) is keeps_there))).1.0
+            (keep_both (is_fixed s sees) (acts (acts_in s path_there)) (act.Write (name_of y path_there) ∷ [])
+            (subst (AllKeep (is_fixed s sees)) acts_there (subst (λ i. AllKeep (is_fixed s sees) (acts_of_main i)) is keeps_there))).1.0
 
         abbrev facts_then : List Fact
         facts_then = effect (act.Write (name_of y path_there)) (after (acts (acts_in s path_there)) facts_now)
@@ -395,14 +400,14 @@ module _ (table : Table) (typed : TypedProgram) (effects : Effects) (input : Lis
             sym (after_append (acts (acts_in s path_there)) (act.Write (name_of y path_there) ∷ []) facts_now) ∙ ap (λ z. after z facts_now) (sym acts_there)
 
         stored_value : (z : Evaluated steps.Stored)
-            → Assigns (steps.here main_turn) ready.accepted.settled state.leaks [] other alone (keeps s ready.accepted.settled ready.owns) index_law ready.owns views
+            → Assigns (steps.here main_turn) sees seeing ready.accepted.settled state.leaks [] other alone (keeps s ready.accepted.settled ready.owns) index_law ready.owns views
             ready.class.parts_named (waiting_in easy.state) (after (acts_of_main (Assign target held_call)) facts_now) z
             → LeadsFrom (Assign target held_call) (steps.evaluated main_turn z (λ (st : steps.Stored) m. steps.leaking_goes (checks_at s (steps.target_pos main_turn target) m st.place)
             (steps.goes main_turn (stored s st.place st.words m) 0)))
         stored_value (Done st n) given =
             subst (λ z. LeadsFrom (Assign target held_call) (steps.leaking_goes (checks_at s (steps.target_pos main_turn target) n.memory st.place) z))
             (goes_same main_turn (stored s st.place st.words n.memory) 0)
-            (stored_goes easy ready.accepted.settled ready.owns other alone views ready.class.parts_named may refl refl
+            (stored_goes easy sees seeing ready.accepted.settled ready.owns other alone views ready.class.parts_named may refl refl
             (after (acts_of_main (Assign target held_call)) facts_now) (steps.target_pos main_turn target) st n given)
         stored_value (Raises how n) given =
             each.ends_so table typed effects input ready state top below more_frames rest named p frames deep stages running awaiting of_sub at_point path views viewed_before kept scope holds placed_before above going no_calls (Assign target held_call) how n.memory
@@ -413,10 +418,10 @@ module _ (table : Table) (typed : TypedProgram) (effects : Effects) (input : Lis
         assigns_alone =
             stored_value (followed_by (steps.taken_by main_turn u held_call (start main_turn))
             (λ ws now. followed_by (place_of (steps.here main_turn) target now) (λ k now. Done (record { words = ws; place = k }) now)))
-            (subst (λ z. Assigns (steps.here main_turn) ready.accepted.settled state.leaks [] other alone (keeps s ready.accepted.settled ready.owns) index_law ready.owns views
+            (subst (λ z. Assigns (steps.here main_turn) sees seeing ready.accepted.settled state.leaks [] other alone (keeps s ready.accepted.settled ready.owns) index_law ready.owns views
             ready.class.parts_named (waiting_in easy.state) z (followed_by (steps.taken_by main_turn u held_call (start main_turn))
             (λ ws now. followed_by (place_of (steps.here main_turn) target now) (λ k now. Done (record { words = ws; place = k }) now)))) facts_there
-            (then_placed (steps.here main_turn) ready.accepted.settled state.leaks [] other alone (keeps s ready.accepted.settled ready.owns) index_law ready.owns views
+            (then_placed (steps.here main_turn) sees seeing ready.accepted.settled state.leaks [] other alone (keeps s ready.accepted.settled ready.owns) index_law ready.owns views
             ready.class.parts_named [] [] r y u path_there (waiting_in easy.state) facts_now named_target plain_root leads_there (no_takes path_there calls [])
             allowed_steps (steps.taken_by main_turn u held_call (start main_turn))
             (source_alone going alone_taken u named_target source_there)))

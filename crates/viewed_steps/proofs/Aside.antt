@@ -7,9 +7,10 @@ use Rattle.place_names.specs.Names.{overlaps}
 use Rattle.owned_ways.specs.Ways.{Step, Root, OfVariable, OfHand, Loc, OfRoot, OfCell, Way, Object, Lost, Into, All, View, Reaches, Under, along, name_of}
 use Rattle.owned_ways.proofs.Unique.{one_location}
 use Rattle.soundness.specs.Seen.{trunk}
-use Rattle.owned_loans.specs.Views.{Around, Views, way_at, expand, expand_root, Viewed}
+use Rattle.owned_loans.specs.Views.{Around, Views, way_at, expand, expand_root, Viewed, part_at, inner_steps, expand_part, part_from}
 use Rattle.owned_loans.proofs.Meeting.{IsPlain}
 use Rattle.owned_loans.proofs.Safe.{Unlent, apart_names}
+use Rattle.owned_loans.proofs.Ways.{part_found}
 
 module _ (home : ℕ → ℕ) (observer : ℕ → Bool) (other : Around home) (v : Views) (s : View) (facts : List Fact)
     (viewed : Viewed home observer other v s facts) where
@@ -27,26 +28,27 @@ pub record IsNameOfCell (v : Views) (s : View) (w : Way) (n : ℕ) : Type 0 wher
   pub deep : (r : Root) → name ≡ Object r → ⊥
   pub reaches : Reaches s (expand v name) (OfCell n)
 
-pub cell_name : (v : Views) (s : View) → ((x : ℕ) (w : Way) → v.way x ≡ Some w → Reaches s w (OfCell (v.cell x))) → (w : Way) (l : Loc) (n : ℕ)
+pub cell_name : (v : Views) (s : View) → ((x : ℕ) (w : Way) → v.way x ≡ Some w → Reaches s w (OfCell (v.cell x)))
+    → ((x : ℕ) (p : List Step) (w : Way) → v.part_way x p ≡ Some w → Reaches s w (OfCell (v.part_cell x p))) → (w : Way) (l : Loc) (n : ℕ)
     → Reaches s (expand v w) l → trunk l ≡ OfCell n → IsNameOfCell v s w n
-cell_name v s views (Object (OfVariable f x)) l n is base = (let no : OfRoot (OfVariable f x) ≡ OfCell n = ap trunk (sym is) ∙ base in cc)
-cell_name v s views (Object (OfHand h)) l n is base = (let no : OfRoot (OfHand h) ≡ OfCell n = ap trunk (sym is) ∙ base in cc)
-cell_name v s views (Lost c) l n reach base = record {
+cell_name v s views parts (Object (OfVariable f x)) l n is base = (let no : OfRoot (OfVariable f x) ≡ OfCell n = ap trunk (sym is) ∙ base in cc)
+cell_name v s views parts (Object (OfHand h)) l n is base = (let no : OfRoot (OfHand h) ≡ OfCell n = ap trunk (sym is) ∙ base in cc)
+cell_name v s views parts (Lost c) l n reach base = record {
   name = Lost c;
   rest = [];
   is = refl;
   deep = λ r e. cc;
   reaches = (reach.0, sym base ∙ ap trunk reach.1);
 }
-cell_name v s views (Into w i) l n (m, reach, is) base =
-    let there = cell_name v s views w m n reach (ap trunk (sym is) ∙ base) in record {
+cell_name v s views parts (Into w i) l n (m, reach, is) base =
+    let there = cell_name v s views parts w m n reach (ap trunk (sym is) ∙ base) in record {
       name = there.name;
       rest = i ∷ there.rest;
       is = ap (λ z. Into z i) there.is;
       deep = there.deep;
       reaches = there.reaches;
     }
-cell_name v s views (All w) l n reach base = record {
+cell_name v s views parts (All w) l n reach base = record {
   name = All w;
   rest = [];
   is = refl;
@@ -63,8 +65,14 @@ cell_name v s views (All w) l n reach base = record {
         let is = one_location s w l (OfCell (v.cell x)) reach (views x w e) in is ∙ sym (ap trunk is) ∙ base
     by_root (Some w) (OfHand h) e reach = cc
 
+    by_part : (u : Way) (p : List Step) (o : Option Way) → part_from v u p ≡ o → Reaches s (expand_part o (expand v u)) l → l ≡ OfCell n
+    by_part u p None e reach = of_cell (expand v u) l reach base
+    by_part u p (Some w) e reach =
+        let found = part_found v u p w e in
+        let is = one_location s w l (OfCell (v.part_cell found.1 p)) reach (parts found.1 p w found.3) in is ∙ sym (ap trunk is) ∙ base
+
     at_cell : (w : Way) → Reaches s (expand v (All w)) l → l ≡ OfCell n
     at_cell (Object r) reach = by_root (way_at v r) r refl reach
     at_cell (Lost c) reach = of_cell (Lost c) l reach base
-    at_cell (Into w i) reach = of_cell (expand v (Into w i)) l reach base
+    at_cell (Into w i) reach = by_part (Into w i) (inner_steps (Into w i)) (part_at v (Into w i)) refl reach
     at_cell (All w) reach = of_cell (expand v (All w)) l reach base

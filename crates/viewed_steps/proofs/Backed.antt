@@ -36,7 +36,7 @@ use Rattle.viewed_steps.specs.Taken.{Lodge, IsPlainPlace, IsCopiedTo, AreCarried
 use Rattle.viewed_steps.proofs.Between.{carried_same, carried_then, taken_more, same_reaches, more_gone, base_along, base_under, same_variable, taken_less, OwnersStand, same_stand, Begins, begun_low, home_low}
 use Rattle.viewed_steps.proofs.Carried.{inside_begins, inside_low, trunk_is, start_reached, carried_gone, carried_gone_cell, carried_held_cell, carried_gone_to, carried_gone_cell_to, carried_holds_cell, inside_at, inside_spot, inside_reached, inside_base, inside_owns, inside_word, carried_bare, carried_held, carried_off, carried_off_stays, carried_holds, carried_to, carried_to_stays, past_other}
 use Rattle.viewed_steps.proofs.Beside.{put_beside}
-use Rattle.viewed_steps.proofs.Alike.{Enters, moved_there, stored_there, one_then, if_back, backs_on, IsPlainSpot, fixed_plain, plain_place, one_there}
+use Rattle.viewed_steps.proofs.Alike.{Enters, moved_there, stored_there, one_then, if_back, backs_on, IsPlainSpot, variable_plain, plain_place, one_there}
 use Rattle.viewed_steps.proofs.Entered.{matches_back, inside_no_view}
 use Rattle.viewed_steps.proofs.Lodged.{cell_live}
 use Rattle.viewed_steps.proofs.Views.{AreAccess, AreFar}
@@ -55,7 +55,7 @@ pub place_is : (t : Turn) (r : Return) (rest : List Return) (begun : Now) (b : m
 place_is t r rest begun (memory.OfVariable f x) base there = rw base refl
 place_is t r rest begun (memory.OfCell n) base there = rw (base, there) refl
 
-module _ (t : Turn) (settled : IsSettled (typing t).table) (own_law : OwnsByShape (typing t).table) (in_formals : AreAccess (typing t))
+module _ (t : Turn) (sees : ℕ → Bool) (settled : IsSettled (typing t).table) (own_law : OwnsByShape (typing t).table) (in_formals : AreAccess (typing t))
     (hands : List Waiting) (leaks : List Leak) (depth : ℕ) (deep : length t.outer ≡ suc depth) (v : Views)
     (far : AreFar (home (typing t) depth) v depth) (only : (x : ℕ) (w : Way) → v.way x ≡ Some w → is_view (typing t) x ≡ true) (facts : List Fact) (scope : List ℕ)
     (other : Way → Type 0)
@@ -89,8 +89,8 @@ module _ (t : Turn) (settled : IsSettled (typing t).table) (own_law : OwnsByShap
         → (word_in (typing t).table (content (typing t) m [] (OfRoot (OfVariable g y))) p ≡ Held c) ⊎ ((g ≡ home (typing t) depth y) × (is_package_object (typing t) y ≡ false → is_within y scope ≡ true))
     pub empty : (r : Return) → Has returns r → (p : List Step) (c : ℕ)
         → word_in (typing t).table (content (typing t) n [] (OfRoot (OfVariable (suc depth) r.formal))) p ≡ Held c → ⊥
-    pub views : (g y : ℕ) → is_view (typing t) y ≡ true
-        → (get_or (variable_slots (typing t) g y n.variables) 0 no_slot).word ≡ (get_or (variable_slots (typing t) g y m.variables) 0 no_slot).word
+    pub views : (g y i : ℕ) → is_view (typing t) y ≡ true
+        → (get_or (variable_slots (typing t) g y n.variables) i no_slot).word ≡ (get_or (variable_slots (typing t) g y m.variables) i no_slot).word
     pub carried : AreCarried (typing t) (λ g. g ≡ suc depth → ⊥) cells ways m n
     -- ways from the variables of other frames that don't go on after a place reach what they reached
     pub stays : (w : Way) (g y : ℕ) → base_of w ≡ OfRoot (OfVariable g y) → (g ≡ suc depth → ⊥) → ((to : Way) → Has ways to → Past to w → ⊥) → (c : ℕ)
@@ -108,11 +108,11 @@ module _ (t : Turn) (settled : IsSettled (typing t).table) (own_law : OwnsByShap
 
   -- ---- one that is given back
 
-  module _ (r : Return) (rest : List Return) (to : Way) (ways : List Way) (m : Memory) (taken : IsTaken (typing t) cells m depth v facts scope r to)
+  module _ (r : Return) (rest : List Return) (to : Way) (ways : List Way) (m : Memory) (taken : IsTaken (typing t) sees cells m depth v facts scope r to)
       (apart : IsApartFrom to ways) (another : IsAnother r.formal rest) (begin : (k : Way) → Has ways k → Begins s depth k)
       (typed : Kept (typing t) m hands) (stand : StandsAway (r ∷ rest) (to ∷ ways) m)
       (cells_at : (c : Lodge) → Has cells c → Reaches (seen (typing t) m hands leaks) c.way (OfCell c.cell)) where
-    abbrev passed : IsPassedOn (typing t) cells depth v facts scope r.formal r.to to
+    abbrev passed : IsPassedOn (typing t) sees cells depth v facts scope r.formal r.to to
     passed = taken.0
 
     abbrev inside : IsInside (typing t) depth r.to to
@@ -440,11 +440,11 @@ module _ (t : Turn) (settled : IsSettled (typing t).table) (own_law : OwnsByShap
         long fits bare inside.frame inside.object (inside_base s depth r.to to inside) w g y base aside c
         (mid_stays w g y base off c reach)
 
-    pub one_views : (g y : ℕ) → is_view s y ≡ true
-        → (get_or (variable_slots s g y next.variables) 0 no_slot).word ≡ (get_or (variable_slots s g y m.variables) 0 no_slot).word
+    pub one_views : (g y i : ℕ) → is_view s y ≡ true
+        → (get_or (variable_slots s g y next.variables) i no_slot).word ≡ (get_or (variable_slots s g y m.variables) i no_slot).word
     unfolding formal_inside
-    one_views g y view =
-        ap (λ z. (get_or z 0 no_slot).word)
+    one_views g y i view =
+        ap (λ z. (get_or z i no_slot).word)
         (put_beside s 0 r.to.base (take r.to.at (slots_at s mid r.to.base) ++ fresh (words_of s m formal) ++ drop (r.to.at + length (fresh (words_of s m formal))) (slots_at s mid r.to.base)) mid g y
         (inside_no_view s settled depth r.to to inside g y view)
         ∙ put_beside s 0 formal.base (take 0 (slots_at s m formal.base) ++ marks ++ drop (0 + length marks) (slots_at s m formal.base)) m g y
@@ -455,7 +455,7 @@ module _ (t : Turn) (settled : IsSettled (typing t).table) (own_law : OwnsByShap
 
   -- ---- all of them
 
-  pub taken_base : (m : Memory) (returns : List Return) (ways : List Way) → AreTaken s cells m depth v facts scope returns ways → (k : Way) → Has ways k
+  pub taken_base : (m : Memory) (returns : List Return) (ways : List Way) → AreTaken s sees cells m depth v facts scope returns ways → (k : Way) → Has ways k
       → Begins s depth k
   taken_base m [] ways none k has = absurd (subst (λ z. Has z k) none has)
   taken_base m (r ∷ rest) [] taken k has = absurd has
@@ -466,7 +466,7 @@ module _ (t : Turn) (settled : IsSettled (typing t).table) (own_law : OwnsByShap
 
   pub taken_on : (m n : Memory) (returns : List Return) (ways : List Way)
       → ((k : Place) (w : Way) → Has ways w → (there : IsInside s depth k w) → IsAmong cells there.start there.trunk → IsBare s depth k w m there → IsBare s depth k w n there)
-      → AreTaken s cells m depth v facts scope returns ways → AreTaken s cells n depth v facts scope returns ways
+      → AreTaken s sees cells m depth v facts scope returns ways → AreTaken s sees cells n depth v facts scope returns ways
   taken_on m n [] ways bare none = none
   taken_on m n (r ∷ rest) [] bare taken = (taken.0, taken_on m n rest [] bare taken.1)
   taken_on m n (r ∷ rest) (to ∷ ways) bare (inl copied) = inl (copied.0, taken_on m n rest (to ∷ ways) bare copied.1)
@@ -485,7 +485,7 @@ module _ (t : Turn) (settled : IsSettled (typing t).table) (own_law : OwnsByShap
       no_number : {c : ℕ} → Empty ≡ Held c → ⊥
       no_number e = cc
 
-  copied_then : (r : Return) (rest : List Return) (ways : List Way) (m later : Memory) → IsCopiedTo s cells r → Enters s settled own_law in_formals hands leaks m later → (n : Memory)
+  copied_then : (r : Return) (rest : List Return) (ways : List Way) (m later : Memory) → IsCopiedTo s cells r → Enters s sees settled own_law in_formals hands leaks m later → (n : Memory)
       → IsBack rest ways later n → IsBack (r ∷ rest) ways m n
   copied_then r rest ways m later copied on n back = record {
     typed = back.typed;
@@ -495,7 +495,7 @@ module _ (t : Turn) (settled : IsSettled (typing t).table) (own_law : OwnsByShap
       | inl same ↦ (λ p c held. scalar_empty n r.formal copied.0 p c (subst (λ (z : Return). word_in s.table (content s n [] (OfRoot (OfVariable (suc depth) z.formal))) p ≡ Held c) (sym same) held))
       | inr later ↦ back.empty q later
     ];
-    views = λ g y view. back.views g y view ∙ on.views g y view;
+    views = λ g y i view. back.views g y i view ∙ on.views g y i view;
     carried = carried_then s (λ g. g ≡ suc depth → ⊥) cells ways ways ways m later n (λ w taken. taken) (λ w taken. taken)
         (carried_same s (λ g. g ≡ suc depth → ⊥) cells ways m later on.hold (λ c p. cells_same s m later hands leaks on.same c p)) back.carried;
     stays = λ w g y base off aside c reach. back.stays w g y base off aside c (same_reaches (seen s m hands leaks) (seen s later hands leaks) on.same w (OfCell c) reach);
@@ -504,12 +504,12 @@ module _ (t : Turn) (settled : IsSettled (typing t).table) (own_law : OwnsByShap
   -- a scalar place that is copied back to
   place_there : (m : Memory) (k : Place) → IsPlainPlace s cells k → Kept s m hands → Owned (seen s m hands leaks)
       → ((c : Lodge) → Has cells c → Reaches (seen s m hands leaks) c.way (OfCell c.cell)) → IsThere m k.base
-  place_there m k (inl fixed) typed owned there = subst (IsThere m) (sym fixed.base) tt
+  place_there m k (inl (fixed, bare)) typed owned there = subst (IsThere m) (sym fixed.base) tt
   place_there m k (inr (c, has, lodged, plain)) typed owned there =
       let begin = begins c has in subst (IsThere m) (sym lodged.base) (cell_live s settled m hands leaks typed c.way begin.0 begin.1 c.cell begin.2 owned (there c has))
 
   -- another place that is given back to
-  taken_there : (m : Memory) (r : Return) (to : Way) → IsTaken s cells m depth v facts scope r to → Kept s m hands → Owned (seen s m hands leaks)
+  taken_there : (m : Memory) (r : Return) (to : Way) → IsTaken s sees cells m depth v facts scope r to → Kept s m hands → Owned (seen s m hands leaks)
       → ((c : Lodge) → Has cells c → Reaches (seen s m hands leaks) c.way (OfCell c.cell)) → IsThere m r.to.base
   taken_there m r to taken typed owned there = elim (taken.0).inside.stands [
     | inl variable ↦ subst (IsThere m) (sym variable.2) tt
@@ -531,21 +531,21 @@ module _ (t : Turn) (settled : IsSettled (typing t).table) (own_law : OwnsByShap
   ]
 
   copied_first : (r : Return) (rest : List Return) (ways : List Way) (begun : Now) → IsCopiedTo s cells r → AreThere ways begun.memory → Kept s begun.memory hands
-      → StandsAway (r ∷ rest) ways begun.memory → AreTaken s cells begun.memory depth v facts scope rest ways
-      → ((next : Memory) → AreThere ways next → Kept s next hands → StandsAway rest ways next → AreTaken s cells next depth v facts scope rest ways
+      → StandsAway (r ∷ rest) ways begun.memory → AreTaken s sees cells begun.memory depth v facts scope rest ways
+      → ((next : Memory) → AreThere ways next → Kept s next hands → StandsAway rest ways next → AreTaken s sees cells next depth v facts scope rest ways
       → GivenBack rest ways next (copied_back t rest (record begun { memory = next })))
       → GivenBack (r ∷ rest) ways begun.memory (copied_back t (r ∷ rest) begun)
   copied_first r rest ways begun copied cells_there typed stand taken more =
       let formal : Place = variable_place (here t) r.formal in
       let ws : List machine.Word = words_of s begun.memory formal in
-      let fixed : IsPlainSpot s settled own_law in_formals hands leaks begun.memory formal = fixed_plain s settled own_law in_formals hands leaks formal (formal_fixed t r.formal copied.0) begun.memory in
+      let fixed : IsPlainSpot s sees settled own_law in_formals hands leaks begun.memory formal = variable_plain s sees settled own_law in_formals hands leaks formal (home s (here t).frame r.formal) r.formal (formal_fixed t r.formal copied.0) refl copied.0 begun.memory in
       let mid : Memory = moved_out s formal begun.memory in
       let next : Memory = stored s r.to ws mid in
-      let first = moved_there s settled own_law in_formals hands leaks formal begun.memory fixed typed in
-      let second = stored_there s settled own_law in_formals hands leaks r.to mid
-      (plain_place s settled own_law in_formals hands leaks (suc depth) cells begins mid r.to copied.1 first.typed (λ c has. same_reaches (seen s begun.memory hands leaks) (seen s mid hands leaks) first.same c.way (OfCell c.cell) (cells_there c has).0))
-      ws (one_there s settled own_law in_formals hands leaks begun.memory formal fixed typed) first.typed in
-      let on : Enters s settled own_law in_formals hands leaks begun.memory next = one_then s settled own_law in_formals hands leaks begun.memory mid next first second in
+      let first = moved_there s sees settled own_law in_formals hands leaks formal begun.memory fixed typed in
+      let second = stored_there s sees settled own_law in_formals hands leaks r.to mid
+      (plain_place s sees settled own_law in_formals hands leaks (suc depth) cells begins mid r.to copied.1 first.typed (λ c has. same_reaches (seen s begun.memory hands leaks) (seen s mid hands leaks) first.same c.way (OfCell c.cell) (cells_there c has).0))
+      ws (one_there s sees settled own_law in_formals hands leaks begun.memory formal fixed typed) first.typed in
+      let on : Enters s sees settled own_law in_formals hands leaks begun.memory next = one_then s sees settled own_law in_formals hands leaks begun.memory mid next first second in
       subst (GivenBack (r ∷ rest) ways begun.memory) (sym (place_is t r rest begun r.to.base refl (place_there begun.memory r.to copied.1 typed stand.owned (λ c has. (cells_there c has).0))))
       (if_back (λ n. IsBack (r ∷ rest) ways begun.memory n) (fits_type s.table r.to.of ws) ws begun
       (λ us n. copied_back t rest (record n { memory = stored s r.to us (moved_out s formal n.memory) }))
@@ -560,10 +560,10 @@ module _ (t : Turn) (settled : IsSettled (typing t).table) (own_law : OwnsByShap
       (same_stand (home s depth) v facts (AwayBy (r ∷ rest) ways) (seen s begun.memory hands leaks) (seen s next hands leaks) on.same stand))
       (taken_on begun.memory next rest ways (λ k w has there among none p c held. none p c (sym (start_same begun.memory next k w there on.hold (λ n q. cells_same s begun.memory next hands leaks on.same n q) (p ++ there.steps)) ∙ held)) taken))))
 
-  taken_first : (r : Return) (rest : List Return) (to : Way) (ways : List Way) (begun : Now) → (taken : IsTaken s cells begun.memory depth v facts scope r to)
-      → IsApartFrom to ways → IsAnother r.formal rest → AreTaken s cells begun.memory depth v facts scope rest ways → AreThere (to ∷ ways) begun.memory → Kept s begun.memory hands
+  taken_first : (r : Return) (rest : List Return) (to : Way) (ways : List Way) (begun : Now) → (taken : IsTaken s sees cells begun.memory depth v facts scope r to)
+      → IsApartFrom to ways → IsAnother r.formal rest → AreTaken s sees cells begun.memory depth v facts scope rest ways → AreThere (to ∷ ways) begun.memory → Kept s begun.memory hands
       → StandsAway (r ∷ rest) (to ∷ ways) begun.memory
-      → ((next : Memory) → AreThere ways next → Kept s next hands → StandsAway rest ways next → AreTaken s cells next depth v facts scope rest ways
+      → ((next : Memory) → AreThere ways next → Kept s next hands → StandsAway rest ways next → AreTaken s sees cells next depth v facts scope rest ways
       → GivenBack rest ways next (copied_back t rest (record begun { memory = next })))
       → GivenBack (r ∷ rest) (to ∷ ways) begun.memory (copied_back t (r ∷ rest) begun)
   taken_first r rest to ways begun taken apart another later cells_there typed stand more =
@@ -591,7 +591,7 @@ module _ (t : Turn) (settled : IsSettled (typing t).table) (own_law : OwnsByShap
             | inr h ↦ (let frames = h.0 in let low = home_low s depth r.formal in omega (arith, frames, low))
           ])
         ];
-        views = λ g y view. back.views g y view ∙ one_views r rest to ways m taken apart another begin_ways typed stand cells_now g y view;
+        views = λ g y i view. back.views g y i view ∙ one_views r rest to ways m taken apart another begin_ways typed stand cells_now g y i view;
         carried = carried_then s (λ g. g ≡ suc depth → ⊥) cells (to ∷ []) ways (to ∷ ways) m next n
             (λ w there. elim there.1 [ inl same ↦ (there.0, inl same, there.2, there.3) | inr never ↦ absurd never ]) (λ w there. taken_more to ways w there)
             (one_carried r rest to ways m taken apart another begin_ways typed stand cells_now) back.carried;
@@ -606,14 +606,14 @@ module _ (t : Turn) (settled : IsSettled (typing t).table) (own_law : OwnsByShap
       )) (one_kept r rest to ways m taken apart another begin_ways typed stand cells_now) (one_stand r rest to ways m taken apart another begin_ways typed stand cells_now)
       (taken_on m next rest ways (λ k w has there among none. one_bare r rest to ways m taken apart another begin_ways typed stand cells_now k w has there among none) later))))
 
-  pub all_given_back : (returns : List Return) (ways : List Way) (begun : Now) → AreTaken s cells begun.memory depth v facts scope returns ways
+  pub all_given_back : (returns : List Return) (ways : List Way) (begun : Now) → AreTaken s sees cells begun.memory depth v facts scope returns ways
       → AreThere ways begun.memory → Kept s begun.memory hands → StandsAway returns ways begun.memory → GivenBack returns ways begun.memory (copied_back t returns begun)
   all_given_back [] ways begun taken there typed stand = record {
     typed = typed;
     stand = subst (λ z. StandsAway [] z begun.memory) taken stand;
     held = λ g y p c held. inl held;
     empty = λ r has. absurd has;
-    views = λ g y view. refl;
+    views = λ g y i view. refl;
     carried = carried_same s (λ g. g ≡ suc depth → ⊥) cells ways begun.memory begun.memory (λ g y p. refl) (λ c p. refl);
     stays = λ w g y base off aside c reach. reach;
   }

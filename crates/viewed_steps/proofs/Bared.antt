@@ -1,5 +1,5 @@
 -- No number stands in what was taken, however its way is put.
-use Rattle.std.proofs.Common.{◌≡◌, refl, sym, ap, ◌∙◌, subst, inl, inr, ℕ, ◌≤◌, arith, List, [], ◌∷◌, ◌++◌}
+use Rattle.std.proofs.Common.{◌≡◌, refl, sym, ap, ◌∙◌, subst, inl, inr, ℕ, ◌≤◌, arith, List, [], ◌∷◌, ◌++◌, Bool}
 use Rattle.spark_base.specs.Lists.{Has}
 use Rattle.place_names.specs.declared.fact.Fact.{Fact}
 use Rattle.flow_paths.specs.Objects.{Typing}
@@ -45,20 +45,20 @@ inside_top s cells depth view at k to inside among = (
   start_steps s depth k to inside,
 )
 
-pub taken_bare : (s : Typing) (cells : List Lodge) (m : Memory) (depth : ℕ) (v : Views) (facts : List Fact) (scope : List ℕ) (view : View)
+pub taken_bare : (s : Typing) (sees : ℕ → Bool) (cells : List Lodge) (m : Memory) (depth : ℕ) (v : Views) (facts : List Fact) (scope : List ℕ) (view : View)
     → ((c : Lodge) → Has cells c → Reaches view c.way (OfCell c.cell)) → (returns : List Return) (ways : List Way)
-    → AreTaken s cells m depth v facts scope returns ways → (w : Way) (l : Loc) → IsTop view w l → (p : List Step) → Has ways (along w p) → (q : List Step) (c : ℕ)
+    → AreTaken s sees cells m depth v facts scope returns ways → (w : Way) (l : Loc) → IsTop view w l → (p : List Step) → Has ways (along w p) → (q : List Step) (c : ℕ)
     → word_in s.table (content s m [] l) (q ++ p) ≡ Held c → ⊥
-taken_bare s cells m depth v facts scope view at [] ways none w l top p has q c held = absurd (subst (λ z. Has z (along w p)) none has)
-taken_bare s cells m depth v facts scope view at (r ∷ rest) [] taken w l top p has q c held = absurd has
-taken_bare s cells m depth v facts scope view at (r ∷ rest) (to ∷ ways) (inl copied) w l top p has q c held =
-    taken_bare s cells m depth v facts scope view at rest (to ∷ ways) copied.1 w l top p has q c held
-taken_bare s cells m depth v facts scope view at (r ∷ rest) (to ∷ ways) (inr (one, apart, another, more)) w l top p (inl same) q c held =
+taken_bare s sees cells m depth v facts scope view at [] ways none w l top p has q c held = absurd (subst (λ z. Has z (along w p)) none has)
+taken_bare s sees cells m depth v facts scope view at (r ∷ rest) [] taken w l top p has q c held = absurd has
+taken_bare s sees cells m depth v facts scope view at (r ∷ rest) (to ∷ ways) (inl copied) w l top p has q c held =
+    taken_bare s sees cells m depth v facts scope view at rest (to ∷ ways) copied.1 w l top p has q c held
+taken_bare s sees cells m depth v facts scope view at (r ∷ rest) (to ∷ ways) (inr (one, apart, another, more)) w l top p (inl same) q c held =
     let inside = (one.0).inside in
     let both = same_part view inside.trunk w inside.start l (inside_top s cells depth view at r.to to inside (one.0).among) top inside.steps p (sym inside.way ∙ same) in
     one.1 q c ((λ j. word_in s.table (content s m [] (both.0 j)) (q ++ both.1 j)) ∙ held)
-taken_bare s cells m depth v facts scope view at (r ∷ rest) (to ∷ ways) (inr (one, apart, another, more)) w l top p (inr has) q c held =
-    taken_bare s cells m depth v facts scope view at rest ways more w l top p has q c held
+taken_bare s sees cells m depth v facts scope view at (r ∷ rest) (to ∷ ways) (inr (one, apart, another, more)) w l top p (inr has) q c held =
+    taken_bare s sees cells m depth v facts scope view at rest ways more w l top p has q c held
 
 -- What goes on from a way isn't before it.
 pub not_before : (w : Way) (p : List Step) → Past (along w p) w → ⊥

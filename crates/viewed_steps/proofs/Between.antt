@@ -158,35 +158,35 @@ not_named home e x other w named base =
     other (number_of w) (same_variable (home (number_of w)) (number_of w) e x (sym (named_base home w named) ∙ base)).0
 
 -- so it is with what was taken
-pub taken_from : (s : Typing) (cells : List Lodge) (m : Memory) (depth : ℕ) (v : Views) (facts : List Fact) (scope : List ℕ) (returns : List Return) (ways : List Way)
-    → AreTaken s cells m depth v facts scope returns ways → (k : Way) → Has ways k → Begins s depth k
-taken_from s cells m depth v facts scope [] ways none k has = absurd (subst (λ z. Has z k) none has)
-taken_from s cells m depth v facts scope (r ∷ rest) [] taken k has = absurd has
-taken_from s cells m depth v facts scope (r ∷ rest) (to ∷ ways) (inl copied) k has = taken_from s cells m depth v facts scope rest (to ∷ ways) copied.1 k has
-taken_from s cells m depth v facts scope (r ∷ rest) (to ∷ ways) (inr (one, apart, another, more)) k (inl same) = (
+pub taken_from : (s : Typing) (sees : ℕ → Bool) (cells : List Lodge) (m : Memory) (depth : ℕ) (v : Views) (facts : List Fact) (scope : List ℕ) (returns : List Return) (ways : List Way)
+    → AreTaken s sees cells m depth v facts scope returns ways → (k : Way) → Has ways k → Begins s depth k
+taken_from s sees cells m depth v facts scope [] ways none k has = absurd (subst (λ z. Has z k) none has)
+taken_from s sees cells m depth v facts scope (r ∷ rest) [] taken k has = absurd has
+taken_from s sees cells m depth v facts scope (r ∷ rest) (to ∷ ways) (inl copied) k has = taken_from s sees cells m depth v facts scope rest (to ∷ ways) copied.1 k has
+taken_from s sees cells m depth v facts scope (r ∷ rest) (to ∷ ways) (inr (one, apart, another, more)) k (inl same) = (
   (one.0).inside.frame,
   (one.0).inside.object,
   ap base_of (sym same ∙ (one.0).inside.way) ∙ base_along (one.0).inside.trunk (one.0).inside.steps ∙ (one.0).inside.root,
   (one.0).inside.begins,
 )
-taken_from s cells m depth v facts scope (r ∷ rest) (to ∷ ways) (inr (one, apart, another, more)) k (inr has) = taken_from s cells m depth v facts scope rest ways more k has
+taken_from s sees cells m depth v facts scope (r ∷ rest) (to ∷ ways) (inr (one, apart, another, more)) k (inr has) = taken_from s sees cells m depth v facts scope rest ways more k has
 
 pub taken_base : (s : Typing) (ways : List Way) (depth : ℕ) → ((k : Way) → Has ways k → Begins s depth k)
     → (w : Way) → TakenBy ways w → Begins s depth w
 taken_base s ways depth begin w (k, has, p, is) = (let base = begin k has in (base.0, base.1, ap base_of is ∙ base_along k p ∙ base.2, base.3))
 
 -- it stays so where no number comes to them
-pub still_taken : (s : Typing) (cells : List Lodge) (m n : Memory) (depth : ℕ) (v : Views) (facts : List Fact) (scope : List ℕ) (returns : List Return) (ways : List Way)
+pub still_taken : (s : Typing) (sees : ℕ → Bool) (cells : List Lodge) (m n : Memory) (depth : ℕ) (v : Views) (facts : List Fact) (scope : List ℕ) (returns : List Return) (ways : List Way)
     → ((k : Place) (to : Way) → Has ways to → (inside : IsInside s depth k to) → IsAmong cells inside.start inside.trunk → IsBare s depth k to m inside → IsBare s depth k to n inside)
-    → AreTaken s cells m depth v facts scope returns ways → AreTaken s cells n depth v facts scope returns ways
-still_taken s cells m n depth v facts scope [] ways still none = none
-still_taken s cells m n depth v facts scope (r ∷ rest) [] still taken = (taken.0, still_taken s cells m n depth v facts scope rest [] still taken.1)
-still_taken s cells m n depth v facts scope (r ∷ rest) (to ∷ ways) still (inl copied) = inl (copied.0, still_taken s cells m n depth v facts scope rest (to ∷ ways) still copied.1)
-still_taken s cells m n depth v facts scope (r ∷ rest) (to ∷ ways) still (inr (one, apart, another, more)) = inr (
+    → AreTaken s sees cells m depth v facts scope returns ways → AreTaken s sees cells n depth v facts scope returns ways
+still_taken s sees cells m n depth v facts scope [] ways still none = none
+still_taken s sees cells m n depth v facts scope (r ∷ rest) [] still taken = (taken.0, still_taken s sees cells m n depth v facts scope rest [] still taken.1)
+still_taken s sees cells m n depth v facts scope (r ∷ rest) (to ∷ ways) still (inl copied) = inl (copied.0, still_taken s sees cells m n depth v facts scope rest (to ∷ ways) still copied.1)
+still_taken s sees cells m n depth v facts scope (r ∷ rest) (to ∷ ways) still (inr (one, apart, another, more)) = inr (
   (one.0, still r.to to (inl refl) (one.0).inside (one.0).among one.1),
   apart,
   another,
-  still_taken s cells m n depth v facts scope rest ways (λ k w has. still k w (inr has)) more,
+  still_taken s sees cells m n depth v facts scope rest ways (λ k w has. still k w (inr has)) more,
 )
 
 -- what begins at a variable of a frame between isn't near
@@ -198,13 +198,13 @@ near_base b (Into w i) f x near base = near_base b w f x near base
 near_base b (All w) f x near base = near_base b w f x near base
 
 -- what is known of places that were taken holds of fewer facts
-pub fewer_taken : (s : Typing) (cells : List Lodge) (m : Memory) (depth : ℕ) (v : Views) (all facts : List Fact) (scope : List ℕ) → ((f : Fact) → Has facts f → Has all f)
-    → (returns : List Return) (ways : List Way) → AreTaken s cells m depth v all scope returns ways → AreTaken s cells m depth v facts scope returns ways
-fewer_taken s cells m depth v all facts scope part [] ways taken = taken
-fewer_taken s cells m depth v all facts scope part (r ∷ rest) [] (copied, more) = (copied, fewer_taken s cells m depth v all facts scope part rest [] more)
-fewer_taken s cells m depth v all facts scope part (r ∷ rest) (to ∷ ways) (inl (copied, more)) =
-    inl (copied, fewer_taken s cells m depth v all facts scope part rest (to ∷ ways) more)
-fewer_taken s cells m depth v all facts scope part (r ∷ rest) (to ∷ ways) (inr ((passed, bare), apart, another, more)) =
+pub fewer_taken : (s : Typing) (sees : ℕ → Bool) (cells : List Lodge) (m : Memory) (depth : ℕ) (v : Views) (all facts : List Fact) (scope : List ℕ) → ((f : Fact) → Has facts f → Has all f)
+    → (returns : List Return) (ways : List Way) → AreTaken s sees cells m depth v all scope returns ways → AreTaken s sees cells m depth v facts scope returns ways
+fewer_taken s sees cells m depth v all facts scope part [] ways taken = taken
+fewer_taken s sees cells m depth v all facts scope part (r ∷ rest) [] (copied, more) = (copied, fewer_taken s sees cells m depth v all facts scope part rest [] more)
+fewer_taken s sees cells m depth v all facts scope part (r ∷ rest) (to ∷ ways) (inl (copied, more)) =
+    inl (copied, fewer_taken s sees cells m depth v all facts scope part rest (to ∷ ways) more)
+fewer_taken s sees cells m depth v all facts scope part (r ∷ rest) (to ∷ ways) (inr ((passed, bare), apart, another, more)) =
     inr (
       (
         record {
@@ -226,5 +226,5 @@ fewer_taken s cells m depth v all facts scope part (r ∷ rest) (to ∷ ways) (i
       ),
       apart,
       another,
-      fewer_taken s cells m depth v all facts scope part rest ways more,
+      fewer_taken s sees cells m depth v all facts scope part rest ways more,
     )

@@ -17,7 +17,7 @@ use Rattle.soundness.proofs.Steps.{plain_end}
 use Rattle.soundness.proofs.Evaluated.{blank_hand}
 use Rattle.owned_loans.specs.Views.{Around, Views, Viewed}
 use Rattle.owned_loans.proofs.Moves.{same_viewed}
-use Rattle.viewed_soundness.proofs.Names.{view_access}
+use Rattle.viewed_soundness.proofs.ViewKinds.{view_access}
 use Rattle.viewed_soundness.proofs.Viewing.{view_leaf}
 use Rattle.viewed_steps.proofs.Eased.{same_back}
 

@@ -1,5 +1,5 @@
 -- The acts of a call: its actuals are read, moved or lent, and what is copied back may be.
-use Rattle.std.proofs.Common.{◌≡◌, refl, sym, ap, ◌∙◌, subst, ◌⊎◌, inl, inr, ℕ, suc, ◌<◌, true, false, List, [], ◌∷◌, ◌++◌, map, take, length, arith, Option, Some, None, is_some, Bool, not, ◌||◌, ◌&&◌, eqb-true}
+use Rattle.std.proofs.Common.{◌≡◌, refl, sym, ap, ◌∙◌, subst, ◌⊎◌, inl, inr, ℕ, suc, ◌<◌, true, false, List, [], ◌∷◌, ◌++◌, map, take, length, arith, Option, Some, None, is_some, Bool, not, ◌&&◌}
 use Rattle.std.specs.Prelude.{is_some}
 use Rattle.spark_base.specs.Lists.{Has}
 use Rattle.spark_base.proofs.Lists.{Has-append_cases, Has-append_right, Has-map_from}
@@ -10,35 +10,33 @@ use Rattle.place_names.specs.declared.fact.Fact.{Fact}
 use Rattle.place_names.specs.declared.fact.Fact.TheVariants.{Moved, Lent}
 use Rattle.place_names.specs.Names.{Name as PlaceName, overlaps}
 use Rattle.place_names.specs.Facts.{adds, effect}
-use Rattle.place_names.specs.Rules.{moved_or_lent}
 use Rattle.place_names.specs.declared.rule.Loan.{Loan}
 use Rattle.place_names.specs.declared.rule.Loan.TheVariants.{Borrowed}
 use Rattle.place_names.specs.declared.act.Mode.TheVariants as mode
-use Rattle.type_definitions.specs.Types.{Table, full, is_owning}
+use Rattle.type_definitions.specs.Types.{Table, is_owning}
 use Rattle.typed_tree.specs.Trees.{TypedTree, More}
 use Rattle.typed_tree.specs.Programs.{TypedProgram}
 use Rattle.flow_paths.specs.declared.report.Effects.{Effects}
 use Rattle.flow_paths.specs.Instructions.{Instruction, Call, EndScope}
-use Rattle.flow_paths.specs.Objects.{Typing, object_at, sub_at, is_anonymous, is_package_object, view_of, traverses, passings, Passing, Signature, passing, is_observer, is_observing, is_formal, is_named_access}
+use Rattle.flow_paths.specs.Objects.{Typing, object_at, sub_at, is_anonymous, is_package_object, view_of, traverses, passings, Passing, Signature, passing, is_formal, is_named_access}
 use Rattle.place_names.specs.Reports.{Report}
-use Rattle.flow_paths.specs.Aliases.{overlap_reports, passed_reports, call_reports}
+use Rattle.flow_paths.specs.Aliases.{overlap_reports}
 use Rattle.flow_paths.specs.Aliases as alias
-use Rattle.flow_paths.specs.Acts.{gives_variable}
 use Rattle.flow_paths.specs.Acts as flow
 use Rattle.flow_paths.specs.Points.{NamedPoint}
 use Rattle.flow_paths.specs.Laid.{FlowProgram, NamedSub, flow_sub, typing_of, flow_typing, flow_program, flow_named}
 use Rattle.flow_paths.specs.Names.{written}
 use Rattle.flow_paths.specs.Paths.{ControlPath, facts_before}
-use Rattle.flow_paths.specs.Effects.{written_by, path_points, globals_of, called_acts}
+use Rattle.flow_paths.specs.Effects.{path_points, globals_of, called_acts}
 use Rattle.flow_paths.specs.Scopes.{taken, scope_behind, Leads}
 use Rattle.flow_paths.specs.Views.{traversed_formal, traversed_of}
 use Rattle.machine.specs.States.{Frame, State, sub_of}
-use Rattle.machine.specs.Step.{Turn, turn, start, led, successor}
+use Rattle.machine.specs.Step.{Turn, successor}
 use Rattle.machine.specs.Step as steps
 use Rattle.machine.specs.Typed.{successors}
 use Rattle.machine.specs.Owners.{is_in_formal, waiting_in, is_in}
 use Rattle.place_names.specs.declared.act.Mode.TheVariants as mode
-use Rattle.owned_ways.specs.Ways.{Step, Way, after, AllowsAll, Past}
+use Rattle.owned_ways.specs.Ways.{Way, after, AllowsAll}
 use Rattle.owned_ways.specs.Ways as ways
 use Rattle.soundness.specs.Seen.{is_view_formal, IsNear, content, seen, home, trunk}
 use Rattle.soundness.specs.Typed.{Kept}
@@ -55,14 +53,12 @@ use Rattle.soundness.proofs.Used.{called_are, added_after, globals_are}
 use Rattle.soundness.proofs.Around.{IsFar}
 use Rattle.soundness.proofs.Eased.{eased}
 use Rattle.owned_loans.specs.Views.{Around, known_gone, Views, Viewed, ViewedAlone}
-use Rattle.viewed_soundness.specs.Holds.{Holds, is_view, sees_only, IsOwners, is_exclusive, AllKeep, is_fixed, is_given, lends_first, is_first}
-use Rattle.viewed_soundness.proofs.Given.{IsLow}
+use Rattle.viewed_soundness.specs.Holds.{Holds, is_view, IsOwners, AllKeep, is_fixed, is_given, Seeing, is_bundle}
 use Rattle.viewed_soundness.proofs.Evaluated.{live_trunk, keep_both}
 use Rattle.viewed_steps.specs.Awaited.{temporaries_of, lasting_of, AreAwaited, AreOwnless, TakesPassed}
 use Rattle.viewed_steps.specs.Sound.{Disturbs, IsCopiedBack, IsBeyond, HoldsAt, ArePlaced, NoneAbove, ViewStage, stages_of, GoneElsewhere, AreWaiting, IsResting, IsKindOfFormal, HasTraversals}
 use Rattle.viewed_steps.specs.Ready.{IsReady, IsCalled, IsTraversalCall, IsSeen, AreActualsTo}
 use Rattle.owned_loans.proofs.Allowed.{Cleared}
-use Rattle.owned_loans.proofs.Safe.{Unlent}
 use Rattle.viewed_steps.specs.Traversals.{traversed_name}
 use Rattle.viewed_steps.proofs.Lent.{Spare, spare_both}
 use Rattle.viewed_steps.proofs.Apart.{same_root}
@@ -71,24 +67,31 @@ use Rattle.viewed_steps.proofs.Called.{values_are_read, call_adds_none, passes_t
 use Rattle.viewed_steps.proofs.LaidOut.{AreOpenActuals}
 use Rattle.viewed_steps.proofs.Passed.{apart_or, apart_there}
 use Rattle.viewed_steps.proofs.Cells.{all_in, all_open}
-use Rattle.viewed_steps.proofs.Standing.{or_right}
 use Rattle.viewed_steps.proofs.Standing as standing
 use Rattle.viewed_steps.proofs.Packages as packages
 use Rattle.viewed_steps.proofs.Innermost as innermost
-use Rattle.viewed_steps.proofs.Views.{AreAccess, all_held, AreUnseen, given_cases}
+use Rattle.viewed_steps.proofs.Views.{AreAccess, all_held, bundle_passing, many_bundle, AreUnseen, given_cases, AreLowFormals}
 use Rattle.viewed_steps.proofs.Seeing.{AreClear}
 use Rattle.viewed_steps.proofs.Clear.{all_clear}
-use Rattle.viewed_steps.proofs.First.{way_named, first_allowed, first_keeps}
+use Rattle.viewed_steps.proofs.First.{first_allowed, first_keeps}
 use Rattle.viewed_steps.proofs.Followed as followed
 use Rattle.viewed_steps.proofs.Followed.{IsTraversing}
-use Rattle.viewed_steps.proofs.Lending.{named_has}
+use Rattle.viewed_steps.proofs.Lending.{named_has, borrowed_lent, shown_clear}
 use Rattle.viewed_steps.proofs.Traversing.{first_actual, first_reads}
-use Rattle.viewed_soundness.proofs.Names.{true_false}
-use Rattle.viewed_steps.proofs.Apart.{written_disturbs}
-use Rattle.viewed_steps.proofs.Exclusive.{first_true, second_true, mode_in, sees_shown, exclusive_shown, ChangesLent, AreLent, are_lent, lent_clears}
+use Rattle.viewed_soundness.proofs.ViewKinds.{true_false}
+use Rattle.viewed_soundness.proofs.ViewKinds.{given_sees, true_false}
+use Rattle.viewed_steps.proofs.Exclusive.{first_true, second_true, mode_in, ChangesLent, AreLent, are_lent, lent_clears}
 use Rattle.viewed_steps.proofs.Globals.{shown_act}
+use Rattle.viewed_steps.specs.Seeing.{sees_in}
+use Rattle.viewed_steps.proofs.Sees.{sees_seeing}
 
 module _ (table : Table) (typed : TypedProgram) (effects : Effects) (input : List ℕ) (ready : IsReady table typed effects) where
+  abbrev sees : ℕ → Bool
+  sees = sees_in (flow_program table typed)
+
+  abbrev seeing : Seeing (flow_typing (flow_program table typed)) sees
+  seeing = sees_seeing (flow_program table typed)
+
   abbrev program : FlowProgram
   program = flow_program table typed
 
@@ -114,9 +117,9 @@ module _ (table : Table) (typed : TypedProgram) (effects : Effects) (input : Lis
       (awaiting : AreAwaited table typed None (top ∷ stages_of (below ∷ more_frames)))
       (of_sub : IsNamedSub (flow_named table typed) top.frame.sub named) (at_point : IsAtPoint named.points top.frame.next p)
       (path : ControlPath (path_points program effects (sub_of program top.frame.sub)) top.before top.frame.next) (views : Views)
-      (viewed_before : ViewedAlone (home s (suc (length rest))) (sees_only s) (known_gone (home s (suc (length rest))) (GoneElsewhere program effects (below ∷ more_frames))) views
+      (viewed_before : ViewedAlone (home s (suc (length rest))) sees (known_gone (home s (suc (length rest))) (GoneElsewhere program effects (below ∷ more_frames))) views
       (view_here s state) (facts_of program effects top))
-      (kept : Kept s state.memory (waiting_in state)) (scope : InScope s state.memory (suc (length rest)) (lasting_of s p.scope)) (holds : HoldsAt s (suc (length rest)) views state.memory p)
+      (kept : Kept s state.memory (waiting_in state)) (scope : InScope s state.memory (suc (length rest)) (lasting_of s p.scope)) (holds : HoldsAt s sees (suc (length rest)) views state.memory p)
       (placed_before : ArePlaced program (suc (length rest)) (facts_of program effects top) views p.scope × IsBeyond program effects (suc (length rest)) views (below ∷ more_frames)) (above : NoneAbove s (suc (length rest)) state.memory
       × HasTraversals table typed (view_here s state) (record { stage = top; views = views; cells = [] } ∷ (below ∷ more_frames))) where
     abbrev outer : List Frame
@@ -156,7 +159,7 @@ module _ (table : Table) (typed : TypedProgram) (effects : Effects) (input : Lis
         → AllowsAll facts_now (acts_of_main p.instr)
     allowed_now = innermost.allowed_now table typed effects input ready state top below more_frames rest named p frames deep stages running awaiting of_sub at_point path views viewed_before kept scope holds placed_before above
 
-    abbrev viewed : Viewed (home s depth) (sees_only s) other views (view_here s state) facts_now
+    abbrev viewed : Viewed (home s depth) sees other views (view_here s state) facts_now
     viewed = innermost.viewed table typed effects input ready state top below more_frames rest named p frames deep stages running awaiting of_sub at_point path views viewed_before kept scope holds placed_before above
 
     abbrev Plain : Type 0
@@ -174,7 +177,7 @@ module _ (table : Table) (typed : TypedProgram) (effects : Effects) (input : Lis
     abbrev easy : Turn
     easy = eased main_turn
 
-    abbrev viewed_easy : Plain → Viewed (home s depth) (sees_only s) other views (view_here s easy.state) facts_now × Kept s state.memory (waiting_in easy.state)
+    abbrev viewed_easy : Plain → Viewed (home s depth) sees other views (view_here s easy.state) facts_now × Kept s state.memory (waiting_in easy.state)
     viewed_easy = innermost.ownless_easy table typed effects input ready state top below more_frames rest named p frames deep stages running awaiting of_sub at_point path views viewed_before kept scope holds placed_before above
 
     module _ (n : ℕ) (actuals : TypedTree) (result : Option ℕ) (e : p.instr ≡ Call n actuals result) where
@@ -284,13 +287,6 @@ module _ (table : Table) (typed : TypedProgram) (effects : Effects) (input : Lis
         ],
       )
 
-      unlent_now : (u : Way) → (is_package_object s (ways.number_of u) ≡ true → Has (written_by effects top.frame.sub) (ways.number_of u)) → Unlent own_facts u → Unlent facts_now u
-      unlent_now u writes free l h m has over = elim (Has-append_cases own_facts handed_on (Lent l h m) has) [
-        | inl mine ↦ free l h m mine over
-        | inr there ↦ handed_root l h m there u over
-            (λ shared. written_disturbs table typed effects ready.accepted.effects_are l top.frame.sub (ways.number_of u) (writes shared))
-      ]
-
       joined : (facts : List Fact) (a b : List Act) → AllowsAll facts a → AllowsAll (after a facts) b → AllowsAll facts (a ++ b)
       joined facts [] b one two = two
       joined facts (c ∷ a) b one two = (one.0, joined (effect c facts) a b one.1 two)
@@ -305,7 +301,7 @@ module _ (table : Table) (typed : TypedProgram) (effects : Effects) (input : Lis
         traversing = followed.ways_are table typed effects input ready state top older outer named p frames of_sub at_point path n actuals result e f traversed
 
         abbrev pub first : TypedTree
-        first = first_actual s ready.owns made.call
+        first = first_actual s sees ready.owns made.call
 
         abbrev others : List Placed
         others = flow.actual_acts (map (passing s false) traversing.rest) (made.call).others
@@ -334,20 +330,12 @@ module _ (table : Table) (typed : TypedProgram) (effects : Effects) (input : Lis
         root_there : (u : Way) → ways.name_of u ≡ traversed_name made.call → (made.call).root ≡ ways.number_of u
         root_there u called_so = ap (λ (m : PlaceName). m.root) (sym called_so)
 
-        -- the frame uses a package object that the first actual is rooted in, and writes it where a borrower is given
+        -- the frame uses a package object that the first actual is rooted in
         pub uses_first : is_package_object s (made.call).root ≡ true → Uses effects top.frame.sub (made.call).root
         uses_first shared =
             let found = followed.names_root table typed effects input ready state top older outer named p frames of_sub at_point path n actuals result e f traversed
             call_point.0 call_point.2 next_at.0 next_at.1 (innermost.borrower_local table typed effects input ready state top below more_frames rest named p frames deep stages running awaiting of_sub at_point path views viewed_before kept scope holds placed_before above) shared in
             innermost.act_uses table typed effects input ready state top below more_frames rest named p frames deep stages running awaiting of_sub at_point path views viewed_before kept scope holds placed_before above
-            (made.call).root shared (flow_at own named next_at.0) found.0 (found.1).0 (found.1).1 (found.1).2
-
-        pub writes_first : gives_variable s (sub_at s n).result ≡ true → is_package_object s (made.call).root ≡ true → Has (written_by effects top.frame.sub) (made.call).root
-        writes_first borrows shared =
-            let found = followed.writes_root table typed effects input ready state top older outer named p frames of_sub at_point path n actuals result e f traversed
-            call_point.0 call_point.2 next_at.0 next_at.1 (innermost.borrower_local table typed effects input ready state top below more_frames rest named p frames deep stages running awaiting of_sub at_point path views viewed_before kept scope holds placed_before above) shared
-            (running.0).entered local borrows in
-            innermost.act_writes_it table typed effects input ready state top below more_frames rest named p frames deep stages running awaiting of_sub at_point path views viewed_before kept scope holds placed_before above
             (made.call).root shared (flow_at own named next_at.0) found.0 (found.1).0 (found.1).1 (found.1).2
 
         pub clear_own : (u : Way) → ways.name_of u ≡ traversed_name made.call → Cleared own_facts u
@@ -360,12 +348,6 @@ module _ (table : Table) (typed : TypedProgram) (effects : Effects) (input : Lis
             clear_now u (λ shared. subst (Uses effects top.frame.sub) (root_there u called_so) (uses_first (ap (is_package_object s) (root_there u called_so) ∙ shared)))
             (clear_own u called_so)
 
-        pub free_first : gives_variable s (sub_at s n).result ≡ true → (u : Way) → ways.name_of u ≡ traversed_name made.call → Unlent facts_now u
-        free_first borrows u called_so =
-            unlent_now u (λ shared. subst (Has (written_by effects top.frame.sub)) (root_there u called_so) (writes_first borrows (ap (is_package_object s) (root_there u called_so) ∙ shared)))
-            (followed.unlent_at_call table typed effects input ready state top older outer named p frames of_sub at_point path n actuals result e f traversed
-            call_point.0 call_point.2 next_at.0 next_at.1 ((made.borrows borrows).1 call_point.0 call_point.2 next_at.0 next_at.1) u called_so)
-
         abbrev pub first_mode : (object_at s f).mode ≡ mode.In
         first_mode = followed.first_mode table typed effects input ready state top older outer named p frames of_sub at_point path n actuals result e f traversed
 
@@ -374,14 +356,14 @@ module _ (table : Table) (typed : TypedProgram) (effects : Effects) (input : Lis
         with_first facts clear allowed =
             subst (λ z. AllowsAll facts (acts z)) (sym copies_are)
             (subst (AllowsAll facts) (sym (acts_append first_acts others))
-            (joined facts (acts first_acts) (acts others) (first_allowed s made.call facts f first_mode clear)
-            (subst (λ z. AllowsAll z (acts others)) (sym (first_keeps s made.call facts f first_mode)) (subst (λ z. AllowsAll facts (acts z)) true_are allowed))))
+            (joined facts (acts first_acts) (acts others) (first_allowed s sees made.call facts f first_mode clear)
+            (subst (λ z. AllowsAll z (acts others)) (sym (first_keeps s sees made.call facts f first_mode)) (subst (λ z. AllowsAll facts (acts z)) true_are allowed))))
 
         traversal_acts : IsActing
         traversal_acts = record {
-          reads = subst AreReads (λ j. flow.actual_values s (sym traversing.ways j) (sym made.actuals_are j)) (first_reads s ready.owns ready.class.parts_named traversing.rest made.call seen_first.0 unseen_others others_stay);
+          reads = subst AreReads (λ j. flow.actual_values s (sym traversing.ways j) (sym made.actuals_are j)) (first_reads s sees ready.owns ready.class.parts_named traversing.rest made.call seen_first.0 unseen_others others_stay);
           spare = subst (Spare s) (sym true_are) (spare_copies s ready.owns false traversing.rest (made.call).others);
-          same = λ facts. ap (λ z. after (acts z) facts) true_are ∙ ap (after (acts others)) (sym (first_keeps s made.call facts f first_mode))
+          same = λ facts. ap (λ z. after (acts z) facts) true_are ∙ ap (after (acts others)) (sym (first_keeps s sees made.call facts f first_mode))
               ∙ sym (after_append (acts first_acts) (acts others) facts) ∙ ap (λ z. after z facts) (sym (acts_append first_acts others)) ∙ ap (λ z. after (acts z) facts) (sym copies_are);
           own = with_first own_facts clear_own;
           now = with_first facts_now clear_first;
@@ -476,18 +458,9 @@ module _ (table : Table) (typed : TypedProgram) (effects : Effects) (input : Lis
       given_owns : (x : ℕ) → is_anonymous (view_of s x) ≡ false → is_given s x ≡ true → is_view_formal s x ≡ true
       given_owns x unseen given = elim (given_cases s x given) [ inl formal ↦ formal | inr anonymous ↦ absurd (true_false (is_anonymous (view_of s x)) anonymous unseen) ]
 
-      no_borrower : (r : Option ℕ) → traverses s.table r ≡ false → gives_variable s r ≡ true → ⊥
-      no_borrower None none borrows = cc
-      no_borrower (Some t) none borrows = true_false (traverses s.table (Some t)) (ap (λ b. b || is_observing (full s.table t)) borrows) none
-
-      first_is : (xs : List ℕ) (x f : ℕ) {rest : List ℕ} → xs ≡ f ∷ rest → is_first x xs ≡ true → x ≡ f
-      first_is (y ∷ xs) x f same first_one = (let is : y ≡ f = cc in sym (eqb-true y x first_one) ∙ is)
-      first_is [] x f same first_one = cc
-
       -- What is shown of a package object is shown by an act of the call, or to the first formal of a traversal function.
       pub record IsPlainlyShown (b : alias.Passed) : Type 0 where
         pub formal : is_view_formal s b.formal ≡ true
-        pub none : lends_first s b.formal (sub_at s n) ≡ false
         pub placed : Placed
         pub there : Has (standing.acts_by table typed effects input ready state top older outer named p frames of_sub at_point s p.instr) placed
         pub is : placed.act ≡ act.Actual b.actual.name mode.In true (procedure && is_named_access (view_of s b.formal))
@@ -508,15 +481,10 @@ module _ (table : Table) (typed : TypedProgram) (effects : Effects) (input : Lis
           by_place f traversed (inl same) = (ap (λ (z : alias.Passed). z.formal) (sym same), ap (λ (z : alias.Passed). z.actual.name) (sym same))
           by_place f traversed (inr none) = absurd none
 
-          not_lends : (lends_first s b.formal (sub_at s n) ≡ true → ⊥) → lends_first s b.formal (sub_at s n) ≡ false
-          not_lends never = elim (bool_cases (lends_first s b.formal (sub_at s n))) [ inr none ↦ none | inl lends ↦ absurd (never lends) ]
-
           by_call : traverses s.table (sub_of program n).result ≡ false → ((object_at s b.formal).mode ≡ mode.In) × (is_owning s.table (object_at s b.formal).of ≡ true) → IsPlainlyShown b
           by_call none shape =
               let one = shown_act s procedure formals actuals b has shape.0 shape.1 in record {
                 formal = given_owns b.formal (unseen_plain none b.formal (named_has formals actuals b has)) given;
-                none = not_lends (λ lends. no_borrower (sub_at s n).result (ap (λ z. traverses s.table z) (ap (λ (z : Signature). z.result) (signature_is program n)) ∙ none)
-                    (first_true (gives_variable s (sub_at s n).result) (is_first b.formal (sub_at s n).formals) lends));
                 placed = one.0;
                 there = subst (λ z. Has z one.0) (sym values_are) (Has-append_right values true_copies one.0
                     (subst (λ z. Has (flow.actual_acts z actuals) one.0) (sym (passes_to program n none)) one.1));
@@ -529,10 +497,6 @@ module _ (table : Table) (typed : TypedProgram) (effects : Effects) (input : Lis
               let shape = view_formal_in b.formal formal in
               let one = shown_act s false (traversing f traversed).rest ((made f traversed).call).others b later shape.0 shape.1 in record {
                 formal = formal;
-                none = not_lends (λ lends. (followed.differ table typed effects input ready state top older outer named p frames of_sub at_point path n actuals result e f traversed).0
-                    b.formal (named_has (traversing f traversed).rest ((made f traversed).call).others b later)
-                    (first_is (sub_at s n).formals b.formal f (ap (λ (z : Signature). z.formals) (signature_is program n) ∙ (traversing f traversed).formals)
-                    (second_true (gives_variable s (sub_at s n).result) (is_first b.formal (sub_at s n).formals) lends)));
                 placed = one.0;
                 there = subst (λ z. Has z one.0) (sym values_are) (Has-append_right values true_copies one.0
                     (subst (λ z. Has z one.0) (sym (true_are f traversed)) one.1));
@@ -557,10 +521,10 @@ module _ (table : Table) (typed : TypedProgram) (effects : Effects) (input : Lis
               ∙ global_after (globals_of program effects n) facts_called (globals_are program effects ready.accepted.effects_are n)
 
       -- nothing that was moved leads to what is copied back to
-      pub copied_there : AreOpenActuals s depth facts_now formals actuals
+      pub copied_there : AreOpenActuals s sees depth facts_now formals actuals
       copied_there = elim modes_there [
-        | inr modes ↦ all_in s ready.owns depth facts_now procedure formals actuals modes
-        | inl none ↦ all_open s ready.owns depth facts_now procedure formals actuals facts_now []
+        | inr modes ↦ all_in s sees ready.owns depth facts_now procedure formals actuals modes
+        | inl none ↦ all_open s sees ready.owns depth facts_now procedure formals actuals facts_now []
             ((ready.orderly.points named named_there p point_there_now).copied n actuals result e)
             none copies_allowed (λ f has. inl has) (λ k never. absurd never)
       ]
@@ -575,46 +539,50 @@ module _ (table : Table) (typed : TypedProgram) (effects : Effects) (input : Lis
       not_end : (x : ℕ) → p.instr ≡ EndScope x → ⊥
       not_end x is = (let no : Call n actuals result ≡ EndScope x = sym e ∙ is in cc)
 
-      pub holds_now : Holds s depth views state.memory
-      holds_now = all_held s in_formals depth views state.memory (λ x k view at. holds.held x k (λ fading. not_end fading.0 fading.1) view at) holds.only holds.owners holds.own
+      pub holds_now : Holds s sees depth views state.memory
+      holds_now = all_held s sees in_formals depth views state.memory (λ x k view bare at. holds.held x k (λ fading. not_end fading.0 fading.1) view bare at) holds.only holds.owners holds.own holds.taken holds.parts
 
       pub live_now : (w : Way) (l : ways.Loc) → IsOwners s w → ways.Reaches (seen s state.memory (waiting_in easy.state) state.leaks) w l
           → (content s state.memory (waiting_in easy.state) (trunk l)).owns ≡ true
       live_now =
-          live_trunk (steps.here main_turn) ready.accepted.settled state.leaks [] other alone (keeps s ready.accepted.settled ready.owns) index_law
+          live_trunk (steps.here main_turn) sees seeing ready.accepted.settled state.leaks [] other alone (keeps s ready.accepted.settled ready.owns) index_law
           ready.owns views ready.class.parts_named state.memory (waiting_in easy.state) ((viewed_easy plain_there.0).0).owned
 
-      -- views of the frame see what it has names for, or what belongs to frames below
-      pub formals_low : (x : ℕ) (w : Way) → views.way x ≡ Some w → IsLow s depth w
-      formals_low x w has = elim (holds.lies x w has) [
-        | inl named ↦ inl named
-        | inr far ↦ inr (far.0, (let less = far.1 in omega (arith, less)), far.2)
-      ]
+      -- views of the frame see what it has names for, or what belongs to frames below; and so do parts of its formals
+      pub formals_low : AreLowFormals s depth views
+      formals_low = (
+        λ x w has. elim (holds.lies x w has) [
+          | inl named ↦ inl named
+          | inr far ↦ inr (far.0, (let less = far.1 in omega (arith, less)), far.2)
+        ],
+        holds.low,
+      )
 
       there_formals : (x : ℕ) → Has formals x → Has (sub_at s n).formals x
       there_formals x has = subst (λ z. Has z x) (sym (ap (λ (z : Signature). z.formals) (signature_is program n))) has
 
-      copies_keep : copies ≡ true_copies → AllKeep (is_fixed s) (acts copies)
+      copies_keep : copies ≡ true_copies → AllKeep (is_fixed s sees) (acts copies)
       copies_keep same =
-          subst (λ z. AllKeep (is_fixed s) (acts z)) (sym same)
-          (keep_both (is_fixed s) (acts values) (acts true_copies) (subst (AllKeep (is_fixed s)) (acts_append values true_copies)
-          (subst (λ z. AllKeep (is_fixed s) (acts z)) values_are
+          subst (λ z. AllKeep (is_fixed s sees) (acts z)) (sym same)
+          (keep_both (is_fixed s sees) (acts values) (acts true_copies) (subst (AllKeep (is_fixed s sees)) (acts_append values true_copies)
+          (subst (λ z. AllKeep (is_fixed s sees) (acts z)) values_are
           (standing.keeps_there table typed effects input ready state top older outer named p frames of_sub at_point)))).1
 
       -- what formals of a procedure that own nothing are lent
-      pub lent_there : (sub_of program n).result ≡ None → AreLent s facts_now formals actuals
+      pub lent_there : (sub_of program n).result ≡ None → AreLent s sees facts_now formals actuals
       lent_there is =
-          are_lent s facts_now formals actuals called.differ
+          are_lent s sees facts_now formals actuals called.differ
           (apart_there program effects ready.accepted.no_reports (flow_sub own named)
           (standing.in_program table typed effects input ready state top older outer named p frames of_sub at_point) main_turn.point
           (standing.in_sub table typed effects input ready state top older outer named p frames of_sub at_point) n actuals result e called.answers is)
           (subst (λ b. AllowsAll facts_now (acts (flow.actual_acts (map (passing s b) formals) actuals))) of_procedure copies_allowed)
-          (subst (λ b. AllKeep (is_fixed s) (acts (flow.actual_acts (map (passing s b) formals) actuals))) of_procedure (copies_keep (ap (λ z. flow.actual_acts z actuals) (sym (passes_to program n no_traversal)))))
-          (λ y has given. (let formal = given_owns y (unseen_plain no_traversal y has) given in record {
+          (subst (λ b. AllKeep (is_fixed s sees) (acts (flow.actual_acts (map (passing s b) formals) actuals))) of_procedure (copies_keep (ap (λ z. flow.actual_acts z actuals) (sym (passes_to program n no_traversal)))))
+          (λ y has given bare. (let formal = given_owns y (unseen_plain no_traversal y has) given in record {
             of_in = mode_in (object_at s y).mode (second_true (is_formal s y) (is_in (object_at s y).mode) (first_true (is_in_formal s y) (is_owning s.table (object_at s y).of) formal));
             owning = second_true (is_in_formal s y) (is_owning s.table (object_at s y).of) formal;
-            access = ready.class.procedures n (ap (λ (z : Signature). z.result) (signature_is program n) ∙ is) y (there_formals y has) (called.formals y has) formal;
+            access = ready.class.procedures n (ap (λ (z : Signature). z.result) (signature_is program n) ∙ is) y (there_formals y has) (called.formals y has) formal ((in_formals y formal).0 bare);
           }))
+          (many_bundle s sees in_formals)
         where
           no_traversal : traverses s.table (sub_of program n).result ≡ false
           no_traversal = ap (traverses s.table) is
@@ -622,107 +590,64 @@ module _ (table : Table) (typed : TypedProgram) (effects : Effects) (input : Lis
           of_procedure : procedure ≡ true
           of_procedure = ap (λ r. not (is_some r)) is
 
-      -- what the first formal of a function that gives a borrower is lent; what other ones are shown doesn't overlap it
-      lent_first : (f : ℕ) → traversed_formal s (sub_of program n) ≡ Some f → gives_variable s (sub_at s n).result ≡ true → ChangesLent s facts_now formals actuals
-      lent_first f traversed borrows y has given changes m of =
-          let only : y ≡ f = first_is (sub_at s n).formals y f formals_there (second_true (gives_variable s (sub_at s n).result) (is_first y (sub_at s n).formals) (lends y has given changes)) in
-          record {
-            of_in = ap (λ z. (object_at s z).mode) only ∙ first_mode f traversed;
-            given = given;
-            plain = ap (λ (z : PlaceName). sees_only s z.root) (name_there only) ∙ ((made f traversed).borrows borrows).0;
-            clear = λ fact there over. free fact there (subst (λ z. moved_or_lent z fact ≡ true) (name_there only) over);
-            apart = λ b there differs met over. elim met [
-              | inl back ↦ back (all_in_mode b.formal (named_has formals actuals b there))
-              | inr shown ↦ ready.class.lends (flow_sub own named) (standing.in_program table typed effects input ready state top older outer named p frames of_sub at_point) main_turn.point
-                  (standing.in_sub table typed effects input ready state top older outer named p frames of_sub at_point) n actuals result e (record { formal = y; actual = m }) b of there
-                  (lends y has given changes) differs shown over
-            ];
-          }
-        where
-          all_in_mode : (x : ℕ) → Has formals x → (object_at s x).mode ≡ mode.In
-          all_in_mode x has = followed.modes_there table typed effects input ready state top older outer named p frames of_sub at_point path n actuals result e f traversed x
-              (subst (λ z. Has z x) (traversing f traversed).formals has)
-
-          formals_there : (sub_at s n).formals ≡ f ∷ (traversing f traversed).rest
-          formals_there = ap (λ (z : Signature). z.formals) (signature_is program n) ∙ (traversing f traversed).formals
-
-          -- one that changes what it sees is the first one
-          lends : (x : ℕ) → Has formals x → is_given s x ≡ true → sees_only s x ≡ false → lends_first s x (sub_at s n) ≡ true
-          lends x there shown changed = elim (bool_cases (lends_first s x (sub_at s n))) [
-            | inl is ↦ is
-            | inr none ↦ absurd (true_false (is_exclusive s x) (exclusive_shown s x shown changed)
-                (ready.class.functions n (traversing f traversed).of (ap (λ (z : Signature). z.result) (signature_is program n) ∙ (traversing f traversed).result) x (there_formals x there) (called.formals x there) shown none))
-          ]
-
-          -- the name is the first one
-          name_there : y ≡ f → m.name ≡ traversed_name (made f traversed).call
-          name_there only = by_place (Has-append_cases (alias.passed_as f (written (first f traversed))) (alias.passed (traversing f traversed).rest ((made f traversed).call).others)
-              (record { formal = y; actual = m })
-              (subst (λ z. Has z (record { formal = y; actual = m })) (λ j. alias.passed ((traversing f traversed).formals j) ((made f traversed).actuals_are j)) of))
-            where
-              by_place : Has (alias.passed_as f (written (first f traversed))) (record { formal = y; actual = m })
-                  ⊎ Has (alias.passed (traversing f traversed).rest ((made f traversed).call).others) (record { formal = y; actual = m }) → m.name ≡ traversed_name (made f traversed).call
-              by_place (inl (inl same)) = sym (ap (λ (b : alias.Passed). b.actual.name) same)
-              by_place (inl (inr none)) = absurd none
-              by_place (inr later) =
-                  absurd ((followed.differ table typed effects input ready state top older outer named p frames of_sub at_point path n actuals result e f traversed).0
-                  y (named_has (traversing f traversed).rest ((made f traversed).call).others (record { formal = y; actual = m }) later) only)
-
-          free : (fact : Fact) → Has facts_now fact → moved_or_lent (traversed_name (made f traversed).call) fact ≡ true → ⊥
-          free (Moved z) there over =
-              let u = way_named (traversed_name (made f traversed).call) in
-              (clear_first f traversed u.0 u.1).1 z there (subst (λ q. overlaps z q ≡ true) (sym u.1) over)
-          free (Lent l h z) there over =
-              let u = way_named (traversed_name (made f traversed).call) in
-              free_first f traversed borrows u.0 u.1 l h z there (subst (λ q. overlaps z q ≡ true) (sym u.1) over)
-
       -- a function has formals of mode `in` alone
       pub by_callee : (((x : ℕ) → Has formals x → (object_at s x).mode ≡ mode.In) × ((x : ℕ) → Has formals x → IsCopiedBack s x → ⊥)
-          × ChangesLent s facts_now formals actuals)
-          ⊎ AreLent s facts_now formals actuals
+          × ChangesLent s sees facts_now formals actuals)
+          ⊎ AreLent s sees facts_now formals actuals
       by_callee = by_result (sub_of program n).result refl
         where
           AllSee : Type 0
           AllSee = ((x : ℕ) → Has formals x → (object_at s x).mode ≡ mode.In) × ((x : ℕ) → Has formals x → IsCopiedBack s x → ⊥)
-              × ChangesLent s facts_now formals actuals
+              × ChangesLent s sees facts_now formals actuals
 
-          by_result : (r : Option ℕ) → (sub_of program n).result ≡ r → AllSee ⊎ AreLent s facts_now formals actuals
-          by_result (Some of) is = by_kind (bool_cases (gives_variable s (sub_at s n).result))
+          by_result : (r : Option ℕ) → (sub_of program n).result ≡ r → AllSee ⊎ AreLent s sees facts_now formals actuals
+          by_result (Some of) is =
+              inl (
+                modes,
+                (λ x has back. back (modes x has)),
+                λ x has given changes. absurd (true_false (sees x)
+                    (given_sees s sees seeing x given (ready.class.functions n of answers x (there_formals x has) (called.formals x has) given)) changes),
+              )
             where
               answers : (sub_at s n).result ≡ Some of
               answers = ap (λ (z : Signature). z.result) (signature_is program n) ∙ is
 
               modes : (x : ℕ) → Has formals x → (object_at s x).mode ≡ mode.In
               modes x has = ready.class.modes n of answers x (there_formals x has)
-
-              no_borrower : (t : ℕ) → traverses s.table (Some t) ≡ false → gives_variable s (Some t) ≡ true → ⊥
-              no_borrower t none borrows = true_false (traverses s.table (Some t)) (ap (λ b. b || is_observing (full s.table t)) borrows) none
-
-              by_kind : (gives_variable s (sub_at s n).result ≡ true) ⊎ (gives_variable s (sub_at s n).result ≡ false) → AllSee ⊎ AreLent s facts_now formals actuals
-              by_kind (inr none) =
-                  inl (
-                    modes,
-                    (λ x has back. back (modes x has)),
-                    λ x has given changes. absurd (true_false (sees_only s x)
-                        (sees_shown (is_observer s x) (is_given s x) (is_exclusive s x) given
-                        (ready.class.functions n of answers x (there_formals x has) (called.formals x has) given (ap (λ b. b && is_first x (sub_at s n).formals) none))) changes),
-                  )
-              by_kind (inl borrows) = elim traverses_or [
-                | inr (f, traversed) ↦ inl (modes, (λ x has back. back (modes x has)), lent_first f traversed borrows)
-                | inl none ↦ absurd (no_borrower of (sym (ap (traverses s.table) is) ∙ none) (sym (ap (gives_variable s) answers) ∙ borrows))
-              ]
           by_result None is = inr (lent_there is)
 
-      pub clear_there : AreClear s facts_now formals actuals
+      -- nothing of what a procedure is shown is moved or borrowed
+      clear_given : (sub_of program n).result ≡ None → AreClear s sees facts_now formals actuals
+      clear_given is =
+          lent_clears s sees facts_now formals actuals (λ y has given m of f there over. elim (bool_cases (is_bundle s y)) [
+            | inr bare ↦ (lent_there is y has given bare m of).clear f there (borrowed_lent s sees m.name f over)
+            | inl bundle ↦ shown_clear s sees formals actuals facts_now called.differ
+                (subst (λ b. AllowsAll facts_now (acts (flow.actual_acts (map (passing s b) formals) actuals))) of_procedure copies_allowed)
+                (apart_there program effects ready.accepted.no_reports (flow_sub own named)
+                (standing.in_program table typed effects input ready state top older outer named p frames of_sub at_point) main_turn.point
+                (standing.in_sub table typed effects input ready state top older outer named p frames of_sub at_point) n actuals result e called.answers is)
+                y m of (bundle_passing s y bundle true) (many_bundle s sees in_formals y bundle) f there over
+          ])
+        where
+          of_procedure : procedure ≡ true
+          of_procedure = ap (λ r. not (is_some r)) is
+
+      clear_plain : traverses s.table (sub_of program n).result ≡ false → AreClear s sees facts_now formals actuals
+      clear_plain none = by_result (sub_of program n).result refl
+        where
+          by_result : (r : Option ℕ) → (sub_of program n).result ≡ r → AreClear s sees facts_now formals actuals
+          by_result None is = clear_given is
+          by_result (Some of) is =
+              all_clear s sees procedure formals actuals facts_now (unseen_plain none)
+              (λ x has. ready.class.modes n of (ap (λ (z : Signature). z.result) (signature_is program n) ∙ is) x (there_formals x has)) copies_allowed
+
+      pub clear_there : AreClear s sees facts_now formals actuals
       clear_there = elim traverses_or [
-        | inl none ↦ elim by_callee [
-          | inl modes ↦ all_clear s procedure formals actuals facts_now (unseen_plain none) modes.0 copies_allowed
-          | inr lent ↦ lent_clears s facts_now formals actuals (λ y has formal m of. (lent y has formal m of).clear)
-        ]
-        | inr (f, traversed) ↦ subst (AreClear s facts_now formals) (sym (made f traversed).actuals_are)
-            (subst (λ z. AreClear s facts_now z (More (first f traversed) ((made f traversed).call).others)) (sym (traversing f traversed).formals) (
+        | inl none ↦ clear_plain none
+        | inr (f, traversed) ↦ subst (AreClear s sees facts_now formals) (sym (made f traversed).actuals_are)
+            (subst (λ z. AreClear s sees facts_now z (More (first f traversed) ((made f traversed).call).others)) (sym (traversing f traversed).formals) (
               (λ given u called_so plain. clear_first f traversed u called_so),
-              all_clear s false (traversing f traversed).rest ((made f traversed).call).others facts_now (unseen_others f traversed)
+              all_clear s sees false (traversing f traversed).rest ((made f traversed).call).others facts_now (unseen_others f traversed)
                   (followed.modes table typed effects input ready state top older outer named p frames of_sub at_point path n actuals result e f traversed)
                   (subst (λ z. AllowsAll facts_now (acts z)) (true_are f traversed) true_allowed),
             ))

@@ -1,4 +1,5 @@
 -- The state after a call: the caller waits, and what is called begins.
+use Rattle.part_offsets.specs.Parts.{offset_in}
 use Rattle.spark_base.proofs.Lists.{Has-append_cases}
 use Rattle.std.proofs.Common.{◌≡◌, refl, sym, ap, ◌∙◌, subst, ◌⊎◌, inl, inr, ℕ, suc, ◌<◌, true, false, List, [], ◌∷◌, ◌++◌, take, drop, length, get_or, arith, Option, Some, None, Bool, flat_map}
 use Rattle.spark_base.specs.Lists.{Has}
@@ -42,9 +43,10 @@ use Rattle.soundness.proofs.Around.{IsFar}
 use Rattle.soundness.proofs.Waits.{led_waits}
 use Rattle.soundness.proofs.Eased.{eased}
 use Rattle.owned_loans.specs.Views.{Around, known_gone, Views, IsMovedBy, AreClear as FactsAreClear, AreViews, Viewed, ViewedAlone, IsOuter}
-use Rattle.owned_loans.proofs.Moves.{view_on, reached}
-use Rattle.viewed_soundness.specs.Holds.{Holds, is_view, sees_only, IsOwners}
-use Rattle.viewed_soundness.proofs.Given.{IsLow}
+use Rattle.owned_loans.proofs.Moves.{parts_on, view_on, reached}
+use Rattle.viewed_soundness.proofs.Names.{parts_same}
+use Rattle.viewed_soundness.proofs.ViewKinds.{bundle_view}
+use Rattle.viewed_soundness.specs.Holds.{Holds, is_view, IsOwners}
 use Rattle.viewed_steps.specs.Awaited.{temporaries_of, lasting_of, awaited, WaitsAt, AreAwaited, AreOwnless, TakesPassed}
 use Rattle.viewed_steps.proofs.Waited.{Shares}
 use Rattle.viewed_steps.specs.Sound.{IsCopiedBack, IsBeyond, AreUnmet, HoldsAt, ArePlaced, NoneAbove, ViewStage, stages_of, GoneElsewhere, Disturbs, IsWaiting, AreWaiting, LeadsAlong, IsResting, IsKindOfFormal, AreReturned, withheld, IsBareOf, HasTraversals, passed_roots, shown_at, shown_one, known_at}
@@ -67,7 +69,7 @@ use Rattle.viewed_steps.proofs.Uses.{called_writes}
 use Rattle.viewed_steps.proofs.Standing as standing
 use Rattle.viewed_steps.proofs.Packages as packages
 use Rattle.viewed_steps.proofs.Innermost as innermost
-use Rattle.viewed_steps.proofs.Views.{AreAccess, AreFar}
+use Rattle.viewed_steps.proofs.Views.{AreAccess, AreFar, AreLowFormals}
 use Rattle.viewed_steps.proofs.Shown.{same_cells}
 use Rattle.viewed_steps.proofs.Exclusive.{ChangesLent, AreLent}
 use Rattle.viewed_steps.proofs.CallTakes as call_takes
@@ -80,8 +82,12 @@ use Rattle.place_names.specs.declared.rule.Loan.TheVariants.{Observed}
 use Rattle.viewed_steps.proofs.CallShows as shows
 use Rattle.viewed_steps.proofs.Stilled.{still}
 use Rattle.viewed_steps.proofs.Supplied.{SuppliesAll}
+use Rattle.viewed_steps.specs.Seeing.{sees_in}
 
 module _ (table : Table) (typed : TypedProgram) (effects : Effects) (input : List ℕ) (ready : IsReady table typed effects) where
+  abbrev sees : ℕ → Bool
+  sees = sees_in (flow_program table typed)
+
   abbrev program : FlowProgram
   program = flow_program table typed
 
@@ -111,9 +117,9 @@ module _ (table : Table) (typed : TypedProgram) (effects : Effects) (input : Lis
       (awaiting : AreAwaited table typed None (top ∷ stages_of (below ∷ more_frames)))
       (of_sub : IsNamedSub (flow_named table typed) top.frame.sub named) (at_point : IsAtPoint named.points top.frame.next p)
       (path : ControlPath (path_points program effects (sub_of program top.frame.sub)) top.before top.frame.next) (views : Views)
-      (viewed_before : ViewedAlone (home s (suc (length rest))) (sees_only s) (known_gone (home s (suc (length rest))) (GoneElsewhere program effects (below ∷ more_frames))) views
+      (viewed_before : ViewedAlone (home s (suc (length rest))) sees (known_gone (home s (suc (length rest))) (GoneElsewhere program effects (below ∷ more_frames))) views
       (view_here s state) (facts_of program effects top))
-      (kept : Kept s state.memory (waiting_in state)) (scope : InScope s state.memory (suc (length rest)) (lasting_of s p.scope)) (holds : HoldsAt s (suc (length rest)) views state.memory p)
+      (kept : Kept s state.memory (waiting_in state)) (scope : InScope s state.memory (suc (length rest)) (lasting_of s p.scope)) (holds : HoldsAt s sees (suc (length rest)) views state.memory p)
       (placed_before : ArePlaced program (suc (length rest)) (facts_of program effects top) views p.scope × IsBeyond program effects (suc (length rest)) views (below ∷ more_frames)) (above : NoneAbove s (suc (length rest)) state.memory
       × HasTraversals table typed (view_here s state) (record { stage = top; views = views; cells = [] } ∷ (below ∷ more_frames))) where
     abbrev outer : List Frame
@@ -152,7 +158,7 @@ module _ (table : Table) (typed : TypedProgram) (effects : Effects) (input : Lis
     abbrev sub_less : top.frame.sub < length program.subs
     sub_less = innermost.sub_less table typed effects input ready state top below more_frames rest named p frames deep stages running awaiting of_sub at_point path views viewed_before kept scope holds placed_before above
 
-    abbrev viewed : Viewed (home s depth) (sees_only s) other views (view_here s state) facts_now
+    abbrev viewed : Viewed (home s depth) sees other views (view_here s state) facts_now
     viewed = innermost.viewed table typed effects input ready state top below more_frames rest named p frames deep stages running awaiting of_sub at_point path views viewed_before kept scope holds placed_before above
 
     abbrev left_scope : List ℕ
@@ -170,7 +176,7 @@ module _ (table : Table) (typed : TypedProgram) (effects : Effects) (input : Lis
     abbrev easy : Turn
     easy = eased main_turn
 
-    abbrev viewed_easy : Plain → Viewed (home s depth) (sees_only s) other views (view_here s easy.state) facts_now × Kept s state.memory (waiting_in easy.state)
+    abbrev viewed_easy : Plain → Viewed (home s depth) sees other views (view_here s easy.state) facts_now × Kept s state.memory (waiting_in easy.state)
     viewed_easy = innermost.ownless_easy table typed effects input ready state top below more_frames rest named p frames deep stages running awaiting of_sub at_point path views viewed_before kept scope holds placed_before above
 
     abbrev others_await : returns_value p.instr ≡ false → AreAwaited table typed (awaited (sub_of program top.frame.sub) (top.frame.next ∷ top.before)) (stages_of older)
@@ -205,19 +211,19 @@ module _ (table : Table) (typed : TypedProgram) (effects : Effects) (input : Lis
       abbrev facts_called : List Fact
       facts_called = calling.facts_called table typed effects input ready state top below more_frames rest named p frames deep stages running awaiting of_sub at_point path views viewed_before kept scope holds placed_before above n actuals result e
 
-      abbrev holds_now : Holds s depth views state.memory
+      abbrev holds_now : Holds s sees depth views state.memory
       holds_now = calling.holds_now table typed effects input ready state top below more_frames rest named p frames deep stages running awaiting of_sub at_point path views viewed_before kept scope holds placed_before above n actuals result e
 
       abbrev live_now : (w : Way) (l : ways.Loc) → IsOwners s w → ways.Reaches (seen s state.memory (waiting_in easy.state) state.leaks) w l
           → (content s state.memory (waiting_in easy.state) (trunk l)).owns ≡ true
       live_now = calling.live_now table typed effects input ready state top below more_frames rest named p frames deep stages running awaiting of_sub at_point path views viewed_before kept scope holds placed_before above n actuals result e
 
-      abbrev formals_low : (x : ℕ) (w : Way) → views.way x ≡ Some w → IsLow s depth w
+      abbrev formals_low : AreLowFormals s depth views
       formals_low = calling.formals_low table typed effects input ready state top below more_frames rest named p frames deep stages running awaiting of_sub at_point path views viewed_before kept scope holds placed_before above n actuals result e
 
       abbrev by_callee : (((x : ℕ) → Has formals x → (object_at s x).mode ≡ mode.In) × ((x : ℕ) → Has formals x → IsCopiedBack s x → ⊥)
-          × ChangesLent s facts_now formals actuals)
-          ⊎ AreLent s facts_now formals actuals
+          × ChangesLent s sees facts_now formals actuals)
+          ⊎ AreLent s sees facts_now formals actuals
       by_callee = calling.by_callee table typed effects input ready state top below more_frames rest named p frames deep stages running awaiting of_sub at_point path views viewed_before kept scope holds placed_before above n actuals result e
 
       abbrev Given : List Passed → Type 0
@@ -285,7 +291,7 @@ module _ (table : Table) (typed : TypedProgram) (effects : Effects) (input : Lis
         abbrev far_views : AreFar (home s depth) views depth
         far_views = calling.far_views table typed effects input ready state top below more_frames rest named p frames deep stages running awaiting of_sub at_point path views viewed_before kept scope holds placed_before above n actuals result e passed given
 
-        abbrev laid : AreLaidOut s state.memory depth views view_now formals actuals passed
+        abbrev laid : AreLaidOut s sees state.memory depth views view_now formals actuals passed
         laid = calling.laid table typed effects input ready state top below more_frames rest named p frames deep stages running awaiting of_sub at_point path views viewed_before kept scope holds placed_before above n actuals result e passed given
 
         abbrev outs : List Out
@@ -294,32 +300,32 @@ module _ (table : Table) (typed : TypedProgram) (effects : Effects) (input : Lis
         abbrev cells : List Lodge
         cells = calling.cells table typed effects input ready state top below more_frames rest named p frames deep stages running awaiting of_sub at_point path views viewed_before kept scope holds placed_before above n actuals result e passed given
 
-        abbrev all_passed_ways : (ways_taken : List Way) × ArePassedOn s state.memory cells depth views facts_all next_there formals passed ways_taken outs
-            × ((k : Way) → Has ways_taken k → IsNamedBy s depth views facts_all formals actuals k)
+        abbrev all_passed_ways : (ways_taken : List Way) × ArePassedOn s sees state.memory cells depth views facts_all next_there formals passed ways_taken outs
+            × ((k : Way) → Has ways_taken k → IsNamedBy s sees depth views facts_all formals actuals k)
         all_passed_ways = calling.all_passed_ways table typed effects input ready state top below more_frames rest named p frames deep stages running awaiting of_sub at_point path views viewed_before kept scope holds placed_before above n actuals result e passed given
 
         abbrev ways_taken : List Way
         ways_taken = calling.ways_taken table typed effects input ready state top below more_frames rest named p frames deep stages running awaiting of_sub at_point path views viewed_before kept scope holds placed_before above n actuals result e passed given
 
-        abbrev well_before : Viewed (home s depth) (sees_only s) other_all views (view_here s easy.state) facts_now
+        abbrev well_before : Viewed (home s depth) sees other_all views (view_here s easy.state) facts_now
         well_before = calling.well_before table typed effects input ready state top below more_frames rest named p frames deep stages running awaiting of_sub at_point path views viewed_before kept scope holds placed_before above n actuals result e passed given
 
         abbrev around_names : Around (home s depth)
         around_names = calling.around_names table typed effects input ready state top below more_frames rest named p frames deep stages running awaiting of_sub at_point path views viewed_before kept scope holds placed_before above n actuals result e passed given
 
-        abbrev names_all : Viewed (home s depth) (sees_only s) around_names views (still (view_here s easy.state)) facts_all
+        abbrev names_all : Viewed (home s depth) sees around_names views (still (view_here s easy.state)) facts_all
         names_all = calling.names_all table typed effects input ready state top below more_frames rest named p frames deep stages running awaiting of_sub at_point path views viewed_before kept scope holds placed_before above n actuals result e passed given
 
-        abbrev views_called : AreViews (home s depth) (sees_only s) views (view_here s easy.state) facts_called
+        abbrev views_called : AreViews (home s depth) sees views (view_here s easy.state) facts_called
         views_called = calling.views_called table typed effects input ready state top below more_frames rest named p frames deep stages running awaiting of_sub at_point path views viewed_before kept scope holds placed_before above n actuals result e passed given
 
-        abbrev named_cell : (c : Lodge) → Has cells c → IsCellNamed s depth facts_all views view_now formals actuals passed c
+        abbrev named_cell : (c : Lodge) → Has cells c → IsCellNamed s sees depth facts_all views view_now formals actuals passed c
         named_cell = calling.named_cell table typed effects input ready state top below more_frames rest named p frames deep stages running awaiting of_sub at_point path views viewed_before kept scope holds placed_before above n actuals result e passed given
 
         abbrev cell_root : (c : Lodge) (has : Has cells c) → ways.number_of c.name ≡ ways.number_of (named_cell c has).whole
         cell_root = calling.cell_root table typed effects input ready state top below more_frames rest named p frames deep stages running awaiting of_sub at_point path views viewed_before kept scope holds placed_before above n actuals result e passed given
 
-        abbrev cell_plain : (c : Lodge) → Has cells c → ways.Named (home s depth) c.name × (sees_only s (ways.number_of c.name) ≡ false)
+        abbrev cell_plain : (c : Lodge) → Has cells c → ways.Named (home s depth) c.name × (sees (ways.number_of c.name) ≡ false)
         cell_plain = calling.cell_plain table typed effects input ready state top below more_frames rest named p frames deep stages running awaiting of_sub at_point path views viewed_before kept scope holds placed_before above n actuals result e passed given
 
         abbrev cell_begins : (c : Lodge) → Has cells c → (g : ℕ) × (y : ℕ) × (ways.base_of c.way ≡ ways.OfRoot (ways.OfVariable g y)) × (g ≡ suc depth → ⊥)
@@ -347,19 +353,19 @@ module _ (table : Table) (typed : TypedProgram) (effects : Effects) (input : Lis
         leaks_then = state.leaks ++ found_in s state.memory outs
 
         leaks_same : leaks_then ≡ state.leaks ++ flat_map (λ (leaks : List Leak). leaks) checks_there
-        leaks_same = ap (λ z. state.leaks ++ z) (sym (found_there s ready.accepted.settled depth views view_now main_turn.point.pos state.memory formals actuals passed laid))
+        leaks_same = ap (λ z. state.leaks ++ z) (sym (found_there s sees ready.accepted.settled depth views view_now main_turn.point.pos state.memory formals actuals passed laid))
 
-        pub at_first : AtFirst s ready.accepted.settled ready.owns in_formals (waiting_in easy.state) depth views far_views holds.only facts_all next_there cells cell_begins state.memory
+        pub at_first : AtFirst s sees ready.accepted.settled ready.owns in_formals (waiting_in easy.state) depth views far_views (holds.only, holds.parts.only) facts_all next_there cells cell_begins state.memory
         at_first = record { typed = (viewed_easy plain_there.0).1; leaks = state.leaks; owned = well_before.owned; there = λ c has. (named_cell c has).reaches }
 
-        pub enters : Enter s ready.accepted.settled ready.owns in_formals (waiting_in easy.state) depth views far_views holds.only facts_all next_there cells cell_begins (GoneElsewhere program effects older) state.leaks leaks_then formals passed ways_taken
+        pub enters : Enter s sees ready.accepted.settled ready.owns in_formals (waiting_in easy.state) depth views far_views (holds.only, holds.parts.only) facts_all next_there cells cell_begins (GoneElsewhere program effects older) state.leaks leaks_then formals passed ways_taken
             state.memory with_all
         enters =
-            all_declared s ready.accepted.settled ready.owns in_formals (waiting_in easy.state) depth views far_views holds.only facts_all next_there cells cell_begins (GoneElsewhere program effects older) state.leaks formals passed ways_taken outs
+            all_declared s sees ready.accepted.settled ready.owns in_formals (waiting_in easy.state) depth views far_views (holds.only, holds.parts.only) facts_all next_there cells cell_begins (GoneElsewhere program effects older) state.leaks formals passed ways_taken outs
             state.memory state.memory all_passed_ways.1 open_there at_first (viewed_easy plain_there.0).1
             (λ c has. ((named_cell c has).reaches, cell_aside c has)) (calling.stands_all table typed effects input ready state top below more_frames rest named p frames deep stages running awaiting of_sub at_point path views viewed_before kept scope holds placed_before above n actuals result e passed given) blank_formals (λ o has. ((λ f y q some is k. refl), (λ c q k there is. refl))) (same_cells state.memory state.memory refl)
 
-        abbrev declared_there : AreDeclared s ready.accepted.settled ready.owns in_formals (waiting_in easy.state) depth views far_views holds.only facts_all next_there cells cell_begins formals passed ways_taken state.leaks leaks_then
+        abbrev declared_there : AreDeclared s sees ready.accepted.settled ready.owns in_formals (waiting_in easy.state) depth views far_views (holds.only, holds.parts.only) facts_all next_there cells cell_begins formals passed ways_taken state.leaks leaks_then
             state.memory with_all
         declared_there = enters.0
 
@@ -398,13 +404,20 @@ module _ (table : Table) (typed : TypedProgram) (effects : Effects) (input : Lis
         stands_then = subst (OwnersStand (home s depth) views facts_all (λ w. GoneElsewhere program effects older w ⊎ TakenBy all_passed_ways.0 w)) view_called enters.1
 
         -- its views see what they saw
-        views_then : AreViews (home s depth) (sees_only s) views (view_here s after_call) facts_called
-        views_then x w has =
-            let base = call_takes.view_base table typed effects input ready state top below more_frames rest named p frames deep stages running awaiting of_sub at_point path views viewed_before kept scope holds placed_before above n actuals result e passed given x w has in
-            view_on (home s depth) (sees_only s) other_all views (view_here s easy.state) (view_here s after_call) facts_called facts_called x w (views_called x w has) (λ b m loan. loan)
-            (subst (λ z. ways.Reaches z w (ways.OfCell (views.cell x))) view_called
-            (declared_there.stays w base.0 base.1 base.2 base.3 (call_takes.off_taken table typed effects input ready state top below more_frames rest named p frames deep stages running awaiting of_sub at_point path views viewed_before kept scope holds placed_before above n actuals result e passed given x w has)
-            (views.cell x) (reached (home s depth) (sees_only s) other_all views (view_here s easy.state) facts_called x w (views_called x w has))))
+        views_then : AreViews (home s depth) sees views (view_here s after_call) facts_called
+        views_then = (
+          λ x w has. (
+              let base = call_takes.view_base table typed effects input ready state top below more_frames rest named p frames deep stages running awaiting of_sub at_point path views viewed_before kept scope holds placed_before above n actuals result e passed given x w has in
+              view_on (home s depth) sees other_all views (view_here s easy.state) (view_here s after_call) facts_called facts_called x w (views_called.0 x w has) (λ b m loan. loan)
+              (subst (λ z. ways.Reaches z w (ways.OfCell (views.cell x))) view_called
+              (declared_there.stays w base.0 base.1 base.2 base.3 (call_takes.off_taken table typed effects input ready state top below more_frames rest named p frames deep stages running awaiting of_sub at_point path views viewed_before kept scope holds placed_before above n actuals result e passed given x w has)
+              (views.cell x) (reached (home s depth) sees other_all views (view_here s easy.state) facts_called x w (views_called.0 x w has))))),
+          parts_on (home s depth) sees other_all views (view_here s easy.state) (view_here s after_call) views_called.1
+              (λ x q w has reach. (let base = call_takes.part_base table typed effects input ready state top below more_frames rest named p frames deep stages running awaiting of_sub at_point path views viewed_before kept scope holds placed_before above n actuals result e passed given x q w has in
+              subst (λ z. ways.Reaches z w (ways.OfCell (views.part_cell x q))) view_called
+              (declared_there.stays w base.0 base.1 base.2 base.3 (call_takes.off_taken_parts table typed effects input ready state top below more_frames rest named p frames deep stages running awaiting of_sub at_point path views viewed_before kept scope holds placed_before above n actuals result e passed given x q w has)
+              (views.part_cell x q) reach))),
+        )
 
         abbrev all_called : (f : Fact) → Has facts_called f → Has facts_all f
         all_called = calling.all_called table typed effects input ready state top below more_frames rest named p frames deep stages running awaiting of_sub at_point path views viewed_before kept scope holds placed_before above n actuals result e
@@ -421,13 +434,13 @@ module _ (table : Table) (typed : TypedProgram) (effects : Effects) (input : Lis
         held_called f x q k off held = elim (declared_there.held f x q k held) [ inl before ↦ before | inr mine ↦ absurd (off mine.0) ]
 
         pub not_up : (x : ℕ) → home s depth x ≡ suc depth → ⊥
-        not_up = not_above s ready.accepted.settled ready.owns in_formals (waiting_in easy.state) state.leaks depth views far_views holds.only facts_all next_there cells
+        not_up = not_above s sees ready.accepted.settled ready.owns in_formals (waiting_in easy.state) state.leaks depth views far_views (holds.only, holds.parts.only) facts_all next_there cells
 
         -- the variables of its views stay
-        word_still : (x : ℕ) → is_view s x ≡ true
-            → (get_or (variable_slots s (home s depth x) x with_all.variables) 0 no_slot).word ≡ (get_or (variable_slots s (home s depth x) x state.memory.variables) 0 no_slot).word
-        word_still x view = elim (declared_there.views (home s depth x) x view) [
-          | inl same ↦ same
+        word_still : (x i : ℕ) → is_view s x ≡ true
+            → (get_or (variable_slots s (home s depth x) x with_all.variables) i no_slot).word ≡ (get_or (variable_slots s (home s depth x) x state.memory.variables) i no_slot).word
+        word_still x i view = elim (declared_there.views (home s depth x) x view) [
+          | inl same ↦ same i
           | inr shown ↦ absurd (not_up x shown.0)
         ]
 
@@ -443,14 +456,14 @@ module _ (table : Table) (typed : TypedProgram) (effects : Effects) (input : Lis
               root_unused y passed (ap (is_package_object s) (sym root) ∙ shared) (subst (Uses effects n) root uses))
         ]
 
-        taken_then : AreTaken s cells with_all depth views facts_all next_there (returns_of formals passed) ways_taken
+        taken_then : AreTaken s sees cells with_all depth views facts_all next_there (returns_of formals passed) ways_taken
         taken_then = enters.2
 
         -- no number stands in what is taken
         bare_there : (w : Way) (l : ways.Loc) (q : List Step) → IsBareOf s waits_there w l q → (r : List Step) (k : ℕ)
             → word_in s.table (content s with_all [] l) (r ++ q) ≡ ways.Held k → ⊥
         bare_there w l q (taken, top) r k held =
-            taken_bare s cells with_all depth views facts_all next_there (view_here s easy.state) (λ c has. (named_cell c has).reaches) (returns_of formals passed) ways_taken taken_then w l
+            taken_bare s sees cells with_all depth views facts_all next_there (view_here s easy.state) (λ c has. (named_cell c has).reaches) (returns_of formals passed) ways_taken taken_then w l
             (elim top [
               | inl (c, has, way, is) ↦ (
                 subst (λ z. ways.Reaches (view_here s easy.state) w z) is (subst (λ z. ways.Reaches (view_here s easy.state) z (ways.OfCell c.cell)) way (named_cell c has).reaches),
@@ -513,25 +526,29 @@ module _ (table : Table) (typed : TypedProgram) (effects : Effects) (input : Lis
             written = call_takes.name_written table typed effects input ready state top below more_frames rest named p frames deep stages running awaiting of_sub at_point path views viewed_before kept scope holds placed_before above n actuals result e passed given to has;
           });
           off = call_takes.off_taken table typed effects input ready state top below more_frames rest named p frames deep stages running awaiting of_sub at_point path views viewed_before kept scope holds placed_before above n actuals result e passed given;
+          off_parts = call_takes.off_taken_parts table typed effects input ready state top below more_frames rest named p frames deep stages running awaiting of_sub at_point path views viewed_before kept scope holds placed_before above n actuals result e passed given;
           goes = λ to has y base shared.
               subst (λ d. Has (written_by effects top.frame.sub) y
-              ⊎ ((x : ℕ) × (w : Way) × (views.way x ≡ Some w) × (ways.Named (home s d) (views.up x) → ⊥) × (sees_only s x ≡ false) × ways.Under w to)) (sym deep)
+              ⊎ ((x : ℕ) × (w : Way) × (views.way x ≡ Some w) × (ways.Named (home s d) (views.up x) → ⊥) × (sees x ≡ false) × ways.Under w to)) (sym deep)
               (call_takes.goes_to table typed effects input ready state top below more_frames rest named p frames deep stages running awaiting of_sub at_point path views viewed_before kept scope holds placed_before above n actuals result e passed given to has y base shared);
           uses = λ x uses. called_used program effects ready.accepted.effects_are top.frame.sub (flow_sub own named) sub_at_all sub_less n callee_less
               main_turn.point (standing.in_sub table typed effects input ready state top older outer named p frames of_sub at_point) actuals result e x uses;
           writes = λ x written. called_writes program effects ready.accepted.effects_are top.frame.sub (flow_sub own named) sub_at_all sub_less n callee_less
               main_turn.point (standing.in_sub table typed effects input ready state top older outer named p frames of_sub at_point) actuals result e x written;
-          clear = subst (FactsAreClear (sees_only s)) (sym facts_there) (calling.clear_called table typed effects input ready state top below more_frames rest named p frames deep stages running awaiting of_sub at_point path views viewed_before kept scope holds placed_before above n actuals result e passed given);
-          views = subst (λ z. AreViews (home s top.depth) (sees_only s) views (view_here s after_call) z) (sym facts_there)
-              (subst (λ d. AreViews (home s d) (sees_only s) views (view_here s after_call) facts_called) (sym deep) views_then);
-          holds = subst (λ d. HoldsAt s d views with_all at_successor.0) (sym deep) (record {
-            held = λ x k lasts view at. holds_now.held x k view (sym (word_still x view) ∙ at);
-            within = λ x k view at. (let own_way = holds_now.held x k view (sym (word_still x view) ∙ at) in (next_placed x own_way.0 own_way.1).within);
+          clear = subst (FactsAreClear sees) (sym facts_there) (calling.clear_called table typed effects input ready state top below more_frames rest named p frames deep stages running awaiting of_sub at_point path views viewed_before kept scope holds placed_before above n actuals result e passed given);
+          views = subst (λ z. AreViews (home s top.depth) sees views (view_here s after_call) z) (sym facts_there)
+              (subst (λ d. AreViews (home s d) sees views (view_here s after_call) facts_called) (sym deep) views_then);
+          holds = subst (λ d. HoldsAt s sees d views with_all at_successor.0) (sym deep) (record {
+            held = λ x k lasts view bare at. holds_now.held x k view bare (sym (word_still x 0 view) ∙ at);
+            within = λ x k view bare at. (let own_way = holds_now.held x k view bare (sym (word_still x 0 view) ∙ at) in (next_placed x own_way.0 own_way.1).within);
             only = holds.only;
             lies = holds.lies;
             owners = holds.owners;
             passed = holds.passed;
             own = holds.own;
+            taken = holds.taken;
+            parts = parts_same s sees depth views state.memory with_all (λ x p bundle. word_still x (offset_in s.table (object_at s x).of p) (bundle_view s x bundle)) holds.parts;
+            low = holds.low;
           });
           placed = subst (λ d. ArePlaced program d (facts_of program effects (waits_with all_passed_ways.0)) views (at_successor.0).scope) (sym deep)
               (subst (λ z. ArePlaced program depth z views (at_successor.0).scope) (sym facts_there) next_placed);
@@ -544,17 +561,17 @@ module _ (table : Table) (typed : TypedProgram) (effects : Effects) (input : Lis
             aside = cell_aside c has;
           };
           bare = bare_there;
-          taken = subst (λ z. AreTaken s cells with_all top.depth views z next_there (returns_of formals passed) all_passed_ways.0) (sym facts_there)
-              (subst (λ d. AreTaken s cells with_all d views facts_called next_there (returns_of formals passed) all_passed_ways.0) (sym deep)
-              (fewer_taken s cells with_all depth views facts_all facts_called next_there all_called (returns_of formals passed) all_passed_ways.0 enters.2));
+          taken = subst (λ z. AreTaken s sees cells with_all top.depth views z next_there (returns_of formals passed) all_passed_ways.0) (sym facts_there)
+              (subst (λ d. AreTaken s sees cells with_all d views facts_called next_there (returns_of formals passed) all_passed_ways.0) (sym deep)
+              (fewer_taken s sees cells with_all depth views facts_all facts_called next_there all_called (returns_of formals passed) all_passed_ways.0 enters.2));
         }
 
         pub others_wait : AreWaiting table typed effects after_call top.frame.sub top.frame.returns older
         others_wait =
             all_on table typed effects unmoved_stage local state after_call depth
             (λ f x q k some less held. held_called f x q k (λ above_it. omega (arith, less, above_it)) held)
-            (λ f x some less view. elim (declared_there.views f x view) [
-              | inl same ↦ same
+            (λ f x i some less view. elim (declared_there.views f x view) [
+              | inl same ↦ same i
               | inr shown ↦ (let up = shown.0 in absurd (omega (arith, less, up)))
             ])
             top.frame.sub top.frame.returns older outer stages (omega arith)
@@ -585,14 +602,16 @@ module _ (table : Table) (typed : TypedProgram) (effects : Effects) (input : Lis
 
         pub returned_there : AreReturned s (frame_at_start n (returns_of formals passed))
         returned_there = (
-          λ x has. all_returned s ready.accepted.settled depth views view_now ready.owns state.memory formals actuals passed laid called.actuals_stay kinds x
+          λ x has. all_returned s sees ready.accepted.settled depth views view_now ready.owns state.memory formals actuals passed laid called.actuals_stay kinds x
               (subst (λ z. Has z x) (ap (λ (z : Signature). z.formals) (signature_is program n)) has),
           λ r has. called.formals r.formal
-              (formals_of_returns s ready.accepted.settled ready.owns in_formals (waiting_in easy.state) depth views far_views holds.only facts_all next_there cells cell_begins formals passed r has),
+              (formals_of_returns s sees ready.accepted.settled ready.owns in_formals (waiting_in easy.state) depth views far_views (holds.only, holds.parts.only) facts_all next_there cells cell_begins formals passed r has),
         )
 
         -- nothing that is gone meets what its views see of others
         pub viewed_before_whole : AreUnmet program effects waits_there older
-        viewed_before_whole =
-            subst (λ d. (x : ℕ) (w z : Way) → views.way x ≡ Some w → IsOuter (home s d) views x w → GoneElsewhere program effects older z → ways.Under z w ⊎ ways.Under w z → ⊥)
-            (sym deep) viewed_before.whole
+        viewed_before_whole = (
+          subst (λ d. (x : ℕ) (w z : Way) → views.way x ≡ Some w → IsOuter (home s d) views x w → GoneElsewhere program effects older z → ways.Under z w ⊎ ways.Under w z → ⊥)
+              (sym deep) viewed_before.whole,
+          viewed_before.whole_parts,
+        )

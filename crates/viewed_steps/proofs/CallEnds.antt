@@ -1,8 +1,9 @@
 -- The end of a call leads on, in the frame below.
+use Rattle.part_offsets.specs.Parts.{offset_in}
 use Rattle.viewed_steps.proofs.Traversed.{none_given}
 use Rattle.viewed_steps.proofs.Low.{given_again}
 use Rattle.std.specs.List.{AllByRecursion}
-use Rattle.std.proofs.Common.{◌≡◌, refl, sym, ap, ◌∙◌, subst, ◌⊎◌, inl, inr, ℕ, suc, ◌<◌, ◌≤◌, Bool, true, false, ◌||◌, ◌==◌, eq-eqb, List, [], ◌∷◌, ◌++◌, length, get_or, arith, Option, Some, None, if◌then◌else◌, not}
+use Rattle.std.proofs.Common.{◌&&◌, ◌≡◌, refl, sym, ap, ◌∙◌, subst, ◌⊎◌, inl, inr, ℕ, suc, ◌<◌, ◌≤◌, Bool, true, false, ◌||◌, ◌==◌, eq-eqb, List, [], ◌∷◌, ◌++◌, length, get_or, arith, Option, Some, None, if◌then◌else◌, not}
 use Rattle.std.proofs.Math.Nat.{eq-or-lt_of_le}
 use Rattle.std.specs.Prelude.{is_some}
 use Rattle.spark_base.specs.Lists.{Has}
@@ -17,7 +18,7 @@ use Rattle.typed_tree.specs.declared.object.ObjectKind.TheVariants as object_kin
 use Rattle.typed_tree.specs.Programs.{TypedProgram}
 use Rattle.flow_paths.specs.declared.report.Effects.{Effects}
 use Rattle.flow_paths.specs.Instructions.{Instruction, Call, Finish}
-use Rattle.flow_paths.specs.Objects.{Typing, object_at, is_package_object, is_formal_kind, Signature, sub_at, is_formal}
+use Rattle.flow_paths.specs.Objects.{view_of, is_anonymous, Typing, object_at, is_package_object, is_formal_kind, Signature, sub_at, is_formal}
 use Rattle.flow_paths.specs.Points.{NamedPoint}
 use Rattle.flow_paths.specs.Laid.{FlowProgram, NamedSub, typing_of, flow_typing, flow_program, flow_named, FlowSub}
 use Rattle.flow_paths.specs.Paths.{ControlPath}
@@ -30,7 +31,7 @@ use Rattle.machine.specs.States.{Waiting, Frame, State, sub_of, Outcome, Goes, R
 use Rattle.machine.specs.Run.{no_point}
 use Rattle.machine.specs.Step.{Turn, turn, counted}
 use Rattle.machine.specs.Step as steps
-use Rattle.machine.specs.Owners.{waiting_in}
+use Rattle.machine.specs.Owners.{is_in_formal, waiting_in}
 use Rattle.owned_ways.specs.Ways.{Step, OfVariable, OfRoot, Way, Held, AllowsAll, number_of}
 use Rattle.owned_ways.specs.Ways as ways
 use Rattle.soundness.specs.Seen.{content, word_in, seen, home}
@@ -43,9 +44,10 @@ use Rattle.soundness.proofs.Around.{same_or_not}
 use Rattle.owned_ways.proofs.Locations.{under_itself, under_along}
 use Rattle.soundness.proofs.Returning.{returned_kept, left_same, left_held, returns_lead, ends_lead, left_waits, ended_owned, Backs}
 use Rattle.owned_loans.specs.Views.{known_gone, Views, IsMovedBy, ExcusedBy, AreViews, expand, ViewedAlone}
-use Rattle.owned_loans.proofs.Moves.{view_on, reached}
+use Rattle.owned_loans.proofs.Moves.{parts_on, view_on, reached}
 use Rattle.owned_loans.proofs.Ended.{stands_itself}
-use Rattle.viewed_soundness.proofs.Names.{neither, true_false}
+use Rattle.viewed_soundness.proofs.Names.{parts_same}
+use Rattle.viewed_soundness.proofs.ViewKinds.{bundle_formal, bundle_view, neither, true_false}
 use Rattle.viewed_steps.specs.Awaited.{AreFor, AreValues, temporaries_of, lasting_of, awaited, AreAwaited}
 use Rattle.viewed_steps.proofs.Waited.{others_only, lasting_within}
 use Rattle.viewed_steps.specs.Sound.{loan_by, IsBeyond, HoldsAt, ArePlaced, NoneAbove, ViewStage, stages_of, GoneElsewhere, IsWaiting, AreWaiting, ends_one, LeadsAlong, IsResting, HasTraversals, NoneGiven, AreTraversals}
@@ -59,7 +61,7 @@ use Rattle.viewed_steps.proofs.Packages as packages
 use Rattle.viewed_steps.proofs.Innermost as innermost
 use Rattle.soundness.proofs.Passing.{signature_is}
 use Rattle.owned_ways.proofs.Dropped.{named_base}
-use Rattle.viewed_soundness.specs.Holds.{sees_only, is_view}
+use Rattle.viewed_soundness.specs.Holds.{is_view}
 use Rattle.owned_ways.proofs.Unique.{one_way}
 use Rattle.viewed_steps.specs.Taken.{TakenBy, Lodge, IsTakenIn, AreCarried}
 use Rattle.viewed_steps.proofs.Between.{home_low, base_under, same_variable}
@@ -68,11 +70,12 @@ use Rattle.viewed_steps.proofs.Apart.{kept_there, written_disturbs}
 use Rattle.flow_paths.specs.Effects.{written_by}
 use Rattle.viewed_steps.proofs.Backed.{AwayBy, IsBack, all_given_back, StandsAway}
 use Rattle.viewed_steps.proofs.Whole.{leaves_whole}
-use Rattle.viewed_steps.proofs.Views.{AreAccess, AreFar, lies_far}
+use Rattle.viewed_steps.proofs.Views.{given_formal, AreAccess, AreFar, lies_far}
 use Rattle.soundness.proofs.Lasting.{keeps}
 use Rattle.owned_loans.proofs.Meeting.{stands}
 use Rattle.viewed_steps.proofs.Roots.{FromGiven}
 use Rattle.owned_loans.proofs.Safe.{Unlent}
+use Rattle.viewed_steps.specs.Seeing.{sees_in}
 
 smaller : (f b low : ℕ) → f < suc b → (f ≡ low → ⊥) → low ≡ b → f < low
 smaller f b low less ne is =
@@ -85,6 +88,9 @@ higher f low b less is ne =
     elim (eq-or-lt_of_le most) [ inl same ↦ absurd (ne (sym same)) | inr over ↦ over ]
 
 module _ (table : Table) (typed : TypedProgram) (effects : Effects) (input : List ℕ) (ready : IsReady table typed effects) where
+  abbrev sees : ℕ → Bool
+  sees = sees_in (flow_program table typed)
+
   abbrev program : FlowProgram
   program = flow_program table typed
 
@@ -110,9 +116,9 @@ module _ (table : Table) (typed : TypedProgram) (effects : Effects) (input : Lis
       (awaiting : AreAwaited table typed None (top ∷ stages_of (below ∷ more_frames)))
       (of_sub : IsNamedSub (flow_named table typed) top.frame.sub named) (at_point : IsAtPoint named.points top.frame.next p)
       (path : ControlPath (path_points program effects (sub_of program top.frame.sub)) top.before top.frame.next) (views : Views)
-      (viewed_before : ViewedAlone (home s (suc (length rest))) (sees_only s) (known_gone (home s (suc (length rest))) (GoneElsewhere program effects (below ∷ more_frames))) views
+      (viewed_before : ViewedAlone (home s (suc (length rest))) sees (known_gone (home s (suc (length rest))) (GoneElsewhere program effects (below ∷ more_frames))) views
       (view_here s state) (facts_of program effects top))
-      (kept : Kept s state.memory (waiting_in state)) (scope : InScope s state.memory (suc (length rest)) (lasting_of s p.scope)) (holds : HoldsAt s (suc (length rest)) views state.memory p)
+      (kept : Kept s state.memory (waiting_in state)) (scope : InScope s state.memory (suc (length rest)) (lasting_of s p.scope)) (holds : HoldsAt s sees (suc (length rest)) views state.memory p)
       (placed_before : ArePlaced program (suc (length rest)) (facts_of program effects top) views p.scope × IsBeyond program effects (suc (length rest)) views (below ∷ more_frames)) (above : NoneAbove s (suc (length rest)) state.memory
       × HasTraversals table typed (view_here s state) (record { stage = top; views = views; cells = [] } ∷ (below ∷ more_frames))) where
     abbrev outer : List Frame
@@ -148,7 +154,7 @@ module _ (table : Table) (typed : TypedProgram) (effects : Effects) (input : Lis
     abbrev acts_of_main : Instruction → List Act
     acts_of_main i = standing.acts_here table typed effects input ready state top older outer named p frames of_sub at_point i
 
-    abbrev viewed_own : ViewedAlone (home s depth) (sees_only s) (known_gone (home s depth) (GoneElsewhere program effects older)) views (view_here s state) own_facts
+    abbrev viewed_own : ViewedAlone (home s depth) sees (known_gone (home s depth) (GoneElsewhere program effects older)) views (view_here s state) own_facts
     viewed_own = innermost.viewed_own table typed effects input ready state top below more_frames rest named p frames deep stages running awaiting of_sub at_point path views viewed_before kept scope holds placed_before above
 
     abbrev placed : ArePlaced program (suc (length rest)) facts_now views p.scope
@@ -245,6 +251,19 @@ module _ (table : Table) (typed : TypedProgram) (effects : Effects) (input : Lis
         by_way (Some w) e =
             absurd (true_false (is_formal s x) (ready.scoped.finishes named named_there p point_there_now is x (placed x w e).within) no_formal)
 
+    no_part_left : (x : ℕ) → is_formal s x ≡ false → (p : List Step) → views.part_way x p ≡ None
+    no_part_left x no_formal p = by_way (views.part_way x p) refl
+      where
+        first_of : (a b : Bool) → a && b ≡ true → a ≡ true
+        first_of true b is = refl
+        first_of false b is = cc
+
+        by_way : (o : Option Way) → views.part_way x p ≡ o → views.part_way x p ≡ None
+        by_way None e = e
+        by_way (Some w) e =
+            let formal = bundle_formal s x (holds.parts.only x p w e) in
+            absurd (true_false (is_formal s x) (first_of (is_formal s x) _ (given_formal s x (ap (λ b. b || (is_in_formal s x && is_anonymous (view_of s x))) formal))) no_formal)
+
     -- no part of a formal or package object is moved then
     whole_roots : p.instr ≡ Finish → (name : PlaceName) → Has own_facts (Moved name) → is_formal s name.root || is_package_object s name.root ≡ true → ⊥
     whole_roots is name has shared =
@@ -255,13 +274,13 @@ module _ (table : Table) (typed : TypedProgram) (effects : Effects) (input : Lis
 
     module _ (h : ViewStage) (others : List ViewStage) (stages_there : AreStages (stages_of (below ∷ (h ∷ others))) (below.stage.frame ∷ rest))
         (waiting : AreWaiting table typed effects state top.frame.sub top.frame.returns (below ∷ (h ∷ others)))
-        (well : ViewedAlone (home s depth) (sees_only s) (known_gone (home s depth) (GoneElsewhere program effects (below ∷ (h ∷ others)))) views (view_here s state) own_facts)
+        (well : ViewedAlone (home s depth) sees (known_gone (home s depth) (GoneElsewhere program effects (below ∷ (h ∷ others)))) views (view_here s state) own_facts)
         (still_awaited : AreAwaited table typed (awaited (sub_of program top.frame.sub) top.before) (stages_of (below ∷ (h ∷ others))))
         (is : p.instr ≡ Finish) where
       abbrev pub low : ℕ
       low = below.stage.depth
 
-      package_owns : (x : ℕ) → is_package_object s x ≡ true → sees_only s x ≡ false
+      package_owns : (x : ℕ) → is_package_object s x ≡ true → sees x ≡ false
       package_owns = innermost.package_owns table typed effects input ready state top below more_frames rest named p frames deep stages running awaiting of_sub at_point path views viewed_before kept scope holds placed_before above
 
       low_is : below.stage.depth ≡ length rest
@@ -282,7 +301,7 @@ module _ (table : Table) (typed : TypedProgram) (effects : Effects) (input : Lis
       moved_low : (w : Way) → IsMovedBy (home s below.stage.depth) below.views their_facts w
           → (f : ℕ) × (y : ℕ) × (ways.base_of w ≡ OfRoot (OfVariable f y)) × (f < suc below.stage.depth)
       moved_low w (u, moved, leads) =
-          elim (stands (home s below.stage.depth) (sees_only s) below.views (view_here s state) their_facts waits.views u (moved.0, waits.clear.owned (ways.name_of u) moved.1)) [
+          elim (stands (home s below.stage.depth) sees below.views (view_here s state) their_facts waits.views u (moved.0, waits.clear.owned (ways.name_of u) moved.1)) [
             | inl own ↦ (
                 let named_there : ways.Named (home s below.stage.depth) w = subst (ways.Named (home s below.stage.depth)) leads own.named in (
                   home s below.stage.depth (number_of w),
@@ -334,25 +353,25 @@ module _ (table : Table) (typed : TypedProgram) (effects : Effects) (input : Lis
       deep_low = ap suc (sym low_is)
 
       pub far_low : AreFar (home s below.stage.depth) below.views below.stage.depth
-      far_low = lies_far s below.stage.depth below.views waits.holds.lies
+      far_low = lies_far s below.stage.depth below.views waits.holds.lies waits.holds.low
 
       -- where the cells of places are: their ways begin at variables of the frames that wait
       pub begins_low : (c : Lodge) → Has below.cells c → (g : ℕ) × (y : ℕ) × (ways.base_of c.way ≡ OfRoot (OfVariable g y)) × (g ≡ suc below.stage.depth → ⊥)
       begins_low c has =
           let root = kept_low table typed effects unmoved_stage local state depth (below ∷ (h ∷ others))
           (all_between table typed effects unmoved_stage local state top.frame.sub depth top.frame.returns (below ∷ (h ∷ others)) (below.stage.frame ∷ rest) stages_there (omega arith) waiting)
-          c.way c.cell (below, inl refl, inr (c, has, refl, refl)) in
+          c.way c.cell (below, inl refl, inr (inl (c, has, refl, refl))) in
           (root.0, root.1, root.2, λ same. (let less = root.3 in let same_depth = low_is in omega (arith, less, same, same_depth)))
 
       -- the state as the frame below sees it
       abbrev StandsLow : List Return → List Way → Memory → Type 0
       StandsLow returns ways_left m =
-          StandsAway main_turn ready.accepted.settled ready.owns in_formals (waiting_in state) state.leaks below.stage.depth deep_low below.views far_low waits.holds.only their_facts
+          StandsAway main_turn sees ready.accepted.settled ready.owns in_formals (waiting_in state) state.leaks below.stage.depth deep_low below.views far_low waits.holds.only their_facts
           (lasting_of s waits.point.scope) gone_around free_low whole_low below.cells begins_low returns ways_left m
 
       abbrev Away : Way → Type 0
       Away w =
-          AwayBy main_turn ready.accepted.settled ready.owns in_formals (waiting_in state) state.leaks below.stage.depth deep_low below.views far_low waits.holds.only their_facts
+          AwayBy main_turn sees ready.accepted.settled ready.owns in_formals (waiting_in state) state.leaks below.stage.depth deep_low below.views far_low waits.holds.only their_facts
           (lasting_of s waits.point.scope) gone_around free_low whole_low below.cells begins_low top.frame.returns below.stage.returns w
 
       known_low : (w : Way) (l : ways.Loc) → ways.IsRooted w → ways.Reaches (view_here s state) w l → (view_here s state).word l ≡ ways.Gone
@@ -366,8 +385,8 @@ module _ (table : Table) (typed : TypedProgram) (effects : Effects) (input : Lis
           | inl shared ↦ absurd (whole_roots is (ways.name_of u) moved.1 shared)
           | inr neither ↦ (
               let same_way : u ≡ w =
-              sym (stands_itself (home s depth) (sees_only s) (known_gone (home s depth) (λ z. ⊥)) views u moved.0
-              (no_view_left is (number_of u) (first (is_formal s (number_of u)) (is_package_object s (number_of u)) neither))) ∙ leads in
+              sym (stands_itself (home s depth) sees (known_gone (home s depth) (λ z. ⊥)) views u moved.0
+              (no_view_left is (number_of u) (first (is_formal s (number_of u)) (is_package_object s (number_of u)) neither)) (no_part_left (number_of u) (first (is_formal s (number_of u)) (is_package_object s (number_of u)) neither))) ∙ leads in
               inr (inr (inr (
                 number_of w,
                 own_base w (subst (ways.Named (home s depth)) same_way moved.0)
@@ -396,7 +415,7 @@ module _ (table : Table) (typed : TypedProgram) (effects : Effects) (input : Lis
       stands_low = record { owned = well.owned; covered = well.covered; known = known_low }
 
       -- what was taken is what names of the frame stand for
-      taken_named : (to : Way) → Has below.stage.returns to → (name : Way) × ways.Named (home s below.stage.depth) name × (sees_only s (number_of name) ≡ false)
+      taken_named : (to : Way) → Has below.stage.returns to → (name : Way) × ways.Named (home s below.stage.depth) name × (sees (number_of name) ≡ false)
           × (expand below.views name ≡ to) × Unlent their_facts name
       taken_named to has = (let by = waits.names to has in (by.name, by.called, by.plain, by.leads, by.unlent))
 
@@ -408,14 +427,22 @@ module _ (table : Table) (typed : TypedProgram) (effects : Effects) (input : Lis
           w (below.views.cell x) (below, inl refl, inl (x, has, refl)) in
           (root.0, root.1, root.2, λ same. (let less = root.3 in let same_depth = low_is in omega (arith, less, same, same_depth)))
 
+      low_part : (x : ℕ) (q : List Step) (w : Way) → below.views.part_way x q ≡ Some w
+          → (g : ℕ) × (y : ℕ) × (ways.base_of w ≡ OfRoot (OfVariable g y)) × (g ≡ suc below.stage.depth → ⊥)
+      low_part x q w has =
+          let root = kept_low table typed effects unmoved_stage local state depth (below ∷ (h ∷ others))
+          (all_between table typed effects unmoved_stage local state top.frame.sub depth top.frame.returns (below ∷ (h ∷ others)) (below.stage.frame ∷ rest) stages_there (omega arith) waiting)
+          w (below.views.part_cell x q) (below, inl refl, inr (inr (x, q, has, refl))) in
+          (root.0, root.1, root.2, λ same. (let less = root.3 in let same_depth = low_is in omega (arith, less, same, same_depth)))
+
       abbrev Backed : Memory → Type 0
       Backed m =
-          IsBack main_turn ready.accepted.settled ready.owns in_formals (waiting_in state) state.leaks below.stage.depth deep_low below.views far_low waits.holds.only their_facts
+          IsBack main_turn sees ready.accepted.settled ready.owns in_formals (waiting_in state) state.leaks below.stage.depth deep_low below.views far_low waits.holds.only their_facts
           (lasting_of s waits.point.scope) gone_around free_low whole_low below.cells begins_low top.frame.returns below.stage.returns state.memory m
 
       given_back : Backs Backed (steps.copied_back main_turn top.frame.returns (steps.start main_turn))
       given_back =
-          all_given_back main_turn ready.accepted.settled ready.owns in_formals (waiting_in state) state.leaks below.stage.depth deep_low below.views far_low waits.holds.only their_facts
+          all_given_back main_turn sees ready.accepted.settled ready.owns in_formals (waiting_in state) state.leaks below.stage.depth deep_low below.views far_low waits.holds.only their_facts
           (lasting_of s waits.point.scope) gone_around free_low whole_low below.cells begins_low top.frame.returns below.stage.returns (steps.start main_turn) waits.taken
           (λ c has. ((waits.kept c has).reaches, (waits.kept c has).aside)) kept stands_low
 
@@ -462,9 +489,9 @@ module _ (table : Table) (typed : TypedProgram) (effects : Effects) (input : Lis
         held_before f x q n held = left_held s mid depth (waiting_in state) state.leaks nothing_mid f x q n held
 
         -- and views have there what they had
-        words_before : (f x : ℕ) → (f ≡ depth → ⊥) → is_view s x ≡ true
-            → (get_or (variable_slots s f x left_memory.variables) 0 no_slot).word ≡ (get_or (variable_slots s f x state.memory.variables) 0 no_slot).word
-        words_before f x ne view = other_word s mid depth f x ne ∙ on.views f x view
+        words_before : (f x i : ℕ) → (f ≡ depth → ⊥) → is_view s x ≡ true
+            → (get_or (variable_slots s f x left_memory.variables) i no_slot).word ≡ (get_or (variable_slots s f x state.memory.variables) i no_slot).word
+        words_before f x i ne view = other_word s mid depth f x i ne ∙ on.views f x i view
 
         -- a frame of the caller, or that of the package objects
         home_left : (f x : ℕ) → f ≡ home s low x → (f < low) ⊎ ((f ≡ low) × (is_package_object s x ≡ false))
@@ -505,54 +532,81 @@ module _ (table : Table) (typed : TypedProgram) (effects : Effects) (input : Lis
             ]
 
         -- its views see what they saw
-        views_mid : AreViews (home s low) (sees_only s) below.views mid_view (facts_of program effects below.stage)
-        views_mid x w has =
-            let base = low_view x w has in
-            view_on (home s low) (sees_only s) (known_gone (home s low) (λ z. ⊥)) below.views (view_here s state) mid_view
-            (facts_of program effects below.stage) (facts_of program effects below.stage) x w (waits.views x w has) (λ b n loan. loan)
-            (on.stays w base.0 base.1 base.2 base.3 (waits.off x w has) (below.views.cell x)
-            (reached (home s low) (sees_only s) (known_gone (home s low) (λ z. ⊥)) below.views (view_here s state) (facts_of program effects below.stage) x w (waits.views x w has)))
+        views_mid : AreViews (home s low) sees below.views mid_view (facts_of program effects below.stage)
+        views_mid = (
+          λ x w has. (
+              let base = low_view x w has in
+              view_on (home s low) sees (known_gone (home s low) (λ z. ⊥)) below.views (view_here s state) mid_view
+              (facts_of program effects below.stage) (facts_of program effects below.stage) x w (waits.views.0 x w has) (λ b n loan. loan)
+              (on.stays w base.0 base.1 base.2 base.3 (waits.off x w has) (below.views.cell x)
+              (reached (home s low) sees (known_gone (home s low) (λ z. ⊥)) below.views (view_here s state) (facts_of program effects below.stage) x w (waits.views.0 x w has)))),
+          parts_on (home s low) sees (known_gone (home s low) (λ z. ⊥)) below.views (view_here s state) mid_view waits.views.1
+              (λ x q w has reach. (let base = low_part x q w has in
+              on.stays w base.0 base.1 base.2 base.3 (waits.off_parts x q w has) (below.views.part_cell x q) reach)),
+        )
 
-        viewed_left : ViewedAlone (home s low) (sees_only s) (known_gone (home s low) (GoneElsewhere program effects (h ∷ others))) below.views left_view
+        viewed_left : ViewedAlone (home s low) sees (known_gone (home s low) (GoneElsewhere program effects (h ∷ others))) below.views left_view
             (facts_of program effects below.stage)
         viewed_left = record {
           owned = owned_left s mid depth (waiting_in state) state.leaks nothing_mid on.stand.owned;
           covered = covered_left s mid depth (waiting_in state) state.leaks nothing_mid on.stand.covered;
           known = known_left;
           clear = waits.clear;
-          views = λ x w has.
-              view_on (home s low) (sees_only s) (known_gone (home s low) (λ z. ⊥)) below.views mid_view left_view
-              (facts_of program effects below.stage) (facts_of program effects below.stage) x w (views_mid x w has) (λ b n loan. loan)
-              (reach_left s mid depth (waiting_in state) state.leaks nothing_mid w (ways.OfCell (below.views.cell x))
-              (reached (home s low) (sees_only s) (known_gone (home s low) (λ z. ⊥)) below.views mid_view (facts_of program effects below.stage) x w (views_mid x w has)));
-          whole = λ x w z has foreign gone meets. waiting.2 x w z has foreign gone meets;
+          views = (
+            λ x w has.
+                view_on (home s low) sees (known_gone (home s low) (λ z. ⊥)) below.views mid_view left_view
+                (facts_of program effects below.stage) (facts_of program effects below.stage) x w (views_mid.0 x w has) (λ b n loan. loan)
+                (reach_left s mid depth (waiting_in state) state.leaks nothing_mid w (ways.OfCell (below.views.cell x))
+                (reached (home s low) sees (known_gone (home s low) (λ z. ⊥)) below.views mid_view (facts_of program effects below.stage) x w (views_mid.0 x w has))),
+            parts_on (home s low) sees (known_gone (home s low) (λ z. ⊥)) below.views mid_view left_view views_mid.1
+                (λ x q w has reach. reach_left s mid depth (waiting_in state) state.leaks nothing_mid w (ways.OfCell (below.views.part_cell x q)) reach),
+          );
+          whole = λ x w z has foreign gone meets. (waiting.2).0 x w z has foreign gone meets;
+          whole_parts = λ x q w z has gone meets. (waiting.2).1 x q w z has gone meets;
         }
 
-        holds_there : HoldsAt s low below.views left_memory waits.point
+        holds_there : HoldsAt s sees low below.views left_memory waits.point
         holds_there = record {
-          held = λ x n lasts view e. waits.holds.held x n lasts view (word_there x n view e);
-          within = λ x n view e. waits.holds.within x n view (word_there x n view e);
+          held = λ x n lasts view bare e. waits.holds.held x n lasts view bare (word_there x n view e);
+          within = λ x n view bare e. waits.holds.within x n view bare (word_there x n view e);
           only = waits.holds.only;
           lies = waits.holds.lies;
           owners = waits.holds.owners;
           passed = waits.holds.passed;
           own = waits.holds.own;
+          taken = waits.holds.taken;
+          parts = parts_same s sees low below.views state.memory left_memory (λ x p bundle. part_there x (offset_in s.table (object_at s x).of p) (bundle_view s x bundle)) waits.holds.parts;
+          low = waits.holds.low;
         }
           where
+            part_there : (x i : ℕ) → is_view s x ≡ true
+                → (get_or (variable_slots s (home s low x) x left_memory.variables) i no_slot).word ≡ (get_or (variable_slots s (home s low x) x state.memory.variables) i no_slot).word
+            part_there x i view =
+                let at_low : home s low x ≡ low = ap (λ b. if b then 0 else low) (local x view) in
+                let below_it = low_is in
+                words_before (home s low x) x i (λ same_depth. omega (arith, at_low, below_it, same_depth)) view
+
             word_there : (x n : ℕ) → is_view s x ≡ true
                 → (get_or (variable_slots s (home s low x) x left_memory.variables) 0 no_slot).word ≡ machine.Cell n
                 → (get_or (variable_slots s (home s low x) x state.memory.variables) 0 no_slot).word ≡ machine.Cell n
             word_there x n view e =
                 let at_low : home s low x ≡ low = ap (λ b. if b then 0 else low) (local x view) in
                 let below_it = low_is in
-                sym (words_before (home s low x) x (λ same_depth. omega (arith, at_low, below_it, same_depth)) view) ∙ e
+                sym (words_before (home s low x) x 0 (λ same_depth. omega (arith, at_low, below_it, same_depth)) view) ∙ e
 
         above_left : NoneAbove s low left_memory
-        above_left f x n less view e = elim (same_or_not f depth) [
-          | inl same_depth ↦ no_word s mid depth x n
-              (subst (λ z. (get_or (variable_slots s z x left_memory.variables) 0 no_slot).word ≡ machine.Cell n) same_depth e)
-          | inr ne ↦ above.0 f x n (higher f low (length rest) less low_is ne) view (sym (words_before f x ne view) ∙ e)
-        ]
+        above_left = (
+          λ f x n less view e. elim (same_or_not f depth) [
+            | inl same_depth ↦ no_word s mid depth x 0 n
+                (subst (λ z. (get_or (variable_slots s z x left_memory.variables) 0 no_slot).word ≡ machine.Cell n) same_depth e)
+            | inr ne ↦ (above.0).0 f x n (higher f low (length rest) less low_is ne) view (sym (words_before f x 0 ne view) ∙ e)
+          ],
+          λ f x i n less bundle e. elim (same_or_not f depth) [
+            | inl same_depth ↦ no_word s mid depth x i n
+                (subst (λ z. (get_or (variable_slots s z x left_memory.variables) i no_slot).word ≡ machine.Cell n) same_depth e)
+            | inr ne ↦ (above.0).1 f x i n (higher f low (length rest) less low_is ne) bundle (sym (words_before f x i ne (bundle_view s x bundle)) ∙ e)
+          ],
+        )
 
         -- what was gone stays so in the frames that are left, but in the places that were taken
         left_carried : AreCarried s (λ f. f ≡ top.depth → ⊥) below.cells below.stage.returns state.memory left_memory
@@ -568,7 +622,7 @@ module _ (table : Table) (typed : TypedProgram) (effects : Effects) (input : Lis
             }
 
         abbrev Given_to : Way → Type 0
-        Given_to to = FromGiven (home s below.stage.depth) (sees_only s) below.views (view_here s state) their_facts waits.views to
+        Given_to to = FromGiven (home s below.stage.depth) sees below.views (view_here s state) their_facts waits.views to
 
         -- the others keep nothing of a package object where what was taken begins, or it was lent to the frame
         spared_to : (to : Way) → Has below.stage.returns to → (y : ℕ) → ways.base_of to ≡ OfRoot (OfVariable (home s below.stage.depth y) y)
@@ -590,7 +644,7 @@ module _ (table : Table) (typed : TypedProgram) (effects : Effects) (input : Lis
         free_to to has =
             let by = taken_named to has in
             subst (IsFree table typed effects unmoved_stage local state below.stage.depth (h ∷ others) between_low) by.3
-            (free_name table typed effects unmoved_stage local state below.stage.depth (h ∷ others) between_low below.views (view_here s state) their_facts waits.views (waiting.3).0 waiting.2 by.0 by.1 by.2
+            (free_name table typed effects unmoved_stage local state below.stage.depth (h ∷ others) between_low below.views (view_here s state) their_facts waits.views (waiting.3).0 (waiting.2).0 by.0 by.1 by.2
             (λ y base. elim (spared_to to has y (ap ways.base_of (sym by.3) ∙ base)) [
               | inl none ↦ inl none
               | inr given ↦ inr (subst Given_to (sym by.3) given)
@@ -620,7 +674,7 @@ module _ (table : Table) (typed : TypedProgram) (effects : Effects) (input : Lis
                 | inr own ↦ (let same_low : f ≡ low = mine.0 ∙ ap (λ b. if b then 0 else low) own in omega (arith, less, same_low))
               ])
             ])
-            (λ f x some less view. words_before f x (λ same_depth. (let below_it = low_is in omega (arith, less, same_depth, below_it))) view)
+            (λ f x i some less view. words_before f x i (λ same_depth. (let below_it = low_is in omega (arith, less, same_depth, below_it))) view)
             below.stage.frame.sub below.stage.frame.returns (h ∷ others) rest stages_there.2 (let same_depth = low_is in omega (arith, same_depth))
             (record {
               far = λ w n keeps. (let root = kept_low table typed effects unmoved_stage local state below.stage.depth (h ∷ others) between_low w n keeps in
@@ -647,7 +701,7 @@ module _ (table : Table) (typed : TypedProgram) (effects : Effects) (input : Lis
             running = (waits.runs, waits.plain, others_left);
             awaited = subst (λ n. AreAwaited table typed n (stages_of (below ∷ (h ∷ others)))) (returned_then is) still_awaited;
             path = waits.path;
-            viewed = subst (λ z. ViewedAlone (home s low) (sees_only s) (known_gone (home s low) (GoneElsewhere program effects (h ∷ others))) below.views z
+            viewed = subst (λ z. ViewedAlone (home s low) sees (known_gone (home s low) (GoneElsewhere program effects (h ∷ others))) below.views z
                 (facts_of program effects below.stage)) view_left viewed_left;
             kept = subst (Kept s left_memory) (sym hands_left)
                 (returned_kept s mid depth (waiting_in state) state.leaks nothing_mid on.typed);
@@ -691,7 +745,7 @@ module _ (table : Table) (typed : TypedProgram) (effects : Effects) (input : Lis
       where
         by_rest : (r : List Frame) (m : List ViewStage) → rest ≡ r → more_frames ≡ m → AreStages (stages_of (below ∷ m)) (below.stage.frame ∷ r)
             → AreWaiting table typed effects state top.frame.sub top.frame.returns (below ∷ m)
-            → ViewedAlone (home s depth) (sees_only s) (known_gone (home s depth) (GoneElsewhere program effects (below ∷ m))) views (view_here s state) own_facts
+            → ViewedAlone (home s depth) sees (known_gone (home s depth) (GoneElsewhere program effects (below ∷ m))) views (view_here s state) own_facts
             → AreAwaited table typed (awaited (sub_of program top.frame.sub) top.before) (stages_of (below ∷ m)) → Along (turn main_turn Finish)
         by_rest [] [] same_rest same_more stages_there waiting well still =
             ends_lead main_turn Along (λ m. m ≡ state.memory)

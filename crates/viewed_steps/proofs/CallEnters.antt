@@ -1,4 +1,5 @@
 -- What is called sees, and the state where its frame has begun is sound.
+use Rattle.owned_loans.proofs.Meeting.{no_part}
 use Rattle.flow_paths.specs.Views.{sub_acts}
 use Rattle.viewed_steps.specs.Traversals.{SeesFirst}
 use Rattle.owned_ways.proofs.Dropped.{named_base}
@@ -12,7 +13,7 @@ use Rattle.spark_base.proofs.Lists.{Has-append_left}
 use Rattle.std.proofs.Common.{◌≡◌, refl, sym, ap, ◌∙◌, subst, ◌⊎◌, inl, inr, ℕ, suc, true, false, List, [], ◌∷◌, ◌++◌, take, drop, length, get_or, arith, Option, Some, None, Bool, ◌||◌}
 use Rattle.spark_base.specs.Lists.{Has}
 use Rattle.place_names.specs.declared.fact.Fact.{Fact}
-use Rattle.place_names.specs.declared.fact.Fact.TheVariants.{Moved}
+use Rattle.place_names.specs.declared.fact.Fact.TheVariants.{Moved, Lent}
 use Rattle.place_names.specs.Names.{Name as PlaceName}
 use Rattle.place_names.specs.declared.act.Mode.TheVariants as mode
 use Rattle.type_definitions.specs.Types.{Table}
@@ -21,10 +22,9 @@ use Rattle.typed_tree.specs.Programs.{TypedProgram}
 use Rattle.flow_paths.specs.declared.report.Effects.{Effects}
 use Rattle.flow_paths.specs.Instructions.{Call, EndScope, Finish}
 use Rattle.flow_paths.specs.Objects.{Typing, object_at, is_anonymous, is_package_object, view_of, Passing, is_formal_kind}
-use Rattle.flow_paths.specs.Aliases.{overlap_reports, passed_reports, call_reports}
 use Rattle.flow_paths.specs.Aliases as alias
 use Rattle.flow_paths.specs.Points.{NamedPoint}
-use Rattle.flow_paths.specs.Laid.{FlowProgram, NamedSub, typing_of, flow_typing, flow_program, flow_named}
+use Rattle.flow_paths.specs.Laid.{FlowProgram, NamedSub, flow_sub, typing_of, flow_typing, flow_program, flow_named}
 use Rattle.flow_paths.specs.Paths.{is_some_point, ControlPath, begins, facts_before}
 use Rattle.flow_paths.specs.Effects.{path_points}
 use Rattle.flow_paths.specs.Scopes.{taken, scope_behind, Leads, is_temporary}
@@ -32,12 +32,12 @@ use Rattle.machine.specs.Words as machine
 use Rattle.machine.specs.Memory.{Memory, no_slot, variable_slots}
 use Rattle.machine.specs.Evaluate.{Now, Exception}
 use Rattle.machine.specs.States.{Frame, State, Leak, sub_of, frame_at_start, Outcome, Goes}
-use Rattle.machine.specs.Step.{Turn, turn, start, led, successor}
+use Rattle.machine.specs.Step.{Turn, turn, start, successor}
 use Rattle.machine.specs.Step as steps
 use Rattle.machine.specs.Calls.{Passed, all_passed, with_formals, returns_of, out_checks}
 use Rattle.machine.specs.Owners.{waiting_in}
 use Rattle.place_names.specs.declared.act.Mode.TheVariants as mode
-use Rattle.owned_ways.specs.Ways.{Step, Way, after, AllowsAll, Past}
+use Rattle.owned_ways.specs.Ways.{Step, Way, Past}
 use Rattle.owned_ways.specs.Ways as ways
 use Rattle.owned_ways.proofs.Locations.{past_under, under_along, under_itself}
 use Rattle.soundness.specs.Seen.{IsNear, content, seen, home, trunk}
@@ -49,11 +49,11 @@ use Rattle.soundness.proofs.Lasting.{keeps}
 use Rattle.soundness.proofs.Passing.{entered}
 use Rattle.soundness.proofs.Around.{IsFar, package_named}
 use Rattle.soundness.proofs.Eased.{eased}
-use Rattle.owned_loans.specs.Views.{expand, Around, known_gone, Views, IsMovedBy, ExcusedBy, Viewed, ViewedAlone, AreShared}
+use Rattle.owned_loans.specs.Views.{expand, Around, known_gone, Views, IsMovedBy, ExcusedBy, Viewed, ViewedAlone, AreShared, IsShared}
 use Rattle.owned_loans.proofs.Ways.{under_on, Meet, meets_front, flip}
 use Rattle.owned_loans.proofs.Moves.{expand_under}
-use Rattle.viewed_soundness.proofs.Names.{true_false, given_view}
-use Rattle.viewed_soundness.specs.Holds.{Holds, is_view, sees_only, IsOwners, is_given}
+use Rattle.viewed_soundness.proofs.ViewKinds.{bundle_view, true_false, given_view}
+use Rattle.viewed_soundness.specs.Holds.{is_bundle, Holds, is_view, IsOwners, is_given, Seeing}
 use Rattle.viewed_soundness.proofs.Given.{IsLow, low_there, low_begins}
 use Rattle.viewed_steps.specs.Awaited.{temporaries_of, lasting_of, awaited, WaitsAt, AreAwaited, AreOwnless, TakesPassed}
 use Rattle.viewed_steps.proofs.Waited.{within_lasting, Shares, plain_unheld}
@@ -68,26 +68,39 @@ use Rattle.viewed_steps.proofs.Entered.{ArePassedOn}
 use Rattle.viewed_steps.proofs.Entering.{owns_there, AreDeclared, Enter}
 use Rattle.viewed_steps.proofs.Passed.{IsNamedBy, call_goes}
 use Rattle.viewed_steps.proofs.Cells.{passed_formal, IsCellNamed}
-use Rattle.viewed_steps.proofs.Standing.{or_right}
 use Rattle.viewed_steps.proofs.Standing as standing
 use Rattle.viewed_steps.proofs.Packages as packages
 use Rattle.viewed_steps.proofs.Innermost as innermost
-use Rattle.viewed_steps.proofs.Views.{AreAccess, AreFar, kind_given, given_type, not_elsewhere}
-use Rattle.viewed_steps.proofs.Exclusive.{ChangesLent, IsLentAs, IsSeenFrom, AreLent, IsFrom, from_past, from_far, from_apart, from_place}
-use Rattle.viewed_steps.proofs.Lending.{IsNameOf}
+use Rattle.viewed_steps.proofs.Views.{AreLowFormals, AreAccess, AreFar, kind_given, given_type, given_formal, many_bundle, not_elsewhere}
+use Rattle.viewed_steps.proofs.Exclusive.{ChangesLent, IsLentAs, IsSeenFrom, AreLent, IsFrom, from_past, from_past_part, from_far, from_apart, from_place, mode_in, second_true}
+use Rattle.viewed_steps.proofs.SeenApart.{seen_apart}
+use Rattle.viewed_steps.proofs.Passed.{apart_there}
+use Rattle.soundness.proofs.Passing.{signature_is}
+use Rattle.machine.specs.Owners.{is_in}
+use Rattle.place_names.specs.Names.{overlaps}
+use Rattle.place_names.specs.declared.rule.Loan.TheVariants.{Borrowed}
+use Rattle.owned_loans.proofs.Safe.{Unborrowed}
+use Rattle.flow_paths.specs.Objects.{Signature, is_formal}
+use Rattle.viewed_steps.proofs.Lending.{IsNameOf, apart_listed}
 use Rattle.viewed_steps.proofs.CallShows.{clear_named}
-use Rattle.viewed_soundness.proofs.Names.{sees_view}
+use Rattle.viewed_soundness.proofs.ViewKinds.{sees_view}
 use Rattle.flow_paths.specs.Names.{Written}
-use Rattle.viewed_steps.proofs.Opening.{opened_first, opened_rooted, Opens, all_opened, low_of, opened_seen, opened_from, opened_views, opened_whole, opened_lies, opened_held, opened_placed}
+use Rattle.viewed_steps.proofs.Opening.{opened_first, opened_rooted, Opens, all_opened, low_of, low_part, opened_seen, opened_part, opened_from, opened_views, opened_whole, opened_parts, opened_parts_whole, opened_parts_low, opened_lies, opened_held, opened_placed}
 use Rattle.viewed_steps.proofs.Calling as calling
 use Rattle.viewed_steps.proofs.Handed.{elsewhere_excused}
 use Rattle.viewed_steps.proofs.CallShows as shows
-use Rattle.viewed_steps.proofs.Seeing.{named_written}
-use Rattle.viewed_steps.proofs.Lending.{actual_named}
 use Rattle.viewed_steps.proofs.Stilled.{still}
 use Rattle.viewed_steps.proofs.CallBegins as begins
+use Rattle.viewed_steps.specs.Seeing.{sees_in}
+use Rattle.viewed_steps.proofs.Sees.{sees_seeing}
 
 module _ (table : Table) (typed : TypedProgram) (effects : Effects) (input : List ℕ) (ready : IsReady table typed effects) where
+  abbrev sees : ℕ → Bool
+  sees = sees_in (flow_program table typed)
+
+  abbrev seeing : Seeing (flow_typing (flow_program table typed)) sees
+  seeing = sees_seeing (flow_program table typed)
+
   abbrev program : FlowProgram
   program = flow_program table typed
 
@@ -117,9 +130,9 @@ module _ (table : Table) (typed : TypedProgram) (effects : Effects) (input : Lis
       (awaiting : AreAwaited table typed None (top ∷ stages_of (below ∷ more_frames)))
       (of_sub : IsNamedSub (flow_named table typed) top.frame.sub named) (at_point : IsAtPoint named.points top.frame.next p)
       (path : ControlPath (path_points program effects (sub_of program top.frame.sub)) top.before top.frame.next) (views : Views)
-      (viewed_before : ViewedAlone (home s (suc (length rest))) (sees_only s) (known_gone (home s (suc (length rest))) (GoneElsewhere program effects (below ∷ more_frames))) views
+      (viewed_before : ViewedAlone (home s (suc (length rest))) sees (known_gone (home s (suc (length rest))) (GoneElsewhere program effects (below ∷ more_frames))) views
       (view_here s state) (facts_of program effects top))
-      (kept : Kept s state.memory (waiting_in state)) (scope : InScope s state.memory (suc (length rest)) (lasting_of s p.scope)) (holds : HoldsAt s (suc (length rest)) views state.memory p)
+      (kept : Kept s state.memory (waiting_in state)) (scope : InScope s state.memory (suc (length rest)) (lasting_of s p.scope)) (holds : HoldsAt s sees (suc (length rest)) views state.memory p)
       (placed_before : ArePlaced program (suc (length rest)) (facts_of program effects top) views p.scope × IsBeyond program effects (suc (length rest)) views (below ∷ more_frames)) (above : NoneAbove s (suc (length rest)) state.memory
       × HasTraversals table typed (view_here s state) (record { stage = top; views = views; cells = [] } ∷ (below ∷ more_frames))) where
     abbrev outer : List Frame
@@ -152,7 +165,7 @@ module _ (table : Table) (typed : TypedProgram) (effects : Effects) (input : Lis
     abbrev facts_now : List Fact
     facts_now = own_facts ++ handed_on
 
-    abbrev viewed : Viewed (home s depth) (sees_only s) other views (view_here s state) facts_now
+    abbrev viewed : Viewed (home s depth) sees other views (view_here s state) facts_now
     viewed = innermost.viewed table typed effects input ready state top below more_frames rest named p frames deep stages running awaiting of_sub at_point path views viewed_before kept scope holds placed_before above
 
     abbrev left_scope : List ℕ
@@ -167,7 +180,7 @@ module _ (table : Table) (typed : TypedProgram) (effects : Effects) (input : Lis
     abbrev easy : Turn
     easy = eased main_turn
 
-    abbrev viewed_easy : Plain → Viewed (home s depth) (sees_only s) other views (view_here s easy.state) facts_now × Kept s state.memory (waiting_in easy.state)
+    abbrev viewed_easy : Plain → Viewed (home s depth) sees other views (view_here s easy.state) facts_now × Kept s state.memory (waiting_in easy.state)
     viewed_easy = innermost.ownless_easy table typed effects input ready state top below more_frames rest named p frames deep stages running awaiting of_sub at_point path views viewed_before kept scope holds placed_before above
 
     abbrev others_await : returns_value p.instr ≡ false → AreAwaited table typed (awaited (sub_of program top.frame.sub) (top.frame.next ∷ top.before)) (stages_of older)
@@ -198,19 +211,19 @@ module _ (table : Table) (typed : TypedProgram) (effects : Effects) (input : Lis
       abbrev ways_there : List Passing
       ways_there = calling.ways_there table typed effects input ready state top below more_frames rest named p frames deep stages running awaiting of_sub at_point path views viewed_before kept scope holds placed_before above n actuals result e
 
-      abbrev holds_now : Holds s depth views state.memory
+      abbrev holds_now : Holds s sees depth views state.memory
       holds_now = calling.holds_now table typed effects input ready state top below more_frames rest named p frames deep stages running awaiting of_sub at_point path views viewed_before kept scope holds placed_before above n actuals result e
 
       abbrev live_now : (w : Way) (l : ways.Loc) → IsOwners s w → ways.Reaches (seen s state.memory (waiting_in easy.state) state.leaks) w l
           → (content s state.memory (waiting_in easy.state) (trunk l)).owns ≡ true
       live_now = calling.live_now table typed effects input ready state top below more_frames rest named p frames deep stages running awaiting of_sub at_point path views viewed_before kept scope holds placed_before above n actuals result e
 
-      abbrev formals_low : (x : ℕ) (w : Way) → views.way x ≡ Some w → IsLow s depth w
+      abbrev formals_low : AreLowFormals s depth views
       formals_low = calling.formals_low table typed effects input ready state top below more_frames rest named p frames deep stages running awaiting of_sub at_point path views viewed_before kept scope holds placed_before above n actuals result e
 
       abbrev by_callee : (((x : ℕ) → Has formals x → (object_at s x).mode ≡ mode.In) × ((x : ℕ) → Has formals x → IsCopiedBack s x → ⊥)
-          × ChangesLent s facts_now formals actuals)
-          ⊎ AreLent s facts_now formals actuals
+          × ChangesLent s sees facts_now formals actuals)
+          ⊎ AreLent s sees facts_now formals actuals
       by_callee = calling.by_callee table typed effects input ready state top below more_frames rest named p frames deep stages running awaiting of_sub at_point path views viewed_before kept scope holds placed_before above n actuals result e
 
       abbrev Given : List Passed → Type 0
@@ -253,7 +266,7 @@ module _ (table : Table) (typed : TypedProgram) (effects : Effects) (input : Lis
         abbrev far_views : AreFar (home s depth) views depth
         far_views = calling.far_views table typed effects input ready state top below more_frames rest named p frames deep stages running awaiting of_sub at_point path views viewed_before kept scope holds placed_before above n actuals result e passed given
 
-        abbrev laid : AreLaidOut s state.memory depth views view_now formals actuals passed
+        abbrev laid : AreLaidOut s sees state.memory depth views view_now formals actuals passed
         laid = calling.laid table typed effects input ready state top below more_frames rest named p frames deep stages running awaiting of_sub at_point path views viewed_before kept scope holds placed_before above n actuals result e passed given
 
         abbrev outs : List Out
@@ -262,8 +275,8 @@ module _ (table : Table) (typed : TypedProgram) (effects : Effects) (input : Lis
         abbrev cells : List Lodge
         cells = calling.cells table typed effects input ready state top below more_frames rest named p frames deep stages running awaiting of_sub at_point path views viewed_before kept scope holds placed_before above n actuals result e passed given
 
-        abbrev all_passed_ways : (ways_taken : List Way) × ArePassedOn s state.memory cells depth views facts_all next_there formals passed ways_taken outs
-            × ((k : Way) → Has ways_taken k → IsNamedBy s depth views facts_all formals actuals k)
+        abbrev all_passed_ways : (ways_taken : List Way) × ArePassedOn s sees state.memory cells depth views facts_all next_there formals passed ways_taken outs
+            × ((k : Way) → Has ways_taken k → IsNamedBy s sees depth views facts_all formals actuals k)
         all_passed_ways = calling.all_passed_ways table typed effects input ready state top below more_frames rest named p frames deep stages running awaiting of_sub at_point path views viewed_before kept scope holds placed_before above n actuals result e passed given
 
         abbrev ways_taken : List Way
@@ -272,10 +285,10 @@ module _ (table : Table) (typed : TypedProgram) (effects : Effects) (input : Lis
         abbrev around_names : Around (home s depth)
         around_names = calling.around_names table typed effects input ready state top below more_frames rest named p frames deep stages running awaiting of_sub at_point path views viewed_before kept scope holds placed_before above n actuals result e passed given
 
-        abbrev names_all : Viewed (home s depth) (sees_only s) around_names views (still (view_here s easy.state)) facts_all
+        abbrev names_all : Viewed (home s depth) sees around_names views (still (view_here s easy.state)) facts_all
         names_all = calling.names_all table typed effects input ready state top below more_frames rest named p frames deep stages running awaiting of_sub at_point path views viewed_before kept scope holds placed_before above n actuals result e passed given
 
-        abbrev named_cell : (c : Lodge) → Has cells c → IsCellNamed s depth facts_all views view_now formals actuals passed c
+        abbrev named_cell : (c : Lodge) → Has cells c → IsCellNamed s sees depth facts_all views view_now formals actuals passed c
         named_cell = calling.named_cell table typed effects input ready state top below more_frames rest named p frames deep stages running awaiting of_sub at_point path views viewed_before kept scope holds placed_before above n actuals result e passed given
 
         abbrev cell_begins : (c : Lodge) → Has cells c → (g : ℕ) × (y : ℕ) × (ways.base_of c.way ≡ ways.OfRoot (ways.OfVariable g y)) × (g ≡ suc depth → ⊥)
@@ -290,11 +303,11 @@ module _ (table : Table) (typed : TypedProgram) (effects : Effects) (input : Lis
         abbrev leaks_then : List Leak
         leaks_then = state.leaks ++ found_in s state.memory outs
 
-        abbrev enters : Enter s ready.accepted.settled ready.owns in_formals (waiting_in easy.state) depth views far_views holds.only facts_all next_there cells cell_begins (GoneElsewhere program effects older) state.leaks leaks_then formals passed ways_taken
+        abbrev enters : Enter s sees ready.accepted.settled ready.owns in_formals (waiting_in easy.state) depth views far_views (holds.only, holds.parts.only) facts_all next_there cells cell_begins (GoneElsewhere program effects older) state.leaks leaks_then formals passed ways_taken
             state.memory with_all
         enters = begins.enters table typed effects input ready state top below more_frames rest named p frames deep stages running awaiting of_sub at_point path views viewed_before kept scope holds placed_before above n actuals result e passed given
 
-        abbrev declared_there : AreDeclared s ready.accepted.settled ready.owns in_formals (waiting_in easy.state) depth views far_views holds.only facts_all next_there cells cell_begins formals passed ways_taken state.leaks leaks_then
+        abbrev declared_there : AreDeclared s sees ready.accepted.settled ready.owns in_formals (waiting_in easy.state) depth views far_views (holds.only, holds.parts.only) facts_all next_there cells cell_begins formals passed ways_taken state.leaks leaks_then
             state.memory with_all
         declared_there = enters.0
 
@@ -346,41 +359,53 @@ module _ (table : Table) (typed : TypedProgram) (effects : Effects) (input : Lis
 
         -- ---- the views of what is called
 
-        abbrev opened : Opens (steps.here main_turn) ready.accepted.settled (waiting_in easy.state) state.leaks state.memory [] other facts_now views (viewed_easy plain_there.0).1
+        abbrev opened : Opens (steps.here main_turn) sees seeing ready.accepted.settled (waiting_in easy.state) state.leaks state.memory [] other facts_now views (viewed_easy plain_there.0).1
             (viewed_easy plain_there.0).0 holds_now alone live_now in_formals index_law ready.owns ready.class.parts_named formals_low procedure formals actuals passed
         opened =
-            all_opened (steps.here main_turn) ready.accepted.settled (waiting_in easy.state) state.leaks state.memory [] other facts_now views (viewed_easy plain_there.0).1
+            all_opened (steps.here main_turn) sees seeing ready.accepted.settled (waiting_in easy.state) state.leaks state.memory [] other facts_now views (viewed_easy plain_there.0).1
             (viewed_easy plain_there.0).0 holds_now alone live_now in_formals index_law ready.owns ready.class.parts_named formals_low procedure formals actuals passed called.differ given
 
         abbrev callee_views : Views
         callee_views = opened.0
 
-        from_lent : (y : ℕ) (w : Way) → callee_views.way y ≡ Some w → ((m : Written) → IsNameOf formals actuals y m → IsLentAs s facts_now (alias.passed formals actuals) y m)
-            → IsFrom s depth views facts_now (alias.passed formals actuals) y w
+        from_lent : (y : ℕ) (w : Way) → callee_views.way y ≡ Some w → ((m : Written) → IsNameOf formals actuals y m → IsLentAs s sees facts_now (alias.passed formals actuals) y m)
+            → IsFrom s sees depth views facts_now (alias.passed formals actuals) y w
         from_lent =
-            opened_from (steps.here main_turn) ready.accepted.settled (waiting_in easy.state) state.leaks state.memory [] other facts_now views (viewed_easy plain_there.0).1
+            opened_from (steps.here main_turn) sees seeing ready.accepted.settled (waiting_in easy.state) state.leaks state.memory [] other facts_now views (viewed_easy plain_there.0).1
             (viewed_easy plain_there.0).0 holds_now alone live_now in_formals index_law ready.owns ready.class.parts_named formals_low procedure formals actuals passed callee_views opened.1
 
-        from_there : AreLent s facts_now formals actuals → (y : ℕ) (w : Way) → callee_views.way y ≡ Some w
-            → IsFrom s depth views facts_now (alias.passed formals actuals) y w
-        from_there lent y w has = (let found = opened.1.way y w has in from_lent y w has (lent y found.1 found.0))
+        from_there : AreLent s sees facts_now formals actuals → (y : ℕ) (w : Way) → callee_views.way y ≡ Some w
+            → IsFrom s sees depth views facts_now (alias.passed formals actuals) y w
+        from_there lent y w has = (let found = opened.1.way y w has in from_lent y w has (lent y found.1 found.0 (opened.1.bare y w has)))
 
         seen_from : (y : ℕ) (w : Way) → callee_views.way y ≡ Some w → IsSeenFrom s depth views (alias.passed formals actuals) y w
         seen_from =
-            opened_seen (steps.here main_turn) ready.accepted.settled (waiting_in easy.state) state.leaks state.memory [] other facts_now views (viewed_easy plain_there.0).1
+            opened_seen (steps.here main_turn) sees seeing ready.accepted.settled (waiting_in easy.state) state.leaks state.memory [] other facts_now views (viewed_easy plain_there.0).1
             (viewed_easy plain_there.0).0 holds_now alone live_now in_formals index_law ready.owns ready.class.parts_named formals_low procedure formals actuals passed callee_views opened.1
 
-        -- what one is lent that changes what it sees
-        lent_changed : (x : ℕ) → Has formals x → is_given s x ≡ true → sees_only s x ≡ false → (m : Written) → IsNameOf formals actuals x m
-            → IsLentAs s facts_now (alias.passed formals actuals) x m
-        lent_changed x has is changes m of = elim by_callee [ inl modes ↦ modes.2 x has is changes m of | inr lent ↦ lent x has is m of ]
+        part_from : (y : ℕ) (q : List Step) (w : Way) → callee_views.part_way y q ≡ Some w → IsSeenFrom s depth views (alias.passed formals actuals) y w
+        part_from =
+            opened_part (steps.here main_turn) sees seeing ready.accepted.settled (waiting_in easy.state) state.leaks state.memory [] other facts_now views (viewed_easy plain_there.0).1
+            (viewed_easy plain_there.0).0 holds_now alone live_now in_formals index_law ready.owns ready.class.parts_named formals_low procedure formals actuals passed callee_views opened.1
 
-        from_changed : (x : ℕ) (w : Way) → callee_views.way x ≡ Some w → sees_only s x ≡ false → IsFrom s depth views facts_now (alias.passed formals actuals) x w
+        changed_bare : (x : ℕ) → sees x ≡ false → is_bundle s x ≡ false
+        changed_bare x changes = by_kind (is_bundle s x) refl
+          where
+            by_kind : (b : Bool) → is_bundle s x ≡ b → b ≡ false
+            by_kind false e = refl
+            by_kind true e = absurd (true_false (sees x) (standing.bundle_sees table typed effects input ready x e) changes)
+
+        -- what one is lent that changes what it sees
+        lent_changed : (x : ℕ) → Has formals x → is_given s x ≡ true → sees x ≡ false → (m : Written) → IsNameOf formals actuals x m
+            → IsLentAs s sees facts_now (alias.passed formals actuals) x m
+        lent_changed x has is changes m of = elim by_callee [ inl modes ↦ modes.2 x has is changes m of | inr lent ↦ lent x has is (changed_bare x changes) m of ]
+
+        from_changed : (x : ℕ) (w : Way) → callee_views.way x ≡ Some w → sees x ≡ false → IsFrom s sees depth views facts_now (alias.passed formals actuals) x w
         from_changed x w has changes = (let found = opened.1.way x w has in from_lent x w has (lent_changed x found.1 found.0 changes))
 
         low_called : (y : ℕ) (w : Way) → callee_views.way y ≡ Some w → IsLow s depth w
         low_called =
-            low_of (steps.here main_turn) ready.accepted.settled (waiting_in easy.state) state.leaks state.memory [] other facts_now views (viewed_easy plain_there.0).1
+            low_of (steps.here main_turn) sees seeing ready.accepted.settled (waiting_in easy.state) state.leaks state.memory [] other facts_now views (viewed_easy plain_there.0).1
             (viewed_easy plain_there.0).0 holds_now alone live_now in_formals index_law ready.owns ready.class.parts_named formals_low procedure formals actuals passed callee_views opened.1
 
         abbrev less_now : (f : Fact) → Has facts_all f → Has facts_now f
@@ -392,36 +417,77 @@ module _ (table : Table) (typed : TypedProgram) (effects : Effects) (input : Lis
             let by = all_passed_ways.2 to taken in
             elim by_callee [
               | inl modes ↦ modes.1 by.by.formal (passed_formal formals actuals by.by by.among) by.back
-              | inr lent ↦ from_place s depth views facts_now (alias.passed formals actuals) y w (from_there lent y w has) around_names (still (view_here s easy.state)) facts_all names_all less_now
+              | inr lent ↦ from_place s sees depth views facts_now (alias.passed formals actuals) y w (from_there lent y w has) around_names (still (view_here s easy.state)) facts_all names_all less_now
                   by.by by.among by.back by.name by.called by.named by.plain by.unlent (subst (Meet w) (sym by.means) meets)
             ]
 
+        -- nothing of what is shown to one is moved or borrowed
+        unborrowed : (y : ℕ) (w : Way) (to : IsSeenFrom s depth views (alias.passed formals actuals) y w) → sees to.actual.name.root ≡ false → Unborrowed facts_now to.from
+        unborrowed y w to root_plain = (clear_named s sees facts_now formals actuals (calling.clear_there table typed effects input ready state top below more_frames rest named p frames deep stages running awaiting of_sub at_point path views viewed_before kept scope holds placed_before above n actuals result e)
+            (record { formal = y; actual = to.actual }) to.of to.given root_plain to.from (sym to.called)).0
+
+        -- a function has formals of mode `in` alone
+        copies_of_procedure : (b : alias.Passed) → Has (alias.passed formals actuals) b → IsCopiedBack s b.formal → (sub_of program n).result ≡ None
+        copies_of_procedure b among back = by_result (sub_of program n).result refl
+          where
+            by_result : (o : Option ℕ) → (sub_of program n).result ≡ o → o ≡ None
+            by_result None is = refl
+            by_result (Some t) is = absurd (back (ready.class.modes n t (ap (λ (z : Signature). z.result) (signature_is program n) ∙ is) b.formal
+                (subst (λ z. Has z b.formal) (sym (ap (λ (z : Signature). z.formals) (signature_is program n))) (passed_formal formals actuals b among))))
+
+        -- nor does it meet what parts of formals see
+        meets_taken_part : (y : ℕ) (q : List Step) (w : Way) → callee_views.part_way y q ≡ Some w → (to : Way) → Has ways_taken to → Meet w to → ⊥
+        meets_taken_part y q w has to taken meets =
+            let by = all_passed_ways.2 to taken in
+            let part = part_from y q w has in
+            seen_apart s sees depth around_names views (still (view_here s easy.state)) facts_all names_all by.name by.named by.plain by.unlent (sees_view s sees seeing)
+            part.from part.there part.named part.begins part.goes
+            (λ plain h m fact over. unborrowed y w part (ap (λ (z : PlaceName). sees z.root) part.called ∙ plain) h m (less_now (Lent Borrowed h m) fact) over)
+            (λ over. apart_listed s sees (alias.passed formals actuals)
+            (apart_there program effects ready.accepted.no_reports (flow_sub own named)
+            (standing.in_program table typed effects input ready state top older outer named p frames of_sub at_point) main_turn.point
+            (standing.in_sub table typed effects input ready state top older outer named p frames of_sub at_point) n actuals result e called.answers
+            (copies_of_procedure by.by by.among by.back))
+            by.by (record { formal = y; actual = part.actual }) by.among part.of
+            (λ same. by.back (ap (λ z. (object_at s z).mode) same ∙ mode_in (object_at s y).mode (second_true (is_formal s y) (is_in (object_at s y).mode) (given_formal s y part.given))))
+            (inl by.back) (inr (many_bundle s sees in_formals y (opened.1.parts y q w has).bundle))
+            (subst (λ (z : PlaceName). overlaps z part.actual.name ≡ true) (sym by.called) (subst (λ (z : PlaceName). overlaps (ways.name_of by.name) z ≡ true) (sym part.called) over)))
+            (subst (λ z. Meet z (expand views part.there)) (sym by.means) (subst (Meet to) part.leads (flip w to meets)))
+
         -- nor one that another one of them sees, if it changes that
-        callee_apart : (x y : ℕ) (w u : Way) → callee_views.way x ≡ Some w → callee_views.way y ≡ Some u → (y ≡ x → ⊥) → sees_only s x ≡ false
+        callee_apart : (x y : ℕ) (w u : Way) → callee_views.way x ≡ Some w → callee_views.way y ≡ Some u → (y ≡ x → ⊥) → sees x ≡ false
             → ways.Under w u ⊎ ways.Under u w → ⊥
         callee_apart x y w u has there differs plain meets =
             let to = seen_from y u there in
-            from_apart s depth views facts_now (alias.passed formals actuals) x w (from_changed x w has plain) other (view_here s easy.state) (viewed_easy plain_there.0).0
-            (sees_view s) y u to
-            (λ root_plain. (clear_named s facts_now formals actuals (calling.clear_there table typed effects input ready state top below more_frames rest named p frames deep stages running awaiting of_sub at_point path views viewed_before kept scope holds placed_before above n actuals result e)
-            (record { formal = y; actual = to.actual }) to.of to.given root_plain to.from (sym to.called)).0)
-            differs meets
+            from_apart s sees depth views facts_now (alias.passed formals actuals) x w (from_changed x w has plain) other (view_here s easy.state) (viewed_easy plain_there.0).0
+            (sees_view s sees seeing) y u to
+            (unborrowed y u to) differs meets
+
+        -- nor what a part of one sees
+        parts_apart : (x : ℕ) (q : List Step) (w : Way) → callee_views.part_way x q ≡ Some w → (y : ℕ) (u : Way) → callee_views.way y ≡ Some u → sees y ≡ false
+            → ways.Under u w ⊎ ways.Under w u → ⊥
+        parts_apart x q w has y u there plain meets =
+            let to = part_from x q w has in
+            from_apart s sees depth views facts_now (alias.passed formals actuals) y u (from_changed y u there plain) other (view_here s easy.state) (viewed_easy plain_there.0).0
+            (sees_view s sees seeing) x w to (unborrowed x w to)
+            (λ same. true_false (sees y) (ap sees (sym same) ∙ standing.bundle_sees table typed effects input ready x (opened.1.parts x q w has).bundle) plain) meets
 
         -- none of the frames around goes past what it changes
-        callee_past : (x : ℕ) (w : Way) → callee_views.way x ≡ Some w → (ways.Named (home s (suc depth)) (callee_views.up x) → ⊥) → sees_only s x ≡ false → (k : Way) (m : ℕ)
+        callee_past : (x : ℕ) (w : Way) → callee_views.way x ≡ Some w → (ways.Named (home s (suc depth)) (callee_views.up x) → ⊥) → sees x ≡ false → (k : Way) (m : ℕ)
             → KeptBy (waits_there ∷ older) k m → Past w k → ⊥
         callee_past x w has named plain k m keeps past = by_frame (from_changed x w has plain) keeps
           where
-            by_frame : IsFrom s depth views facts_now (alias.passed formals actuals) x w → KeptBy (waits_there ∷ older) k m → ⊥
+            by_frame : IsFrom s sees depth views facts_now (alias.passed formals actuals) x w → KeptBy (waits_there ∷ older) k m → ⊥
             by_frame from (g, inr there, way) =
-                from_far s depth views facts_now (alias.passed formals actuals) x w from other (view_here s easy.state) (viewed_easy plain_there.0).0 k m (g, there, way) past
+                from_far s sees depth views facts_now (alias.passed formals actuals) x w from other (view_here s easy.state) (viewed_easy plain_there.0).0 k m (g, there, way) past
             by_frame from (g, inl same, way) = elim (subst (λ z. IsWayOf z k m) (sym same) way) [
-              | inl (y, is, cell) ↦ from_past s depth views facts_now (alias.passed formals actuals) x w from other (view_here s easy.state) (viewed_easy plain_there.0).0 y k is past
-              | inr (c, there, is, number) ↦ (
+              | inl (y, is, cell) ↦ from_past s sees depth views facts_now (alias.passed formals actuals) x w from other (view_here s easy.state) (viewed_easy plain_there.0).0 y k is past
+              | inr (inr (y, q, is, number)) ↦ from_past_part s sees depth views facts_now (alias.passed formals actuals) x w from other (view_here s easy.state) (viewed_easy plain_there.0).0 y q k is past
+              | inr (inl (c, there, is, number)) ↦ (
                   let cell = named_cell c there in
                   let below : ways.Under c.way (expand views cell.whole) =
-                  subst (λ z. ways.Under z (expand views cell.whole)) cell.leads (expand_under views c.name cell.whole (λ r is. absurd (cell.deep r is)) cell.begins) in
-                  from_place s depth views facts_now (alias.passed formals actuals) x w from around_names (still (view_here s easy.state)) facts_all names_all less_now
+                  subst (λ z. ways.Under z (expand views cell.whole)) cell.leads (expand_under views c.name cell.whole (λ r is. absurd (cell.deep r is)) (no_part (home s depth) sees views (still (view_here s easy.state)) facts_all names_all.views cell.whole cell.plain) cell.begins) in
+                  from_place s sees depth views facts_now (alias.passed formals actuals) x w from around_names (still (view_here s easy.state)) facts_all names_all less_now
                   cell.by cell.among cell.back cell.whole cell.called cell.named cell.plain cell.unlent
                   (inl (under_on w c.way (expand views cell.whole) (past_under w c.way (subst (Past w) (sym is) past)) below)))
             ]
@@ -443,6 +509,20 @@ module _ (table : Table) (typed : TypedProgram) (effects : Effects) (input : Lis
             (declared_there.stays w begin.0 begin.1 begin.2 (low_frame w begin.0 begin.1 begin.2 low)
             (λ to taken past. meets_taken y w has to taken (inr (past_under to w past))) k reach)
 
+        part_low : (y : ℕ) (q : List Step) (w : Way) → callee_views.part_way y q ≡ Some w → IsLow s depth w
+        part_low =
+            low_part (steps.here main_turn) sees seeing ready.accepted.settled (waiting_in easy.state) state.leaks state.memory [] other facts_now views (viewed_easy plain_there.0).1
+            (viewed_easy plain_there.0).0 holds_now alone live_now in_formals index_law ready.owns ready.class.parts_named formals_low procedure formals actuals passed callee_views opened.1
+
+        reach_part : (y : ℕ) (q : List Step) (w : Way) (k : ℕ) → callee_views.part_way y q ≡ Some w
+            → ways.Reaches (seen s state.memory (waiting_in easy.state) state.leaks) w (ways.OfCell k) → ways.Reaches (view_here s after_call) w (ways.OfCell k)
+        reach_part y q w k has reach =
+            let low = part_low y q w has in
+            let begin = low_begins s depth w low in
+            subst (λ z. ways.Reaches z w (ways.OfCell k)) view_called
+            (declared_there.stays w begin.0 begin.1 begin.2 (low_frame w begin.0 begin.1 begin.2 low)
+            (λ to taken past. meets_taken_part y q w has to taken (inr (past_under to w past))) k reach)
+
         -- what is gone for the caller and the frames around it is excused by its facts before the call, or is taken
         excused_called : (z : Way) → GoneElsewhere program effects (waits_there ∷ older) z → ExcusedBy (home s depth) views other facts_now z ⊎ TakenBy ways_taken z
         excused_called z (g, inr has, what) =
@@ -463,28 +543,45 @@ module _ (table : Table) (typed : TypedProgram) (effects : Effects) (input : Lis
 
         callee_whole : (x : ℕ) (w z : Way) → callee_views.way x ≡ Some w → GoneElsewhere program effects (waits_there ∷ older) z → ways.Under z w ⊎ ways.Under w z → ⊥
         callee_whole x w z has gone meets = elim (excused_called z gone) [
-          | inl excused ↦ opened_whole (steps.here main_turn) ready.accepted.settled (waiting_in easy.state) state.leaks state.memory [] other facts_now views (viewed_easy plain_there.0).1
+          | inl excused ↦ opened_whole (steps.here main_turn) sees seeing ready.accepted.settled (waiting_in easy.state) state.leaks state.memory [] other facts_now views (viewed_easy plain_there.0).1
               (viewed_easy plain_there.0).0 holds_now alone live_now in_formals index_law ready.owns ready.class.parts_named formals_low procedure formals actuals passed callee_views opened.1
               (ExcusedBy (home s depth) views other facts_now) (λ y is. is) x w z has excused meets
           | inr (to, taken, steps_on, is) ↦ meets_taken x w has to taken
               (meets_front to z w (subst (ways.Under to) (sym is) (under_along to to steps_on (under_itself to))) (flip z w meets))
         ]
 
+        parts_whole : (x : ℕ) (q : List Step) (w z : Way) → callee_views.part_way x q ≡ Some w → GoneElsewhere program effects (waits_there ∷ older) z
+            → ways.Under z w ⊎ ways.Under w z → ⊥
+        parts_whole x q w z has gone meets = elim (excused_called z gone) [
+          | inl excused ↦ opened_parts_whole (steps.here main_turn) sees seeing ready.accepted.settled (waiting_in easy.state) state.leaks state.memory [] other facts_now views (viewed_easy plain_there.0).1
+              (viewed_easy plain_there.0).0 holds_now alone live_now in_formals index_law ready.owns ready.class.parts_named formals_low procedure formals actuals passed callee_views opened.1
+              (ExcusedBy (home s depth) views other facts_now) (λ y is. is) x q w z has excused meets
+          | inr (to, taken, steps_on, is) ↦ meets_taken_part x q w has to taken
+              (meets_front to z w (subst (ways.Under to) (sym is) (under_along to to steps_on (under_itself to))) (flip z w meets))
+        ]
+
         -- what its views see that begins at package objects is kept by the frames around
-        callee_shared : AreShared (home s (suc depth)) (sees_only s) (LentBy program effects (waits_there ∷ older)) callee_views
-        callee_shared x w has given_up named_there =
-            let found = opened.1.way x w has in
-            let sees = (found.2).1 in
-            let actual = named_written (steps.here main_turn) ready.accepted.settled (waiting_in easy.state) state.leaks state.memory [] other facts_now views (viewed_easy plain_there.0).1
-            (viewed_easy plain_there.0).0 holds_now alone live_now index_law ready.owns ready.class.parts_named formals_low (found.2).0 sees.from sees.called in
-            let of = actual_named formals actuals x (found.2).0 actual.0 found.4 actual.1 in
-            elim (low_there s depth w (omega (arith)) (low_called x w has)) [
-              | inl far ↦ absurd (not_elsewhere (home s (suc depth)) w named_there far.0)
-              | inr (at_home, shared_root) ↦ shows.shared_at table typed effects input ready state top below more_frames rest named p frames deep stages running awaiting of_sub at_point path views viewed_before kept scope holds placed_before above n actuals result e passed given
-                  (record { formal = x; actual = actual.0 }) of found.0 sees.from sees.from_named actual.2 sees.lifted
-                  (λ changes. ap (λ (z : PlaceName). sees_only s z.root) (sym actual.2) ∙ (lent_changed x found.1 found.0 changes actual.0 of).plain)
-                  w (sym found.3 ∙ sees.leads) (package_named s (suc depth) depth w shared_root named_there) shared_root
-            ]
+        shared_from : (x : ℕ) (w : Way) (to : IsSeenFrom s depth views (alias.passed formals actuals) x w) → (sees x ≡ false → sees to.actual.name.root ≡ false)
+            → IsLow s depth w → ways.Named (home s (suc depth)) w → IsShared (home s (suc depth)) (LentBy program effects (waits_there ∷ older)) (sees x) w
+        shared_from x w to plain low named_there = elim (low_there s depth w (omega (arith)) low) [
+          | inl far ↦ absurd (not_elsewhere (home s (suc depth)) w named_there far.0)
+          | inr (at_home, shared_root) ↦ shows.shared_at table typed effects input ready state top below more_frames rest named p frames deep stages running awaiting of_sub at_point path views viewed_before kept scope holds placed_before above n actuals result e passed given
+              (record { formal = x; actual = to.actual }) to.of to.given to.from to.named to.called to.there to.begins to.goes
+              (λ changes. ap (λ (z : PlaceName). sees z.root) (sym to.called) ∙ plain changes)
+              w to.leads (package_named s (suc depth) depth w shared_root named_there) shared_root
+        ]
+
+        callee_shared : AreShared (home s (suc depth)) sees (LentBy program effects (waits_there ∷ older)) callee_views
+        callee_shared = (
+          λ x w has given_up named_there.
+              let found = opened.1.way x w has in
+              let to = seen_from x w has in
+              shared_from x w to (λ changes. (lent_changed x found.1 found.0 changes to.actual to.of).plain) (low_called x w has) named_there,
+          λ x q w has named_there.
+              let sight = standing.bundle_sees table typed effects input ready x (opened.1.parts x q w has).bundle in
+              subst (λ b. IsShared (home s (suc depth)) (LentBy program effects (waits_there ∷ older)) b w) sight
+              (shared_from x w (part_from x q w has) (λ changes. absurd (true_false (sees x) sight changes)) (part_low x q w has) named_there),
+        )
 
         -- no result waits in the frame below, since a call comes after no return
         none_below : NoneGiven s below
@@ -524,10 +621,12 @@ module _ (table : Table) (typed : TypedProgram) (effects : Effects) (input : Lis
                 seen = λ b h k m has there over. has;
                 owned = λ k has. absurd has;
               };
-              views = opened_views (steps.here main_turn) ready.accepted.settled (waiting_in easy.state) state.leaks state.memory [] other facts_now views (viewed_easy plain_there.0).1
+              views = opened_views (steps.here main_turn) sees seeing ready.accepted.settled (waiting_in easy.state) state.leaks state.memory [] other facts_now views (viewed_easy plain_there.0).1
                   (viewed_easy plain_there.0).0 holds_now alone live_now in_formals index_law ready.owns ready.class.parts_named formals_low procedure formals actuals passed callee_views opened.1
-                  (view_here s after_call) (facts_of program effects called_stage) callee_apart reach_called;
+                  (view_here s after_call) (facts_of program effects called_stage) callee_apart reach_called
+                  (standing.bundle_sees table typed effects input ready) parts_apart reach_part;
               whole = λ x w z has outer gone meets. callee_whole x w z has gone meets;
+              whole_parts = λ x q w z has gone meets. parts_whole x q w z has gone meets;
             };
             kept = subst (Kept s with_all) (sym hands_there) declared_there.typed;
             named = called.runs.named;
@@ -546,21 +645,34 @@ module _ (table : Table) (typed : TypedProgram) (effects : Effects) (input : Lis
               )
             ];
             holds = record {
-              held = λ x k lasts view at. callee_held x k view at;
-              within = λ x k view at. (let own_way = callee_held x k view at in (callee_placed x own_way.0 own_way.1).within);
+              held = λ x k lasts view bare at. callee_held x k view bare at;
+              within = λ x k view bare at. (let own_way = callee_held x k view bare at in (callee_placed x own_way.0 own_way.1).within);
               only = λ x w has. given_view s x (opened.1.way x w has).0;
-              lies = opened_lies (steps.here main_turn) ready.accepted.settled (waiting_in easy.state) state.leaks state.memory [] other facts_now views (viewed_easy plain_there.0).1
+              lies = opened_lies (steps.here main_turn) sees seeing ready.accepted.settled (waiting_in easy.state) state.leaks state.memory [] other facts_now views (viewed_easy plain_there.0).1
                   (viewed_easy plain_there.0).0 holds_now alone live_now in_formals index_law ready.owns ready.class.parts_named formals_low procedure formals actuals passed callee_views opened.1 (omega (arith));
               owners = λ x w has. (let found = opened.1.way x w has in subst (IsOwners s) found.3 ((found.2).1).owners);
               passed = λ x w has formal at_home. subst (ways.Named (home s (suc depth))) (opened.1.ups x) at_home;
               own = λ x w has sees_not given_not. absurd (true_false (is_given s x) (opened.1.way x w has).0 given_not);
+              taken = λ x w has at_home. absurd (subst (ways.Named (home s (suc depth))) (opened.1.ups x) at_home);
+              parts = opened_parts (steps.here main_turn) sees seeing ready.accepted.settled (waiting_in easy.state) state.leaks state.memory [] other facts_now views (viewed_easy plain_there.0).1
+                  (viewed_easy plain_there.0).0 holds_now alone live_now in_formals index_law ready.owns ready.class.parts_named formals_low procedure formals actuals passed callee_views opened.1
+                  with_all above.0 local declared_there.views (standing.bundle_sees table typed effects input ready);
+              low = opened_parts_low (steps.here main_turn) sees seeing ready.accepted.settled (waiting_in easy.state) state.leaks state.memory [] other facts_now views (viewed_easy plain_there.0).1
+                  (viewed_easy plain_there.0).0 holds_now alone live_now in_formals index_law ready.owns ready.class.parts_named formals_low procedure formals actuals passed callee_views opened.1
+                  (omega (arith));
             };
             placed = callee_placed;
             past = (callee_past, callee_shared);
-            none_above = λ f x k less view at. elim (declared_there.views f x view) [
-              | inl same ↦ above.0 f x k (omega (arith, less)) view (sym same ∙ at)
-              | inr shown ↦ (let up = shown.0 in omega (arith, less, up))
-            ];
+            none_above = (
+              λ f x k less view at. elim (declared_there.views f x view) [
+                | inl same ↦ (above.0).0 f x k (omega (arith, less)) view (sym (same 0) ∙ at)
+                | inr shown ↦ (let up = shown.0 in omega (arith, less, up))
+              ],
+              λ f x i k less bundle at. elim (declared_there.views f x (bundle_view s x bundle)) [
+                | inl same ↦ (above.0).1 f x i k (omega (arith, less)) bundle (sym (same i) ∙ at)
+                | inr shown ↦ (let up = shown.0 in omega (arith, less, up))
+              ],
+            );
             traversals = (
               (
                 none_given table typed (view_here s after_call) (record { stage = called_stage; views = callee_views; cells = [] })
@@ -583,13 +695,13 @@ module _ (table : Table) (typed : TypedProgram) (effects : Effects) (input : Lis
                 let made = acting.made table typed effects input ready state top below more_frames rest named p frames deep stages running awaiting of_sub at_point path views viewed_before kept scope holds placed_before above n actuals result e f traversed in
                 let traversing = acting.traversing table typed effects input ready state top below more_frames rest named p frames deep stages running awaiting of_sub at_point path views viewed_before kept scope holds placed_before above n actuals result e f traversed in
                 begins_traversal table typed (record { stage = called_stage; views = callee_views; cells = [] }) waits_there f (callee_views.way f) traversed
-                (opened_rooted (steps.here main_turn) ready.accepted.settled (waiting_in easy.state) state.leaks state.memory [] other facts_now views (viewed_easy plain_there.0).1
+                (opened_rooted (steps.here main_turn) sees seeing ready.accepted.settled (waiting_in easy.state) state.leaks state.memory [] other facts_now views (viewed_easy plain_there.0).1
                 (viewed_easy plain_there.0).0 holds_now alone live_now in_formals index_law ready.owns ready.class.parts_named formals_low procedure formals actuals passed callee_views opened.1 (sub_acts (sub_of program n)) f)
-                (no_returns s state.memory depth views view_now formals actuals passed laid
+                (no_returns s sees state.memory depth views view_now formals actuals passed laid
                 (λ x has. followed.modes_there table typed effects input ready state top older outer named p frames of_sub at_point path n actuals result e f traversed x (subst (λ z. Has z x) traversing.formals has)))
                 named of_sub at_successor.0 at_successor.1
                 (subst (λ d. SeesFirst s d (at_successor.0).instr n views (callee_views.way f)) (sym deep)
-                (opened_first (steps.here main_turn) ready.accepted.settled (waiting_in easy.state) state.leaks state.memory [] other facts_now views (viewed_easy plain_there.0).1
+                (opened_first (steps.here main_turn) sees seeing ready.accepted.settled (waiting_in easy.state) state.leaks state.memory [] other facts_now views (viewed_easy plain_there.0).1
                 (viewed_easy plain_there.0).0 holds_now alone live_now in_formals index_law ready.owns ready.class.parts_named formals_low procedure formals actuals passed callee_views opened.1 f traversing.rest made.call traversing.formals made.actuals_are (followed.differ table typed effects input ready state top older outer named p frames of_sub at_point path n actuals result e f traversed) n (at_successor.0).instr
                 (taker_takes s n made.call named.sub.result (at_successor.0).instr (made.taker call_point.0 call_point.2 at_successor.0 at_successor.1))))
                 f traversed
@@ -598,16 +710,16 @@ module _ (table : Table) (typed : TypedProgram) (effects : Effects) (input : Lis
             formal_lasts object_kind.Formal is = refl
             formal_lasts k is = cc
 
-            callee_held : (x k : ℕ) → is_view s x ≡ true → (get_or (variable_slots s (home s (suc depth) x) x with_all.variables) 0 no_slot).word ≡ machine.Cell k
+            callee_held : (x k : ℕ) → is_view s x ≡ true → is_bundle s x ≡ false → (get_or (variable_slots s (home s (suc depth) x) x with_all.variables) 0 no_slot).word ≡ machine.Cell k
                 → (w : Way) × (callee_views.way x ≡ Some w) × (callee_views.cell x ≡ k)
             callee_held =
-                opened_held (steps.here main_turn) ready.accepted.settled (waiting_in easy.state) state.leaks state.memory [] other facts_now views (viewed_easy plain_there.0).1
+                opened_held (steps.here main_turn) sees seeing ready.accepted.settled (waiting_in easy.state) state.leaks state.memory [] other facts_now views (viewed_easy plain_there.0).1
                 (viewed_easy plain_there.0).0 holds_now alone live_now in_formals index_law ready.owns ready.class.parts_named formals_low procedure formals actuals passed callee_views opened.1
-                with_all above.0 local declared_there.views (λ x has. kind_given s in_formals x (kinds x has))
+                with_all above.0 local declared_there.views (λ x has. kind_given s sees in_formals x (kinds x has))
 
             callee_placed : ArePlaced program (suc depth) (facts_of program effects called_stage) callee_views called.runs.point.scope
             callee_placed =
-                opened_placed (steps.here main_turn) ready.accepted.settled (waiting_in easy.state) state.leaks state.memory [] other facts_now views (viewed_easy plain_there.0).1
+                opened_placed (steps.here main_turn) sees seeing ready.accepted.settled (waiting_in easy.state) state.leaks state.memory [] other facts_now views (viewed_easy plain_there.0).1
                 (viewed_easy plain_there.0).0 holds_now alone live_now in_formals index_law ready.owns ready.class.parts_named formals_low procedure formals actuals passed callee_views opened.1
                 (omega (arith)) program (facts_of program effects called_stage) called.runs.point.scope refl
                 (λ y has given. called.begins y has (given_type s y given))

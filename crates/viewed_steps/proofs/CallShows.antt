@@ -1,6 +1,6 @@
 -- What a call shows of package objects to formals that own nothing: what is called doesn't disturb it, nothing
 -- that is known as moved or borrowed meets what is observed, and it is named by the frame that calls.
-use Rattle.std.proofs.Common.{◌≡◌, refl, sym, ap, ◌∙◌, subst, ◌⊎◌, inl, inr, ℕ, suc, ◌<◌, true, false, List, [], ◌∷◌, ◌++◌, length, arith, Option, Some, None, Bool, ◌||◌}
+use Rattle.std.proofs.Common.{◌≡◌, refl, sym, ap, ◌∙◌, subst, ◌⊎◌, inl, inr, ℕ, suc, ◌<◌, true, false, List, [], ◌∷◌, ◌++◌, length, arith, Option, Some, None, Bool}
 use Rattle.spark_base.specs.Lists.{Has}
 use Rattle.place_names.specs.declared.act.Act.TheVariants as act
 use Rattle.place_names.specs.declared.fact.Fact.{Fact}
@@ -14,8 +14,7 @@ use Rattle.typed_tree.specs.Trees.{TypedTree, More}
 use Rattle.typed_tree.specs.Programs.{TypedProgram}
 use Rattle.flow_paths.specs.declared.report.Effects.{Effects}
 use Rattle.flow_paths.specs.Instructions.{Call}
-use Rattle.flow_paths.specs.Objects.{Typing, object_at, is_package_object, view_of, is_observer, is_observing, is_variable, is_formal, is_formal_kind}
-use Rattle.flow_paths.specs.Aliases.{overlap_reports, passed_reports, call_reports}
+use Rattle.flow_paths.specs.Objects.{Typing, object_at, is_package_object, view_of}
 use Rattle.flow_paths.specs.Aliases as alias
 use Rattle.flow_paths.specs.Points.{NamedPoint}
 use Rattle.flow_paths.specs.Laid.{FlowProgram, NamedSub, flow_sub, typing_of, flow_typing, flow_program, flow_named}
@@ -26,9 +25,8 @@ use Rattle.machine.specs.Step.{Turn}
 use Rattle.machine.specs.Calls.{Passed}
 use Rattle.machine.specs.Owners.{waiting_in}
 use Rattle.place_names.specs.declared.act.Mode.TheVariants as mode
-use Rattle.owned_ways.specs.Ways.{Step, Way, after, AllowsAll, Past}
+use Rattle.owned_ways.specs.Ways.{Step, Way}
 use Rattle.owned_ways.specs.Ways as ways
-use Rattle.owned_ways.proofs.Locations.{under_itself}
 use Rattle.soundness.specs.Seen.{is_view_formal, seen, home}
 use Rattle.owned_ways.proofs.Named.{longer}
 use Rattle.owned_ways.proofs.Dropped.{named_base}
@@ -37,27 +35,23 @@ use Rattle.soundness.specs.Typed.{Kept}
 use Rattle.soundness.specs.Sound.{Stage, facts_of, AreStages, Uses, IsRunnable, InScope, IsNamedSub, IsAtPoint, view_of as view_here}
 use Rattle.soundness.proofs.Around.{package_named}
 use Rattle.owned_loans.specs.Views.{expand, Around, known_gone, Views, ViewedAlone, IsThrough, IsShared, on}
-use Rattle.owned_loans.proofs.Ways.{under_on, Lifted, lifted_way, stands_alone, on_named, on_under}
-use Rattle.viewed_soundness.proofs.Names.{true_false}
-use Rattle.viewed_soundness.specs.Holds.{is_view, sees_only, is_given, is_exclusive, lends_first, is_first}
+use Rattle.owned_loans.proofs.Ways.{under_on, Lifted, lifted_way, stands_alone, on_named, on_under, InPart, in_part_way}
+use Rattle.viewed_soundness.proofs.ViewKinds.{open_bundle, bundle_view, true_false}
+use Rattle.viewed_soundness.specs.Holds.{Seeing, is_view, is_given, is_exclusive, is_bundle, GoesBy}
 use Rattle.viewed_steps.specs.Awaited.{lasting_of, AreAwaited}
 use Rattle.viewed_steps.specs.Sound.{IsBeyond, HoldsAt, ArePlaced, NoneAbove, ViewStage, stages_of, GoneElsewhere, Disturbs, AreWaiting, IsResting, HasTraversals, passed_roots, LentBy, known_at}
 use Rattle.viewed_steps.specs.Ready.{IsReady, IsCalled}
 use Rattle.viewed_steps.proofs.Lent.{loans_stay}
 use Rattle.viewed_steps.proofs.Waiting.{StandsBetween, beside_them, handed, root_under}
 use Rattle.flow_paths.specs.Effects.{written_by}
-use Rattle.viewed_steps.proofs.Standing.{or_right}
 use Rattle.viewed_steps.proofs.Standing as standing
 use Rattle.viewed_steps.proofs.Packages as packages
 use Rattle.viewed_steps.proofs.Innermost as innermost
-use Rattle.viewed_steps.proofs.Views.{AreAccess, given_formal}
-use Rattle.typed_tree.specs.declared.object.ObjectKind.{ObjectKind}
-use Rattle.typed_tree.specs.declared.object.ObjectKind.TheVariants as object_kind
-use Rattle.flow_paths.specs.Acts.{gives_variable}
-use Rattle.machine.specs.Owners.{is_in}
+use Rattle.viewed_steps.proofs.Views.{AreAccess, many_bundle}
 use Rattle.viewed_steps.proofs.Seeing.{AreClear}
 use Rattle.viewed_steps.proofs.Lending.{named_has}
-use Rattle.viewed_steps.proofs.Exclusive.{IsLentAs, exclusive_shown}
+use Rattle.viewed_steps.proofs.Exclusive.{IsLentAs}
+use Rattle.viewed_steps.proofs.Sees.{sees_seeing}
 use Rattle.viewed_steps.proofs.CallActs as acting
 use Rattle.viewed_steps.proofs.Withheld.{kept_fact, kept_root}
 use Rattle.std.specs.Prelude.{flat_map, is_some}
@@ -79,55 +73,43 @@ use Rattle.owned_loans.proofs.Allowed.{Cleared}
 use Rattle.viewed_steps.specs.Sound.{lent_to, shown_one, shown_by, shown_at, loan_by}
 use Rattle.viewed_steps.proofs.Seeing.{IsClear}
 use Rattle.viewed_steps.proofs.Showing.{IsShownOf, all_are, all_shown}
-use Rattle.viewed_steps.proofs.Globals.{changed_unused}
+use Rattle.viewed_steps.proofs.Globals.{changed_unused, shown_unwritten}
 use Rattle.viewed_steps.proofs.Written.{function_writes}
 use Rattle.viewed_steps.proofs.First.{way_named}
 use Rattle.viewed_steps.proofs.Calling as calling
 use Rattle.viewed_steps.proofs.Roots.{view_goes}
+use Rattle.viewed_steps.specs.Seeing.{sees_in}
 
 -- ---- what is known of an actual that is shown
 
-pub clear_named : (s : Typing) (facts : List Fact) (formals : List ℕ) (actuals : TypedTree) → AreClear s facts formals actuals
-    → (b : alias.Passed) → Has (alias.passed formals actuals) b → is_given s b.formal ≡ true → sees_only s b.actual.name.root ≡ false
+pub clear_named : (s : Typing) (sees : ℕ → Bool) (facts : List Fact) (formals : List ℕ) (actuals : TypedTree) → AreClear s sees facts formals actuals
+    → (b : alias.Passed) → Has (alias.passed formals actuals) b → is_given s b.formal ≡ true → sees b.actual.name.root ≡ false
     → (w : Way) → ways.name_of w ≡ b.actual.name → Cleared facts w
-clear_named s facts (x ∷ formals) (More e rest) clear b has given plain w named = elim (Has-append_cases (alias.passed_as x (written e)) (alias.passed formals rest) b has) [
-  | inr later ↦ clear_named s facts formals rest clear.1 b later given plain w named
+clear_named s sees facts (x ∷ formals) (More e rest) clear b has given plain w named = elim (Has-append_cases (alias.passed_as x (written e)) (alias.passed formals rest) b has) [
+  | inr later ↦ clear_named s sees facts formals rest clear.1 b later given plain w named
   | inl here ↦ first e here clear.0
 ]
   where
-    first : (e : TypedTree) → Has (alias.passed_as x (written e)) b → (is_given s x ≡ true → IsClear s facts e) → Cleared facts w
+    first : (e : TypedTree) → Has (alias.passed_as x (written e)) b → (is_given s x ≡ true → IsClear s sees facts e) → Cleared facts w
     first (Name q y steps u) (inl same) clears =
         clears (ap (λ (z : alias.Passed). is_given s z.formal) same ∙ given) w (named ∙ ap (λ (z : alias.Passed). z.actual.name) (sym same))
-        (ap (λ (z : alias.Passed). sees_only s z.actual.name.root) same ∙ plain)
+        (ap (λ (z : alias.Passed). sees z.actual.name.root) same ∙ plain)
     first (Name q y steps u) (inr none) clears = absurd none
     first e has clears = absurd has
-clear_named s facts [] actuals clear b has given plain w named = absurd has
-clear_named s facts (x ∷ formals) _ clear b has given plain w named = absurd has
+clear_named s sees facts [] actuals clear b has given plain w named = absurd has
+clear_named s sees facts (x ∷ formals) _ clear b has given plain w named = absurd has
 
 both_first : (a b : Bool) → a && b ≡ true → a ≡ true
 both_first true b e = refl
 both_first false b e = cc
 
-changes_shown : (s : Typing) (x : ℕ) → is_given s x ≡ true → is_exclusive s x ≡ true → sees_only s x ≡ false
-changes_shown s x given exclusive = by (is_observer s x) (is_given s x) (is_exclusive s x) (unobserved (object_at s x).kind) exclusive
-  where
-    by : (a b c : Bool) → a ≡ false → c ≡ true → a || (b && not c) ≡ false
-    by true b c none is = cc
-    by false true true none is = refl
-    by false true false none is = cc
-    by false false c none is = refl
-
-    formal : is_formal_kind (object_at s x).kind ≡ true
-    formal = both_first (is_formal s x) (is_in (object_at s x).mode) (given_formal s x given)
-
-    no_variable : (k : ObjectKind) → is_formal_kind k ≡ true → is_variable k ≡ false
-    no_variable object_kind.Formal is = refl
-    no_variable k is = cc
-
-    unobserved : (k : ObjectKind) → is_observer s x ≡ false
-    unobserved k = ap (λ b. b && is_observing (view_of s x)) (no_variable (object_at s x).kind formal)
-
 module _ (table : Table) (typed : TypedProgram) (effects : Effects) (input : List ℕ) (ready : IsReady table typed effects) where
+  abbrev sees : ℕ → Bool
+  sees = sees_in (flow_program table typed)
+
+  abbrev seeing : Seeing (flow_typing (flow_program table typed)) sees
+  seeing = sees_seeing (flow_program table typed)
+
   abbrev program : FlowProgram
   program = flow_program table typed
 
@@ -153,9 +135,9 @@ module _ (table : Table) (typed : TypedProgram) (effects : Effects) (input : Lis
       (awaiting : AreAwaited table typed None (top ∷ stages_of (below ∷ more_frames)))
       (of_sub : IsNamedSub (flow_named table typed) top.frame.sub named) (at_point : IsAtPoint named.points top.frame.next p)
       (path : ControlPath (path_points program effects (sub_of program top.frame.sub)) top.before top.frame.next) (views : Views)
-      (viewed_before : ViewedAlone (home s (suc (length rest))) (sees_only s) (known_gone (home s (suc (length rest))) (GoneElsewhere program effects (below ∷ more_frames))) views
+      (viewed_before : ViewedAlone (home s (suc (length rest))) sees (known_gone (home s (suc (length rest))) (GoneElsewhere program effects (below ∷ more_frames))) views
       (view_here s state) (facts_of program effects top))
-      (kept : Kept s state.memory (waiting_in state)) (scope : InScope s state.memory (suc (length rest)) (lasting_of s p.scope)) (holds : HoldsAt s (suc (length rest)) views state.memory p)
+      (kept : Kept s state.memory (waiting_in state)) (scope : InScope s state.memory (suc (length rest)) (lasting_of s p.scope)) (holds : HoldsAt s sees (suc (length rest)) views state.memory p)
       (placed_before : ArePlaced program (suc (length rest)) (facts_of program effects top) views p.scope × IsBeyond program effects (suc (length rest)) views (below ∷ more_frames)) (above : NoneAbove s (suc (length rest)) state.memory
       × HasTraversals table typed (view_here s state) (record { stage = top; views = views; cells = [] } ∷ (below ∷ more_frames))) where
     abbrev outer : List Frame
@@ -234,46 +216,47 @@ module _ (table : Table) (typed : TypedProgram) (effects : Effects) (input : Lis
           by_test true is = refl
           by_test false is = cc
 
-      -- a formal of a function that changes what it sees is the first one, and a borrower is given
-      given_first : (t : ℕ) → (sub_of program n).result ≡ Some t → (b : alias.Passed) → Has passed_all b → is_given s b.formal ≡ true → is_exclusive s b.formal ≡ true
-          → lends_first s b.formal (sub_at s n) ≡ true
-      given_first t is b has given exclusive = elim (bool_cases (lends_first s b.formal (sub_at s n))) [
-        | inl lends ↦ lends
-        | inr none ↦ (
-            let x_has = named_has formals actuals b has in
-            absurd (true_false (is_exclusive s b.formal) exclusive
-            (ready.class.functions n t (result_there (Some t) is) b.formal (there_formals b.formal x_has) (called.formals b.formal x_has) given none)))
-      ]
-
-      gives_first : (t : ℕ) → (sub_of program n).result ≡ Some t → (b : alias.Passed) → Has passed_all b → is_given s b.formal ≡ true → is_exclusive s b.formal ≡ true
-          → gives_variable s (sub_at s n).result ≡ true
-      gives_first t is b has given exclusive = both_first (gives_variable s (sub_at s n).result) (is_first b.formal (sub_at s n).formals) (given_first t is b has given exclusive)
-
-      formal_named : (b : alias.Passed) → Has passed_all b → is_view_formal s b.formal ≡ true → (sub_of program n).result ≡ None → is_named_access (view_of s b.formal) ≡ true
-      formal_named b has formal is =
+      -- a formal of a function only sees
+      function_sees : (t : ℕ) → (sub_of program n).result ≡ Some t → (b : alias.Passed) → Has passed_all b → is_given s b.formal ≡ true → is_exclusive s b.formal ≡ false
+      function_sees t is b has given =
           let x_has = named_has formals actuals b has in
-          ready.class.procedures n (result_there None is) b.formal (there_formals b.formal x_has) (called.formals b.formal x_has) formal
+          ready.class.functions n t (result_there (Some t) is) b.formal (there_formals b.formal x_has) (called.formals b.formal x_has) given
+
+      formal_named : (b : alias.Passed) → Has passed_all b → is_view_formal s b.formal ≡ true → is_bundle s b.formal ≡ false → (sub_of program n).result ≡ None
+          → is_named_access (view_of s b.formal) ≡ true
+      formal_named b has formal bare is =
+          let x_has = named_has formals actuals b has in
+          ready.class.procedures n (result_there None is) b.formal (there_formals b.formal x_has) (called.formals b.formal x_has) formal ((in_formals b.formal formal).0 bare)
+
+      -- what changes what it sees has no parts that see
+      exclusive_bare : (x : ℕ) → is_exclusive s x ≡ true → is_bundle s x ≡ false
+      exclusive_bare x exclusive = by_kind (is_bundle s x) refl
+        where
+          by_kind : (b : Bool) → is_bundle s x ≡ b → b ≡ false
+          by_kind false is = refl
+          by_kind true is = absurd (true_false (is_exclusive s x) exclusive (open_bundle s x is))
 
       -- what is called doesn't disturb it
       pub shown_spared : (b : alias.Passed) → Has passed_all b → is_given s b.formal ≡ true → is_package_object s b.actual.name.root ≡ true
           → Disturbs effects (lent_to s b.formal) n b.actual.name.root → ⊥
       shown_spared b has given shared disturbs = elim (acting.shown_there table typed effects input ready state top below more_frames rest named p frames deep stages running awaiting of_sub at_point path views viewed_before kept scope holds placed_before above n actuals result e b has given) [
         | inl plain ↦ elim by_answer [
-          | inl is ↦ changed_unused program effects ready.accepted.no_reports (flow_sub own named)
-              (standing.in_program table typed effects input ready state top older outer named p frames of_sub at_point) main_turn.point
-              (standing.in_sub table typed effects input ready state top older outer named p frames of_sub at_point) n actuals result e called.answers is b has
-              (not_immutable plain.formal is) shared (disturbs_uses (lent_to s b.formal) disturbs)
-          | inr (t, is) ↦ unwritten t is (λ exclusive. true_false (lends_first s b.formal (sub_at s n)) (given_first t is b has given exclusive) plain.none)
+          | inl is ↦ elim (bool_cases (is_bundle s b.formal)) [
+            | inr bare ↦ changed_unused program effects ready.accepted.no_reports (flow_sub own named)
+                (standing.in_program table typed effects input ready state top older outer named p frames of_sub at_point) main_turn.point
+                (standing.in_sub table typed effects input ready state top older outer named p frames of_sub at_point) n actuals result e called.answers is b has
+                (not_immutable plain.formal bare is) shared (disturbs_uses (lent_to s b.formal) disturbs)
+            | inl bundle ↦ shown_unwritten program effects ready.accepted.no_reports (flow_sub own named)
+                (standing.in_program table typed effects input ready state top older outer named p frames of_sub at_point) main_turn.point
+                (standing.in_sub table typed effects input ready state top older outer named p frames of_sub at_point) n actuals result e called.answers is b has
+                (many_bundle s sees in_formals b.formal bundle) shared
+                (subst (λ l. Disturbs effects l n b.actual.name.root) (lent_seen b.formal (open_bundle s b.formal bundle)) disturbs)
+          ]
+          | inr (t, is) ↦ unwritten t is
         ]
-        | inr (f, traversed, first_is, name_is) ↦ elim by_answer [
-          | inl is ↦ absurd (let never : None ≡ Some (acting.traversing table typed effects input ready state top below more_frames rest named p frames deep stages running awaiting of_sub at_point path views viewed_before kept scope holds placed_before above n actuals result e f traversed).of = sym is ∙ (acting.traversing table typed effects input ready state top below more_frames rest named p frames deep stages running awaiting of_sub at_point path views viewed_before kept scope holds placed_before above n actuals result e f traversed).result in cc)
-          | inr (t, is) ↦ unwritten t is (λ exclusive. (let made = acting.made table typed effects input ready state top below more_frames rest named p frames deep stages running awaiting of_sub at_point path views viewed_before kept scope holds placed_before above n actuals result e f traversed in
-              ready.traversing.spared (flow_sub own named) (standing.in_program table typed effects input ready state top older outer named p frames of_sub at_point) main_turn.point
-              (standing.in_sub table typed effects input ready state top older outer named p frames of_sub at_point) n actuals result e (gives_first t is b has given exclusive)
-              (made.call).name_pos (made.call).root (made.call).path (made.call).of (made.call).others made.actuals_are
-              (ap (λ (m : PlaceName). is_package_object s m.root) (sym name_is) ∙ shared)
-              (subst (λ (m : PlaceName). Uses effects n m.root) name_is (disturbs_uses (lent_to s b.formal) disturbs))))
-        ]
+        | inr (f, traversed, first_is, name_is) ↦
+            unwritten (acting.traversing table typed effects input ready state top below more_frames rest named p frames deep stages running awaiting of_sub at_point path views viewed_before kept scope holds placed_before above n actuals result e f traversed).of
+            (acting.traversing table typed effects input ready state top below more_frames rest named p frames deep stages running awaiting of_sub at_point path views viewed_before kept scope holds placed_before above n actuals result e f traversed).result
       ]
         where
           variable_named : (w : TypeView) → is_named_access w ≡ true → is_variable_access w ≡ true
@@ -288,25 +271,23 @@ module _ (table : Table) (typed : TypedProgram) (effects : Effects) (input : Lis
           mutable true b is = (λ j. not (not (is j)))
           mutable false b is = refl
 
-          not_immutable : is_view_formal s b.formal ≡ true → (sub_of program n).result ≡ None → not (alias.is_immutable s b.formal) ≡ true
-          not_immutable formal is =
-              mutable (is_in_mode (object_at s b.formal).mode) (is_variable_access (view_of s b.formal)) (variable_named (view_of s b.formal) (formal_named b has formal is))
+          not_immutable : is_view_formal s b.formal ≡ true → is_bundle s b.formal ≡ false → (sub_of program n).result ≡ None → not (alias.is_immutable s b.formal) ≡ true
+          not_immutable formal bare is =
+              mutable (is_in_mode (object_at s b.formal).mode) (is_variable_access (view_of s b.formal)) (variable_named (view_of s b.formal) (formal_named b has formal bare is))
 
           disturbs_uses : (l : Loan) → Disturbs effects l n b.actual.name.root → Uses effects n b.actual.name.root
           disturbs_uses Borrowed uses = uses
           disturbs_uses Observed writes = inr writes
 
           -- a function writes no package object
-          unwritten : (t : ℕ) → (sub_of program n).result ≡ Some t → (is_exclusive s b.formal ≡ true → ⊥) → ⊥
-          unwritten t is seen = elim (bool_cases (is_exclusive s b.formal)) [
-            | inl exclusive ↦ seen exclusive
-            | inr none ↦ function_writes table typed effects ready.accepted.no_reports ready.accepted.effects_are called.text_io
-                (innermost.borrower_local table typed effects input ready state top below more_frames rest named p frames deep stages running awaiting of_sub at_point path views viewed_before kept scope holds placed_before above)
-                (λ sub in_program q in_sub k more answer call_is. (let other_call = ready.called sub in_program q in_sub k more answer call_is in
-                ((other_call.runs).named, (other_call.runs).stands, other_call.answers, other_call.local)))
-                n (called.runs).named (called.runs).stands (ap is_some is) called.local b.actual.name.root shared
-                (subst (λ l. Disturbs effects l n b.actual.name.root) (lent_seen b.formal none) disturbs)
-          ]
+          unwritten : (t : ℕ) → (sub_of program n).result ≡ Some t → ⊥
+          unwritten t is =
+              function_writes table typed effects ready.accepted.no_reports ready.accepted.effects_are called.text_io
+              (innermost.borrower_local table typed effects input ready state top below more_frames rest named p frames deep stages running awaiting of_sub at_point path views viewed_before kept scope holds placed_before above)
+              (λ sub in_program q in_sub k more answer call_is. (let other_call = ready.called sub in_program q in_sub k more answer call_is in
+              ((other_call.runs).named, (other_call.runs).stands, other_call.answers, other_call.local)))
+              n (called.runs).named (called.runs).stands (ap is_some is) called.local b.actual.name.root shared
+              (subst (λ l. Disturbs effects l n b.actual.name.root) (lent_seen b.formal (function_sees t is b has given)) disturbs)
 
       -- the frame names it, and changes it where it is lent to be changed
       pub shown_used : (b : alias.Passed) → Has passed_all b → is_given s b.formal ≡ true → is_package_object s b.actual.name.root ≡ true
@@ -317,10 +298,10 @@ module _ (table : Table) (typed : TypedProgram) (effects : Effects) (input : Lis
             let root : b.actual.name.root ≡ ((acting.made table typed effects input ready state top below more_frames rest named p frames deep stages running awaiting of_sub at_point path views viewed_before kept scope holds placed_before above n actuals result e f traversed).call).root = ap (λ (m : PlaceName). m.root) name_is in
             let shared_there = ap (is_package_object s) (sym root) ∙ shared in (
               subst (Uses effects top.frame.sub) (sym root) (acting.uses_first table typed effects input ready state top below more_frames rest named p frames deep stages running awaiting of_sub at_point path views viewed_before kept scope holds placed_before above n actuals result e f traversed shared_there),
-              λ borrowed. subst (Has (written_by effects top.frame.sub)) (sym root)
-                  (acting.writes_first table typed effects input ready state top below more_frames rest named p frames deep stages running awaiting of_sub at_point path views viewed_before kept scope holds placed_before above n actuals result e f traversed
-                  (gives_first (acting.traversing table typed effects input ready state top below more_frames rest named p frames deep stages running awaiting of_sub at_point path views viewed_before kept scope holds placed_before above n actuals result e f traversed).of (acting.traversing table typed effects input ready state top below more_frames rest named p frames deep stages running awaiting of_sub at_point path views viewed_before kept scope holds placed_before above n actuals result e f traversed).result b has given (lent_exclusive b.formal borrowed))
-                  shared_there),
+              λ borrowed. absurd (true_false (is_exclusive s b.formal) (lent_exclusive b.formal borrowed)
+                  (function_sees (acting.traversing table typed effects input ready state top below more_frames rest named p frames deep stages running awaiting of_sub at_point path views viewed_before kept scope holds placed_before above n actuals result e f traversed).of
+                  (acting.traversing table typed effects input ready state top below more_frames rest named p frames deep stages running awaiting of_sub at_point path views viewed_before kept scope holds placed_before above n actuals result e f traversed).result
+                  b has given)),
             ))
       ]
         where
@@ -341,27 +322,27 @@ module _ (table : Table) (typed : TypedProgram) (effects : Effects) (input : Lis
                     (subst (λ z. (act_writes b.actual.name.root z ≡ true) ⊎ (act_reads b.actual.name.root z ≡ true)) (sym plain.is)
                     (writes_or_reads b.actual.name (procedure && is_named_access (view_of s b.formal)))),
                 λ borrowed. elim by_answer [
-                  | inr (t, is) ↦ absurd (true_false (lends_first s b.formal (sub_at s n)) (given_first t is b has given (lent_exclusive b.formal borrowed)) plain.none)
+                  | inr (t, is) ↦ absurd (true_false (is_exclusive s b.formal) (lent_exclusive b.formal borrowed) (function_sees t is b has given))
                   | inl is ↦ innermost.act_writes_it table typed effects input ready state top below more_frames rest named p frames deep stages running awaiting of_sub at_point path views viewed_before kept scope holds placed_before above
                       b.actual.name.root shared main_turn.point in_sub plain.placed in_point
                       (subst (λ z. act_writes b.actual.name.root z ≡ true) (sym plain.is)
-                      (writes_then b.actual.name (procedure && is_named_access (view_of s b.formal)) (λ j. not (is_some (is j)) && formal_named b has plain.formal is j)))
+                      (writes_then b.actual.name (procedure && is_named_access (view_of s b.formal)) (λ j. not (is_some (is j)) && formal_named b has plain.formal (exclusive_bare b.formal (lent_exclusive b.formal borrowed)) is j)))
                 ],
               )
 
       -- nothing that the frame knows as moved or borrowed overlaps what is observed
-      module _ (clear : AreClear s facts_now formals actuals) where
+      module _ (clear : AreClear s sees facts_now formals actuals) where
         clears : (b : alias.Passed) → Has passed_all b → is_given s b.formal ≡ true → is_package_object s b.actual.name.root ≡ true
             → (w : Way) → ways.name_of w ≡ b.actual.name → Cleared facts_now w
         clears b has given shared w named_so =
-            clear_named s facts_now formals actuals clear b has given
+            clear_named s sees facts_now formals actuals clear b has given
             (innermost.package_owns table typed effects input ready state top below more_frames rest named p frames deep stages running awaiting of_sub at_point path views viewed_before kept scope holds placed_before above b.actual.name.root shared) w named_so
 
         less_now : (f : Fact) → Has facts_called f → Has facts_now f
         less_now f has =
             Has-append_left own_facts handed_on f (acting.adds_none table typed effects input ready state top below more_frames rest named p frames deep stages running awaiting of_sub at_point path views viewed_before kept scope holds placed_before above n actuals result e f has)
 
-        pub shown_apart : FactsAreClear (sees_only s) facts_called → (f : Fact) (h : ℕ) (name : PlaceName) → Has (facts_called ++ flat_map (shown_one s) passed_all) f
+        pub shown_apart : FactsAreClear sees facts_called → (f : Fact) (h : ℕ) (name : PlaceName) → Has (facts_called ++ flat_map (shown_one s) passed_all) f
             → loan_by f ≡ Borrowed → Has (facts_called ++ flat_map (shown_one s) passed_all) (Lent Observed h name) → overlaps (place f) name ≡ true → ⊥
         shown_apart own_clear f h name has borrowed seen over =
             elim (Has-append_cases facts_called (flat_map (shown_one s) passed_all) f has) [
@@ -380,9 +361,9 @@ module _ (table : Table) (typed : TypedProgram) (effects : Effects) (input : Lis
                   let given : is_given s (b.passed).formal ≡ true = b.formal in
                   let x_has = named_has formals actuals b.passed b.has in
                   elim (acting.by_callee table typed effects input ready state top below more_frames rest named p frames deep stages running awaiting of_sub at_point path views viewed_before kept scope holds placed_before above n actuals result e) [
-                    | inl modes ↦ by_lent b exclusive (modes.2 (b.passed).formal x_has given (changes_shown s (b.passed).formal given exclusive) (b.passed).actual b.has)
+                    | inl modes ↦ by_lent b exclusive (modes.2 (b.passed).formal x_has given (seeing.changes (b.passed).formal given exclusive) (b.passed).actual b.has)
                         (Has-append_cases facts_called (flat_map (shown_one s) passed_all) (Lent Observed h name) seen)
-                    | inr lent ↦ by_lent b exclusive (lent (b.passed).formal x_has given (b.passed).actual b.has)
+                    | inr lent ↦ by_lent b exclusive (lent (b.passed).formal x_has given (exclusive_bare (b.passed).formal exclusive) (b.passed).actual b.has)
                         (Has-append_cases facts_called (flat_map (shown_one s) passed_all) (Lent Observed h name) seen)
                   ])
             ]
@@ -394,7 +375,7 @@ module _ (table : Table) (typed : TypedProgram) (effects : Effects) (input : Lis
             observed_borrowed is = cc
 
             -- what is lent to be changed meets nothing that is observed
-            by_lent : (b : IsShownOf s passed_all f) → is_exclusive s (b.passed).formal ≡ true → IsLentAs s facts_now passed_all (b.passed).formal (b.passed).actual
+            by_lent : (b : IsShownOf s passed_all f) → is_exclusive s (b.passed).formal ≡ true → IsLentAs s sees facts_now passed_all (b.passed).formal (b.passed).actual
                 → Has facts_called (Lent Observed h name) ⊎ Has (flat_map (shown_one s) passed_all) (Lent Observed h name) → ⊥
             by_lent b exclusive lent (inl fact) =
                 lent.clear (Lent Observed h name) (less_now (Lent Observed h name) fact)
@@ -466,19 +447,26 @@ module _ (table : Table) (typed : TypedProgram) (effects : Effects) (input : Lis
         )
 
         -- what a formal is lent that changes what it sees is borrowed
-        lent_changed : (x : ℕ) → is_given s x ≡ true → sees_only s x ≡ false → lent_to s x ≡ Borrowed
-        lent_changed x given changes = ap (λ z. if z then Borrowed else Observed) (exclusive_shown s x given changes)
+        lent_changed : (x : ℕ) → is_given s x ≡ true → sees x ≡ false → lent_to s x ≡ Borrowed
+        lent_changed x given changes = ap (λ z. if z then Borrowed else Observed) (seeing.lends x given changes)
 
+        -- `there` is what the actual's name designates, or what a part of its place does
         pub shared_at : (b : alias.Passed) → Has passed_all b → is_given s b.formal ≡ true → (from : Way) → ways.Named (home s depth) from → b.actual.name ≡ ways.name_of from
-            → (is_view s (ways.number_of from) ≡ true → (l : Lifted views (ways.All from)) × (l.object ≡ ways.number_of from))
-            → (sees_only s b.formal ≡ false → sees_only s (ways.number_of from) ≡ false)
-            → (w : Way) → w ≡ expand views (ways.All from) → ways.Named (home s depth) w → is_package_object s (ways.number_of w) ≡ true
-            → IsShared (home s next) LentAround (sees_only s b.formal) w
-        shared_at b has is_given_formal from at_home named_so lifted plain w leads w_home shared = elim (bool_cases (is_view s (ways.number_of from))) [
-          | inr owner ↦ by_owner (no_way owner)
-          | inl view ↦ by_view (lifted view)
+            → (there : Way) → ways.Under from there → GoesBy s views (ways.number_of from) there
+            → (sees b.formal ≡ false → sees (ways.number_of from) ≡ false)
+            → (w : Way) → w ≡ expand views there → ways.Named (home s depth) w → is_package_object s (ways.number_of w) ≡ true
+            → IsShared (home s next) LentAround (sees b.formal) w
+        shared_at b has is_given_formal from at_home named_so there begins_there goes plain w leads w_home shared = elim (bool_cases (is_view s (ways.number_of from))) [
+          | inr owner ↦ by_owner (no_way owner) (no_parts owner)
+          | inl view ↦ elim (bool_cases (is_bundle s (ways.number_of from))) [
+            | inr bare ↦ by_view (goes.0 bare view)
+            | inl bundle ↦ by_part bundle (goes.1 bundle)
+          ]
         ]
           where
+            root_there : ways.number_of there ≡ ways.number_of from
+            root_there = (longer from there begins_there).root
+
             no_way : is_view s (ways.number_of from) ≡ false → views.way (ways.number_of from) ≡ None
             no_way owner = by_way (views.way (ways.number_of from)) refl
               where
@@ -486,27 +474,47 @@ module _ (table : Table) (typed : TypedProgram) (effects : Effects) (input : Lis
                 by_way None is = is
                 by_way (Some k) is = absurd (true_false (is_view s (ways.number_of from)) (holds.only (ways.number_of from) k is) owner)
 
-            by_owner : views.way (ways.number_of from) ≡ None → IsShared (home s next) LentAround (sees_only s b.formal) w
-            by_owner none =
-                let itself : w ≡ ways.All from = leads ∙ stands_alone views (ways.All from) none in
-                let root : is_package_object s b.actual.name.root ≡ true = ap (λ (z : PlaceName). is_package_object s z.root) named_so ∙ ap (λ z. is_package_object s (ways.number_of z)) (sym itself) ∙ shared in
+            no_parts : is_view s (ways.number_of from) ≡ false → (p : List Step) → views.part_way (ways.number_of from) p ≡ None
+            no_parts owner p = by_way (views.part_way (ways.number_of from) p) refl
+              where
+                by_way : (o : Option Way) → views.part_way (ways.number_of from) p ≡ o → views.part_way (ways.number_of from) p ≡ None
+                by_way None is = is
+                by_way (Some k) is = absurd (true_false (is_view s (ways.number_of from)) (bundle_view s (ways.number_of from) (holds.parts.only (ways.number_of from) p k is)) owner)
+
+            by_owner : views.way (ways.number_of from) ≡ None → ((p : List Step) → views.part_way (ways.number_of from) p ≡ None) → IsShared (home s next) LentAround (sees b.formal) w
+            by_owner none bare =
+                let itself : w ≡ there = leads ∙ stands_alone views there (ap views.way root_there ∙ none) (λ p. ap (λ z. views.part_way z p) root_there ∙ bare p) in
+                let root : is_package_object s b.actual.name.root ≡ true = ap (λ (z : PlaceName). is_package_object s z.root) named_so ∙ ap (is_package_object s) (sym root_there) ∙ ap (λ z. is_package_object s (ways.number_of z)) (sym itself) ∙ shared in
                 let f : Fact = Lent (lent_to s b.formal) b.formal b.actual.name in
                 let shown : Has (shown_at program waits_there.stage) f =
                 subst (λ z. Has z f) (sym (shown_is waits_there.stage.returns)) (all_shown s passed_all b has is_given_formal root) in
                 elim (known_lent f from w (Has-append_right (facts_of program effects waits_there.stage) (shown_at program waits_there.stage) f shown) named_so at_home
-                (subst (ways.Under from) (sym itself) (inr (under_itself from))) shared) [
+                (subst (ways.Under from) (sym itself) begins_there) shared) [
                   | inl through ↦ (lent_to s b.formal, through, λ changes. lent_changed b.formal is_given_formal changes)
                   | inr through ↦ (Borrowed, through, λ changes. refl)
                 ]
 
-            by_view : (l : Lifted views (ways.All from)) × (l.object ≡ ways.number_of from) → IsShared (home s next) LentAround (sees_only s b.formal) w
+            further : (loan : Loan) (k : Way) → ways.Under k w → IsThrough (home s next) LentAround loan k → IsThrough (home s next) LentAround loan w
+            further loan k under (q, q_home, above_k, lent) = (q, q_home, under_on q k w above_k under, lent)
+
+            by_part : is_bundle s (ways.number_of from) ≡ true → (l : InPart views there) → IsShared (home s next) LentAround (sees b.formal) w
+            by_part bundle l =
+                let on_way : w ≡ on l.way l.rest = leads ∙ in_part_way views there l in
+                let l_home : ways.Named (home s depth) l.way = on_named (home s depth) l.way l.rest (subst (ways.Named (home s depth)) on_way w_home) in
+                let (loan, through, changed) = placed_before.1.1.1 l.object l.steps l.way l.has l_home in (
+                  loan,
+                  further loan l.way (subst (ways.Under l.way) (sym on_way) (on_under l.way l.rest)) (older_lent loan l.way through),
+                  λ changes. absurd (true_false (sees (ways.number_of from)) (holds.parts.looks (ways.number_of from) bundle) (plain changes)),
+                )
+
+            by_view : (l : Lifted views there) × (l.object ≡ ways.number_of from) → IsShared (home s next) LentAround (sees b.formal) w
             by_view (l, object_is) =
-                let on_way : w ≡ on l.way l.rest = leads ∙ lifted_way views (ways.All from) l in
+                let on_way : w ≡ on l.way l.rest = leads ∙ lifted_way views there l in
                 let l_home : ways.Named (home s depth) l.way = on_named (home s depth) l.way l.rest (subst (ways.Named (home s depth)) on_way w_home) in
                 let under : ways.Under l.way w = subst (ways.Under l.way) (sym on_way) (on_under l.way l.rest) in
-                let (loan, goes, changed) = view_goes (home s depth) (sees_only s) views (view_here s state) (facts_of program effects top) viewed_before.views
+                let (loan, goes, changed) = view_goes (home s depth) sees views (view_here s state) (facts_of program effects top) viewed_before.views
                 (LentBy program effects older) placed_before.1.1 l.object l.way l.has l_home in
-                let changes_so : sees_only s b.formal ≡ false → loan ≡ Borrowed = λ changes. changed (ap (sees_only s) object_is ∙ plain changes) in
+                let changes_so : sees b.formal ≡ false → loan ≡ Borrowed = λ changes. changed (ap sees object_is ∙ plain changes) in
                 elim goes [
                   | inr through ↦ (loan, further loan l.way under (older_lent loan l.way through), changes_so)
                   | inl (holder, k, fact, k_home, k_under) ↦ (
@@ -522,6 +530,3 @@ module _ (table : Table) (typed : TypedProgram) (effects : Effects) (input : Lis
                         | inr through ↦ (Borrowed, through, λ changes. refl)
                       ])
                 ]
-              where
-                further : (loan : Loan) (k : Way) → ways.Under k w → IsThrough (home s next) LentAround loan k → IsThrough (home s next) LentAround loan w
-                further loan k under (q, q_home, above_k, lent) = (q, q_home, under_on q k w above_k under, lent)

@@ -38,11 +38,11 @@ use Rattle.soundness.proofs.Scalars.{acts}
 use Rattle.soundness.proofs.Around.{IsFar}
 use Rattle.soundness.proofs.Eased.{eased}
 use Rattle.owned_loans.specs.Views.{Around, known_gone, Views, Viewed, AreViews, AreClear as FactsAreClear, IsMovedBy, on, ViewedAlone}
-use Rattle.owned_loans.proofs.Ways.{under_on, lifts, lifted_root, lifted_way, on_named, base_on, on_under}
+use Rattle.owned_loans.proofs.Ways.{part_root, under_on, lifts, lifted_root, lifted_way, on_named, base_on, on_under}
 use Rattle.owned_loans.proofs.Meeting.{stands_base}
 use Rattle.owned_loans.proofs.Moves.{view_rooted}
-use Rattle.viewed_soundness.proofs.Names.{true_false}
-use Rattle.viewed_soundness.specs.Holds.{Holds, is_view, sees_only, IsOwners}
+use Rattle.viewed_soundness.proofs.ViewKinds.{true_false}
+use Rattle.viewed_soundness.specs.Holds.{Holds, is_view, IsOwners, Seeing}
 use Rattle.viewed_steps.specs.Awaited.{temporaries_of, lasting_of, AreAwaited, AreOwnless, TakesPassed}
 use Rattle.viewed_steps.proofs.Waited.{Shares}
 use Rattle.viewed_steps.specs.Sound.{IsCopiedBack, IsBeyond, HoldsAt, ArePlaced, NoneAbove, ViewStage, stages_of, GoneElsewhere, Disturbs, AreWaiting, IsResting, HasTraversals, passed_roots}
@@ -65,18 +65,25 @@ use Rattle.viewed_steps.proofs.Standing.{or_right}
 use Rattle.viewed_steps.proofs.Standing as standing
 use Rattle.viewed_steps.proofs.Packages as packages
 use Rattle.viewed_steps.proofs.Innermost as innermost
-use Rattle.viewed_steps.proofs.Views.{AreAccess, AreFar, base_named}
+use Rattle.viewed_steps.proofs.Views.{AreLowFormals, AreAccess, AreFar, base_named}
 use Rattle.viewed_steps.proofs.Lending.{named_has}
 use Rattle.viewed_steps.proofs.CallActs as acting
-use Rattle.viewed_soundness.proofs.Given.{IsLow}
 use Rattle.viewed_steps.proofs.Withheld.{passed_from}
 use Rattle.viewed_steps.proofs.Roots.{borrower_from, FromGiven}
-use Rattle.owned_loans.proofs.Safe.{off_view}
+use Rattle.owned_loans.proofs.Safe.{off_parts, off_view}
 use Rattle.viewed_steps.proofs.Handed.{gone_lent}
 use Rattle.viewed_steps.proofs.Stilled.{still, lent_only}
 use Rattle.viewed_steps.proofs.Calling as calling
+use Rattle.viewed_steps.specs.Seeing.{sees_in}
+use Rattle.viewed_steps.proofs.Sees.{sees_seeing}
 
 module _ (table : Table) (typed : TypedProgram) (effects : Effects) (input : List ℕ) (ready : IsReady table typed effects) where
+  abbrev sees : ℕ → Bool
+  sees = sees_in (flow_program table typed)
+
+  abbrev seeing : Seeing (flow_typing (flow_program table typed)) sees
+  seeing = sees_seeing (flow_program table typed)
+
   abbrev program : FlowProgram
   program = flow_program table typed
 
@@ -102,9 +109,9 @@ module _ (table : Table) (typed : TypedProgram) (effects : Effects) (input : Lis
       (awaiting : AreAwaited table typed None (top ∷ stages_of (below ∷ more_frames)))
       (of_sub : IsNamedSub (flow_named table typed) top.frame.sub named) (at_point : IsAtPoint named.points top.frame.next p)
       (path : ControlPath (path_points program effects (sub_of program top.frame.sub)) top.before top.frame.next) (views : Views)
-      (viewed_before : ViewedAlone (home s (suc (length rest))) (sees_only s) (known_gone (home s (suc (length rest))) (GoneElsewhere program effects (below ∷ more_frames))) views
+      (viewed_before : ViewedAlone (home s (suc (length rest))) sees (known_gone (home s (suc (length rest))) (GoneElsewhere program effects (below ∷ more_frames))) views
       (view_here s state) (facts_of program effects top))
-      (kept : Kept s state.memory (waiting_in state)) (scope : InScope s state.memory (suc (length rest)) (lasting_of s p.scope)) (holds : HoldsAt s (suc (length rest)) views state.memory p)
+      (kept : Kept s state.memory (waiting_in state)) (scope : InScope s state.memory (suc (length rest)) (lasting_of s p.scope)) (holds : HoldsAt s sees (suc (length rest)) views state.memory p)
       (placed_before : ArePlaced program (suc (length rest)) (facts_of program effects top) views p.scope × IsBeyond program effects (suc (length rest)) views (below ∷ more_frames)) (above : NoneAbove s (suc (length rest)) state.memory
       × HasTraversals table typed (view_here s state) (record { stage = top; views = views; cells = [] } ∷ (below ∷ more_frames))) where
     abbrev outer : List Frame
@@ -149,7 +156,7 @@ module _ (table : Table) (typed : TypedProgram) (effects : Effects) (input : Lis
     abbrev easy : Turn
     easy = eased main_turn
 
-    abbrev viewed_easy : Plain → Viewed (home s depth) (sees_only s) other views (view_here s easy.state) facts_now × Kept s state.memory (waiting_in easy.state)
+    abbrev viewed_easy : Plain → Viewed (home s depth) sees other views (view_here s easy.state) facts_now × Kept s state.memory (waiting_in easy.state)
     viewed_easy = innermost.ownless_easy table typed effects input ready state top below more_frames rest named p frames deep stages running awaiting of_sub at_point path views viewed_before kept scope holds placed_before above
 
     module _ (n : ℕ) (actuals : TypedTree) (result : Option ℕ) (e : p.instr ≡ Call n actuals result) where
@@ -171,27 +178,27 @@ module _ (table : Table) (typed : TypedProgram) (effects : Effects) (input : Lis
       abbrev facts_called : List Fact
       facts_called = acting.facts_called table typed effects input ready state top below more_frames rest named p frames deep stages running awaiting of_sub at_point path views viewed_before kept scope holds placed_before above n actuals result e
 
-      abbrev holds_now : Holds s depth views state.memory
+      abbrev holds_now : Holds s sees depth views state.memory
       holds_now = acting.holds_now table typed effects input ready state top below more_frames rest named p frames deep stages running awaiting of_sub at_point path views viewed_before kept scope holds placed_before above n actuals result e
 
       abbrev live_now : (w : Way) (l : ways.Loc) → IsOwners s w → ways.Reaches (seen s state.memory (waiting_in easy.state) state.leaks) w l
           → (content s state.memory (waiting_in easy.state) (trunk l)).owns ≡ true
       live_now = acting.live_now table typed effects input ready state top below more_frames rest named p frames deep stages running awaiting of_sub at_point path views viewed_before kept scope holds placed_before above n actuals result e
 
-      abbrev formals_low : (x : ℕ) (w : Way) → views.way x ≡ Some w → IsLow s depth w
+      abbrev formals_low : AreLowFormals s depth views
       formals_low = acting.formals_low table typed effects input ready state top below more_frames rest named p frames deep stages running awaiting of_sub at_point path views viewed_before kept scope holds placed_before above n actuals result e
 
       abbrev Given : List Passed → Type 0
       Given passed =
-          AreGiven (steps.here main_turn) ready.accepted.settled (waiting_in easy.state) state.leaks state.memory [] other facts_now views (viewed_easy plain_there.0).1 (viewed_easy plain_there.0).0 holds_now alone live_now in_formals
+          AreGiven (steps.here main_turn) sees seeing ready.accepted.settled (waiting_in easy.state) state.leaks state.memory [] other facts_now views (viewed_easy plain_there.0).1 (viewed_easy plain_there.0).0 holds_now alone live_now in_formals
           index_law ready.owns ready.class.parts_named formals_low procedure formals actuals passed
 
       abbrev view_now : ways.View
       view_now = seen s state.memory (waiting_in easy.state) state.leaks
 
-      abbrev given_laid : (passed : List Passed) → Given passed → AreLaidOut s state.memory depth views view_now formals actuals passed
+      abbrev given_laid : (passed : List Passed) → Given passed → AreLaidOut s sees state.memory depth views view_now formals actuals passed
       given_laid passed given =
-          all_laid_out (steps.here main_turn) ready.accepted.settled (waiting_in easy.state) state.leaks state.memory [] other facts_now views (viewed_easy plain_there.0).1 (viewed_easy plain_there.0).0 holds_now alone live_now in_formals
+          all_laid_out (steps.here main_turn) sees seeing ready.accepted.settled (waiting_in easy.state) state.leaks state.memory [] other facts_now views (viewed_easy plain_there.0).1 (viewed_easy plain_there.0).0 holds_now alone live_now in_formals
           index_law ready.owns ready.class.parts_named formals_low procedure formals actuals passed given
 
       abbrev call_point : (k : ℕ) × (successor main_turn 0 ≡ Some k) × Has main_turn.point.next k
@@ -229,40 +236,40 @@ module _ (table : Table) (typed : TypedProgram) (effects : Effects) (input : Lis
         far_views = calling.far_views table typed effects input ready state top below more_frames rest named p frames deep stages running awaiting of_sub at_point path views viewed_before kept scope holds placed_before above n actuals result e passed given
 
         abbrev outs : List Out
-        outs = outs_of s state.memory depth views view_now formals actuals passed (given_laid passed given)
+        outs = outs_of s sees state.memory depth views view_now formals actuals passed (given_laid passed given)
 
         abbrev cells : List Lodge
-        cells = cells_of s state.memory depth views view_now formals actuals passed (given_laid passed given)
+        cells = cells_of s sees state.memory depth views view_now formals actuals passed (given_laid passed given)
 
-        abbrev well_before : Viewed (home s depth) (sees_only s) other_all views (view_here s easy.state) facts_now
+        abbrev well_before : Viewed (home s depth) sees other_all views (view_here s easy.state) facts_now
         well_before = calling.well_before table typed effects input ready state top below more_frames rest named p frames deep stages running awaiting of_sub at_point path views viewed_before kept scope holds placed_before above n actuals result e passed given
 
         abbrev called_less : (f : Fact) → Has facts_called f → Has own_facts f
         called_less = calling.called_less table typed effects input ready state top below more_frames rest named p frames deep stages running awaiting of_sub at_point path views viewed_before kept scope holds placed_before above n actuals result e passed given
 
-        abbrev views_called : AreViews (home s depth) (sees_only s) views (view_here s easy.state) facts_called
+        abbrev views_called : AreViews (home s depth) sees views (view_here s easy.state) facts_called
         views_called = calling.views_called table typed effects input ready state top below more_frames rest named p frames deep stages running awaiting of_sub at_point path views viewed_before kept scope holds placed_before above n actuals result e passed given
 
-        abbrev clear_all : FactsAreClear (sees_only s) facts_all
+        abbrev clear_all : FactsAreClear sees facts_all
         clear_all = calling.clear_all table typed effects input ready state top below more_frames rest named p frames deep stages running awaiting of_sub at_point path views viewed_before kept scope holds placed_before above n actuals result e passed given
 
-        abbrev views_all : AreViews (home s depth) (sees_only s) views (view_here s easy.state) facts_all
+        abbrev views_all : AreViews (home s depth) sees views (view_here s easy.state) facts_all
         views_all = calling.views_all table typed effects input ready state top below more_frames rest named p frames deep stages running awaiting of_sub at_point path views viewed_before kept scope holds placed_before above n actuals result e passed given
 
         abbrev around_names : Around (home s depth)
         around_names = lent_only (home s depth) other_all.lent
 
-        abbrev names_all : Viewed (home s depth) (sees_only s) around_names views (still (view_here s easy.state)) facts_all
+        abbrev names_all : Viewed (home s depth) sees around_names views (still (view_here s easy.state)) facts_all
         names_all = calling.names_all table typed effects input ready state top below more_frames rest named p frames deep stages running awaiting of_sub at_point path views viewed_before kept scope holds placed_before above n actuals result e passed given
 
-        abbrev all_passed_ways : (ways_taken : List Way) × ArePassedOn s state.memory cells depth views facts_all next_there formals passed ways_taken outs
-            × ((k : Way) → Has ways_taken k → IsNamedBy s depth views facts_all formals actuals k)
+        abbrev all_passed_ways : (ways_taken : List Way) × ArePassedOn s sees state.memory cells depth views facts_all next_there formals passed ways_taken outs
+            × ((k : Way) → Has ways_taken k → IsNamedBy s sees depth views facts_all formals actuals k)
         all_passed_ways = calling.all_passed_ways table typed effects input ready state top below more_frames rest named p frames deep stages running awaiting of_sub at_point path views viewed_before kept scope holds placed_before above n actuals result e passed given
 
         abbrev ways_taken : List Way
         ways_taken = all_passed_ways.0
 
-        abbrev named_cell : (c : Lodge) → Has cells c → IsCellNamed s depth facts_all views view_now formals actuals passed c
+        abbrev named_cell : (c : Lodge) → Has cells c → IsCellNamed s sees depth facts_all views view_now formals actuals passed c
         named_cell = calling.named_cell table typed effects input ready state top below more_frames rest named p frames deep stages running awaiting of_sub at_point path views viewed_before kept scope holds placed_before above n actuals result e passed given
 
         abbrev cell_root : (c : Lodge) (has : Has cells c) → ways.number_of c.name ≡ ways.number_of (named_cell c has).whole
@@ -281,7 +288,7 @@ module _ (table : Table) (typed : TypedProgram) (effects : Effects) (input : Lis
             (acting.back_there table typed effects input ready state top below more_frames rest named p frames deep stages running awaiting of_sub at_point path views viewed_before kept scope holds placed_before above n actuals result e b.formal (named_has formals actuals b has) back act.0 act.1)) act.2
 
         abbrev Given_to : Way → Type 0
-        Given_to to = FromGiven (home s depth) (sees_only s) views (view_here s easy.state) facts_called views_called to
+        Given_to to = FromGiven (home s depth) sees views (view_here s easy.state) facts_called views_called to
 
         -- a package object where a way of them begins is passed by its name, or borrowed; or it was lent to the frame
         first_named : (to : Way) (has : Has ways_taken to) (y : ℕ) → ways.base_of to ≡ ways.OfRoot (ways.OfVariable 0 y) → is_package_object s y ≡ true
@@ -295,12 +302,14 @@ module _ (table : Table) (typed : TypedProgram) (effects : Effects) (input : Lis
                   let same : by.name ≡ to = sym itself ∙ by.means in
                   inl (ap (λ (z : PlaceName). z.root) by.called
                   ∙ number_based (home s depth) by.name y by.named (ap ways.base_of same ∙ own)))
-              | inr lift ↦ (
+              | inr (inr part) ↦ absurd (true_false (sees part.object) (views_called.1 part.object part.steps part.way part.has).sees
+                  (ap sees (sym (part_root views by.name part)) ∙ by.plain))
+              | inr (inl lift) ↦ (
                   let goes_there : to ≡ on lift.way lift.rest = sym by.means ∙ lifted_way views by.name lift in
                   let whole : ways.Named (home s depth) to = base_named (home s depth) to y own in
                   let front : ways.Named (home s depth) lift.way = on_named (home s depth) lift.way lift.rest (subst (ways.Named (home s depth)) goes_there whole) in
-                  inr (elim (borrower_from (home s depth) (sees_only s) views (view_here s easy.state) facts_called views_called lift.object lift.way
-                  (ap (sees_only s) (sym (lifted_root views by.name lift)) ∙ by.plain) lift.has) [
+                  inr (elim (borrower_from (home s depth) sees views (view_here s easy.state) facts_called views_called lift.object lift.way
+                  (ap sees (sym (lifted_root views by.name lift)) ∙ by.plain) lift.has) [
                     | inl goes ↦ inl (
                       goes.0,
                       ways.name_of goes.1,
@@ -308,12 +317,12 @@ module _ (table : Table) (typed : TypedProgram) (effects : Effects) (input : Lis
                       sym (longer goes.1 lift.way goes.4).root
                           ∙ number_based (home s depth) lift.way y front (sym (base_on lift.way lift.rest) ∙ ap ways.base_of (sym goes_there) ∙ own),
                     )
-                    | inr (x, u, is, given, sees, under) ↦ inr (
+                    | inr (x, u, is, given, sight, under) ↦ inr (
                       x,
                       u,
                       is,
                       given,
-                      sees,
+                      sight,
                       subst (ways.Under u) (sym goes_there) (under_on u lift.way (on lift.way lift.rest) under (on_under lift.way lift.rest)),
                     )
                   ]))
@@ -365,11 +374,11 @@ module _ (table : Table) (typed : TypedProgram) (effects : Effects) (input : Lis
         -- what was lent to the frame it doesn't write
         lent_unwritten : (to : Way) (y : ℕ) → ways.base_of to ≡ ways.OfRoot (ways.OfVariable 0 y) → is_package_object s y ≡ true → Given_to to
             → Has (written_by effects top.frame.sub) y → ⊥
-        lent_unwritten to y base shared (x, u, is, given, sees, under) written =
+        lent_unwritten to y base shared (x, u, is, given, sight, under) written =
             let first : 0 ≡ home s depth y = ap (λ b. if b then 0 else depth) (sym shared) in
             let based : ways.base_of u ≡ ways.OfRoot (ways.OfVariable (home s depth y) y) =
             sym (base_under u to under) ∙ base ∙ ap (λ f. ways.OfRoot (ways.OfVariable f y)) first in
-            let (l, (k, at, under_k, lent), changed) = (placed_before.1).1 x u is given (base_named (home s depth) u y based) in
+            let (l, (k, at, under_k, lent), changed) = (placed_before.1).1.0 x u is given (base_named (home s depth) u y based) in
             let number : ways.number_of k ≡ y = number_based (home s depth) k y at (sym (base_under k u under_k) ∙ based) in
             innermost.spared_here table typed effects input ready state top below more_frames rest named p frames deep stages running awaiting of_sub at_point path views viewed_before kept scope holds placed_before above
             l (ways.name_of k) lent (written_disturbs table typed effects ready.accepted.effects_are l top.frame.sub (ways.number_of k)
@@ -403,26 +412,46 @@ module _ (table : Table) (typed : TypedProgram) (effects : Effects) (input : Lis
         pub off_taken : (x : ℕ) (w : Way) → views.way x ≡ Some w → (to : Way) → Has ways_taken to → ways.Past to w → ⊥
         off_taken x w has to taken past =
             let by = all_passed_ways.2 to taken in
-            off_view (home s depth) (sees_only s) around_names views (still (view_here s easy.state)) facts_all names_all by.name x w (by.named, by.plain) by.unlent has
+            off_view (home s depth) sees around_names views (still (view_here s easy.state)) facts_all names_all by.name x w (by.named, by.plain) by.unlent has
+            (subst (λ z. ways.Past z w) (sym by.means) past)
+
+        -- nor before what a part of a formal sees
+        pub off_taken_parts : (x : ℕ) (q : List Step) (w : Way) → views.part_way x q ≡ Some w → (to : Way) → Has ways_taken to → ways.Past to w → ⊥
+        off_taken_parts x q w has to taken past =
+            let by = all_passed_ways.2 to taken in
+            off_parts (home s depth) sees around_names views (still (view_here s easy.state)) facts_all names_all by.name x q w (by.named, by.plain) by.unlent has
             (subst (λ z. ways.Past z w) (sym by.means) past)
 
         -- the ways of views don't begin at formals of the callee
         pub view_base : (x : ℕ) (w : Way) → views.way x ≡ Some w → (g : ℕ) × (y : ℕ) × (ways.base_of w ≡ ways.OfRoot (ways.OfVariable g y)) × (g ≡ suc depth → ⊥)
         view_base x w has =
-            let root = view_rooted (home s depth) (sees_only s) other_all views (view_here s easy.state) facts_called views_called x w has in (
+            let root = view_rooted (home s depth) sees other_all views (view_here s easy.state) facts_called views_called x w has in (
               root.0,
               root.1,
               root.2,
               λ up. elim root.3 [
                 | inl named_there ↦ (
                     let same = same_variable (home s depth (ways.number_of w)) (ways.number_of w) root.0 root.1 (sym (named_base (home s depth) w named_there) ∙ root.2) in
-                    not_above s ready.accepted.settled ready.owns in_formals (waiting_in easy.state) state.leaks depth views far_views holds.only facts_all next_there cells (ways.number_of w)
+                    not_above s sees ready.accepted.settled ready.owns in_formals (waiting_in easy.state) state.leaks depth views far_views (holds.only, holds.parts.only) facts_all next_there cells (ways.number_of w)
                     (same.0 ∙ up))
                 | inr foreign ↦ (
                     let same = (same_variable foreign.0 foreign.1 root.0 root.1 (sym foreign.2 ∙ root.2)).0 in
-                    let low = far_views x w has foreign in omega (arith, low, same, up))
+                    let low = far_views.0 x w has foreign in omega (arith, low, same, up))
               ],
             )
+
+        pub part_base : (x : ℕ) (q : List Step) (w : Way) → views.part_way x q ≡ Some w
+            → (g : ℕ) × (y : ℕ) × (ways.base_of w ≡ ways.OfRoot (ways.OfVariable g y)) × (g ≡ suc depth → ⊥)
+        part_base x q w has = elim (holds.low x q w has).0 [
+          | inl at_home ↦ (
+            home s depth (ways.number_of w),
+            ways.number_of w,
+            named_base (home s depth) w at_home,
+            not_above s sees ready.accepted.settled ready.owns in_formals (waiting_in easy.state) state.leaks depth views far_views (holds.only, holds.parts.only) facts_all next_there cells
+                (ways.number_of w),
+          )
+          | inr (foreign, low, some) ↦ (foreign.0, foreign.1, foreign.2, λ up. omega (arith, low, up))
+        ]
 
         -- the frames around keep nothing of what the frame writes
         written_spared : (y : ℕ) → Has (written_by effects top.frame.sub) y → IsSpared table typed effects unmoved_stage local state depth older between y
@@ -459,7 +488,7 @@ module _ (table : Table) (typed : TypedProgram) (effects : Effects) (input : Lis
             | inr gone ↦ (let root = gone_low table typed effects unmoved_stage local state depth older between w gone in
                 hand_base (sym (base_under (ways.Object (ways.OfHand k)) w under) ∙ root.2))
             | inl (u, moved, leads) ↦ (
-                let root = stands_base (home s depth) (sees_only s) views (view_here s easy.state) facts_all views_all u (moved.0, clear_all.owned (ways.name_of u) moved.1) in
+                let root = stands_base (home s depth) sees views (view_here s easy.state) facts_all views_all u (moved.0, clear_all.owned (ways.name_of u) moved.1) in
                 hand_base (sym (base_under (ways.Object (ways.OfHand k)) w under) ∙ ap ways.base_of (sym leads) ∙ root.2))
           ];
           whole = λ to has w under gone. gone_clear table typed effects unmoved_stage local state depth older between to (free_to to has) w gone (inl under);

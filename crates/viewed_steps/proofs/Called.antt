@@ -1,6 +1,6 @@
 -- Calls: what the actuals are, and how they are passed. Each is a value of one word, a scalar place in a
 -- variable, or another place in a variable of the caller.
-use Rattle.std.proofs.Common.{◌≡◌, refl, ◌&&◌, ◌||◌, not, is_some, sym, ap, ◌∙◌, subst, ◌⊎◌, inl, inr, ℕ, Bool, true, false, List, [], ◌∷◌, ◌++◌, map, Option, Some, if◌then◌else◌}
+use Rattle.std.proofs.Common.{◌≡◌, refl, ◌&&◌, ◌||◌, not, is_some, sym, ap, ◌∙◌, subst, ◌⊎◌, inl, inr, ℕ, Bool, true, false, List, [], ◌∷◌, ◌++◌, map, Option, if◌then◌else◌}
 use Rattle.spark_base.specs.Lists.{Has}
 use Rattle.spark_base.proofs.Lists.{Has-append_cases}
 use Rattle.place_names.specs.declared.act.Act.TheVariants as act
@@ -9,13 +9,12 @@ use Rattle.place_names.specs.declared.act.Mode.TheVariants as mode
 use Rattle.place_names.specs.declared.act.Placed.{Placed}
 use Rattle.place_names.specs.declared.fact.Fact.{Fact}
 use Rattle.type_definitions.specs.Types.{full, is_scalar, is_owning}
-use Rattle.typed_tree.specs.Trees.{TypedTree, Number, Literal, Text, Name, Component as IntoComponent, Designated, Element, Call, EndOfFile, Parens, Image, Unary, Binary, Short, IsNull, Aggregate, Alike, New, NoMore, More}
+use Rattle.typed_tree.specs.Trees.{TypedTree, Name, More}
 use Rattle.typed_tree.specs.Trees as typed
 use Rattle.flow_paths.specs.Objects.{Typing, object_at, sub_at, is_anonymous, is_named_access, view_of, traverses, first_traversed, Passing, ByValue, passing, passing_by, passings}
 use Rattle.flow_paths.specs.Names.{written, is_empty, waiting as waits_in}
 use Rattle.flow_paths.specs.Laid.{FlowProgram, flow_typing}
 use Rattle.flow_paths.specs.Acts.{acts_in, index_acts, actual_act, actual_acts, actual_values}
-use Rattle.machine.specs.Words.{access_offsets, fits_type}
 use Rattle.machine.specs.Words as machine
 use Rattle.machine.specs.Memory.{Memory, Place, words_of}
 use Rattle.machine.specs.Evaluate.{Here, Now, Evaluated, Done, Raises, Traps, followed_by, place_of, checked, viewed}
@@ -35,20 +34,19 @@ use Rattle.soundness.proofs.Stays.{One, Quiet, quiet_then, quiet_from}
 use Rattle.soundness.proofs.Taking.{Takes}
 use Rattle.soundness.proofs.Passing.{IsRead, AreReads, AddNone, IsValue, plain_type, reads_keep, read_adds_none, signature_is}
 use Rattle.owned_loans.specs.Views.{Around, Views, Viewed}
-use Rattle.viewed_soundness.specs.Holds.{IsNamed, IsAccess, PartsAreNamed, Holds, sees_only, IsOwners, is_given}
-use Rattle.viewed_soundness.proofs.Names.{true_false, both_no, plain_named}
+use Rattle.viewed_soundness.specs.Holds.{IsNamed, IsAccess, PartsAreNamed, Holds, IsOwners, is_given, Seeing, is_bundle}
+use Rattle.viewed_soundness.proofs.ViewKinds.{true_false, both_no, plain_named, bundle_access, given_view}
 use Rattle.viewed_soundness.proofs.Evaluated.{matches_named}
 use Rattle.viewed_steps.specs.Sound.{IsScalarObject}
 use Rattle.viewed_steps.specs.Ready.{is_shown_type, IsOwnPlace, IsSeen, IsActualTo, AreActualsTo}
-use Rattle.viewed_steps.proofs.Views.{AreAccess, AreUnseen}
-use Rattle.viewed_steps.proofs.Seeing.{IsSeenAs, IsClear, AreClear, seen_given}
+use Rattle.viewed_steps.proofs.Views.{AreAccess, AreUnseen, AreLowFormals, bundle_owns, view_access}
+use Rattle.viewed_steps.proofs.Seeing.{IsSeenAs, SeesParts, IsClear, AreClear, seen_given, parts_given}
 use Rattle.viewed_steps.proofs.LaidOut.{IsOwnPut, IsOpenActual, AreOpenActuals, IsHousedPut}
 use Rattle.viewed_steps.proofs.Entered.{IsFit}
 use Rattle.viewed_steps.proofs.Lent.{ends, Spare, spare_both, spare_naming}
 use Rattle.viewed_steps.proofs.Copies.{copies_read}
 use Rattle.viewed_steps.proofs.Reading.{no_reads, both_reads, naming_adds, index_reads}
 use Rattle.viewed_steps.proofs.Puts as puts
-use Rattle.viewed_soundness.proofs.Given.{IsLow}
 use Rattle.viewed_soundness.specs.Taken.{types_taken, TakesFit}
 use Rattle.viewed_steps.proofs.Supplied.{Supplies, SuppliesAll, takes_supplied, scalar_types, place_types, seen_types}
 
@@ -170,59 +168,59 @@ neither a b e f = ap (λ z. z || b) e ∙ f
 
 -- ---- the actuals
 
-module _ (h : Here) (settled : IsSettled h.typing.table) (hands : List Waiting) (leaks : List Leak) (m : Memory) (waits : List (List machine.Word))
+module _ (h : Here) (sees : ℕ → Bool) (seeing : Seeing h.typing sees) (settled : IsSettled h.typing.table) (hands : List Waiting) (leaks : List Leak) (m : Memory) (waits : List (List machine.Word))
     (other : Around (home h.typing h.frame)) (facts : List Fact) (v : Views)
     (kept : Kept h.typing m hands)
-    (well : Viewed (home h.typing h.frame) (sees_only h.typing) other v (seen h.typing m hands leaks) facts)
-    (holds : Holds h.typing h.frame v m)
+    (well : Viewed (home h.typing h.frame) sees other v (seen h.typing m hands leaks) facts)
+    (holds : Holds h.typing sees h.frame v m)
     (alone : (w : Way) → IsNear h.frame w → other.gone w → ⊥)
     (live : (w : Way) (l : Loc) → IsOwners h.typing w → Reaches (seen h.typing m hands leaks) w l → (content h.typing m hands (trunk l)).owns ≡ true)
     (in_formals : AreAccess h.typing)
     (index_law : IndexLaw)
     (own_law : OwnsByShape h.typing.table)
     (parts_named : PartsAreNamed h.typing.table)
-    (formals_low : (x : ℕ) (w : Way) → v.way x ≡ Some w → IsLow h.typing h.frame w)
+    (formals_low : AreLowFormals h.typing h.frame v)
     (procedure : Bool) where
   abbrev at : List (List machine.Word) → Now
-  at = puts.at h settled hands leaks m waits other facts v kept well holds alone live in_formals index_law own_law parts_named formals_low procedure
+  at = puts.at h sees seeing settled hands leaks m waits other facts v kept well holds alone live in_formals index_law own_law parts_named formals_low procedure
 
   abbrev IsKind : ℕ → Type 0
-  IsKind = puts.IsKind h settled hands leaks m waits other facts v kept well holds alone live in_formals index_law own_law parts_named formals_low procedure
+  IsKind = puts.IsKind h sees seeing settled hands leaks m waits other facts v kept well holds alone live in_formals index_law own_law parts_named formals_low procedure
 
   abbrev checked_quiet : (on : List (List machine.Word)) (P : List machine.Word → Type 0) (t : ℕ) (ws : List machine.Word) → P ws → Quiet (at on) P (checked h t ws (at on))
-  checked_quiet = puts.checked_quiet h settled hands leaks m waits other facts v kept well holds alone live in_formals index_law own_law parts_named formals_low procedure
+  checked_quiet = puts.checked_quiet h sees seeing settled hands leaks m waits other facts v kept well holds alone live in_formals index_law own_law parts_named formals_low procedure
 
   abbrev value_given : (before on : List (List machine.Word)) (x : ℕ) (e : TypedTree) → Stays h.typing e → Takes (waits_in e) before on → AllowsAll facts (acts (acts_in h.typing e))
       → Quiet (at on) (λ a. IsValue a) (passed h ByValue x e (at before))
-  value_given = puts.value_given h settled hands leaks m waits other facts v kept well holds alone live in_formals index_law own_law parts_named formals_low procedure
+  value_given = puts.value_given h sees seeing settled hands leaks m waits other facts v kept well holds alone live in_formals index_law own_law parts_named formals_low procedure
 
   abbrev scalar_fit : (x : ℕ) (ws : List machine.Word) → is_scalar (full h.typing.table (object_at h.typing x).of) ≡ true → One ws → IsFit h.typing m (object_at h.typing x).of ws
-  scalar_fit = puts.scalar_fit h settled hands leaks m waits other facts v kept well holds alone live in_formals index_law own_law parts_named formals_low procedure
+  scalar_fit = puts.scalar_fit h sees seeing settled hands leaks m waits other facts v kept well holds alone live in_formals index_law own_law parts_named formals_low procedure
 
   abbrev IsCopied : ℕ → Passed → Type 0
-  IsCopied = puts.IsCopied h settled hands leaks m waits other facts v kept well holds alone live in_formals index_law own_law parts_named formals_low procedure
+  IsCopied = puts.IsCopied h sees seeing settled hands leaks m waits other facts v kept well holds alone live in_formals index_law own_law parts_named formals_low procedure
 
   abbrev copy_given : (before on : List (List machine.Word)) (x : ℕ) (e : TypedTree) → is_owning h.typing.table (object_at h.typing x).of ≡ false → IsNamed h.typing.table (object_at h.typing x).of
       → Gives h.typing (object_at h.typing x).of e → TakesFit h.typing e → Supplies h.typing m (types_taken h.typing e) before on → AllowsAll facts (acts (acts_in h.typing e)) → Quiet (at on) (IsCopied x) (passed h ByValue x e (at before))
-  copy_given = puts.copy_given h settled hands leaks m waits other facts v kept well holds alone live in_formals index_law own_law parts_named formals_low procedure
+  copy_given = puts.copy_given h sees seeing settled hands leaks m waits other facts v kept well holds alone live in_formals index_law own_law parts_named formals_low procedure
 
   abbrev IsPut : TypedTree → Place → Type 0
-  IsPut = puts.IsPut h settled hands leaks m waits other facts v kept well holds alone live in_formals index_law own_law parts_named formals_low procedure
+  IsPut = puts.IsPut h sees seeing settled hands leaks m waits other facts v kept well holds alone live in_formals index_law own_law parts_named formals_low procedure
 
   abbrev through_given : (before on : List (List machine.Word)) (e : TypedTree) (t : ℕ) → IsPlaceOf h.typing e t → is_scalar (full h.typing.table t) ≡ true → Takes (waits_in e) before on
-      → IsOpenActual h.typing h.frame facts e → AllowsAll facts (acts (index_acts h.typing e)) → Quiet (at on) (λ k. IsPut e k) (place_of h e (at before))
-  through_given = puts.through_given h settled hands leaks m waits other facts v kept well holds alone live in_formals index_law own_law parts_named formals_low procedure
+      → IsOpenActual h.typing sees h.frame facts e → AllowsAll facts (acts (index_acts h.typing e)) → Quiet (at on) (λ k. IsPut e k) (place_of h e (at before))
+  through_given = puts.through_given h sees seeing settled hands leaks m waits other facts v kept well holds alone live in_formals index_law own_law parts_named formals_low procedure
 
   abbrev quiet_on : (on : List (List machine.Word)) (P Q : Place → Type 0) → ((k : Place) → P k → Q k) → (y : Evaluated Place) → Quiet (at on) P y → Quiet (at on) Q y
-  quiet_on = puts.quiet_on h settled hands leaks m waits other facts v kept well holds alone live in_formals index_law own_law parts_named formals_low procedure
+  quiet_on = puts.quiet_on h sees seeing settled hands leaks m waits other facts v kept well holds alone live in_formals index_law own_law parts_named formals_low procedure
 
   abbrev IsKeptPut : ℕ → TypedTree → Place → Type 0
-  IsKeptPut = puts.IsKeptPut h settled hands leaks m waits other facts v kept well holds alone live in_formals index_law own_law parts_named formals_low procedure
+  IsKeptPut = puts.IsKeptPut h sees seeing settled hands leaks m waits other facts v kept well holds alone live in_formals index_law own_law parts_named formals_low procedure
 
   abbrev housed_given : (before on : List (List machine.Word)) (x : ℕ) (e : TypedTree) (t : ℕ) → IsPlaceOf h.typing e t → IsNamed h.typing.table t → Matches h.typing.table t (object_at h.typing x).of
-      → (goes_through_none e ≡ true → IsOwnPlace h.typing e) → Takes (waits_in e) before on → IsOpenActual h.typing h.frame facts e
+      → (goes_through_none e ≡ true → IsOwnPlace h.typing e) → Takes (waits_in e) before on → IsOpenActual h.typing sees h.frame facts e
       → AllowsAll facts (acts (index_acts h.typing e)) → Quiet (at on) (λ k. IsKeptPut x e k) (place_of h e (at before))
-  housed_given = puts.housed_given h settled hands leaks m waits other facts v kept well holds alone live in_formals index_law own_law parts_named formals_low procedure
+  housed_given = puts.housed_given h sees seeing settled hands leaks m waits other facts v kept well holds alone live in_formals index_law own_law parts_named formals_low procedure
 
   abbrev pub ways_of : List ℕ → List Passing
   ways_of formals = map (way_to h.typing own_law procedure) formals
@@ -235,14 +233,16 @@ module _ (h : Here) (settled : IsSettled h.typing.table) (hands : List Waiting) 
 
   abbrev pub IsBackGiven : ℕ → TypedTree → Place → Type 0
   IsBackGiven x e k =
-      IsPlaceGiven x e k ⊎ ((is_scalar (full h.typing.table (object_at h.typing x).of) ≡ false) × IsHousedPut h.typing h.frame v (seen h.typing m hands leaks) x e k)
+      IsPlaceGiven x e k ⊎ ((is_scalar (full h.typing.table (object_at h.typing x).of) ≡ false) × IsHousedPut h.typing sees h.frame v (seen h.typing m hands leaks) x e k)
 
-  -- A scalar value; or null, or the number of a cell that a way leads to.
+  -- A scalar value; or null, or the number of a cell that a way leads to; or words with such numbers.
   abbrev pub IsValueGiven : ℕ → TypedTree → List machine.Word → Type 0
   IsValueGiven x e ws =
       (is_shown_type h.typing x ≡ false → IsFit h.typing m (object_at h.typing x).of ws)
-      × (is_shown_type h.typing x ≡ true
-      → IsSeenAs h settled hands leaks m waits other facts v kept well holds alone live index_law own_law parts_named formals_low x e ws)
+      × (is_shown_type h.typing x ≡ true → is_bundle h.typing x ≡ false
+      → IsSeenAs h sees seeing settled hands leaks m waits other facts v kept well holds alone live index_law own_law parts_named formals_low x e ws)
+      × (is_bundle h.typing x ≡ true
+      → SeesParts h sees seeing settled hands leaks m waits other facts v kept well holds alone live index_law own_law parts_named formals_low x e ws)
 
   abbrev pub IsGiven : ℕ → Mode → TypedTree → Passed → Type 0
   IsGiven x mode.In e (Value ws) = IsValueGiven x e ws
@@ -255,10 +255,20 @@ module _ (h : Here) (settled : IsSettled h.typing.table) (hands : List Waiting) 
   AreGiven (x ∷ formals) (More e rest) [] = ⊥
   AreGiven formals actuals passed = passed ≡ []
 
+  -- a formal with parts is shown what it is passed
+  bundle_shown : (x : ℕ) → is_bundle h.typing x ≡ true → is_shown_type h.typing x ≡ true
+  bundle_shown x bundle = ap (λ b. b || is_anonymous (view_of h.typing x)) (bundle_owns h.typing x bundle)
+
   value_is : (on : List (List machine.Word)) (x : ℕ) (e : TypedTree) → is_shown_type h.typing x ≡ false → IsScalarObject h.typing x → (y : Evaluated Passed)
       → Quiet (at on) (λ a. IsValue a) y → Quiet (at on) (λ a. IsGiven x mode.In e a) y
-  value_is on x e plain scalar_type (Done (Value ws) n) is =
-      (is.0, ((λ own. scalar_fit x ws scalar_type is.1), λ own. absurd (true_false (is_shown_type h.typing x) own plain)))
+  value_is on x e plain scalar_type (Done (Value ws) n) is = (
+    is.0,
+    (
+      (λ own. scalar_fit x ws scalar_type is.1),
+      (λ own bare. absurd (true_false (is_shown_type h.typing x) own plain)),
+      (λ bundle. absurd (true_false (is_shown_type h.typing x) (bundle_shown x bundle) plain)),
+    ),
+  )
   value_is on x e plain scalar_type (Done (From k) n) is = absurd is.1
   value_is on x e plain scalar_type (Done (To k) n) is = absurd is.1
   value_is on x e plain scalar_type (Raises y n) is = is
@@ -266,7 +276,14 @@ module _ (h : Here) (settled : IsSettled h.typing.table) (hands : List Waiting) 
 
   copy_is : (on : List (List machine.Word)) (x : ℕ) (e : TypedTree) → is_shown_type h.typing x ≡ false → (y : Evaluated Passed)
       → Quiet (at on) (IsCopied x) y → Quiet (at on) (λ a. IsGiven x mode.In e a) y
-  copy_is on x e plain (Done (Value ws) n) is = (is.0, ((λ own. is.1), λ own. absurd (true_false (is_shown_type h.typing x) own plain)))
+  copy_is on x e plain (Done (Value ws) n) is = (
+    is.0,
+    (
+      (λ own. is.1),
+      (λ own bare. absurd (true_false (is_shown_type h.typing x) own plain)),
+      (λ bundle. absurd (true_false (is_shown_type h.typing x) (bundle_shown x bundle) plain)),
+    ),
+  )
   copy_is on x e plain (Done (From k) n) is = absurd is.1
   copy_is on x e plain (Done (To k) n) is = absurd is.1
   copy_is on x e plain (Raises y n) is = is
@@ -274,16 +291,40 @@ module _ (h : Here) (settled : IsSettled h.typing.table) (hands : List Waiting) 
 
   pub shown_given : (before on : List (List machine.Word)) (x : ℕ) (e : TypedTree) → IsAccess h.typing x → is_shown_type h.typing x ≡ true → IsSeen h.typing x e
       → Takes (waits_in e) before on → AllowsAll facts (acts (index_acts h.typing e))
-      → IsClear h.typing facts e
+      → IsClear h.typing sees facts e
       → Quiet (at on) (λ a. IsGiven x mode.In e a) (followed_by (viewed h e (at before)) value_passed)
   shown_given before on x e access shown seen takes allowed clears =
-      quiet_then (at on) (λ ws. IsSeenAs h settled hands leaks m waits other facts v kept well holds alone live index_law own_law parts_named formals_low x e ws)
+      quiet_then (at on) (λ ws. IsSeenAs h sees seeing settled hands leaks m waits other facts v kept well holds alone live index_law own_law parts_named formals_low x e ws)
       (λ a. IsGiven x mode.In e a) (viewed h e (at before)) value_passed
-      (seen_given h settled hands leaks m waits other facts v kept well holds alone live index_law own_law parts_named formals_low before on x e access seen takes allowed clears)
-      (λ ws is. (refl, ((λ plain. absurd (true_false (is_shown_type h.typing x) shown plain)), λ own. is)))
+      (seen_given h sees seeing settled hands leaks m waits other facts v kept well holds alone live index_law own_law parts_named formals_low before on x e access seen takes allowed clears)
+      (λ ws is. (
+        refl,
+        (
+          (λ plain. absurd (true_false (is_shown_type h.typing x) shown plain)),
+          (λ own bare. is),
+          (λ bundle. absurd (bundle_access h.typing x access.0 access.1 access.2 bundle access.3)),
+        ),
+      ))
+
+  bundle_given : (before on : List (List machine.Word)) (x : ℕ) (e : TypedTree) → is_bundle h.typing x ≡ true → IsSeen h.typing x e
+      → Takes (waits_in e) before on → AllowsAll facts (acts (index_acts h.typing e))
+      → IsClear h.typing sees facts e
+      → Quiet (at on) (λ a. IsGiven x mode.In e a) (followed_by (viewed h e (at before)) value_passed)
+  bundle_given before on x e bundle seen takes allowed clears =
+      quiet_then (at on) (λ ws. SeesParts h sees seeing settled hands leaks m waits other facts v kept well holds alone live index_law own_law parts_named formals_low x e ws)
+      (λ a. IsGiven x mode.In e a) (viewed h e (at before)) value_passed
+      (parts_given h sees seeing settled hands leaks m waits other facts v kept well holds alone live index_law own_law parts_named formals_low before on x e bundle seen takes allowed clears)
+      (λ ws is. (
+        refl,
+        (
+          (λ plain. absurd (true_false (is_shown_type h.typing x) (bundle_shown x bundle) plain)),
+          (λ own bare. absurd (true_false (is_bundle h.typing x) bundle bare)),
+          (λ any. is),
+        ),
+      ))
 
   abbrev IsCopiedName : ℕ → Mode → TypedTree → Type 0
-  IsCopiedName x m' e = is_in m' ≡ false → IsOpenActual h.typing h.frame facts e
+  IsCopiedName x m' e = is_in m' ≡ false → IsOpenActual h.typing sees h.frame facts e
 
   abbrev from_place : ℕ → Place → Now → Evaluated Passed
   from_place x k now = followed_by (checked h (type_of h x) (words_of h.typing now.memory k) now) (λ ws now. Done (From k) now)
@@ -307,7 +348,7 @@ module _ (h : Here) (settled : IsSettled h.typing.table) (hands : List Waiting) 
   named_there x unseen = plain_named h.typing.table (object_at h.typing x).of unseen
 
   back_given : (before on : List (List machine.Word)) (x : ℕ) (e : TypedTree) → is_anonymous (view_of h.typing x) ≡ false → IsActualTo h.typing x mode.InOut e
-      → IsOpenActual h.typing h.frame facts e → Takes (waits_in e) before on
+      → IsOpenActual h.typing sees h.frame facts e → Takes (waits_in e) before on
       → AllowsAll facts (acts (index_acts h.typing e)) → Quiet (at on) (λ k. IsBackGiven x e k) (place_of h e (at before))
   back_given before on x e unseen (t, place, fits, which) opens takes allowed = elim (bool_cases (is_scalar (full h.typing.table (object_at h.typing x).of))) [
     | inl plain ↦ quiet_on on (λ k. IsPut e k) (λ k. IsBackGiven x e k) (λ k put. inl (inl (plain, put))) (place_of h e (at before))
@@ -326,7 +367,7 @@ module _ (h : Here) (settled : IsSettled h.typing.table) (hands : List Waiting) 
 
   pub one_given : (before on : List (List machine.Word)) (mode_of : Mode) (owning access : Bool) (x : ℕ) (e : TypedTree) → (object_at h.typing x).mode ≡ mode_of
       → is_owning h.typing.table (object_at h.typing x).of ≡ owning → is_anonymous (view_of h.typing x) ≡ false → IsKind x → IsActualTo h.typing x mode_of e
-      → (is_given h.typing x ≡ true → IsClear h.typing facts e)
+      → (is_given h.typing x ≡ true → IsClear h.typing sees facts e)
       → IsCopiedName x mode_of e → TakesFit h.typing e → Supplies h.typing m (types_taken h.typing e) before on
       → AllowsAll facts (acts (head_of h.typing own_law procedure mode_of owning e)) → Quiet (at on) (λ a. IsGiven x mode_of e a) (passed h (passing_by mode_of owning access) x e (at before))
   one_given before on mode.In false access x e is fits unseen kind actual clears copied fit takes allowed =
@@ -343,7 +384,11 @@ module _ (h : Here) (settled : IsSettled h.typing.table) (hands : List Waiting) 
       | inl back ↦ absurd (back.0 is)
       | inr (inl shown) ↦ (
           let shown_type = ap (λ b. b || is_anonymous (view_of h.typing x)) fits in
-          shown_given before on x e shown.1 shown_type (actual.1 shown_type) (takes_supplied h.typing settled m e before on (seen_types h.typing x e (actual.1 shown_type) fit) takes) allowed (clears shown.0))
+          let taken = takes_supplied h.typing settled m e before on (seen_types h.typing x e (actual.1 shown_type) fit) takes in
+          elim (bool_cases (is_bundle h.typing x)) [
+            | inl bundle ↦ bundle_given before on x e bundle (actual.1 shown_type) taken allowed (clears shown)
+            | inr bare ↦ shown_given before on x e (view_access h.typing sees in_formals x (given_view h.typing x shown) bare) shown_type (actual.1 shown_type) taken allowed (clears shown)
+          ])
       | inr (inr plain) ↦ absurd (true_false (is_owning h.typing.table (object_at h.typing x).of) fits plain.1)
     ]
   ]
@@ -354,7 +399,7 @@ module _ (h : Here) (settled : IsSettled h.typing.table) (hands : List Waiting) 
       from_given before on x e (back_given before on x e unseen actual (copied refl) (takes_supplied h.typing settled m e before on (place_types h.typing e actual.0 actual.1 fit) takes) allowed)
 
   pub all_given : (before on : List (List machine.Word)) (formals : List ℕ) (actuals : TypedTree) → ((x : ℕ) → Has formals x → IsKind x) → AreUnseen h.typing formals → AreActualsTo h.typing formals actuals
-      → AreClear h.typing facts formals actuals → AreOpenActuals h.typing h.frame facts formals actuals → SuppliesAll h.typing m formals actuals before on
+      → AreClear h.typing sees facts formals actuals → AreOpenActuals h.typing sees h.frame facts formals actuals → SuppliesAll h.typing m formals actuals before on
       → AllowsAll facts (acts (actual_values h.typing (ways_of formals) actuals))
       → Quiet (at on) (λ passed. AreGiven formals actuals passed) (all_passed h (ways_of formals) formals actuals (at before))
   all_given before on [] actuals kinds unseen stay clears copied takes allowed = ((ap at takes), refl)

@@ -57,10 +57,10 @@ use Rattle.soundness.proofs.Eased.{eased}
 use Rattle.soundness.proofs.Scoped.{Inside}
 use Rattle.owned_loans.specs.Views.{expand, Around, known_gone, Views, Viewed, AreViews, AreClear as FactsAreClear, ViewedAlone}
 use Rattle.owned_loans.proofs.Ways.{under_on}
+use Rattle.owned_loans.proofs.Meeting.{no_part, stands}
 use Rattle.owned_loans.proofs.Moves.{expand_under, view_on, own_loan, reached, lends_on}
-use Rattle.owned_loans.proofs.Meeting.{stands}
-use Rattle.viewed_soundness.proofs.Names.{true_false}
-use Rattle.viewed_soundness.specs.Holds.{Holds, is_view, sees_only, IsOwners}
+use Rattle.viewed_soundness.proofs.ViewKinds.{true_false}
+use Rattle.viewed_soundness.specs.Holds.{Holds, is_view, IsOwners, Seeing}
 use Rattle.soundness.specs.Ready.{IsSupplied, Fills}
 use Rattle.viewed_steps.specs.Awaited.{AreValuesBut, temporaries_of, lasting_of, awaited, WaitsAt, AreAwaited, AreOwnless, TakesPassed, FillsTyped}
 use Rattle.viewed_steps.proofs.Waited.{late_scope, within_lasting, lasting_more, Shares}
@@ -85,7 +85,7 @@ use Rattle.viewed_steps.proofs.Uses.{lent_spared}
 use Rattle.viewed_steps.proofs.Standing as standing
 use Rattle.viewed_steps.proofs.Packages as packages
 use Rattle.viewed_steps.proofs.Innermost as innermost
-use Rattle.viewed_steps.proofs.Views.{AreAccess, AreFar, lies_far}
+use Rattle.viewed_steps.proofs.Views.{AreAccess, AreFar, lies_far, AreLowFormals}
 use Rattle.viewed_steps.proofs.Seeing.{AreClear}
 use Rattle.viewed_steps.proofs.Followed as followed
 use Rattle.viewed_steps.proofs.Traversing.{all_traversed}
@@ -93,15 +93,22 @@ use Rattle.viewed_steps.proofs.Exclusive.{ChangesLent, AreLent}
 use Rattle.owned_ways.proofs.Unique.{one_way}
 use Rattle.viewed_steps.proofs.Bared.{not_before}
 use Rattle.viewed_steps.proofs.CallActs as acting
-use Rattle.viewed_soundness.proofs.Given.{IsLow}
 use Rattle.viewed_steps.proofs.Emptied.{fewer_clear}
 use Rattle.viewed_steps.proofs.Handed.{gone_lent, with_gone}
 use Rattle.viewed_steps.proofs.Inherited.{after_more}
 use Rattle.spark_base.proofs.Lists.{Has-append_left, Has-append_right}
 use Rattle.viewed_steps.proofs.Stilled.{still, lent_only, still_viewed}
 use Rattle.viewed_steps.proofs.Supplied.{SuppliesAll, supplies_each}
+use Rattle.viewed_steps.specs.Seeing.{sees_in}
+use Rattle.viewed_steps.proofs.Sees.{sees_seeing}
 
 module _ (table : Table) (typed : TypedProgram) (effects : Effects) (input : List ℕ) (ready : IsReady table typed effects) where
+  abbrev sees : ℕ → Bool
+  sees = sees_in (flow_program table typed)
+
+  abbrev seeing : Seeing (flow_typing (flow_program table typed)) sees
+  seeing = sees_seeing (flow_program table typed)
+
   abbrev program : FlowProgram
   program = flow_program table typed
 
@@ -127,9 +134,9 @@ module _ (table : Table) (typed : TypedProgram) (effects : Effects) (input : Lis
       (awaiting : AreAwaited table typed None (top ∷ stages_of (below ∷ more_frames)))
       (of_sub : IsNamedSub (flow_named table typed) top.frame.sub named) (at_point : IsAtPoint named.points top.frame.next p)
       (path : ControlPath (path_points program effects (sub_of program top.frame.sub)) top.before top.frame.next) (views : Views)
-      (viewed_before : ViewedAlone (home s (suc (length rest))) (sees_only s) (known_gone (home s (suc (length rest))) (GoneElsewhere program effects (below ∷ more_frames))) views
+      (viewed_before : ViewedAlone (home s (suc (length rest))) sees (known_gone (home s (suc (length rest))) (GoneElsewhere program effects (below ∷ more_frames))) views
       (view_here s state) (facts_of program effects top))
-      (kept : Kept s state.memory (waiting_in state)) (scope : InScope s state.memory (suc (length rest)) (lasting_of s p.scope)) (holds : HoldsAt s (suc (length rest)) views state.memory p)
+      (kept : Kept s state.memory (waiting_in state)) (scope : InScope s state.memory (suc (length rest)) (lasting_of s p.scope)) (holds : HoldsAt s sees (suc (length rest)) views state.memory p)
       (placed_before : ArePlaced program (suc (length rest)) (facts_of program effects top) views p.scope × IsBeyond program effects (suc (length rest)) views (below ∷ more_frames)) (above : NoneAbove s (suc (length rest)) state.memory
       × HasTraversals table typed (view_here s state) (record { stage = top; views = views; cells = [] } ∷ (below ∷ more_frames))) where
     abbrev outer : List Frame
@@ -163,8 +170,8 @@ module _ (table : Table) (typed : TypedProgram) (effects : Effects) (input : Lis
     facts_now = own_facts ++ handed_on
 
     abbrev apart_from_them : (done : List Act) (v : Views) (view : ways.View) → ((x : ℕ) (w : Way) → v.way x ≡ Some w → is_view s x ≡ true)
-        → Viewed (home s depth) (sees_only s) other v view (after done facts_now)
-        → ViewedAlone (home s depth) (sees_only s) (known_gone (home s depth) (GoneElsewhere program effects older)) v view (after done own_facts)
+        → Viewed (home s depth) sees other v view (after done facts_now)
+        → ViewedAlone (home s depth) sees (known_gone (home s depth) (GoneElsewhere program effects older)) v view (after done own_facts)
     apart_from_them = innermost.apart_from_them table typed effects input ready state top below more_frames rest named p frames deep stages running awaiting of_sub at_point path views viewed_before kept scope holds placed_before above
 
     abbrev placed_own : ArePlaced program (suc (length rest)) own_facts views p.scope
@@ -194,7 +201,7 @@ module _ (table : Table) (typed : TypedProgram) (effects : Effects) (input : Lis
     abbrev easy : Turn
     easy = eased main_turn
 
-    abbrev viewed_easy : Plain → Viewed (home s depth) (sees_only s) other views (view_here s easy.state) facts_now × Kept s state.memory (waiting_in easy.state)
+    abbrev viewed_easy : Plain → Viewed (home s depth) sees other views (view_here s easy.state) facts_now × Kept s state.memory (waiting_in easy.state)
     viewed_easy = innermost.ownless_easy table typed effects input ready state top below more_frames rest named p frames deep stages running awaiting of_sub at_point path views viewed_before kept scope holds placed_before above
 
     abbrev placed_left : (facts : List Fact) → ArePlaced program (suc (length rest)) facts views p.scope → ArePlaced program (suc (length rest)) facts views left_scope
@@ -257,30 +264,30 @@ module _ (table : Table) (typed : TypedProgram) (effects : Effects) (input : Lis
       abbrev pub copies_allowed : AllowsAll facts_now (acts copies)
       copies_allowed = acting.copies_allowed table typed effects input ready state top below more_frames rest named p frames deep stages running awaiting of_sub at_point path views viewed_before kept scope holds placed_before above n actuals result e
 
-      abbrev pub copied_there : AreOpenActuals s depth facts_now formals actuals
+      abbrev pub copied_there : AreOpenActuals s sees depth facts_now formals actuals
       copied_there = acting.copied_there table typed effects input ready state top below more_frames rest named p frames deep stages running awaiting of_sub at_point path views viewed_before kept scope holds placed_before above n actuals result e
 
-      abbrev pub holds_now : Holds s depth views state.memory
+      abbrev pub holds_now : Holds s sees depth views state.memory
       holds_now = acting.holds_now table typed effects input ready state top below more_frames rest named p frames deep stages running awaiting of_sub at_point path views viewed_before kept scope holds placed_before above n actuals result e
 
       abbrev pub live_now : (w : Way) (l : ways.Loc) → IsOwners s w → ways.Reaches (seen s state.memory (waiting_in easy.state) state.leaks) w l
           → (content s state.memory (waiting_in easy.state) (trunk l)).owns ≡ true
       live_now = acting.live_now table typed effects input ready state top below more_frames rest named p frames deep stages running awaiting of_sub at_point path views viewed_before kept scope holds placed_before above n actuals result e
 
-      abbrev pub formals_low : (x : ℕ) (w : Way) → views.way x ≡ Some w → IsLow s depth w
+      abbrev pub formals_low : AreLowFormals s depth views
       formals_low = acting.formals_low table typed effects input ready state top below more_frames rest named p frames deep stages running awaiting of_sub at_point path views viewed_before kept scope holds placed_before above n actuals result e
 
       abbrev pub by_callee : (((x : ℕ) → Has formals x → (object_at s x).mode ≡ mode.In) × ((x : ℕ) → Has formals x → IsCopiedBack s x → ⊥)
-          × ChangesLent s facts_now formals actuals)
-          ⊎ AreLent s facts_now formals actuals
+          × ChangesLent s sees facts_now formals actuals)
+          ⊎ AreLent s sees facts_now formals actuals
       by_callee = acting.by_callee table typed effects input ready state top below more_frames rest named p frames deep stages running awaiting of_sub at_point path views viewed_before kept scope holds placed_before above n actuals result e
 
-      abbrev pub clear_there : AreClear s facts_now formals actuals
+      abbrev pub clear_there : AreClear s sees facts_now formals actuals
       clear_there = acting.clear_there table typed effects input ready state top below more_frames rest named p frames deep stages running awaiting of_sub at_point path views viewed_before kept scope holds placed_before above n actuals result e
 
       abbrev pub Given : List Passed → Type 0
       Given passed =
-          AreGiven (steps.here main_turn) ready.accepted.settled (waiting_in easy.state) state.leaks state.memory [] other facts_now views (viewed_easy plain_there.0).1 (viewed_easy plain_there.0).0 holds_now alone live_now in_formals
+          AreGiven (steps.here main_turn) sees seeing ready.accepted.settled (waiting_in easy.state) state.leaks state.memory [] other facts_now views (viewed_easy plain_there.0).1 (viewed_easy plain_there.0).0 holds_now alone live_now in_formals
           index_law ready.owns ready.class.parts_named formals_low procedure formals actuals passed
 
       -- the values that the actuals take
@@ -305,11 +312,11 @@ module _ (table : Table) (typed : TypedProgram) (effects : Effects) (input : Lis
         abbrev no_procedure : procedure ≡ false
         no_procedure = acting.no_procedure table typed effects input ready state top below more_frames rest named p frames deep stages running awaiting of_sub at_point path views viewed_before kept scope holds placed_before above n actuals result e f traversed
 
-        pub opens_these : AreClear s facts_now (f ∷ traversing.rest) (More first (made.call).others)
-        opens_these = subst (λ z. AreClear s facts_now z (More first (made.call).others)) traversing.formals (subst (AreClear s facts_now formals) made.actuals_are clear_there)
+        pub opens_these : AreClear s sees facts_now (f ∷ traversing.rest) (More first (made.call).others)
+        opens_these = subst (λ z. AreClear s sees facts_now z (More first (made.call).others)) traversing.formals (subst (AreClear s sees facts_now formals) made.actuals_are clear_there)
 
-        pub back_these : AreOpenActuals s depth facts_now (f ∷ traversing.rest) (More first (made.call).others)
-        back_these = subst (λ z. AreOpenActuals s depth facts_now z (More first (made.call).others)) traversing.formals (subst (AreOpenActuals s depth facts_now formals) made.actuals_are copied_there)
+        pub back_these : AreOpenActuals s sees depth facts_now (f ∷ traversing.rest) (More first (made.call).others)
+        back_these = subst (λ z. AreOpenActuals s sees depth facts_now z (More first (made.call).others)) traversing.formals (subst (AreOpenActuals s sees depth facts_now formals) made.actuals_are copied_there)
 
         takes_these : SuppliesAll s state.memory (f ∷ traversing.rest) (More first (made.call).others) given_words taken_there.0
         takes_these = subst (λ z. SuppliesAll s state.memory z (More first (made.call).others) given_words taken_there.0) traversing.formals
@@ -319,10 +326,10 @@ module _ (table : Table) (typed : TypedProgram) (effects : Effects) (input : Lis
         traversal_quiet =
             subst (λ z. z)
             (λ j. Quiet then_now
-            (λ passed. AreGiven (steps.here main_turn) ready.accepted.settled (waiting_in easy.state) state.leaks state.memory [] other facts_now views (viewed_easy plain_there.0).1 (viewed_easy plain_there.0).0 holds_now alone live_now in_formals
+            (λ passed. AreGiven (steps.here main_turn) sees seeing ready.accepted.settled (waiting_in easy.state) state.leaks state.memory [] other facts_now views (viewed_easy plain_there.0).1 (viewed_easy plain_there.0).0 holds_now alone live_now in_formals
             index_law ready.owns ready.class.parts_named formals_low (sym no_procedure j) (sym traversing.formals j) (sym made.actuals_are j) passed)
             (all_passed (steps.here main_turn) (sym traversing.ways j) (sym traversing.formals j) (sym made.actuals_are j) (start main_turn)))
-            (all_traversed (steps.here main_turn) ready.accepted.settled (waiting_in easy.state) state.leaks state.memory [] other facts_now views (viewed_easy plain_there.0).1 (viewed_easy plain_there.0).0 holds_now alone live_now in_formals
+            (all_traversed (steps.here main_turn) sees seeing ready.accepted.settled (waiting_in easy.state) state.leaks state.memory [] other facts_now views (viewed_easy plain_there.0).1 (viewed_easy plain_there.0).0 holds_now alone live_now in_formals
             index_law ready.owns ready.class.parts_named formals_low f traversing.rest made.call (acting.first_mode table typed effects input ready state top below more_frames rest named p frames deep stages running awaiting of_sub at_point path views viewed_before kept scope holds placed_before above n actuals result e f traversed) (followed.access table typed effects input ready state top older outer named p frames of_sub at_point path n actuals result e f traversed)
             (followed.shown table typed effects input ready state top older outer named p frames of_sub at_point path n actuals result e f traversed) given_words taken_there.0 takes_these (acting.seen_first table typed effects input ready state top below more_frames rest named p frames deep stages running awaiting of_sub at_point path views viewed_before kept scope holds placed_before above n actuals result e f traversed)
             (λ x has. kinds x (subst (λ z. Has z x) (sym traversing.formals) (inr has))) (acting.unseen_others table typed effects input ready state top below more_frames rest named p frames deep stages running awaiting of_sub at_point path views viewed_before kept scope holds placed_before above n actuals result e f traversed) (acting.others_stay table typed effects input ready state top below more_frames rest named p frames deep stages running awaiting of_sub at_point path views viewed_before kept scope holds placed_before above n actuals result e f traversed)
@@ -333,7 +340,7 @@ module _ (table : Table) (typed : TypedProgram) (effects : Effects) (input : Lis
       passed_quiet = elim (acting.traverses_or table typed effects input ready state top below more_frames rest named p frames deep stages running awaiting of_sub at_point path views viewed_before kept scope holds placed_before above n actuals result e) [
         | inr (f, traversed) ↦ traversal_quiet f traversed
         | inl none ↦ subst (λ z. Quiet then_now Given (all_passed (steps.here main_turn) z formals actuals (start main_turn))) (sym (passes_to program n none))
-            (all_given (steps.here main_turn) ready.accepted.settled (waiting_in easy.state) state.leaks state.memory [] other facts_now views (viewed_easy plain_there.0).1 (viewed_easy plain_there.0).0 holds_now alone live_now in_formals
+            (all_given (steps.here main_turn) sees seeing ready.accepted.settled (waiting_in easy.state) state.leaks state.memory [] other facts_now views (viewed_easy plain_there.0).1 (viewed_easy plain_there.0).0 holds_now alone live_now in_formals
             index_law ready.owns ready.class.parts_named formals_low procedure given_words taken_there.0 formals actuals kinds (acting.unseen_plain table typed effects input ready state top below more_frames rest named p frames deep stages running awaiting of_sub at_point path views viewed_before kept scope holds placed_before above n actuals result e none) called.actuals_stay clear_there copied_there taken_there.1
             (subst (λ z. AllowsAll facts_now (acts (flow.actual_values s z actuals))) (passes_to program n none) values_allowed))
       ]
@@ -341,9 +348,9 @@ module _ (table : Table) (typed : TypedProgram) (effects : Effects) (input : Lis
       abbrev pub view_now : ways.View
       view_now = seen s state.memory (waiting_in easy.state) state.leaks
 
-      abbrev pub given_laid : (passed : List Passed) → Given passed → AreLaidOut s state.memory depth views view_now formals actuals passed
+      abbrev pub given_laid : (passed : List Passed) → Given passed → AreLaidOut s sees state.memory depth views view_now formals actuals passed
       given_laid passed given =
-          all_laid_out (steps.here main_turn) ready.accepted.settled (waiting_in easy.state) state.leaks state.memory [] other facts_now views (viewed_easy plain_there.0).1 (viewed_easy plain_there.0).0 holds_now alone live_now in_formals
+          all_laid_out (steps.here main_turn) sees seeing ready.accepted.settled (waiting_in easy.state) state.leaks state.memory [] other facts_now views (viewed_easy plain_there.0).1 (viewed_easy plain_there.0).0 holds_now alone live_now in_formals
           index_law ready.owns ready.class.parts_named formals_low procedure formals actuals passed given
 
       -- loans stay
@@ -419,7 +426,7 @@ module _ (table : Table) (typed : TypedProgram) (effects : Effects) (input : Lis
             plain = own_place.plain;
             up = λ up_named. lasts_more program left_scope (scope_behind p) (ways.number_of (views.up x)) x more (own_place.up up_named);
             root = λ at_home. lasts_more program left_scope (scope_behind p) (ways.number_of w) x more (own_place.root at_home);
-            holder = λ up_named sees. (let h = own_place.holder up_named sees in
+            holder = λ up_named sight. (let h = own_place.holder up_named sight in
                 (h.0, loans_called h.0 (ways.name_of (views.loan x)) h.1, lasts_more program left_scope (scope_behind p) h.0 x more h.2, h.3));
           }))
 
@@ -464,27 +471,27 @@ module _ (table : Table) (typed : TypedProgram) (effects : Effects) (input : Lis
         other_all = gone_lent table typed effects unmoved_stage local state depth older between
 
         pub far_views : AreFar (home s depth) views depth
-        far_views = lies_far s depth views holds.lies
+        far_views = lies_far s depth views holds.lies holds.low
 
-        abbrev pub laid : AreLaidOut s state.memory depth views view_now formals actuals passed
+        abbrev pub laid : AreLaidOut s sees state.memory depth views view_now formals actuals passed
         laid = given_laid passed given
 
         -- the places that are emptied
         abbrev pub outs : List Out
-        outs = outs_of s state.memory depth views view_now formals actuals passed (given_laid passed given)
+        outs = outs_of s sees state.memory depth views view_now formals actuals passed (given_laid passed given)
 
         -- the cells of places that are copied back to
         abbrev pub cells : List Lodge
-        cells = cells_of s state.memory depth views view_now formals actuals passed (given_laid passed given)
+        cells = cells_of s sees state.memory depth views view_now formals actuals passed (given_laid passed given)
 
-        pub well_before : Viewed (home s depth) (sees_only s) other_all views (view_here s easy.state) facts_now
+        pub well_before : Viewed (home s depth) sees other_all views (view_here s easy.state) facts_now
         well_before = with_gone table typed effects unmoved_stage local state depth older between views (view_here s easy.state) facts_now (viewed_easy plain_there.0).0
 
         -- no view begins at a variable of what is called
         begins_low : (o : ℕ) (w : Way) → views.way o ≡ Some w → (f y : ℕ) → ways.base_of w ≡ ways.OfRoot (ways.OfVariable f y) → f ≡ suc depth → ⊥
         begins_low o w has f y begins above_it = elim (holds.lies o w has) [
           | inl at_home ↦ (let same = (same_variable (home s depth (ways.number_of w)) (ways.number_of w) f y (sym (named_base (home s depth) w at_home) ∙ begins)).0 in
-              not_above s ready.accepted.settled ready.owns in_formals (waiting_in easy.state) state.leaks depth views far_views holds.only facts_all next_there cells (ways.number_of w) (same ∙ above_it))
+              not_above s sees ready.accepted.settled ready.owns in_formals (waiting_in easy.state) state.leaks depth views far_views (holds.only, holds.parts.only) facts_all next_there cells (ways.number_of w) (same ∙ above_it))
           | inr (foreign, low, some) ↦ (let same = (same_variable foreign.0 foreign.1 f y (sym foreign.2 ∙ begins)).0 in omega (arith, low, same, above_it))
         ]
 
@@ -520,47 +527,53 @@ module _ (table : Table) (typed : TypedProgram) (effects : Effects) (input : Lis
             (standing.point_in_named table typed effects input ready state top older outer named p frames of_sub at_point) n actuals result e y has)
 
         -- what the frame knows after the acts, with its views
-        alone_before : ViewedAlone (home s depth) (sees_only s) (known_gone (home s depth) (GoneElsewhere program effects older)) views (view_here s easy.state) own_facts
+        alone_before : ViewedAlone (home s depth) sees (known_gone (home s depth) (GoneElsewhere program effects older)) views (view_here s easy.state) own_facts
         alone_before = apart_from_them [] views (view_here s easy.state) holds.only (viewed_easy plain_there.0).0
 
         pub called_less : (f : Fact) → Has facts_called f → Has own_facts f
         called_less f has = acting.adds_none table typed effects input ready state top below more_frames rest named p frames deep stages running awaiting of_sub at_point path views viewed_before kept scope holds placed_before above n actuals result e f has
 
-        pub clear_called : FactsAreClear (sees_only s) facts_called
-        clear_called = fewer_clear (sees_only s) own_facts facts_called called_less alone_before.clear
+        pub clear_called : FactsAreClear sees facts_called
+        clear_called = fewer_clear sees own_facts facts_called called_less alone_before.clear
 
         loans_more : (l : Loan) (h : ℕ) (m : PlaceName) → Has own_facts (Lent l h m) → Has facts_called (Lent l h m)
         loans_more l h m has = loans_stay s (values ++ copies) spare_call own_facts l h m has
 
-        pub views_called : AreViews (home s depth) (sees_only s) views (view_here s easy.state) facts_called
-        views_called x w has =
-            view_on (home s depth) (sees_only s) other_all views (view_here s easy.state) (view_here s easy.state) own_facts facts_called x w (alone_before.views x w has)
-            (λ b m loan. own_loan (sees_only s) own_facts facts_called loans_more b x m loan)
-            (reached (home s depth) (sees_only s) other_all views (view_here s easy.state) own_facts x w (alone_before.views x w has))
+        pub views_called : AreViews (home s depth) sees views (view_here s easy.state) facts_called
+        views_called = (
+          λ x w has.
+              view_on (home s depth) sees other_all views (view_here s easy.state) (view_here s easy.state) own_facts facts_called x w (alone_before.views.0 x w has)
+              (λ b m loan. own_loan sees own_facts facts_called loans_more b x m loan)
+              (reached (home s depth) sees other_all views (view_here s easy.state) own_facts x w (alone_before.views.0 x w has)),
+          alone_before.views.1,
+        )
 
         -- so it is with what frames around hand on
-        pub clear_all : FactsAreClear (sees_only s) facts_all
-        clear_all = fewer_clear (sees_only s) facts_now facts_all less_now well_before.clear
+        pub clear_all : FactsAreClear sees facts_all
+        clear_all = fewer_clear sees facts_now facts_all less_now well_before.clear
 
-        pub views_all : AreViews (home s depth) (sees_only s) views (view_here s easy.state) facts_all
-        views_all x w has =
-            view_on (home s depth) (sees_only s) other_all views (view_here s easy.state) (view_here s easy.state) facts_now facts_all x w (well_before.views x w has)
-            (λ b m loan. own_loan (sees_only s) facts_now facts_all loan_all b x m loan)
-            (reached (home s depth) (sees_only s) other_all views (view_here s easy.state) facts_now x w (well_before.views x w has))
+        pub views_all : AreViews (home s depth) sees views (view_here s easy.state) facts_all
+        views_all = (
+          λ x w has.
+              view_on (home s depth) sees other_all views (view_here s easy.state) (view_here s easy.state) facts_now facts_all x w (well_before.views.0 x w has)
+              (λ b m loan. own_loan sees facts_now facts_all loan_all b x m loan)
+              (reached (home s depth) sees other_all views (view_here s easy.state) facts_now x w (well_before.views.0 x w has)),
+          well_before.views.1,
+        )
 
         -- names are compared where nothing is gone
         abbrev pub around_names : Around (home s depth)
         around_names = lent_only (home s depth) other_all.lent
 
-        pub names_all : Viewed (home s depth) (sees_only s) around_names views (still (view_here s easy.state)) facts_all
+        pub names_all : Viewed (home s depth) sees around_names views (still (view_here s easy.state)) facts_all
         names_all =
-            still_viewed (home s depth) (sees_only s) other_all.lent views (view_here s easy.state) facts_all well_before.owned well_before.covered clear_all views_all well_before.shown
-            (λ l m lent. lends_on (sees_only s) views facts_now facts_all loan_all l m (well_before.lends l m lent))
+            still_viewed (home s depth) sees other_all.lent views (view_here s easy.state) facts_all well_before.owned well_before.covered clear_all views_all well_before.shown
+            (λ l m lent. lends_on sees views facts_now facts_all loan_all l m (well_before.lends l m lent))
 
-        pub all_passed_ways : (ways_taken : List Way) × ArePassedOn s state.memory cells depth views facts_all next_there formals passed ways_taken outs
-            × ((k : Way) → Has ways_taken k → IsNamedBy s depth views facts_all formals actuals k)
+        pub all_passed_ways : (ways_taken : List Way) × ArePassedOn s sees state.memory cells depth views facts_all next_there formals passed ways_taken outs
+            × ((k : Way) → Has ways_taken k → IsNamedBy s sees depth views facts_all formals actuals k)
         all_passed_ways =
-            all_passed_on s ready.owns ready.accepted.settled state.memory cells depth views holds.only view_now facts_all around_names (still (view_here s easy.state)) names_all next_there procedure formals actuals passed
+            all_passed_on s sees seeing ready.owns ready.accepted.settled state.memory cells depth views holds.only view_now facts_all around_names (still (view_here s easy.state)) names_all next_there procedure formals actuals passed
             facts_now laid kinds
             called.local called.differ
             within_next no_overlap refl copies_allowed (λ c has. has)
@@ -570,7 +583,7 @@ module _ (table : Table) (typed : TypedProgram) (effects : Effects) (input : Lis
 
         -- they begin at variables of the frame, or of package objects, or of frames below
         pub begun : (to : Way) → Has ways_taken to → Begins s depth to
-        begun to has = passed_base s state.memory cells depth views facts_all next_there formals passed ways_taken outs all_passed_ways.1 to has
+        begun to has = passed_base s sees state.memory cells depth views facts_all next_there formals passed ways_taken outs all_passed_ways.1 to has
 
         abbrev outs_gone : Way → Type 0
         outs_gone w = GoneElsewhere program effects older w ⊎ IsUnderOne outs w
@@ -578,7 +591,7 @@ module _ (table : Table) (typed : TypedProgram) (effects : Effects) (input : Lis
         -- under the facts after the acts, what is to be emptied may be gone
         pub stands_all : OwnersStand (home s depth) views facts_all outs_gone (view_here s easy.state)
         stands_all =
-            all_acted (steps.here main_turn) ready.accepted.settled (waiting_in easy.state) state.leaks state.memory [] other facts_now views (viewed_easy plain_there.0).1 (viewed_easy plain_there.0).0 holds_now alone live_now in_formals
+            all_acted (steps.here main_turn) sees seeing ready.accepted.settled (waiting_in easy.state) state.leaks state.memory [] other facts_now views (viewed_easy plain_there.0).1 (viewed_easy plain_there.0).0 holds_now alone live_now in_formals
             index_law ready.owns ready.class.parts_named formals_low procedure outs_gone formals actuals passed facts_now given (λ w under. inr under)
             (record {
               owned = well_before.owned;
@@ -591,28 +604,28 @@ module _ (table : Table) (typed : TypedProgram) (effects : Effects) (input : Lis
             })
 
         -- the names of those cells
-        pub named_cell : (c : Lodge) → Has cells c → IsCellNamed s depth facts_all views view_now formals actuals passed c
-        named_cell c has = cells_named s ready.accepted.settled ready.owns state.memory depth facts_all procedure views view_now formals actuals passed facts_now laid refl copies_allowed c has
+        pub named_cell : (c : Lodge) → Has cells c → IsCellNamed s sees depth facts_all views view_now formals actuals passed c
+        named_cell c has = cells_named s sees ready.accepted.settled ready.owns state.memory depth facts_all procedure views view_now formals actuals passed facts_now laid refl copies_allowed c has
 
         pub cell_root : (c : Lodge) (has : Has cells c) → ways.number_of c.name ≡ ways.number_of (named_cell c has).whole
         cell_root c has = sym (longer c.name (named_cell c has).whole (named_cell c has).begins).root
 
-        pub cell_plain : (c : Lodge) → Has cells c → ways.Named (home s depth) c.name × (sees_only s (ways.number_of c.name) ≡ false)
+        pub cell_plain : (c : Lodge) → Has cells c → ways.Named (home s depth) c.name × (sees (ways.number_of c.name) ≡ false)
         cell_plain c has = (
           named_before (home s depth) c.name (named_cell c has).whole (named_cell c has).begins (named_cell c has).named,
-          ap (sees_only s) (cell_root c has) ∙ (named_cell c has).plain,
+          ap sees (cell_root c has) ∙ (named_cell c has).plain,
         )
 
         -- their ways begin at variables of the frame, or of package objects
         pub cell_begins : (c : Lodge) → Has cells c → (g : ℕ) × (y : ℕ) × (ways.base_of c.way ≡ ways.OfRoot (ways.OfVariable g y)) × (g ≡ suc depth → ⊥)
         cell_begins c has =
-            elim (stands (home s depth) (sees_only s) views (view_here s easy.state) facts_all views_all c.name (cell_plain c has)) [
+            elim (stands (home s depth) sees views (view_here s easy.state) facts_all views_all c.name (cell_plain c has)) [
               | inl own ↦ (
                   let named_there : ways.Named (home s depth) c.way = subst (ways.Named (home s depth)) (named_cell c has).leads own.named in (
                     home s depth (ways.number_of c.way),
                     ways.number_of c.way,
                     named_base (home s depth) c.way named_there,
-                    not_above s ready.accepted.settled ready.owns in_formals (waiting_in easy.state) state.leaks depth views far_views holds.only facts_all next_there cells (ways.number_of c.way),
+                    not_above s sees ready.accepted.settled ready.owns in_formals (waiting_in easy.state) state.leaks depth views far_views (holds.only, holds.parts.only) facts_all next_there cells (ways.number_of c.way),
                   ))
               | inr held_there ↦ (
                   let (f, y, begins) = held_there.passed.begins in (
@@ -625,7 +638,7 @@ module _ (table : Table) (typed : TypedProgram) (effects : Effects) (input : Lis
 
         -- one of another place
         housed_aside : (c : Lodge) (has : Has cells c) (k : Place) → k.base ≡ memory.OfCell c.cell
-            → (u : Way) × Has ways_taken u × IsPassedOn s cells depth views facts_all next_there (named_cell c has).by.formal k u → (to : Way) → Has ways_taken to → ways.Past to c.way → ⊥
+            → (u : Way) × Has ways_taken u × IsPassedOn s sees cells depth views facts_all next_there (named_cell c has).by.formal k u → (to : Way) → Has ways_taken to → ways.Past to c.way → ⊥
         housed_aside c has k base (u, has_u, one) to taken past = elim (one.inside).stands [
           | inl variable ↦ (let never : memory.OfVariable (one.inside).frame (one.inside).object ≡ memory.OfCell c.cell = sym variable.2 ∙ base in cc)
           | inr cell ↦ (
@@ -637,7 +650,7 @@ module _ (table : Table) (typed : TypedProgram) (effects : Effects) (input : Lis
               let trunk_is : c.way ≡ (one.inside).trunk = one_way view well_before.owned c.way (one.inside).trunk (ways.OfCell c.cell) (named_cell c has).reaches reach in
               let goes_on : u ≡ ways.along c.way (one.inside).steps = (one.inside).way ∙ ap (λ z. ways.along z (one.inside).steps) (sym trunk_is) in
               let below : ways.Under c.way u = subst (ways.Under c.way) (sym goes_on) (under_along c.way c.way (one.inside).steps (under_itself c.way)) in
-              elim (passed_pair s state.memory cells depth views facts_all next_there formals passed ways_taken outs all_passed_ways.1 to u taken has_u) [
+              elim (passed_pair s sees state.memory cells depth views facts_all next_there formals passed ways_taken outs all_passed_ways.1 to u taken has_u) [
                 | inl same ↦ not_before c.way (one.inside).steps (subst (λ z. ways.Past z c.way) (same ∙ goes_on) past)
                 | inr apart ↦ apart.0 (under_on to c.way u (past_under to c.way past) below)
               ])
@@ -652,8 +665,8 @@ module _ (table : Table) (typed : TypedProgram) (effects : Effects) (input : Lis
             let by = all_passed_ways.2 to taken in
             let cell = named_cell c has in
             let below : ways.Under c.way (expand views cell.whole) =
-            subst (λ z. ways.Under z (expand views cell.whole)) cell.leads (expand_under views c.name cell.whole (λ r is. absurd (cell.deep r is)) cell.begins) in
-            names_off (home s depth) (sees_only s) around_names views (still (view_here s easy.state)) facts_all names_all by.name cell.whole
+            subst (λ z. ways.Under z (expand views cell.whole)) cell.leads (expand_under views c.name cell.whole (λ r is. absurd (cell.deep r is)) (no_part (home s depth) sees views (still (view_here s easy.state)) facts_all names_all.views cell.whole cell.plain) cell.begins) in
+            names_off (home s depth) sees around_names views (still (view_here s easy.state)) facts_all names_all by.name cell.whole
             (by.named, by.plain) (cell.named, cell.plain) by.unlent cell.unlent
             (λ over. taken_apart to taken c has scalar over)
             (under_on (expand views by.name) c.way (expand views cell.whole) (subst (λ z. ways.Under z c.way) (sym by.means) (past_under to c.way past)) below)
@@ -674,7 +687,7 @@ module _ (table : Table) (typed : TypedProgram) (effects : Effects) (input : Lis
         pub cell_aside : (c : Lodge) → Has cells c → (to : Way) → Has ways_taken to → ways.Past to c.way → ⊥
         cell_aside c has to taken past = elim (named_cell c has).sort [
           | inl scalar ↦ scalar_aside c has scalar to taken past
-          | inr (k, base, from, many) ↦ housed_aside c has k base (from_taken s state.memory cells depth views facts_all next_there formals passed ways_taken outs all_passed_ways.1
+          | inr (k, base, from, many) ↦ housed_aside c has k base (from_taken s sees state.memory cells depth views facts_all next_there formals passed ways_taken outs all_passed_ways.1
               (named_cell c has).by.formal k from many) to taken past
         ]
 
@@ -704,10 +717,10 @@ module _ (table : Table) (typed : TypedProgram) (effects : Effects) (input : Lis
                       let frames_same = (same_variable there.0 there.1 (suc depth) x (sym there.2 ∙ base_along (ways.Object root) q)).0 in
                       let less = there.3 in omega (arith, frames_same, less))
                   | inl (inr none) ↦ absurd none
-                  | inl (inl (u, moved, leads)) ↦ elim (stands (home s depth) (sees_only s) views (view_here s easy.state) facts_now well_before.views u
+                  | inl (inl (u, moved, leads)) ↦ elim (stands (home s depth) sees views (view_here s easy.state) facts_now well_before.views u
                       (moved.0, well_before.clear.owned (ways.name_of u) moved.1)) [
                         | inl own ↦ not_named (home s depth) (suc depth) x
-                            (not_above s ready.accepted.settled ready.owns in_formals (waiting_in easy.state) state.leaks depth views far_views holds.only facts_all next_there cells) w
+                            (not_above s sees ready.accepted.settled ready.owns in_formals (waiting_in easy.state) state.leaks depth views far_views (holds.only, holds.parts.only) facts_all next_there cells) w
                             (subst (ways.Named (home s depth)) leads own.named) (base_along (ways.Object root) q)
                         | inr held_there ↦ (
                             let at = sym (base_under held_there.way (expand views u) held_there.under) ∙ ap ways.base_of leads ∙ base_along (ways.Object root) q in

@@ -39,7 +39,6 @@ use Rattle.soundness.proofs.Contents.{bool_cases}
 use Rattle.soundness.proofs.Scalars.{acts, acts_append, after_append, allows_both}
 use Rattle.owned_loans.specs.Views.{Views, expand}
 use Rattle.owned_loans.proofs.Safe.{Unlent}
-use Rattle.viewed_soundness.specs.Holds.{sees_only}
 use Rattle.viewed_steps.specs.Taken.{Lodge}
 use Rattle.viewed_steps.specs.Sound.{IsScalarObject, IsCopiedBack}
 use Rattle.viewed_steps.specs.Ready.{AreUnobserved}
@@ -128,9 +127,9 @@ not_in mode.In e is = cc
 not_in mode.Out e is = cc
 not_in mode.InOut e is = cc
 
-module _ (s : Typing) (own_law : OwnsByShape s.table) (depth : ℕ) (facts : List Fact) (procedure : Bool) where
+module _ (s : Typing) (sees : ℕ → Bool) (own_law : OwnsByShape s.table) (depth : ℕ) (facts : List Fact) (procedure : Bool) where
   -- where all are of mode `in`
-  pub all_in : (formals : List ℕ) (actuals : TypedTree) → ((x : ℕ) → Has formals x → (object_at s x).mode ≡ mode.In) → AreOpenActuals s depth facts formals actuals
+  pub all_in : (formals : List ℕ) (actuals : TypedTree) → ((x : ℕ) → Has formals x → (object_at s x).mode ≡ mode.In) → AreOpenActuals s sees depth facts formals actuals
   all_in [] actuals modes = tt
   all_in (x ∷ formals) (More e rest) modes = (λ other. absurd (not_in (object_at s x).mode other (modes x (inl refl))), all_in formals rest (λ y has. modes y (inr has)))
   all_in (x ∷ formals) actuals modes = tt
@@ -170,15 +169,14 @@ module _ (s : Typing) (own_law : OwnsByShape s.table) (depth : ℕ) (facts : Lis
   ways_of formals = map (passing s procedure) formals
 
   one_open : (x : ℕ) (m : Mode) (e : TypedTree) (known : List Fact) (outs : List PlaceName) → (object_at s x).mode ≡ m → (m ≡ mode.In → ⊥)
-      → ((y : ℕ) → Has (root_of e) y → sees_only s y ≡ false)
+      → ((y : ℕ) → Has (root_of e) y → sees y ≡ false)
       → AllowsAll known (acts (actual_act (passing s procedure x) e)) → ((f : Fact) → Has facts f → IsLess outs known f)
-      → ((w : Written) → written e ≡ Some w → (k : PlaceName) → Has outs k → overlaps k w.name ≡ true → ⊥) → IsOpenActual s depth facts e
+      → ((w : Written) → written e ≡ Some w → (k : PlaceName) → Has outs k → overlaps k w.name ≡ true → ⊥) → IsOpenActual s sees depth facts e
   one_open x m (Name p y path u) known outs is other roots allowed less apart =
       let owning : Bool = is_owning s.table (object_at s x).of in
       let access : Bool = procedure && is_named_access (view_of s x) in
       let here : Allows known (act.Actual (name_of y path) m owning access) =
-      by_mode m other (subst (λ z. AllowsAll known (acts (actual_act (passing_by z owning access) (Name p y path u)))) is allowed) in
-      inr (
+      by_mode m other (subst (λ z. AllowsAll known (acts (actual_act (passing_by z owning access) (Name p y path u)))) is allowed) in (
         roots y (inl refl),
         λ q named called.
             open_before facts known outs q less
@@ -194,10 +192,10 @@ module _ (s : Typing) (own_law : OwnsByShape s.table) (depth : ℕ) (facts : Lis
       by_mode mode.InOut other allowed = allowed.0
   one_open x m e known outs is other roots allowed less apart = tt
 
-  pub all_open : (formals : List ℕ) (actuals : TypedTree) (known : List Fact) (outs : List PlaceName) → AreUnobserved s formals actuals → NoOverlap s formals actuals
+  pub all_open : (formals : List ℕ) (actuals : TypedTree) (known : List Fact) (outs : List PlaceName) → AreUnobserved s sees formals actuals → NoOverlap s formals actuals
       → AllowsAll known (acts (actual_acts (ways_of formals) actuals)) → ((f : Fact) → Has facts f → IsLess outs known f)
       → ((k : PlaceName) → Has outs k → (b : alias.Passed) → Has (alias.passed formals actuals) b → IsCopiedBack s b.formal → overlaps k b.actual.name ≡ true → ⊥)
-      → AreOpenActuals s depth facts formals actuals
+      → AreOpenActuals s sees depth facts formals actuals
   all_open [] actuals known outs unobserved none allowed less apart = tt
   all_open (x ∷ formals) (More e rest) known outs unobserved none allowed less apart =
       let first : List Act = acts (actual_act (passing s procedure x) e) in
@@ -219,12 +217,12 @@ module _ (s : Typing) (own_law : OwnsByShape s.table) (depth : ℕ) (facts : Lis
       Leaves x e formals rest known outs =
           ((f : Fact) → Has facts f → IsLess outs (after (acts (actual_act (passing s procedure x) e)) known) f)
           → ((k : PlaceName) → Has outs k → (b : alias.Passed) → Has (alias.passed formals rest) b → IsCopiedBack s b.formal → overlaps k b.actual.name ≡ true → ⊥)
-          → AreOpenActuals s depth facts formals rest
+          → AreOpenActuals s sees depth facts formals rest
 
       rest_open : (x : ℕ) (e : TypedTree) (formals : List ℕ) (rest : TypedTree) (known : List Fact) (outs : List PlaceName)
           → NoOverlap s (x ∷ formals) (More e rest) → ((f : Fact) → Has facts f → IsLess outs known f)
           → ((k : PlaceName) → Has outs k → (b : alias.Passed) → Has (alias.passed formals rest) b → IsCopiedBack s b.formal → overlaps k b.actual.name ≡ true → ⊥)
-          → (o : Option Written) → written e ≡ o → ((more : List PlaceName) → Leaves x e formals rest known more) → AreOpenActuals s depth facts formals rest
+          → (o : Option Written) → written e ≡ o → ((more : List PlaceName) → Leaves x e formals rest known more) → AreOpenActuals s sees depth facts formals rest
       rest_open x e formals rest known outs none less apart None is others =
           others outs
           (λ f has. elim (less f has) [
@@ -277,11 +275,11 @@ module _ (s : Typing) (own_law : OwnsByShape s.table) (depth : ℕ) (facts : Lis
 -- ---- the cells
 
 -- A cell of a place: its name begins that of an actual that is copied back to, which isn't lent.
-pub record IsCellNamed (s : Typing) (depth : ℕ) (facts : List Fact) (v : Views) (view : ways.View) (formals : List ℕ) (actuals : TypedTree) (passed : List Passed)
+pub record IsCellNamed (s : Typing) (sees : ℕ → Bool) (depth : ℕ) (facts : List Fact) (v : Views) (view : ways.View) (formals : List ℕ) (actuals : TypedTree) (passed : List Passed)
     (c : Lodge) : Type 0 where
   pub whole : Way
   pub named : Named (home s depth) whole
-  pub plain : sees_only s (number_of whole) ≡ false
+  pub plain : sees (number_of whole) ≡ false
   pub begins : Under c.name whole
   pub deep : (r : ways.Root) → c.name ≡ ways.Object r → ⊥
   pub leads : expand v c.name ≡ c.way
@@ -301,9 +299,9 @@ named_before home t (ways.Lost n) under named = absurd named
 named_before home t (ways.Into w i) under named = elim under [ inl e ↦ subst (Named home) (sym e) named | inr u ↦ named_before home t w u named ]
 named_before home t (ways.All w) under named = elim under [ inl e ↦ subst (Named home) (sym e) named | inr u ↦ named_before home t w u named ]
 
-module _ (s : Typing) (settled : IsSettled s.table) (own_law : OwnsByShape s.table) (mem : Memory) (depth : ℕ) (facts : List Fact) (procedure : Bool) (v : Views) (view : ways.View) where
+module _ (s : Typing) (sees : ℕ → Bool) (settled : IsSettled s.table) (own_law : OwnsByShape s.table) (mem : Memory) (depth : ℕ) (facts : List Fact) (procedure : Bool) (v : Views) (view : ways.View) where
   abbrev Called : List ℕ → TypedTree → List Passed → Lodge → Type 0
-  Called formals actuals passed c = IsCellNamed s depth facts v view formals actuals passed c
+  Called formals actuals passed c = IsCellNamed s sees depth facts v view formals actuals passed c
 
   cell_later : (x : ℕ) (e : TypedTree) (a : Passed) (formals : List ℕ) (actuals : TypedTree) (passed : List Passed) (c : Lodge) → Called formals actuals passed c
       → Called (x ∷ formals) (More e actuals) (a ∷ passed) c
@@ -340,9 +338,9 @@ module _ (s : Typing) (settled : IsSettled s.table) (own_law : OwnsByShape s.tab
       by_mode mode.Out other allowed = allowed.0
       by_mode mode.InOut other allowed = allowed.0
 
-  house_base : (s : Typing) (depth : ℕ) (v : Views) (view : ways.View) (x y : ℕ) (path : TypedTree) (k : Place) → (h : IsHoused s depth v view x y path k)
+  house_base : (s : Typing) (sees : ℕ → Bool) (depth : ℕ) (v : Views) (view : ways.View) (x y : ℕ) (path : TypedTree) (k : Place) → (h : IsHoused s sees depth v view x y path k)
       → k.base ≡ memory.OfCell h.cell
-  house_base s depth v view x y path k h = elim (h.inside).stands [
+  house_base s sees depth v view x y path k h = elim (h.inside).stands [
     | inl variable ↦ (let never : OfRoot (ways.OfVariable (h.inside).frame (h.inside).object) ≡ OfCell h.cell = sym variable.1 ∙ h.start in cc)
     | inr cell ↦ cell.2 ∙ ap memory.OfCell (same_cell (sym cell.1 ∙ h.start))
   ]
@@ -352,12 +350,12 @@ module _ (s : Typing) (settled : IsSettled s.table) (own_law : OwnsByShape s.tab
 
   -- the cell of one that isn't scalar
   housed_cell : (x : ℕ) (m : Mode) (p : Pos) (y u : ℕ) (path : TypedTree) (k : Place) (a : Passed) (known : List Fact) (formals : List ℕ) (rest : TypedTree) (passed : List Passed) → (object_at s x).mode ≡ m → (m ≡ mode.In → ⊥)
-      → IsOfPlace a k → (h : IsHoused s depth v view x y path k) → AllowsAll known (acts (actual_act (passing s procedure x) (Name p y path u))) → ((f : Fact) → Has facts f → Has known f)
-      → is_scalar (full s.table (object_at s x).of) ≡ false → Called (x ∷ formals) (More (Name p y path u) rest) (a ∷ passed) (house_of s depth v view x y path k h)
+      → IsOfPlace a k → (h : IsHoused s sees depth v view x y path k) → AllowsAll known (acts (actual_act (passing s procedure x) (Name p y path u))) → ((f : Fact) → Has facts f → Has known f)
+      → is_scalar (full s.table (object_at s x).of) ≡ false → Called (x ∷ formals) (More (Name p y path u) rest) (a ∷ passed) (house_of s sees depth v view x y path k h)
   housed_cell x m p y u path k a known formals rest passed is other of h allowed less many = record {
     whole = h.name;
     named = h.named;
-    plain = ap (sees_only s) (ap (λ (z : PlaceName). z.root) h.called) ∙ h.plain;
+    plain = ap sees (ap (λ (z : PlaceName). z.root) h.called) ∙ h.plain;
     begins = h.begins;
     deep = h.deep;
     leads = h.leads;
@@ -367,17 +365,17 @@ module _ (s : Typing) (settled : IsSettled s.table) (own_law : OwnsByShape s.tab
     among = inl refl;
     back = λ in_mode. other (sym is ∙ in_mode);
     called = sym h.called;
-    sort = inr (k, house_base s depth v view x y path k h, inl (refl, of), many);
+    sort = inr (k, house_base s sees depth v view x y path k h, inl (refl, of), many);
   }
 
   one_cell : (x : ℕ) (m : Mode) (e : TypedTree) (k : Place) (known : List Fact) (formals : List ℕ) (rest : TypedTree) (passed : List Passed) → (object_at s x).mode ≡ m → (m ≡ mode.In → ⊥)
-      → (laid : IsPlaceLaid s depth v view x e k) → AllowsAll known (acts (actual_act (passing s procedure x) e)) → ((f : Fact) → Has facts f → Has known f)
-      → (c : Lodge) → Has (place_cell s depth v view x e k laid) c → (a : Passed) → Called (x ∷ formals) (More e rest) (a ∷ passed) c
+      → (laid : IsPlaceLaid s sees depth v view x e k) → AllowsAll known (acts (actual_act (passing s procedure x) e)) → ((f : Fact) → Has facts f → Has known f)
+      → (c : Lodge) → Has (place_cell s sees depth v view x e k laid) c → (a : Passed) → Called (x ∷ formals) (More e rest) (a ∷ passed) c
   one_cell x m (Name p y path u) k known formals rest passed is other (inl (plain, inr (c, there, sort))) allowed less d (inl same) a =
       subst (Called (x ∷ formals) (More (Name p y path u) rest) (a ∷ passed)) same (record {
         whole = there.whole;
         named = there.named;
-        plain = ap (sees_only s) (ap (λ (z : PlaceName). z.root) there.called) ∙ there.plain;
+        plain = ap sees (ap (λ (z : PlaceName). z.root) there.called) ∙ there.plain;
         begins = there.begins;
         deep = there.deep;
         leads = there.leads;
@@ -395,8 +393,8 @@ module _ (s : Typing) (settled : IsSettled s.table) (own_law : OwnsByShape s.tab
   one_cell x m e k known formals rest passed is other (inl (plain, never)) allowed less d has a = absurd never
 
   back_cell_named : (x : ℕ) (m : Mode) (e : TypedTree) (k : Place) (a : Passed) (known : List Fact) (formals : List ℕ) (rest : TypedTree) (passed : List Passed) → (object_at s x).mode ≡ m → (m ≡ mode.In → ⊥)
-      → IsOfPlace a k → (laid : IsBackLaid s depth v view x e k) → AllowsAll known (acts (actual_act (passing s procedure x) e)) → ((f : Fact) → Has facts f → Has known f)
-      → (c : Lodge) → Has (back_cell s depth v view x e k laid) c → Called (x ∷ formals) (More e rest) (a ∷ passed) c
+      → IsOfPlace a k → (laid : IsBackLaid s sees depth v view x e k) → AllowsAll known (acts (actual_act (passing s procedure x) e)) → ((f : Fact) → Has facts f → Has known f)
+      → (c : Lodge) → Has (back_cell s sees depth v view x e k laid) c → Called (x ∷ formals) (More e rest) (a ∷ passed) c
   back_cell_named x m e k a known formals rest passed is other of (inl laid) allowed less c has = one_cell x m e k known formals rest passed is other laid allowed less c has a
   back_cell_named x m (Name p y path u) k a known formals rest passed is other of (inr housed) allowed less c (inl same) =
       subst (Called (x ∷ formals) (More (Name p y path u) rest) (a ∷ passed)) same (housed_cell x m p y u path k a known formals rest passed is other of housed.1 allowed less housed.0)
@@ -404,16 +402,16 @@ module _ (s : Typing) (settled : IsSettled s.table) (own_law : OwnsByShape s.tab
   back_cell_named x m e k a known formals rest passed is other of (inr never) allowed less c has = absurd never.1
 
   first_cell : (x : ℕ) (m : Mode) (e : TypedTree) (a : Passed) (known : List Fact) (formals : List ℕ) (rest : TypedTree) (passed : List Passed) → (object_at s x).mode ≡ m
-      → (laid : IsLaidOne s mem depth v view x m e a) → AllowsAll known (acts (actual_act (passing s procedure x) e)) → ((f : Fact) → Has facts f → Has known f)
-      → (c : Lodge) → Has (cell_of s mem depth v view x m e a laid) c → Called (x ∷ formals) (More e rest) (a ∷ passed) c
+      → (laid : IsLaidOne s sees mem depth v view x m e a) → AllowsAll known (acts (actual_act (passing s procedure x) e)) → ((f : Fact) → Has facts f → Has known f)
+      → (c : Lodge) → Has (cell_of s sees mem depth v view x m e a laid) c → Called (x ∷ formals) (More e rest) (a ∷ passed) c
   first_cell x mode.In e (Value ws) known formals rest passed is laid allowed less c has = absurd has
   first_cell x mode.Out e (To k) known formals rest passed is laid allowed less c has = back_cell_named x mode.Out e k (To k) known formals rest passed is (λ e. cc) (inr refl) laid allowed less c has
   first_cell x mode.InOut e (From k) known formals rest passed is laid allowed less c has = back_cell_named x mode.InOut e k (From k) known formals rest passed is (λ e. cc) (inl refl) laid allowed less c has
   first_cell x m e a known formals rest passed is laid allowed less c has = absurd laid
 
-  pub cells_named : (formals : List ℕ) (actuals : TypedTree) (passed : List Passed) (known : List Fact) → (laid : AreLaidOut s mem depth v view formals actuals passed)
+  pub cells_named : (formals : List ℕ) (actuals : TypedTree) (passed : List Passed) (known : List Fact) → (laid : AreLaidOut s sees mem depth v view formals actuals passed)
       → facts ≡ after (acts (actual_acts (map (passing s procedure) formals) actuals)) known
-      → AllowsAll known (acts (actual_acts (map (passing s procedure) formals) actuals)) → (c : Lodge) → Has (cells_of s mem depth v view formals actuals passed laid) c
+      → AllowsAll known (acts (actual_acts (map (passing s procedure) formals) actuals)) → (c : Lodge) → Has (cells_of s sees mem depth v view formals actuals passed laid) c
       → Called formals actuals passed c
   cells_named [] actuals passed known laid same allowed c has = absurd has
   cells_named (x ∷ formals) (More e rest) (a ∷ passed) known laid same allowed c has =
@@ -422,7 +420,7 @@ module _ (s : Typing) (settled : IsSettled s.table) (own_law : OwnsByShape s.tab
       let both : acts (actual_acts (map (passing s procedure) (x ∷ formals)) (More e rest)) ≡ first ++ others =
       acts_append (actual_act (passing s procedure x) e) (actual_acts (map (passing s procedure) formals) rest) in
       let each = allows_both known first others (subst (AllowsAll known) both allowed) in
-      elim (Has-append_cases (cell_of s mem depth v view x (object_at s x).mode e a laid.0) (cells_of s mem depth v view formals rest passed laid.1) c has) [
+      elim (Has-append_cases (cell_of s sees mem depth v view x (object_at s x).mode e a laid.0) (cells_of s sees mem depth v view formals rest passed laid.1) c has) [
         | inl mine ↦ first_cell x (object_at s x).mode e a known formals rest passed refl laid.0 each.0
             (λ f there. after_less (acts (actual_acts (map (passing s procedure) (x ∷ formals)) (More e rest)))
             (λ b among. (let from = Has-map_from (λ (z : Placed). z.act) (actual_acts (map (passing s procedure) (x ∷ formals)) (More e rest)) b among in

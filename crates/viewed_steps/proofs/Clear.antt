@@ -39,7 +39,7 @@ second_true : (a b : Bool) → a && b ≡ true → b ≡ true
 second_true true b e = e
 second_true false b e = cc
 
-module _ (s : Typing) (procedure : Bool) where
+module _ (s : Typing) (sees : ℕ → Bool) (procedure : Bool) where
   abbrev copies_of : List ℕ → TypedTree → List Placed
   copies_of formals actuals = actual_acts (map (passing s procedure) formals) actuals
 
@@ -52,7 +52,7 @@ module _ (s : Typing) (procedure : Bool) where
   head_keeps false access e facts = refl
   head_keeps true access e facts = naming_sees (written e) access facts
 
-  head_clears : (owning access : Bool) (e : TypedTree) (facts : List Fact) → owning ≡ true → AllowsAll facts (acts (actual_act (passing_by mode.In owning access) e)) → IsClear s facts e
+  head_clears : (owning access : Bool) (e : TypedTree) (facts : List Fact) → owning ≡ true → AllowsAll facts (acts (actual_act (passing_by mode.In owning access) e)) → IsClear s sees facts e
   head_clears false access e facts owns allowed = (let no : false ≡ true = owns in cc)
   head_clears true access (Name p y path u) facts owns allowed =
       λ w called plain. actual_clears facts access w (subst (λ z. Allows facts (act.Actual z mode.In true access)) (sym called) allowed.0)
@@ -65,7 +65,7 @@ module _ (s : Typing) (procedure : Bool) where
   ]
 
   pub all_clear : (formals : List ℕ) (actuals : TypedTree) (facts : List Fact) → AreUnseen s formals → ((x : ℕ) → Has formals x → (object_at s x).mode ≡ mode.In)
-      → AllowsAll facts (acts (copies_of formals actuals)) → AreClear s facts formals actuals
+      → AllowsAll facts (acts (copies_of formals actuals)) → AreClear s sees facts formals actuals
   all_clear [] actuals facts unseen modes allowed = tt
   all_clear (x ∷ formals) (More e rest) facts unseen modes allowed =
       let owning : Bool = is_owning s.table (object_at s x).of in

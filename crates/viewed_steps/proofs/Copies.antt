@@ -15,7 +15,7 @@ use Rattle.owned_loans.specs.Views.{Around, Viewed, Views, expand}
 use Rattle.machine.specs.Evaluate.{AsValue, ConstraintError, Done, Evaluated, Here, Now, Raises, Traps, checked, evaluate, followed_by, held_or_taken, part_type, parts_of, steps_of, variable_place, waited, walked}
 use Rattle.typed_laws.specs.Needed.{Gives, GivesParts, IndexLaw, Leads, Stays}
 use Rattle.viewed_soundness.proofs.Stays.{Goes as GoesAlong, name_quiet, steps_taking, taking}
-use Rattle.viewed_soundness.specs.Holds.{Holds, IsNamed, IsOwners, PartsAreNamed, sees_only}
+use Rattle.viewed_soundness.specs.Holds.{Holds, IsNamed, IsOwners, PartsAreNamed, Seeing}
 use Rattle.viewed_soundness.specs.Taken.{type_given, types_taken, TakesFit}
 use Rattle.viewed_soundness.proofs.Evaluated.{part_named}
 use Rattle.viewed_steps.proofs.Entered.{IsFit}
@@ -124,11 +124,11 @@ module _ (s : Typing) (own_law : OwnsByShape s.table) (parts_named : PartsAreNam
     parts_read NoMore t i gives none count made = no_reads
     parts_read es t i gives none count made = absurd gives
 
-module _ (h : Here) (settled : IsSettled h.typing.table) (hands : List Waiting) (leaks : List Leak) (m : Memory) (waits : List (List machine.Word))
+module _ (h : Here) (sees : ℕ → Bool) (seeing : Seeing h.typing sees) (settled : IsSettled h.typing.table) (hands : List Waiting) (leaks : List Leak) (m : Memory) (waits : List (List machine.Word))
     (other : Around (home h.typing h.frame)) (facts : List Fact) (v : Views)
     (kept : Kept h.typing m hands)
-    (well : Viewed (home h.typing h.frame) (sees_only h.typing) other v (seen h.typing m hands leaks) facts)
-    (holds : Holds h.typing h.frame v m)
+    (well : Viewed (home h.typing h.frame) sees other v (seen h.typing m hands leaks) facts)
+    (holds : Holds h.typing sees h.frame v m)
     (alone : (w : Way) → IsNear h.frame w → other.gone w → ⊥)
     (live : (w : Way) (l : Loc) → IsOwners h.typing w → Reaches (seen h.typing m hands leaks) w l → (content h.typing m hands (trunk l)).owns ≡ true)
     (index_law : IndexLaw)
@@ -207,13 +207,13 @@ module _ (h : Here) (settled : IsSettled h.typing.table) (hands : List Waiting) 
       let is : used s (name_of x steps) t ≡ act.Read (name_of x steps) = unowned_read s own_law (name_of x steps) t want fits none in
       let last : List Placed = placed p (used s (name_of x steps) t) ∷ [] in
       let each = both_allowed (acts_in s steps) last allowed in
-      let inner = steps_taking h settled hands leaks m waits other facts v kept well holds alone live index_law own_law parts_named (object_at s x).of t steps lead before on takes each.1 in
+      let inner = steps_taking h sees seeing settled hands leaks m waits other facts v kept well holds alone live index_law own_law parts_named (object_at s x).of t steps lead before on takes each.1 in
       let reads : Allows facts (act.Read (name_of x steps)) = subst (Allows facts) is (each.0 inner.1).0 in (
         quiet_then (at on) (λ way. GoesAlong s.table (object_at s x).of t steps way) (Fits want) (steps_of h steps (at before))
             (λ way now. followed_by (walked h.typing way (variable_place h x) now) (held_or_taken h AsValue)) inner.0
             (λ way goes. held_fits on (expand v (way_along way (Object (OfVariable (home s h.frame x) x)))) t want owns fits
             (walked h.typing way (variable_place h x) (at on))
-            (name_quiet h settled hands leaks m on other facts v kept well holds alone live index_law own_law parts_named x steps t way goes
+            (name_quiet h sees seeing settled hands leaks m on other facts v kept well holds alone live index_law own_law parts_named x steps t way goes
             (λ w named called. read_open facts w (subst (λ z. Allows facts (act.Read z)) (sym called) reads)))),
         both_stay (acts_in s steps) last inner.1 (ap (λ a. effect a facts) is ∙ read_effect (name_of x steps) facts),
       )
@@ -236,7 +236,7 @@ module _ (h : Here) (settled : IsSettled h.typing.table) (hands : List Waiting) 
   scalar_fits : (e : TypedTree) (want : ℕ) → is_scalar (full s.table want) ≡ true → Stays s e → (before on : List (List machine.Word)) → Takes (waits_in e) before on
       → AllowsAll facts (acts (acts_in s e)) → Quiet (at on) (Fits want) (evaluate h AsValue e (at before)) × Stay (acts_in s e)
   scalar_fits e want plain stays before on takes allowed =
-      let both = taking h settled hands leaks m waits other facts v kept well holds alone live index_law own_law parts_named AsValue e stays before on takes allowed in
+      let both = taking h sees seeing settled hands leaks m waits other facts v kept well holds alone live index_law own_law parts_named AsValue e stays before on takes allowed in
       (quiet_as on One (Fits want) (λ ws one. plain_fits want ws plain one) (evaluate h AsValue e (at before)) both.0, both.1)
 
   -- what a function gave

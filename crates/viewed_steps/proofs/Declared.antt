@@ -1,5 +1,5 @@
 -- The declaration of an object that isn't a view.
-use Rattle.std.proofs.Common.{◌≡◌, refl, sym, ap, ◌∙◌, subst, ◌⊎◌, inl, inr, ℕ, Bool, true, false, not, List, [], ◌∷◌, ◌+◌, ◌++◌, length, get_or, append-nil, Some, if◌then◌else◌}
+use Rattle.std.proofs.Common.{None, ◌≡◌, refl, sym, ap, ◌∙◌, subst, ◌⊎◌, inl, inr, ℕ, Bool, true, false, not, List, [], ◌∷◌, ◌+◌, ◌++◌, length, get_or, append-nil, Some, if◌then◌else◌}
 use Rattle.spark_base.specs.Lists.{Has}
 use Rattle.place_names.specs.declared.act.Act.TheVariants as act
 use Rattle.place_names.specs.declared.fact.Fact.{Fact}
@@ -45,12 +45,13 @@ use Rattle.soundness.proofs.Numbers.{index_law}
 use Rattle.soundness.proofs.Scalars.{acts}
 use Rattle.soundness.proofs.Taking.{Takes, takes_as, takes_zero, no_takes, nothing_more}
 use Rattle.owned_loans.specs.Views.{Around, Views, expand, ExcusedBy, Viewed, IsForeign}
-use Rattle.owned_loans.proofs.Ways.{lifts, lifted_way, root_on, base_on, home_or_foreign}
-use Rattle.owned_loans.proofs.Moves.{as_sound, all_known, view_on, view_rooted, reached}
-use Rattle.owned_loans.proofs.Meeting.{stands}
+use Rattle.owned_loans.proofs.Ways.{lifts, lifted_way, root_on, base_on, home_or_foreign, part_root}
+use Rattle.owned_loans.proofs.Moves.{as_sound, all_known, view_on, view_rooted, reached, parts_on}
+use Rattle.owned_loans.proofs.Meeting.{stands, no_part}
 use Rattle.viewed_soundness.specs.Taken.{GivesPlainly}
-use Rattle.viewed_soundness.specs.Holds.{IsNamed, PartsAreNamed, Holds, AllKeep, sees_only, is_view, is_fixed}
-use Rattle.viewed_soundness.proofs.Names.{both_no, true_false}
+use Rattle.viewed_soundness.specs.Holds.{IsNamed, PartsAreNamed, Holds, AllKeep, is_view, is_fixed, Seeing}
+use Rattle.viewed_soundness.proofs.Names.{parts_same}
+use Rattle.viewed_soundness.proofs.ViewKinds.{bundle_view, both_no, true_false}
 use Rattle.viewed_soundness.proofs.Moments.{hands_spared}
 use Rattle.viewed_soundness.proofs.Evaluated.{gives_plainly, Given, blank_ready, checked_given, evaluated_on}
 use Rattle.viewed_soundness.proofs.Outcomes.{named_plain, not_views, IsGood, Leads_on, raises, start_is, unturned, goes_to}
@@ -154,8 +155,9 @@ module _ (s : Typing) (settled : IsSettled s.table) (home : ℕ → ℕ) (observ
       → ((p : List Step) → word_in s.table (content s m (got ∷ rest) (OfRoot (OfVariable f x))) p ≡ Empty)
       → is_view_formal s x ≡ false → length got.words ≡ words s.table (object_at s x).of → Alike s.table got.of (object_at s x).of
       → ((y : ℕ) (w : Way) → v.way y ≡ Some w → (foreign : IsForeign home w) → foreign.0 ≡ f → ⊥)
+      → ((y : ℕ) (p : List Step) (w : Way) → v.part_way y p ≡ Some w → base_of w ≡ OfRoot (OfVariable f x) → ⊥)
       → ((y : ℕ) (w : Way) → v.way y ≡ Some w → IsElsewhere home f x w) → IsApart home other f x → Viewed home observer other v (seen s (declared f x got.words m) rest leaks) facts
-  declared_viewed m got rest leaks facts f x viewed alone kept blank own long like far free apart =
+  declared_viewed m got rest leaks facts f x viewed alone kept blank own long like far far_parts free apart =
       let a : View = seen s m (got ∷ rest) leaks in
       let b : View = seen s (declared f x got.words m) rest leaks in
       let sound = declared_sound s settled home (ExcusedBy home v other facts) m got rest leaks [] f x (as_sound home observer other v a facts viewed)
@@ -166,12 +168,20 @@ module _ (s : Typing) (settled : IsSettled s.table) (home : ℕ → ℕ) (observ
         known = all_known home observer other v b facts sound.known;
         clear = viewed.clear;
         lends = viewed.lends;
-        views = λ y w has. (let view = viewed.views y w has in
-            view_on home observer other v a b facts facts y w view (λ seen n loan. loan)
-            (stays y w has (view_rooted home observer other v a facts viewed.views y w has).3 (reached home observer other v a facts y w view)));
+        views = (
+          λ y w has. (let view = viewed.views.0 y w has in
+              view_on home observer other v a b facts facts y w view (λ seen n loan. loan)
+              (stays y w has (view_rooted home observer other v a facts viewed.views y w has).3 (reached home observer other v a facts y w view))),
+          parts_on home observer other v a b viewed.views.1
+              (λ y p w has reach. (let root = (viewed.views.1 y p w has).begins in
+              far_off a b f x root.0 root.1 (λ l off. word_off s m (got ∷ rest) rest leaks f x got.words l off) w (OfCell (v.part_cell y p)) root.2
+              (λ e. far_parts y p w has (root.2 ∙ ap OfRoot (sym e))) reach)),
+        );
         whole = viewed.whole;
         whole_away = viewed.whole_away;
         shown = viewed.shown;
+        whole_parts = viewed.whole_parts;
+        parts_away = viewed.parts_away;
         past = viewed.past;
         far = λ w n keeps. (let root = other.begins w n keeps in
             far_off a b f x root.0 root.1 (λ l off. word_off s m (got ∷ rest) rest leaks f x got.words l off) w (OfCell n) root.2
@@ -196,11 +206,12 @@ module _ (s : Typing) (settled : IsSettled s.table) (home : ℕ → ℕ) (observ
           (λ e. far y w has foreign (frame_of f x foreign.0 foreign.1 e)) reaches
 
 -- the root of what a name stands for
-pub stands_root : (v : Views) (u : Way) → (number_of (expand v u) ≡ number_of u)
+pub stands_root : (v : Views) (u : Way) → ((p : List Step) → v.part_way (number_of u) p ≡ None) → (number_of (expand v u) ≡ number_of u)
     ⊎ ((y : ℕ) × (k : Way) × (v.way y ≡ Some k) × (number_of (expand v u) ≡ number_of k) × (base_of (expand v u) ≡ base_of k))
-stands_root v u = elim (lifts v u) [
+stands_root v u bare = elim (lifts v u) [
   | inl e ↦ inl (ap number_of e)
-  | inr l ↦ inr (l.object, l.way, l.has, ap number_of (lifted_way v u l) ∙ root_on l.way l.rest, ap base_of (lifted_way v u l) ∙ base_on l.way l.rest)
+  | inr (inr l) ↦ (let is : Some l.way ≡ None = sym l.has ∙ ap (λ z. v.part_way z l.steps) (sym (part_root v u l)) ∙ bare l.steps in cc)
+  | inr (inl l) ↦ inr (l.object, l.way, l.has, ap number_of (lifted_way v u l) ∙ root_on l.way l.rest, ap base_of (lifted_way v u l) ∙ base_on l.way l.rest)
 ]
 
 base_frame : (f x g y : ℕ) → OfRoot (OfVariable f x) ≡ OfRoot (OfVariable g y) → f ≡ g
@@ -214,15 +225,15 @@ in_home : (home : ℕ → ℕ) (f x : ℕ) (p : List Step) → Named home (along
 in_home home f x [] named = named
 in_home home f x (i ∷ p) named = in_home home f x p named
 
--- The first words of the variables of other objects stay.
+-- The words of the variables of other objects stay.
 abbrev pub OthersStay : Typing → Memory → ℕ → ℕ → Memory → Type 0
 OthersStay s m f x n =
-    (g y : ℕ) → (OfVariable f x ≡ OfVariable g y → ⊥)
-    → (get_or (variable_slots s g y n.variables) 0 no_slot).word ≡ (get_or (variable_slots s g y m.variables) 0 no_slot).word
+    (g y i : ℕ) → (OfVariable f x ≡ OfVariable g y → ⊥)
+    → (get_or (variable_slots s g y n.variables) i no_slot).word ≡ (get_or (variable_slots s g y m.variables) i no_slot).word
 
 -- ---- the outcome
 
-module _ (t : Turn) (settled : IsSettled (typing t).table) (own_law : OwnsByShape (typing t).table) (other : Around (home (typing t) (length t.outer)))
+module _ (t : Turn) (sees : ℕ → Bool) (seeing : Seeing (typing t) sees) (settled : IsSettled (typing t).table) (own_law : OwnsByShape (typing t).table) (other : Around (home (typing t) (length t.outer)))
     (alone : (w : Way) → IsNear (length t.outer) w → other.gone w → ⊥) (in_formals : AreAccess (typing t))
     (v : Views) (parts_named : PartsAreNamed (typing t).table) (may : ℕ → ℕ → Type 0)
     (frames : t.state.frames ≡ t.frame ∷ t.outer) (none : taken t.point.instr ≡ 0) where
@@ -246,13 +257,13 @@ module _ (t : Turn) (settled : IsSettled (typing t).table) (own_law : OwnsByShap
   at ws = record { memory = m; waits = ws }
 
   abbrev Good : List Fact → Type 0
-  Good facts = IsGood t settled own_law other alone v parts_named may frames none v facts t.state
+  Good facts = IsGood t sees seeing settled own_law other alone v parts_named may frames none v facts t.state
 
   abbrev LeadsHere : List Fact → Outcome → Type 0
-  LeadsHere facts outcome = Leads_on t settled own_law other alone v parts_named may frames none facts outcome
+  LeadsHere facts outcome = Leads_on t sees seeing settled own_law other alone v parts_named may frames none facts outcome
 
   abbrev Given_here : ℕ → List Fact → Evaluated (List machine.Word) → Type 0
-  Given_here u facts x = Given (here t) settled t.state.leaks [] other alone (keeps s settled own_law) index_law own_law v parts_named u hands facts x
+  Given_here u facts x = Given (here t) sees seeing settled t.state.leaks [] other alone (keeps s settled own_law) index_law own_law v parts_named u hands facts x
 
   -- the object has nothing before
   abbrev pub IsBlank : ℕ → Memory → Type 0
@@ -268,9 +279,10 @@ module _ (t : Turn) (settled : IsSettled (typing t).table) (own_law : OwnsByShap
       ((y : ℕ) (w : Way) → v.way y ≡ Some w
       → ((foreign : IsForeign (home s depth) w) → foreign.0 ≡ depth → ⊥) × IsElsewhere (home s depth) depth x w)
       × ((l : Loan) (name : PlaceName) → other.lent l name → name.root ≡ x → depth ≡ home s depth x → ⊥)
+      × ((y : ℕ) (p : List Step) (w : Way) → v.part_way y p ≡ Some w → base_of w ≡ OfRoot (OfVariable depth x) → ⊥)
 
   -- a part of it that is gone would be known as moved
-  pub not_gone : (x : ℕ) (facts : List Fact) (z : View) → Viewed (home s depth) (sees_only s) other v z facts → IsUnmoved x facts → IsFree x
+  pub not_gone : (x : ℕ) (facts : List Fact) (z : View) → Viewed (home s depth) sees other v z facts → IsUnmoved x facts → IsFree x
       → (p : List Step) → ExcusedBy (home s depth) v other facts (along (Object (OfVariable depth x)) p) → ⊥
   not_gone x facts z viewed unmoved free p (inr o) = alone (along (Object (OfVariable depth x)) p) (near_along depth (Object (OfVariable depth x)) p (inr refl)) o
   not_gone x facts z viewed unmoved free p (inl (inr away)) =
@@ -282,7 +294,7 @@ module _ (t : Turn) (settled : IsSettled (typing t).table) (own_law : OwnsByShap
   not_gone x facts z viewed unmoved free p (inl (inl (u, moved, leads))) =
       let root : number_of (expand v u) ≡ x = ap number_of leads ∙ number_part (Object (OfVariable depth x)) p in
       let at : base_of (expand v u) ≡ OfRoot (OfVariable depth x) = ap base_of leads ∙ along_base (Object (OfVariable depth x)) p in
-      elim (stands (home s depth) (sees_only s) v z facts viewed.views u (moved.0, viewed.clear.owned (ways.name_of u) moved.1)) [
+      elim (stands (home s depth) sees v z facts viewed.views u (moved.0, viewed.clear.owned (ways.name_of u) moved.1)) [
         | inr held ↦ elim (home_or_foreign (home s depth) held.way held.passed.begins) [
           | inr foreign ↦ (free.0 held.object held.way held.has).0 foreign
               (base_frame foreign.0 foreign.1 depth x (sym foreign.2 ∙ sym (longer held.way (expand v u) held.under).base ∙ at))
@@ -294,7 +306,7 @@ module _ (t : Turn) (settled : IsSettled (typing t).table) (own_law : OwnsByShap
         ]
         | inl own ↦ (
             let named : Named (home s depth) (along (Object (OfVariable depth x)) p) = subst (Named (home s depth)) leads own.named in
-            elim (stands_root v u) [
+            elim (stands_root v u (no_part (home s depth) sees v z facts viewed.views u (viewed.clear.owned (ways.name_of u) moved.1))) [
               | inl e ↦ unmoved (ways.name_of u) moved.1 (sym e ∙ root) (in_home (home s depth) depth x p named)
               | inr (y, k, has, e, base) ↦ (free.0 y k has).1
                   (same_named (home s depth) k (along (Object (OfVariable depth x)) p) (sym base ∙ ap base_of leads) named)
@@ -336,18 +348,18 @@ module _ (t : Turn) (settled : IsSettled (typing t).table) (own_law : OwnsByShap
   first_fades ws u e gives = absurd gives
 
   pub source_given : (ws : List (List machine.Word)) (u : ℕ) (e : TypedTree) → IsNamed s.table u → Source s u e → GivesPlainly s e → Takes (waits_in e) ws [] → (facts : List Fact) → Good facts
-      → AllowsAll facts (acts (acts_in s e)) → AllKeep (is_fixed s) (acts (acts_in s e)) → Given_here u (after (acts (acts_in s e)) facts) (taken_by t u e (at ws))
+      → AllowsAll facts (acts (acts_in s e)) → AllKeep (is_fixed s sees) (acts (acts_in s e)) → Given_here u (after (acts (acts_in s e)) facts) (taken_by t u e (at ws))
   source_given ws u e named (inl (view, is)) calls takes facts good allowed keep = absurd (true_false (is_anonymous (full s.table u)) view (named_plain s.table u named))
   source_given ws u e named (inr gives) calls takes facts good allowed keep =
       subst (λ b. Given_here u (after (acts (acts_in s e)) facts) (if b then viewed (here t) e (at ws) else followed_by (value (here t) e (at ws)) (checked (here t) u)))
       (sym (named_plain s.table u named))
-      (checked_given (here t) settled t.state.leaks [] other alone (keeps s settled own_law) index_law own_law v parts_named u u hands
+      (checked_given (here t) sees seeing settled t.state.leaks [] other alone (keeps s settled own_law) index_law own_law v parts_named u u hands
       (after (acts (acts_in s e)) facts) (evaluate (here t) AsValue e (at ws))
-      (evaluated_on (here t) settled t.state.leaks [] other alone (keeps s settled own_law) index_law own_law v parts_named e u gives calls ws [] takes
+      (evaluated_on (here t) sees seeing settled t.state.leaks [] other alone (keeps s settled own_law) index_law own_law v parts_named e u gives calls ws [] takes
       m hands facts (record { viewed = good.viewed; kept = good.kept; holds = good.holds }) allowed named keep))
 
   pub first_given : (ws : List (List machine.Word)) (u : ℕ) (e : TypedTree) → IsNamed s.table u → FirstSource s u e → GivesPlainly s e → Takes (waits_in e) ws [] → (facts : List Fact) → Good facts
-      → AllowsAll facts (acts (acts_in s e)) → AllKeep (is_fixed s) (acts (acts_in s e)) → Given_here u (after (acts (acts_in s e)) facts) (first_value t u e (at ws))
+      → AllowsAll facts (acts (acts_in s e)) → AllKeep (is_fixed s sees) (acts (acts_in s e)) → Given_here u (after (acts (acts_in s e)) facts) (first_value t u e (at ws))
   unfolding acts_in GivesPlainly initial waits_in
   first_given ws u (More e rest) named (last, gives) calls takes facts good allowed keep =
       let same : acts_in s e ++ acts_in s rest ≡ acts_in s e = ap (λ z. acts_in s e ++ acts_in s z) last ∙ append-nil (acts_in s e) in
@@ -355,9 +367,9 @@ module _ (t : Turn) (settled : IsSettled (typing t).table) (own_law : OwnsByShap
       subst (λ z. Given_here u (after (acts z) facts) (taken_by t u e (at ws))) (sym same)
       (source_given ws u e named gives calls.0
       (takes_as (waits_in e + waits_in rest) (waits_in e) ws [] alone_there takes) facts good (subst (λ z. AllowsAll facts (acts z)) same allowed)
-      (subst (λ z. AllKeep (is_fixed s) (acts z)) same keep))
+      (subst (λ z. AllKeep (is_fixed s sees) (acts z)) same keep))
   first_given ws u NoMore named gives calls takes facts good allowed keep = (
-    blank_ready (here t) settled t.state.leaks [] other alone (keeps s settled own_law) index_law own_law v parts_named
+    blank_ready (here t) sees seeing settled t.state.leaks [] other alone (keeps s settled own_law) index_law own_law v parts_named
         m hands facts u (default s.table u) (none_default s.table u) (record { viewed = good.viewed; kept = good.kept; holds = good.holds }),
     lengths s.table u,
     takes_zero ws [] takes,
@@ -365,14 +377,18 @@ module _ (t : Turn) (settled : IsSettled (typing t).table) (own_law : OwnsByShap
   first_given ws u e named gives calls takes facts good allowed keep = absurd gives
 
   -- the variables of views stay
-  holds_beside : (n : Memory) (x : ℕ) (ws : List machine.Word) → IsNamed s.table (object_at s x).of → is_view_formal s x ≡ false → Holds s depth v n → Holds s depth v (declared depth x ws n)
+  holds_beside : (n : Memory) (x : ℕ) (ws : List machine.Word) → IsNamed s.table (object_at s x).of → is_view_formal s x ≡ false → Holds s sees depth v n → Holds s sees depth v (declared depth x ws n)
   holds_beside n x ws named owner holds = record {
-    held = λ y k view e. holds.held y k view
+    held = λ y k view bare e. holds.held y k view bare
         (sym (ap (λ z. (get_or z 0 no_slot).word) (put_other s depth x (home s depth y) y (off y view) (fresh ws) n.variables)) ∙ e);
     only = holds.only;
     owners = holds.owners;
     access = holds.access;
     own = holds.own;
+    taken = holds.taken;
+    parts = parts_same s sees depth v n (declared depth x ws n)
+        (λ y p bundle. ap (λ z. (get_or z (offset_in s.table (object_at s y).of p) no_slot).word)
+        (put_other s depth x (home s depth y) y (off y (bundle_view s y bundle)) (fresh ws) n.variables)) holds.parts;
   }
     where
       off : (y : ℕ) → is_view s y ≡ true → OfVariable depth x ≡ OfVariable (home s depth y) y → ⊥
@@ -386,12 +402,12 @@ module _ (t : Turn) (settled : IsSettled (typing t).table) (own_law : OwnsByShap
       → Given_here (object_at s x).of facts (Done ws n) → FadesTo (here t) {A = List machine.Word} m (Done ws n) → IsBlank x m → IsUnmoved x facts → IsFree x
       → IsApart (home s depth) other depth x → LeadsHere facts (goes t (declared depth x ws n.memory) 0)
   declared_goes x facts named owner ws n (ready, long, same) faint new unmoved free apart =
-      goes_to t settled own_law other alone v parts_named may frames none (declared depth x ws n.memory) 0 v facts
-      (unturned t settled own_law other alone v parts_named may frames none facts)
-      (declared_viewed s settled (home s depth) (sees_only s) other v n.memory (record { of = (object_at s x).of; words = ws }) hands t.state.leaks facts depth x
+      goes_to t sees seeing settled own_law other alone v parts_named may frames none (declared depth x ws n.memory) 0 v facts
+      (unturned t sees seeing settled own_law other alone v parts_named may frames none facts)
+      (declared_viewed s settled (home s depth) sees other v n.memory (record { of = (object_at s x).of; words = ws }) hands t.state.leaks facts depth x
       ready.viewed (λ h w under o. alone w (near_under depth (Object (OfHand h)) w under tt) o) ready.kept (blank_after x owner facts ws n (ready, long, same) faint new unmoved free) owner long
       (alike s.table settled (object_at s x).of (object_at s x).of (inl refl))
-      (λ y w has. (free.0 y w has).0) (λ y w has. (free.0 y w has).1) apart)
+      (λ y w has. (free.0 y w has).0) free.2 (λ y w has. (free.0 y w has).1) apart)
       (declared_kept s settled n.memory depth x (record { of = (object_at s x).of; words = ws }) hands ready.kept long (inl refl))
       (holds_beside n.memory x ws named owner ready.holds)
 
@@ -406,7 +422,7 @@ module _ (t : Turn) (settled : IsSettled (typing t).table) (own_law : OwnsByShap
   -- An object is declared. It has nothing yet, and no fact after the evaluation names it.
   pub declare_on : (ws : List (List machine.Word)) (x : ℕ) (e : TypedTree) → IsNamed s.table (object_at s x).of → is_view_formal s x ≡ false → FirstSource s (object_at s x).of e
       → GivesPlainly s e → Takes (waits_in e) ws [] → (facts : List Fact)
-      → Good facts → AllowsAll facts (acts (declared_acts s x e)) → AllKeep (is_fixed s) (acts (declared_acts s x e))
+      → Good facts → AllowsAll facts (acts (declared_acts s x e)) → AllKeep (is_fixed s sees) (acts (declared_acts s x e))
       → IsBlank x m → IsUnmoved x (after (acts (declared_acts s x e)) facts) → IsFree x → IsApart (home s depth) other depth x
       → LeadsHere (after (acts (declared_acts s x e)) facts) (steps.evaluated t (first_value t (object_at s x).of e (at ws)) (λ ws n. goes t (declared depth x ws n) 0))
   declare_on ws x e named owner gives calls takes facts good allowed keep new unmoved free apart =
@@ -416,26 +432,26 @@ module _ (t : Turn) (settled : IsSettled (typing t).table) (own_law : OwnsByShap
       (if is_observer s x then source_acts s (first e) (observe s x) else acts_in s e)) kinds.0
       ∙ ap (λ b. if b then source_acts s (first e) (observe s x) else acts_in s e) kinds.1 in
       subst (λ z. LeadsHere (after (acts z) facts) (steps.evaluated t (first_value t (object_at s x).of e (at ws)) (λ ws n. goes t (declared depth x ws n) 0))) (sym same)
-      (then_declared (raises t settled own_law other alone v parts_named may frames none facts good) x (after (acts (acts_in s e)) facts) named owner
+      (then_declared (raises t sees seeing settled own_law other alone v parts_named may frames none facts good) x (after (acts (acts_in s e)) facts) named owner
       (first_value t (object_at s x).of e (at ws))
-      (first_given ws (object_at s x).of e named gives calls takes facts good (subst (λ z. AllowsAll facts (acts z)) same allowed) (subst (λ z. AllKeep (is_fixed s) (acts z)) same keep))
+      (first_given ws (object_at s x).of e named gives calls takes facts good (subst (λ z. AllowsAll facts (acts z)) same allowed) (subst (λ z. AllKeep (is_fixed s sees) (acts z)) same keep))
       (first_fades ws (object_at s x).of e gives) new (subst (λ z. IsUnmoved x (after (acts z) facts)) same unmoved) free apart)
 
   pub declare_leads : (x : ℕ) (e : TypedTree) → IsNamed s.table (object_at s x).of → is_view_formal s x ≡ false → FirstSource s (object_at s x).of e → has_call e ≡ false → (facts : List Fact)
-      → Good facts → AllowsAll facts (acts (declared_acts s x e)) → AllKeep (is_fixed s) (acts (declared_acts s x e))
+      → Good facts → AllowsAll facts (acts (declared_acts s x e)) → AllKeep (is_fixed s sees) (acts (declared_acts s x e))
       → IsBlank x m → IsUnmoved x (after (acts (declared_acts s x e)) facts) → IsFree x → IsApart (home s depth) other depth x
       → LeadsHere (after (acts (declared_acts s x e)) facts) (declare t x e)
   declare_leads x e named owner gives calls facts good allowed keep new unmoved free apart =
       subst (λ z. LeadsHere (after (acts (declared_acts s x e)) facts) (steps.evaluated t (first_value t (object_at s x).of e z) (λ ws n. goes t (declared depth x ws n) 0)))
-      (sym (start_is t settled own_law other alone v parts_named may frames none))
+      (sym (start_is t sees seeing settled own_law other alone v parts_named may frames none))
       (declare_on [] x e named owner gives (gives_plainly s e (inl calls)) (no_takes e calls []) facts good allowed keep new unmoved free apart)
 
   -- ---- variables of other objects
 
   then_stay : (x : ℕ) (y : Evaluated (List machine.Word)) → FadesTo (here t) m y
       → Each (λ (state : State). OthersStay s m depth x state.memory) (steps.evaluated t y (λ ws n. goes t (declared depth x ws n) 0))
-  then_stay x (Done ws n) faint = λ g y off.
-      ap (λ z. (get_or z 0 no_slot).word) (put_other s depth x g y off (fresh ws) n.memory.variables) ∙ (faint g y 0).word
+  then_stay x (Done ws n) faint = λ g y i off.
+      ap (λ z. (get_or z i no_slot).word) (put_other s depth x g y off (fresh ws) n.memory.variables) ∙ (faint g y i).word
   then_stay x (Raises e n) faint = tt
   then_stay x (Traps e n) faint = tt
 

@@ -11,7 +11,6 @@ use Rattle.owned_ways.specs.Ways as ways
 use Rattle.soundness.specs.Sound.{goes_through_none}
 use Rattle.soundness.proofs.Walks.{Lead, way_along}
 use Rattle.soundness.proofs.Stays.{Quiet}
-use Rattle.owned_loans.specs.Views.{Views, expand}
 use Rattle.viewed_soundness.proofs.Names.{Starts}
 
 -- ---- names that go through no access value
@@ -63,13 +62,6 @@ direct_leads table t u [] direct lead = lead
 direct_leads table t u (run.ToComponent i ∷ way) direct lead = lead
 direct_leads table t u (run.ToElement n ∷ way) direct lead = lead
 direct_leads table t u (run.ToDesignated ∷ way) direct lead = absurd direct
-
--- and stand for themselves
-pub direct_itself : (v : Views) (way : List run.Step) → IsDirect way → (w : Way) → expand v w ≡ w → expand v (way_along way w) ≡ way_along way w
-direct_itself v [] direct w e = e
-direct_itself v (run.ToComponent i ∷ way) direct w e = direct_itself v way direct (Into w (Component i)) (ap (λ z. Into z (Component i)) e)
-direct_itself v (run.ToElement n ∷ way) direct w e = direct_itself v way direct (Into w (ways.Element n)) (ap (λ z. Into z (ways.Element n)) e)
-direct_itself v (run.ToDesignated ∷ way) direct w e = absurd direct
 
 abbrev pub IsIn : Base → Evaluated Place → Type 0
 IsIn b (Done k n) = k.base ≡ b

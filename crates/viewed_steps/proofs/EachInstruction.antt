@@ -43,6 +43,7 @@ use Rattle.machine.specs.Owners.{WellOwned, waiting_in}
 use Rattle.owned_ways.specs.Ways.{Step, OfVariable, OfRoot, Way, Held, after, AllowsAll, along, number_of, Named}
 use Rattle.owned_ways.specs.Ways as ways
 use Rattle.owned_ways.proofs.Locations.{reaches_along, named_along as rooted_along}
+use Rattle.owned_ways.proofs.Dropped.{named_base}
 use Rattle.soundness.specs.Seen.{IsNear, content, word_in, home}
 use Rattle.soundness.specs.Typed.{Kept}
 use Rattle.typed_laws.specs.Needed.{IsFine, Stays, Source, FirstSource, FirstWrites, FirstStays, Returns}
@@ -62,8 +63,8 @@ use Rattle.soundness.proofs.Eased.{eased, waits_same, goes_same, from_eased}
 use Rattle.soundness.proofs.Continued.{got_with, released_with, started_with, input_eased, release_eased, start_eased}
 use Rattle.soundness.proofs.Successors.{not_true, below_one, below_two}
 use Rattle.owned_loans.specs.Views.{Around, known_gone, Views, Viewed, Unused, IsForeign, ViewedAlone}
-use Rattle.viewed_soundness.specs.Holds.{AllKeep, is_view, sees_only, is_fixed}
-use Rattle.viewed_soundness.proofs.Names.{plain_named, true_false}
+use Rattle.viewed_soundness.specs.Holds.{AllKeep, is_view, is_fixed, Seeing}
+use Rattle.viewed_soundness.proofs.ViewKinds.{plain_named, true_false}
 use Rattle.viewed_soundness.proofs.Evaluated.{keep_both}
 use Rattle.viewed_soundness.proofs.Outcomes.{named_plain, IsGood, Leads_on, decides_on, choose_on, assign_on}
 use Rattle.viewed_steps.specs.Awaited.{AreValues, temporaries_of, is_held, lasting_of, awaited, AreAwaited, AreScalar, TakesScalars}
@@ -86,12 +87,20 @@ use Rattle.viewed_steps.proofs.Standing as standing
 use Rattle.viewed_steps.proofs.Packages as packages
 use Rattle.viewed_steps.proofs.Innermost as innermost
 use Rattle.viewed_steps.proofs.Views.{AreAccess, all_held, anonymous_view, view_ends, lies_far}
+use Rattle.viewed_steps.specs.Seeing.{sees_in}
+use Rattle.viewed_steps.proofs.Sees.{sees_seeing}
 
 last_within : (x : ℕ) (scope : List ℕ) → is_last x scope ≡ true → is_within x scope ≡ true
 last_within x [] last = cc
 last_within x (y ∷ scope) last = ap (λ b. b || is_within x scope) last
 
 module _ (table : Table) (typed : TypedProgram) (effects : Effects) (input : List ℕ) (ready : IsReady table typed effects) where
+  abbrev sees : ℕ → Bool
+  sees = sees_in (flow_program table typed)
+
+  abbrev seeing : Seeing (flow_typing (flow_program table typed)) sees
+  seeing = sees_seeing (flow_program table typed)
+
   abbrev program : FlowProgram
   program = flow_program table typed
 
@@ -114,9 +123,9 @@ module _ (table : Table) (typed : TypedProgram) (effects : Effects) (input : Lis
       (awaiting : AreAwaited table typed None (top ∷ stages_of (below ∷ more_frames)))
       (of_sub : IsNamedSub (flow_named table typed) top.frame.sub named) (at_point : IsAtPoint named.points top.frame.next p)
       (path : ControlPath (path_points program effects (sub_of program top.frame.sub)) top.before top.frame.next) (views : Views)
-      (viewed_before : ViewedAlone (home s (suc (length rest))) (sees_only s) (known_gone (home s (suc (length rest))) (GoneElsewhere program effects (below ∷ more_frames))) views
+      (viewed_before : ViewedAlone (home s (suc (length rest))) sees (known_gone (home s (suc (length rest))) (GoneElsewhere program effects (below ∷ more_frames))) views
       (view_here s state) (facts_of program effects top))
-      (kept : Kept s state.memory (waiting_in state)) (scope : InScope s state.memory (suc (length rest)) (lasting_of s p.scope)) (holds : HoldsAt s (suc (length rest)) views state.memory p)
+      (kept : Kept s state.memory (waiting_in state)) (scope : InScope s state.memory (suc (length rest)) (lasting_of s p.scope)) (holds : HoldsAt s sees (suc (length rest)) views state.memory p)
       (placed_before : ArePlaced program (suc (length rest)) (facts_of program effects top) views p.scope × IsBeyond program effects (suc (length rest)) views (below ∷ more_frames)) (above : NoneAbove s (suc (length rest)) state.memory
       × HasTraversals table typed (view_here s state) (record { stage = top; views = views; cells = [] } ∷ (below ∷ more_frames))) where
     abbrev outer : List Frame
@@ -155,7 +164,7 @@ module _ (table : Table) (typed : TypedProgram) (effects : Effects) (input : Lis
     abbrev acts_of_main : Instruction → List Act
     acts_of_main i = standing.acts_here table typed effects input ready state top older outer named p frames of_sub at_point i
 
-    abbrev viewed : Viewed (home s depth) (sees_only s) other views (view_here s state) facts_now
+    abbrev viewed : Viewed (home s depth) sees other views (view_here s state) facts_now
     viewed = innermost.viewed table typed effects input ready state top below more_frames rest named p frames deep stages running awaiting of_sub at_point path views viewed_before kept scope holds placed_before above
 
     abbrev placed : ArePlaced program (suc (length rest)) facts_now views p.scope
@@ -185,7 +194,7 @@ module _ (table : Table) (typed : TypedProgram) (effects : Effects) (input : Lis
     abbrev easy : Turn
     easy = eased main_turn
 
-    abbrev viewed_easy : Plain → Viewed (home s depth) (sees_only s) other views (view_here s easy.state) facts_now × Kept s state.memory (waiting_in easy.state)
+    abbrev viewed_easy : Plain → Viewed (home s depth) sees other views (view_here s easy.state) facts_now × Kept s state.memory (waiting_in easy.state)
     viewed_easy = innermost.viewed_easy table typed effects input ready state top below more_frames rest named p frames deep stages running awaiting of_sub at_point path views viewed_before kept scope holds placed_before above
 
     abbrev placed_left : (facts : List Fact) → ArePlaced program (suc (length rest)) facts views p.scope → ArePlaced program (suc (length rest)) facts views left_scope
@@ -281,10 +290,10 @@ module _ (table : Table) (typed : TypedProgram) (effects : Effects) (input : Lis
       lasts_behind r z lasts = lasts_more program left_scope (scope_behind p) r z more ((innermost.lasts_left table typed effects input ready state top below more_frames rest named p frames deep stages running awaiting of_sub at_point path views viewed_before kept scope holds placed_before above) r z lasts)
 
       abbrev pub Good : List Fact → State → Type 0
-      Good fs st = IsGood easy ready.accepted.settled ready.owns other alone views ready.class.parts_named may refl refl views fs st
+      Good fs st = IsGood easy sees seeing ready.accepted.settled ready.owns other alone views ready.class.parts_named may refl refl views fs st
 
       abbrev pub LeadsFrom : Instruction → Outcome → Type 0
-      LeadsFrom i outcome = Leads_on easy ready.accepted.settled ready.owns other alone views ready.class.parts_named may refl refl (after (acts_of_main i) facts_now) outcome
+      LeadsFrom i outcome = Leads_on easy sees seeing ready.accepted.settled ready.owns other alone views ready.class.parts_named may refl refl (after (acts_of_main i) facts_now) outcome
 
       abbrev pub GoesFrom : Left (steps.waiting main_turn) → Instruction → Outcome → Type 0
       GoesFrom left i outcome = Each (GoesOn main_turn Left left IsOld (lasting_of s left_scope) (lasting_of s (brought i left_scope)) inside_left) outcome
@@ -296,7 +305,7 @@ module _ (table : Table) (typed : TypedProgram) (effects : Effects) (input : Lis
       good plain = record {
         viewed = (viewed_easy plain).0;
         kept = (viewed_easy plain).1;
-        holds = all_held s in_formals depth views state.memory (λ x n view e. holds.held x n (λ fading. going fading.0 fading.1) view e) holds.only holds.owners holds.own;
+        holds = all_held s sees in_formals depth views state.memory (λ x n view bare e. holds.held x n (λ fading. going fading.0 fading.1) view bare e) holds.only holds.owners holds.own holds.taken holds.parts;
       }
 
       pub ends_so : (i : Instruction) (how : Exception) (m : Memory) → LeadsFrom i (steps.raised main_turn how m)
@@ -312,30 +321,33 @@ module _ (table : Table) (typed : TypedProgram) (effects : Effects) (input : Lis
       -- where nothing is taken, the step is like it is
       module _ (nothing : taken main_turn.point.instr ≡ 0) where
         abbrev Leads_main : List Fact → Outcome → Type 0
-        Leads_main fs outcome = Leads_on main_turn ready.accepted.settled ready.owns other alone views ready.class.parts_named may frames nothing fs outcome
+        Leads_main fs outcome = Leads_on main_turn sees seeing ready.accepted.settled ready.owns other alone views ready.class.parts_named may frames nothing fs outcome
 
-        good_main : IsGood main_turn ready.accepted.settled ready.owns other alone views ready.class.parts_named may frames nothing views facts_now state
+        good_main : IsGood main_turn sees seeing ready.accepted.settled ready.owns other alone views ready.class.parts_named may frames nothing views facts_now state
         good_main = record {
           viewed = viewed;
           kept = kept;
-          holds = all_held s in_formals depth views state.memory (λ x n view e. holds.held x n (λ fading. going fading.0 fading.1) view e) holds.only holds.owners holds.own;
+          holds = all_held s sees in_formals depth views state.memory (λ x n view bare e. holds.held x n (λ fading. going fading.0 fading.1) view bare e) holds.only holds.owners holds.own holds.taken holds.parts;
         }
 
-        to_easy : (fs : List Fact) (outcome : Outcome) → Leads_main fs outcome → Leads_on easy ready.accepted.settled ready.owns other alone views ready.class.parts_named may refl refl fs outcome
+        to_easy : (fs : List Fact) (outcome : Outcome) → Leads_main fs outcome → Leads_on easy sees seeing ready.accepted.settled ready.owns other alone views ready.class.parts_named may refl refl fs outcome
         to_easy fs (Goes st) (turned_views, turned, well) = (
           turned_views,
-          λ x w e. elim (turned x w e) [
-            | inl same_view ↦ inl (record { way = same_view.way; loan = same_view.loan; up = same_view.up })
-            | inr (y, from, comes) ↦ inr (y, from, record { up = comes.up; root = comes.root; loan = comes.loan; under = comes.under })
-          ],
+          (
+            λ x w e. elim (turned.0 x w e) [
+              | inl same_view ↦ inl (record { way = same_view.way; loan = same_view.loan; up = same_view.up })
+              | inr (y, from, comes) ↦ inr (y, from, record { up = comes.up; root = comes.root; loan = comes.loan; under = comes.under })
+            ],
+            turned.1,
+          ),
           record { viewed = well.viewed; kept = well.kept; holds = well.holds },
         )
         to_easy fs (Ends how st) leads = leads
 
-        skips_so : Leads_on easy ready.accepted.settled ready.owns other alone views ready.class.parts_named may refl refl facts_now (turn main_turn Skip)
+        skips_so : Leads_on easy sees seeing ready.accepted.settled ready.owns other alone views ready.class.parts_named may refl refl facts_now (turn main_turn Skip)
         skips_so =
             to_easy facts_now (turn main_turn Skip)
-            (skip_leads main_turn ready.accepted.settled ready.owns other alone in_formals views ready.class.parts_named may frames nothing facts_now good_main)
+            (skip_leads main_turn sees seeing ready.accepted.settled ready.owns other alone in_formals views ready.class.parts_named may frames nothing facts_now good_main)
 
       -- ---- declarations
 
@@ -356,11 +368,29 @@ module _ (table : Table) (typed : TypedProgram) (effects : Effects) (input : Lis
           by_package true shared = (let first : home s depth x ≡ 0 = ap (λ b. if b then 0 else depth) shared in omega (arith, first, at_home))
           by_package false mine = unrooted x v e (number_of w) y mine ((placed y w has).root here) root
 
+      -- no part of a formal has a way from such an object
+      free_parts : (x y : ℕ) (q : List Step) (w : Way) → views.part_way y q ≡ Some w → ways.base_of w ≡ ways.OfRoot (OfVariable depth x) → ⊥
+      free_parts x y q w has base = elim (holds.low y q w has).0 [
+        | inr (foreign, less, some) ↦ (let same = same_root foreign.0 foreign.1 depth x (sym foreign.2 ∙ base) in let frames_are = same.0 in omega (arith, less, frames_are))
+        | inl at ↦ (
+            let same = same_root (home s depth (number_of w)) (number_of w) depth x (sym (named_base (home s depth) w at) ∙ base) in
+            let first : home s depth (number_of w) ≡ 0 = ap (λ b. if b then 0 else depth) ((holds.low y q w has).1 at) in
+            let frames_are = same.0 in omega (arith, first, frames_are))
+      ]
+        where
+          same_root : (f x g y : ℕ) → ways.OfRoot (OfVariable f x) ≡ ways.OfRoot (OfVariable g y) → (f ≡ g) × (x ≡ y)
+          same_root f x g y e = (cc, cc)
+
       pub free : (x : ℕ) (v : TypedTree) → p.instr ≡ Declare x v
           → ((y : ℕ) (w : Way) → views.way y ≡ Some w
           → ((foreign : IsForeign (home s depth) w) → foreign.0 ≡ depth → ⊥) × IsElsewhere (home s depth) depth x w)
           × ((l : Loan) (name : PlaceName) → other.lent l name → name.root ≡ x → depth ≡ home s depth x → ⊥)
-      free x v e = (λ y w has. ((λ foreign same. (let low = lies_far s depth views holds.lies y w has foreign in omega (arith, low, same))), free_views x v e y w has), (innermost.not_lent_home table typed effects input ready state top below more_frames rest named p frames deep stages running awaiting of_sub at_point path views viewed_before kept scope holds placed_before above) x)
+          × ((y : ℕ) (q : List Step) (w : Way) → views.part_way y q ≡ Some w → ways.base_of w ≡ ways.OfRoot (OfVariable depth x) → ⊥)
+      free x v e = (
+        λ y w has. ((λ foreign same. (let low = (lies_far s depth views holds.lies holds.low).0 y w has foreign in omega (arith, low, same))), free_views x v e y w has),
+        (innermost.not_lent_home table typed effects input ready state top below more_frames rest named p frames deep stages running awaiting of_sub at_point path views viewed_before kept scope holds placed_before above) x,
+        free_parts x,
+      )
 
       pub unused : (x : ℕ) (v : TypedTree) → p.instr ≡ Declare x v → is_package_object s x ≡ false → Unused (home s depth) other.lent views facts_now x
       unused x v e mine = record {
@@ -389,7 +419,7 @@ module _ (table : Table) (typed : TypedProgram) (effects : Effects) (input : Lis
       blank x v e q ways.Gone is =
           let root : ways.Root = OfVariable depth x in
           let w : Way = along (ways.Object root) q in
-          absurd (not_gone easy ready.accepted.settled ready.owns other alone in_formals views ready.class.parts_named may refl refl
+          absurd (not_gone easy sees seeing ready.accepted.settled ready.owns other alone in_formals views ready.class.parts_named may refl refl
           x facts_now (view_here s state) viewed (unmoved_now x v e) (free x v e) q
           (viewed.known w (ways.part (OfRoot root) q) (rooted_along (ways.Object root) q tt)
           (reaches_along (view_here s state) (ways.Object root) (OfRoot root) q refl)
@@ -430,12 +460,12 @@ module _ (table : Table) (typed : TypedProgram) (effects : Effects) (input : Lis
       gives_many n of gives scalar = view_scalar (shape_of s.table gives.result) gives.anonymous (scalar gives.result gives.result_is)
 
       declares : Plainly → (x : ℕ) (v : TypedTree) (e : p.instr ≡ Declare x v) → FirstSource s (object_at s x).of v
-          → AllowsAll facts_now (acts_of_main (Declare x v)) → AllKeep (is_fixed s) (acts_of_main (Declare x v)) → LeadsFrom (Declare x v) (turn main_turn (Declare x v))
+          → AllowsAll facts_now (acts_of_main (Declare x v)) → AllKeep (is_fixed s sees) (acts_of_main (Declare x v)) → LeadsFrom (Declare x v) (turn main_turn (Declare x v))
       unfolding waits_in
       declares plain x v e text allowed_there keep = by_view (is_anonymous (view_of s x)) refl
         where
           from_source : (w : TypedTree) → v ≡ w → (q : Pos) (y u : ℕ) (source : TypedTree) → w ≡ More (Name q y source u) NoMore → is_anonymous (view_of s x) ≡ true
-              → Lasts program p.scope y x → (is_observer s x ≡ false → (sees_only s y ≡ false) × (y < x))
+              → Lasts program p.scope y x → (is_observer s x ≡ false → (is_observer s y ≡ false) × (sees x ≡ sees y) × (y < x))
               → LeadsFrom (Declare x v) (turn main_turn (Declare x v))
           from_source w same_v q y u source is view lasts older_there =
               let here_is : v ≡ More (Name q y source u) NoMore = same_v ∙ is in
@@ -445,8 +475,8 @@ module _ (table : Table) (typed : TypedProgram) (effects : Effects) (input : Lis
               takes_as (taken (Declare x (More (Name q y source u) NoMore))) (waits_in source) given_words [] (nothing_more (waits_in source))
               (subst (λ z. Takes (taken (Declare x z)) given_words []) here_is (takes_of plain.0 (Declare x v) e)) in
               declared_main (Declare x v) x v (subst (λ z. LeadsFrom (Declare x v) (Declared x z easy)) (sym here_is)
-              (subst (λ z. Leads_on easy ready.accepted.settled ready.owns other alone views ready.class.parts_named may refl refl (after (acts_of_main (Declare x z)) facts_now) (Declared x (More (Name q y source u) NoMore) easy)) (sym here_is)
-              (view_declared easy ready.accepted.settled ready.owns other alone in_formals views ready.class.parts_named may refl refl given_words
+              (subst (λ z. Leads_on easy sees seeing ready.accepted.settled ready.owns other alone views ready.class.parts_named may refl refl (after (acts_of_main (Declare x z)) facts_now) (Declared x (More (Name q y source u) NoMore) easy)) (sym here_is)
+              (view_declared easy sees seeing ready.accepted.settled ready.owns other alone in_formals views ready.class.parts_named may refl refl given_words
               q x y u source view (orderly.variables x (inl (inl (v, e))) view) (home_frame x (local x (anonymous_view s x view))) text_there.1 takes
               older_there (
                 record { lasts = lasts_behind y x lasts; within = in_behind; view = view; plain = variable_stays x (orderly.variables x (inl (inl (v, e))) view) },
@@ -467,7 +497,7 @@ module _ (table : Table) (typed : TypedProgram) (effects : Effects) (input : Lis
                     (subst (GivesPlainly s) (source.5 ∙ ap (λ z. More z NoMore) is) (subst (TakesScalars s) e plain.1)))))
               ]
           by_view false owner =
-              declared_main (Declare x v) x v (declare_on easy ready.accepted.settled ready.owns other alone in_formals views ready.class.parts_named may refl refl given_words
+              declared_main (Declare x v) x v (declare_on easy sees seeing ready.accepted.settled ready.owns other alone in_formals views ready.class.parts_named may refl refl given_words
               x v (plain_named s.table (object_at s x).of owner) (orderly.begun x v e) text (subst (TakesScalars s) e plain.1) (takes_of plain.0 (Declare x v) e)
               facts_now (good plain.0) allowed_there keep
               (λ q. blank x v e q (word_in s.table (content s state.memory [] (OfRoot (OfVariable depth x))) q) refl) (after_it x v e) (free x v e)
@@ -493,7 +523,7 @@ module _ (table : Table) (typed : TypedProgram) (effects : Effects) (input : Lis
           (goes_same main_turn (stored s st.place st.words m) 0) on) leads
 
       assigns : Plainly → (left : Left (steps.waiting main_turn)) (target e : TypedTree) (is : p.instr ≡ Assign target e) → IsFine s None (Assign target e)
-          → AllowsAll facts_now (acts_of_main (Assign target e)) → AllKeep (is_fixed s) (acts_of_main (Assign target e)) → Both left (Assign target e)
+          → AllowsAll facts_now (acts_of_main (Assign target e)) → AllKeep (is_fixed s sees) (acts_of_main (Assign target e)) → Both left (Assign target e)
       unfolding has_call waits_in
       assigns plain left (Name q x steps u) e is (v, (leads, type), source) allowed_there keep =
           let source_there : Source s u e = subst (λ z. Source s z e) (sym type) source in (
@@ -530,7 +560,7 @@ module _ (table : Table) (typed : TypedProgram) (effects : Effects) (input : Lis
                   let from : may x y = (
                     record {
                       lasts = elim (bool_cases (is_observer s x)) [
-                        | inl sees ↦ lasts_behind y x (lasts sees)
+                        | inl sight ↦ lasts_behind y x (lasts sight)
                         | inr borrows ↦ subst (λ z. Lasts program (scope_behind p) z x) (sym (itself borrows)) (itself_lasts view (variable_stays x variable_here) (within_now view))
                       ];
                       within = within_now view;
@@ -546,7 +576,7 @@ module _ (table : Table) (typed : TypedProgram) (effects : Effects) (input : Lis
                   (subst (λ z. Takes (taken (Assign (Name q x NoMore of) z)) given_words []) here_is (takes_of plain.0 (Assign (Name q x NoMore of) e) instr_is)) in
                   subst (λ z. Goal (Name q x NoMore of) z) (sym here_is)
                   (assigned_main (Assign (Name q x NoMore of) (Name r y rest w)) (Name q x NoMore of) of (Name r y rest w)
-                  (view_assigned easy ready.accepted.settled ready.owns other alone in_formals views ready.class.parts_named may refl refl given_words
+                  (view_assigned easy sees seeing ready.accepted.settled ready.owns other alone in_formals views ready.class.parts_named may refl refl given_words
                   p.pos q r x y w rest view variable_here (home_frame x (local x (anonymous_view s x view))) (subst (Source s of) here_is source) takes itself from facts_now (good plain.0)
                   (subst (λ z. AllowsAll facts_now (acts_of_main (Assign (Name q x NoMore of) z))) here_is allowed_here)))
 
@@ -556,7 +586,7 @@ module _ (table : Table) (typed : TypedProgram) (effects : Effects) (input : Lis
             | inr gives ↦ (
                 let two = takes_both (waits_in e) (waits_in steps) given_words [] (takes_of plain.0 (Assign (Name q x steps u) e) is) in
                 assigned_main (Assign (Name q x steps u) e) (Name q x steps u) u e
-                (assign_on easy ready.accepted.settled ready.owns other alone views ready.class.parts_named may refl refl given_words two.0
+                (assign_on easy sees seeing ready.accepted.settled ready.owns other alone views ready.class.parts_named may refl refl given_words two.0
                 p.pos q x u steps e (plain_named s.table u owner) gives leads
                 (subst (TakesScalars s) is plain.1) two.1 two.2
                 facts_now (good plain.0) allowed_there keep))
@@ -582,12 +612,12 @@ module _ (table : Table) (typed : TypedProgram) (effects : Effects) (input : Lis
           (λ bytes m. Goes (record (steps.behind main_turn (steps.waiting main_turn) m 0) { output = state.output ++ bytes ++ (if line then 10 ∷ [] else []) }))
           (λ bytes m on. subst (λ z. LeadsFrom (Output (More e rest) line) (Goes (record (steps.behind main_turn z m 0) { output = state.output ++ bytes ++ (if line then 10 ∷ [] else []) })))
           (waits_same main_turn) on)
-          (output_on easy ready.accepted.settled ready.owns other alone in_formals views ready.class.parts_named may refl refl given_words
+          (output_on easy sees seeing ready.accepted.settled ready.owns other alone in_formals views ready.class.parts_named may refl refl given_words
           e rest line last text (takes_of plain.0 (Output (More e rest) line) is) facts_now (good plain.0) allowed_there)
       writes plain NoMore line is text allowed_there =
           let nothing = none_takes (Output NoMore line) is refl in
           to_easy nothing facts_now (turn main_turn (Output NoMore line))
-          (line_leads main_turn ready.accepted.settled ready.owns other alone in_formals views ready.class.parts_named may frames nothing line facts_now (good_main nothing))
+          (line_leads main_turn sees seeing ready.accepted.settled ready.owns other alone in_formals views ready.class.parts_named may frames nothing line facts_now (good_main nothing))
       writes plain other_text line is never allowed_there = absurd never
 
       reads : Plainly → (left : Left (steps.waiting main_turn)) (target : TypedTree) (is : p.instr ≡ Input target) → IsFine s None (Input target)
@@ -596,7 +626,7 @@ module _ (table : Table) (typed : TypedProgram) (effects : Effects) (input : Lis
       reads plain left (Name q x path u) is (v, (leads, type), scalar) allowed_there = (
         input_eased main_turn (LeadsFrom (Input (Name q x path u))) (ends_so (Input (Name q x path u))) (λ trap m on. on.0 tt)
             (Name q x path u)
-            (got_on easy ready.accepted.settled ready.owns other alone in_formals views ready.class.parts_named may refl refl given_words
+            (got_on easy sees seeing ready.accepted.settled ready.owns other alone in_formals views ready.class.parts_named may refl refl given_words
             (λ k m. got_with easy k (next_item input state.at) m) q x u path (record {
               at_missing = λ k m next. rw next refl;
               at_bad = λ k m next. rw next refl;
@@ -610,12 +640,12 @@ module _ (table : Table) (typed : TypedProgram) (effects : Effects) (input : Lis
       reads plain left target is (v, never, scalar) allowed_there = absurd never
 
       releases : Plainly → (left : Left (steps.waiting main_turn)) (target : TypedTree) (is : p.instr ≡ Release target) → IsFine s None (Release target)
-          → AllowsAll facts_now (acts_of_main (Release target)) → AllKeep (is_fixed s) (acts_of_main (Release target)) → Both left (Release target)
+          → AllowsAll facts_now (acts_of_main (Release target)) → AllKeep (is_fixed s sees) (acts_of_main (Release target)) → Both left (Release target)
       unfolding waits_in
       releases plain left (Name q x path u) is (v, d, (leads, type), access) allowed_there keep = (
         release_eased main_turn (LeadsFrom (Release (Name q x path u))) (ends_so (Release (Name q x path u))) (λ trap m on. on.0 tt)
             q x u path
-            (released_on easy ready.accepted.settled ready.owns other alone in_formals views ready.class.parts_named may refl refl given_words
+            (released_on easy sees seeing ready.accepted.settled ready.owns other alone in_formals views ready.class.parts_named may refl refl given_words
             (λ k m. released_with easy q k (words_of s m k) m) q q x u d path (record {
               at_null = λ k m is. rw is refl;
               at_whole = λ k m v is. rw is refl;
@@ -627,10 +657,10 @@ module _ (table : Table) (typed : TypedProgram) (effects : Effects) (input : Lis
             (stored_there (Release (Name q x path u)) is x (inl refl)) (with_successors (Release (Name q x path u)) 0 is below_one),
       )
         where
-          last_kept : (before : List Placed) → AllKeep (is_fixed s) (acts (before ++ record { pos = q; act = act.Free (name_of x path) } ∷ [])) → is_fixed s (name_of x path) ≡ false
+          last_kept : (before : List Placed) → AllKeep (is_fixed s sees) (acts (before ++ record { pos = q; act = act.Free (name_of x path) } ∷ [])) → is_fixed s sees (name_of x path) ≡ false
           last_kept before keep =
-              (keep_both (is_fixed s) (acts before) (act.Free (name_of x path) ∷ [])
-              (subst (AllKeep (is_fixed s)) (acts_append before (record { pos = q; act = act.Free (name_of x path) } ∷ [])) keep)).1.0
+              (keep_both (is_fixed s sees) (acts before) (act.Free (name_of x path) ∷ [])
+              (subst (AllKeep (is_fixed s sees)) (acts_append before (record { pos = q; act = act.Free (name_of x path) } ∷ [])) keep)).1.0
       releases plain left target is (v, d, never, access) allowed_there keep = absurd never
 
       decides : Plainly → (i : Instruction) (is : p.instr ≡ i) (e : TypedTree) → taken i ≡ waits_in e → acts_of_main i ≡ acts (acts_in s e) → Stays s e
@@ -639,9 +669,9 @@ module _ (table : Table) (typed : TypedProgram) (effects : Effects) (input : Lis
       decides plain i is e takes same_acts stays allowed_there k =
           from_easy i (value (steps.here main_turn) e (start main_turn)) (λ ws m. steps.goes easy m (k ws)) (λ ws m. steps.goes main_turn m (k ws))
           (λ ws m on. goes_too i m (k ws) on)
-          (subst (λ z. Leads_on easy ready.accepted.settled ready.owns other alone views ready.class.parts_named may refl refl (after z facts_now)
+          (subst (λ z. Leads_on easy sees seeing ready.accepted.settled ready.owns other alone views ready.class.parts_named may refl refl (after z facts_now)
           (steps.evaluated easy (value (steps.here easy) e (record { memory = state.memory; waits = given_words })) (λ ws m. steps.goes easy m (k ws)))) (sym same_acts)
-          (decides_on easy ready.accepted.settled ready.owns other alone views ready.class.parts_named may refl refl given_words
+          (decides_on easy sees seeing ready.accepted.settled ready.owns other alone views ready.class.parts_named may refl refl given_words
           e stays (takes_as (taken i) (waits_in e) given_words [] takes (takes_of plain.0 i is)) facts_now (good plain.0) (subst (AllowsAll facts_now) same_acts allowed_there) k))
 
       chooses : Plainly → (left : Left (steps.waiting main_turn)) (e : TypedTree) (choices : List TypedCode) (is : p.instr ≡ Choose e choices) → Stays s e
@@ -650,7 +680,7 @@ module _ (table : Table) (typed : TypedProgram) (effects : Effects) (input : Lis
         from_easy (Choose e choices) (value (steps.here main_turn) e (start main_turn))
             (λ ws m. steps.chosen easy (length choices) (steps.choice choices ws) m) (λ ws m. steps.chosen main_turn (length choices) (steps.choice choices ws) m)
             (λ ws m on. chosen_too (nat_lt (steps.choice choices ws) (length choices)) (steps.choice choices ws) m on)
-            (choose_on easy ready.accepted.settled ready.owns other alone views ready.class.parts_named may refl refl given_words
+            (choose_on easy sees seeing ready.accepted.settled ready.owns other alone views ready.class.parts_named may refl refl given_words
             e choices stays (takes_of plain.0 (Choose e choices) is) facts_now (good plain.0) allowed_there),
         choose_follows main_turn Left left IsOld (lasting_of s left_scope) (lasting_of s left_scope) inside_left same_scope e choices (ap successors (sym is)),
       )
@@ -680,7 +710,7 @@ module _ (table : Table) (typed : TypedProgram) (effects : Effects) (input : Lis
       starts plain left x reversed low high is scalar stays stays' allowed_there =
           let two = takes_both (waits_in low) (waits_in high) given_words [] (takes_of plain.0 (Start x reversed low high) is) in (
             start_eased main_turn (LeadsFrom (Start x reversed low high)) (ends_so (Start x reversed low high)) (λ trap m on. on.0 tt) x low high
-                (started_on easy ready.accepted.settled ready.owns other alone in_formals views ready.class.parts_named may refl refl given_words two.0
+                (started_on easy sees seeing ready.accepted.settled ready.owns other alone in_formals views ready.class.parts_named may refl refl given_words two.0
                 x (λ b m. started_with easy x b m) low high (record {
                   fails = λ b. int_le (steps.number b.low) (steps.number b.high)
                       && not (fits_type s.table (object_at s x).of b.low && fits_type s.table (object_at s x).of b.high);
@@ -705,7 +735,7 @@ module _ (table : Table) (typed : TypedProgram) (effects : Effects) (input : Lis
       turns left x reversed low high is scalar =
           let nothing = none_takes (Next x reversed low high) is refl in (
             to_easy nothing facts_now (turn main_turn (Next x reversed low high))
-                (next_leads main_turn ready.accepted.settled ready.owns other alone in_formals views ready.class.parts_named may frames nothing x reversed scalar facts_now
+                (next_leads main_turn sees seeing ready.accepted.settled ready.owns other alone in_formals views ready.class.parts_named may frames nothing x reversed scalar facts_now
                 (good_main nothing)),
             next_follows main_turn Left left IsOld (lasting_of s left_scope) (lasting_of s left_scope) inside_left same_scope
                 (subst Left (ap (λ n. drop n top.frame.waits) (ap taken is) ∙ drop_none top.frame.waits) left) x reversed
@@ -717,7 +747,7 @@ module _ (table : Table) (typed : TypedProgram) (effects : Effects) (input : Lis
           → Returns s r v → Both left (Hold v)
       unfolding acts_in waits_in
       holds_nothing left v is other_one None no_result none = subst (Both left) (ap Hold (sym none)) (
-        subst (λ z. Leads_on easy ready.accepted.settled ready.owns other alone views ready.class.parts_named may refl refl z (turn main_turn (Hold NoMore)))
+        subst (λ z. Leads_on easy sees seeing ready.accepted.settled ready.owns other alone views ready.class.parts_named may refl refl z (turn main_turn (Hold NoMore)))
             (sym (ap (λ r. after (acts (flow.returned_acts s r NoMore)) facts_now) no_result))
             (skips_so (none_takes (Hold NoMore) (is ∙ ap Hold none) refl)),
         stays_follows main_turn Left left IsOld (lasting_of s left_scope) (lasting_of s left_scope) inside_left same_scope (with_successors (Hold NoMore) 0 (is ∙ ap Hold none) below_one),
@@ -725,7 +755,7 @@ module _ (table : Table) (typed : TypedProgram) (effects : Effects) (input : Lis
       holds_nothing left v is other_one (Some of) result (value_of, same, source) = absurd (subst (λ z. IsOther (Hold z)) same other_one)
 
       pub each_instruction : Plainly → (left : Left (steps.waiting main_turn)) (i : Instruction) → p.instr ≡ i → IsOther i → IsFine s named.sub.result i → AllowsAll facts_now (acts_of_main i)
-          → AllKeep (is_fixed s) (acts_of_main i) → Both left i
+          → AllKeep (is_fixed s sees) (acts_of_main i) → Both left i
       each_instruction plain left Skip is other_one text allowed_there keep = (
         skips_so (none_takes Skip is refl),
         stays_follows main_turn Left left IsOld (lasting_of s left_scope) (lasting_of s left_scope) inside_left same_scope (with_successors Skip 0 is below_one),

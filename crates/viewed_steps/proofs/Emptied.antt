@@ -1,6 +1,6 @@
 -- What a place of the frame has is leaked, and the place is gone: a call with a formal of mode `out`, before the
 -- formal is declared.
-use Rattle.std.proofs.Common.{◌≡◌, refl, sym, ap, ◌∙◌, subst, ◌⊎◌, inl, inr, ℕ, Bool, not, true, List, [], ◌∷◌, ◌<◌}
+use Rattle.std.proofs.Common.{None, ◌≡◌, refl, sym, ap, ◌∙◌, subst, ◌⊎◌, inl, inr, ℕ, Bool, not, true, List, [], ◌∷◌, ◌<◌}
 use Rattle.spark_base.specs.Lists.{Has}
 use Rattle.place_names.specs.declared.fact.Fact.{Fact}
 use Rattle.place_names.specs.declared.fact.Fact.TheVariants.{Moved, Lent}
@@ -11,7 +11,7 @@ use Rattle.owned_ways.specs.Ways as ways
 use Rattle.owned_ways.proofs.Locations.{below, reaches_along, past_under, under_along, under_itself}
 use Rattle.owned_ways.proofs.Unique.{one_location, one_way}
 use Rattle.owned_ways.proofs.Assigned.{is_false, kept_fact}
-use Rattle.owned_ways.proofs.Named.{covered_under}
+use Rattle.owned_ways.proofs.Named.{longer, covered_under}
 use Rattle.place_names.specs.Names.{covers}
 use Rattle.place_names.specs.Facts.{removes, effect}
 use Rattle.place_names.specs.declared.act.Act.TheVariants as act
@@ -119,15 +119,16 @@ none_left home v facts u = record { part = λ f has. has; loans = λ k h n has. 
 
 -- So are the facts after the act of an actual of mode `out`, whose name isn't a view by itself.
 pub out_left : (home : ℕ → ℕ) (v : Views) (facts : List Fact) (name : Way) (owning access : Bool) → Named home name
-    → IsPlace v name → AreLeft home v facts (effect (act.Actual (name_of name) mode.Out owning access) facts) (expand v name)
-out_left home v facts name owning access named place = record {
+    → IsPlace v name → ((p : List Step) → v.part_way (ways.number_of name) p ≡ None) → AreLeft home v facts (effect (act.Actual (name_of name) mode.Out owning access) facts) (expand v name)
+out_left home v facts name owning access named place bare = record {
   part = λ f has. elim (Has-append_cases (filter (λ g. not (removes (act.Actual (name_of name) mode.Out owning access) g)) facts) [] f has) [
     | inl old ↦ (Has-filter (λ g. not (removes (act.Actual (name_of name) mode.Out owning access) g)) facts f old).0
     | inr never ↦ absurd never
   ];
   loans = λ k h n has. kept_fact (act.Actual (name_of name) mode.Out owning access) facts (Lent k h n) has refl;
   moved = λ w named_w has. elim (bool_cases (covers (name_of name) (name_of w))) [
-    | inl covered ↦ inr (expand_under v name w place (covered_under home name w named named_w covered))
+    | inl covered ↦ (let under = covered_under home name w named named_w covered in
+        inr (expand_under v name w place (λ p. ap (λ z. v.part_way z p) ((longer name w under).root) ∙ bare p) under))
     | inr other ↦ inl (kept_fact (act.Actual (name_of name) mode.Out owning access) facts (Moved (name_of w)) has other)
   ];
 }

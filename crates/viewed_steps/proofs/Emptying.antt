@@ -1,6 +1,6 @@
 -- A formal of mode `out` that isn't scalar: what the place of its actual has is leaked, and is gone; the formal
 -- has what an object has without a value.
-use Rattle.std.proofs.Common.{◌≡◌, refl, sym, ap, ◌∙◌, subst, inl, inr, ℕ, suc, ◌+◌, true, not, List, [], ◌++◌, take, drop, length, get_or, arith, append-nil, Some}
+use Rattle.std.proofs.Common.{◌≡◌, refl, sym, ap, ◌∙◌, subst, inl, inr, ℕ, suc, ◌+◌, true, not, List, [], ◌++◌, take, drop, length, get_or, arith, append-nil, Bool}
 use Rattle.spark_base.specs.Lists.{Has}
 use Rattle.place_names.specs.declared.fact.Fact.{Fact}
 use Rattle.flow_paths.specs.Objects.{Typing, object_at}
@@ -19,7 +19,7 @@ use Rattle.soundness.proofs.Memories.{put_other}
 use Rattle.soundness.proofs.Lasting.{keeps, lengths, less_kept, declared_kept}
 use Rattle.owned_loans.specs.Views.{Views}
 use Rattle.viewed_soundness.specs.Holds.{is_view}
-use Rattle.viewed_soundness.proofs.Names.{true_false, not_view}
+use Rattle.viewed_soundness.proofs.ViewKinds.{true_false, not_view}
 use Rattle.viewed_soundness.proofs.Evaluated.{matches_named}
 use Rattle.viewed_steps.specs.Taken.{Lodge, AreCarried, IsPassedOn, IsBare}
 use Rattle.viewed_steps.proofs.Between.{same_reaches, same_variable, OwnersStand, same_stand}
@@ -28,14 +28,14 @@ use Rattle.viewed_steps.proofs.Beside.{put_beside}
 use Rattle.viewed_steps.proofs.Emptied.{IsEmptied, none_left, owner_before, keeps_off, emptied}
 use Rattle.viewed_steps.proofs.Vacated.{vacated, vacated_gone, default_same}
 use Rattle.viewed_steps.proofs.Outs.{HasStill, places_apart, ways_apart}
-use Rattle.viewed_steps.proofs.Views.{AreAccess, view_cases}
+use Rattle.viewed_steps.proofs.Views.{AreAccess, view_cases, AreOnly}
 use Rattle.viewed_steps.proofs.Entered.{inside_no_view}
 
-module _ (s : Typing) (settled : IsSettled s.table) (own_law : OwnsByShape s.table) (in_formals : AreAccess s)
-    (hands : List Waiting) (leaks : List Leak) (depth : ℕ) (v : Views) (only : (x : ℕ) (w : Way) → v.way x ≡ Some w → is_view s x ≡ true) (facts : List Fact)
+module _ (s : Typing) (sees : ℕ → Bool) (settled : IsSettled s.table) (own_law : OwnsByShape s.table) (in_formals : AreAccess s)
+    (hands : List Waiting) (leaks : List Leak) (depth : ℕ) (v : Views) (only : AreOnly s v) (facts : List Fact)
     (scope : List ℕ) (cells : List Lodge)
     (other gone : Way → Type 0)
-    (x : ℕ) (k : Place) (to : Way) (passed : IsPassedOn s cells depth v facts scope x k to)
+    (x : ℕ) (k : Place) (to : Way) (passed : IsPassedOn s sees cells depth v facts scope x k to)
     (m : Memory) (typed : Kept s m hands) (stand : OwnersStand (home s depth) v facts other (seen s m hands leaks))
     (blank : (p : List Step) → word_in s.table (content s m [] (OfRoot (OfVariable (suc depth) x))) p ≡ Empty)
     (there : Reaches (seen s m hands leaks) (passed.inside).trunk (passed.inside).start) (found : List Leak) where
@@ -94,10 +94,10 @@ module _ (s : Typing) (settled : IsSettled s.table) (own_law : OwnsByShape s.tab
     | inr formal ↦ true_false (is_view_formal s x) formal passed.owner
   ]
 
-  pub out_views : (g y : ℕ) → is_view s y ≡ true
-      → (get_or (variable_slots s g y next.variables) 0 no_slot).word ≡ (get_or (variable_slots s g y m.variables) 0 no_slot).word
-  out_views g y view =
-      ap (λ z. (get_or z 0 no_slot).word)
+  pub out_views : (g y i : ℕ) → is_view s y ≡ true
+      → (get_or (variable_slots s g y next.variables) i no_slot).word ≡ (get_or (variable_slots s g y m.variables) i no_slot).word
+  out_views g y i view =
+      ap (λ z. (get_or z i no_slot).word)
       (new_other g y (λ e. formal_plain (subst (λ z. is_view s z ≡ true) (sym (same_variable (suc depth) x g y (ap OfRoot e)).1) view))
       ∙ put_beside s 0 k.base (take k.at (slots_at s m k.base) ++ marks ++ drop (k.at + length marks) (slots_at s m k.base)) m g y
       (inside_no_view s settled depth k to passed.inside g y view))

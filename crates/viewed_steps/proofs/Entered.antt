@@ -1,7 +1,7 @@
 -- What a call takes for formals: a scalar value, a scalar place, or another place in a variable of its
 -- caller. A formal of mode `in out` has what its actual had; the place of the actual is gone meanwhile, and
 -- has no number.
-use Rattle.viewed_soundness.specs.Holds.{is_view, IsNamed, is_given}
+use Rattle.viewed_soundness.specs.Holds.{is_bundle, is_view, IsNamed, is_given}
 use Rattle.std.proofs.Common.{◌≡◌, refl, sym, ap, ◌∙◌, subst, ◌⊎◌, inl, inr, ℕ, suc, ◌+◌, Bool, true, false, not, List, [], ◌∷◌, ◌++◌, take, drop, length, get_or, arith, if◌then◌else◌, Some}
 use Rattle.std.proofs.lemmas.List.{length-map}
 use Rattle.spark_base.specs.Lists.{Has}
@@ -27,8 +27,8 @@ use Rattle.soundness.proofs.Steps.{matches_words, plain_end, alike, taken_slots,
 use Rattle.soundness.proofs.Lasting.{keeps, declared_kept}
 use Rattle.soundness.proofs.Stays.{One}
 use Rattle.owned_loans.specs.Views.{Views, IsMovedBy, expand}
-use Rattle.owned_loans.proofs.Ways.{lifts, lifted_root}
-use Rattle.viewed_soundness.proofs.Names.{both_no, true_false, view_access, not_view}
+use Rattle.owned_loans.proofs.Ways.{lifts, lifted_root, part_root}
+use Rattle.viewed_soundness.proofs.ViewKinds.{both_no, true_false, view_access, not_view}
 use Rattle.viewed_soundness.proofs.Evaluated.{matches_named}
 use Rattle.viewed_steps.specs.Taken.{Lodge, trunk_type, IsPlainPlace, AreCarried, IsInside, IsPassedOn, IsBare, IsApartFrom, IsOwnAt}
 use Rattle.viewed_steps.proofs.Between.{base_along, base_under, same_variable, OwnersStand, Begins, as_sound, from_sound}
@@ -36,7 +36,7 @@ use Rattle.viewed_steps.proofs.Carried.{inside_begins, inside_low, carried_gone,
 use Rattle.viewed_steps.proofs.Outs.{Out, HasStill, places_apart, ways_apart}
 use Rattle.viewed_steps.proofs.Beside.{put_beside}
 use Rattle.viewed_steps.proofs.Declared.{declared_low}
-use Rattle.viewed_steps.proofs.Views.{AreAccess, AreFar, base_named, view_cases}
+use Rattle.viewed_steps.proofs.Views.{AreAccess, AreFar, base_named, view_cases, AreOnly}
 
 named_part : (home : ℕ → ℕ) (w : Way) (p : List Step) → Named home w → Named home (along w p)
 named_part home w [] n = n
@@ -73,10 +73,12 @@ module _ (s : Typing) (settled : IsSettled s.table) (depth : ℕ) (k : Place) (t
   own_number own = ap number_of inside.way ∙ number_part inside.trunk inside.steps ∙ ap number_of own.0
 
   pub own_itself : IsOwnAt s depth inside.frame inside.object k inside.trunk inside.start → (v : Views)
-      → ((x : ℕ) (w : Way) → v.way x ≡ Some w → is_view s x ≡ true) → expand v to ≡ to
-  own_itself own v only = elim (lifts v to) [
+      → ((x : ℕ) (w : Way) → v.way x ≡ Some w → is_view s x ≡ true)
+      → ((x : ℕ) (p : List Step) (w : Way) → v.part_way x p ≡ Some w → is_view s x ≡ true) → expand v to ≡ to
+  own_itself own v only parts = elim (lifts v to) [
     | inl itself ↦ itself
-    | inr l ↦ absurd (true_false (is_view s l.object) (only l.object l.way l.has) (ap (is_view s) (sym (lifted_root v to l) ∙ own_number own) ∙ own_plain own))
+    | inr (inr l) ↦ absurd (true_false (is_view s l.object) (parts l.object l.steps l.way l.has) (ap (is_view s) (sym (part_root v to l) ∙ own_number own) ∙ own_plain own))
+    | inr (inl l) ↦ absurd (true_false (is_view s l.object) (only l.object l.way l.has) (ap (is_view s) (sym (lifted_root v to l) ∙ own_number own) ∙ own_plain own))
   ]
 
   -- it isn't in the variable of a view
@@ -98,18 +100,20 @@ module _ (s : Typing) (settled : IsSettled s.table) (depth : ℕ) (k : Place) (t
 abbrev pub IsTyped : Typing → Memory → ℕ → machine.Word → Type 0
 IsTyped s m x z = (d : ℕ) (c n : Bool) (k : ℕ) → shape_of s.table (object_at s x).of ≡ shape.Access d c n → z ≡ machine.Cell k → IsCell s m d k
 
--- An access value, for a formal that owns nothing.
+-- An access value, for a formal that owns nothing and has no parts that see.
 abbrev pub IsShownOne : Typing → Memory → ℕ → Passed → Type 0
-IsShownOne s m x a = (is_given s x ≡ true) × (z : machine.Word) × (a ≡ Value (z ∷ [])) × IsTyped s m x z
+IsShownOne s m x a = ((is_given s x ≡ true) × (is_bundle s x ≡ false)) × (z : machine.Word) × (a ≡ Value (z ∷ [])) × IsTyped s m x z
 
 -- Words are a value of a type, and what they designate is of the types of its parts.
 abbrev pub IsFit : Typing → Memory → ℕ → List machine.Word → Type 0
 IsFit s m t ws = (length ws ≡ words s.table t) × Points s m (in_hand (record { of = t; words = ws }))
 
--- Such a value, for a formal of a type that owns nothing.
+-- Such a value, for a formal of a type that owns nothing, or for one that has parts which see.
+abbrev pub IsKindOfCopy : Typing → ℕ → Type 0
+IsKindOfCopy s x = ((is_owning s.table (object_at s x).of ≡ false) × IsNamed s.table (object_at s x).of) ⊎ (is_bundle s x ≡ true)
+
 abbrev pub IsCopiedOne : Typing → Memory → ℕ → Passed → Type 0
-IsCopiedOne s m x a =
-    (is_owning s.table (object_at s x).of ≡ false) × IsNamed s.table (object_at s x).of × (ws : List machine.Word) × (a ≡ Value ws) × IsFit s m (object_at s x).of ws
+IsCopiedOne s m x a = IsKindOfCopy s x × (ws : List machine.Word) × (a ≡ Value ws) × IsFit s m (object_at s x).of ws
 
 -- A scalar value, or a scalar place in a variable or in one of these cells.
 abbrev pub IsPlainPassed : Typing → List Lodge → Passed → Type 0
@@ -121,11 +125,15 @@ IsPlainPassed s cells (To k) = IsPlainPlace s cells k
 abbrev pub IsPlainOne : Typing → Memory → List Lodge → ℕ → Passed → Type 0
 IsPlainOne s m cells x a = ((is_scalar (full s.table (object_at s x).of) ≡ true) × IsPlainPassed s cells a) ⊎ (IsShownOne s m x a ⊎ IsCopiedOne s m x a)
 
--- A value of one word is passed for a formal.
-abbrev pub IsShownTo : List ℕ → List Passed → ℕ → machine.Word → Type 0
-IsShownTo [] passed y z = ⊥
-IsShownTo (x ∷ formals) [] y z = ⊥
-IsShownTo (x ∷ formals) (a ∷ passed) y z = ((x ≡ y) × (a ≡ Value (z ∷ []))) ⊎ IsShownTo formals passed y z
+-- These words are passed for a formal.
+abbrev pub IsShownTo : List ℕ → List Passed → ℕ → List machine.Word → Type 0
+IsShownTo [] passed y ws = ⊥
+IsShownTo (x ∷ formals) [] y ws = ⊥
+IsShownTo (x ∷ formals) (a ∷ passed) y ws = ((x ≡ y) × (a ≡ Value ws)) ⊎ IsShownTo formals passed y ws
+
+-- A variable has them.
+abbrev pub HasWords : Typing → ℕ → ℕ → Memory → List machine.Word → Type 0
+HasWords s f x m ws = (i : ℕ) → (get_or (variable_slots s f x m.variables) i no_slot).word ≡ (get_or (fresh ws) i no_slot).word
 
 -- No fact says of the way that it was moved, or of what goes on from it.
 abbrev pub IsWhole : Typing → ℕ → Views → List Fact → Way → Type 0
@@ -140,26 +148,26 @@ IsTakenAs s depth v facts k to a outs later =
     ((a ≡ From k) × IsWhole s depth v facts to × (outs ≡ later)) ⊎ ((pos : Pos) × (a ≡ To k) × (outs ≡ record { way = to; place = k; pos = pos } ∷ later))
 
 -- What is passed, with the ways of the places that are taken, and those of them that are emptied.
-abbrev pub ArePassedOn : Typing → Memory → List Lodge → ℕ → Views → List Fact → List ℕ → List ℕ → List Passed → List Way → List Out → Type 0
-ArePassedOn s m cells depth v facts scope [] passed ways outs = (ways ≡ []) × (outs ≡ [])
-ArePassedOn s m cells depth v facts scope (x ∷ formals) [] ways outs = (ways ≡ []) × (outs ≡ [])
-ArePassedOn s m cells depth v facts scope (x ∷ formals) (a ∷ passed) [] outs = IsPlainOne s m cells x a × ArePassedOn s m cells depth v facts scope formals passed [] outs
-ArePassedOn s m cells depth v facts scope (x ∷ formals) (a ∷ passed) (to ∷ ways) outs =
-    (IsPlainOne s m cells x a × ArePassedOn s m cells depth v facts scope formals passed (to ∷ ways) outs)
-    ⊎ ((k : Place) × (later : List Out) × IsTakenAs s depth v facts k to a outs later × IsPassedOn s cells depth v facts scope x k to × IsApartFrom to ways × DiffersFrom x formals
-    × ArePassedOn s m cells depth v facts scope formals passed ways later)
+abbrev pub ArePassedOn : Typing → (ℕ → Bool) → Memory → List Lodge → ℕ → Views → List Fact → List ℕ → List ℕ → List Passed → List Way → List Out → Type 0
+ArePassedOn s sees m cells depth v facts scope [] passed ways outs = (ways ≡ []) × (outs ≡ [])
+ArePassedOn s sees m cells depth v facts scope (x ∷ formals) [] ways outs = (ways ≡ []) × (outs ≡ [])
+ArePassedOn s sees m cells depth v facts scope (x ∷ formals) (a ∷ passed) [] outs = IsPlainOne s m cells x a × ArePassedOn s sees m cells depth v facts scope formals passed [] outs
+ArePassedOn s sees m cells depth v facts scope (x ∷ formals) (a ∷ passed) (to ∷ ways) outs =
+    (IsPlainOne s m cells x a × ArePassedOn s sees m cells depth v facts scope formals passed (to ∷ ways) outs)
+    ⊎ ((k : Place) × (later : List Out) × IsTakenAs s depth v facts k to a outs later × IsPassedOn s sees cells depth v facts scope x k to × IsApartFrom to ways × DiffersFrom x formals
+    × ArePassedOn s sees m cells depth v facts scope formals passed ways later)
 
 -- the ways of such places begin at variables of the frame, or at package objects
-pub passed_base : (s : Typing) (m : Memory) (cells : List Lodge) (depth : ℕ) (v : Views) (facts : List Fact) (scope : List ℕ) (formals : List ℕ) (passed : List Passed) (ways : List Way) (outs : List Out)
-    → ArePassedOn s m cells depth v facts scope formals passed ways outs → (k : Way) → Has ways k → Begins s depth k
-passed_base s m cells depth v facts scope [] passed ways outs none k has = absurd (subst (λ z. Has z k) none.0 has)
-passed_base s m cells depth v facts scope (x ∷ formals) [] ways outs none k has = absurd (subst (λ z. Has z k) none.0 has)
-passed_base s m cells depth v facts scope (x ∷ formals) (a ∷ passed) [] outs are k has = absurd has
-passed_base s m cells depth v facts scope (x ∷ formals) (a ∷ passed) (to ∷ ways) outs (inl are) k has = passed_base s m cells depth v facts scope formals passed (to ∷ ways) outs are.1 k has
-passed_base s m cells depth v facts scope (x ∷ formals) (a ∷ passed) (to ∷ ways) outs (inr (place, later, how, one, apart, differ, more)) k (inl same) =
+pub passed_base : (s : Typing) (sees : ℕ → Bool) (m : Memory) (cells : List Lodge) (depth : ℕ) (v : Views) (facts : List Fact) (scope : List ℕ) (formals : List ℕ) (passed : List Passed) (ways : List Way) (outs : List Out)
+    → ArePassedOn s sees m cells depth v facts scope formals passed ways outs → (k : Way) → Has ways k → Begins s depth k
+passed_base s sees m cells depth v facts scope [] passed ways outs none k has = absurd (subst (λ z. Has z k) none.0 has)
+passed_base s sees m cells depth v facts scope (x ∷ formals) [] ways outs none k has = absurd (subst (λ z. Has z k) none.0 has)
+passed_base s sees m cells depth v facts scope (x ∷ formals) (a ∷ passed) [] outs are k has = absurd has
+passed_base s sees m cells depth v facts scope (x ∷ formals) (a ∷ passed) (to ∷ ways) outs (inl are) k has = passed_base s sees m cells depth v facts scope formals passed (to ∷ ways) outs are.1 k has
+passed_base s sees m cells depth v facts scope (x ∷ formals) (a ∷ passed) (to ∷ ways) outs (inr (place, later, how, one, apart, differ, more)) k (inl same) =
     subst (Begins s depth) same (inside_begins s depth place to one.inside)
-passed_base s m cells depth v facts scope (x ∷ formals) (a ∷ passed) (to ∷ ways) outs (inr (place, later, how, one, apart, differ, more)) k (inr has) =
-    passed_base s m cells depth v facts scope formals passed ways later more k has
+passed_base s sees m cells depth v facts scope (x ∷ formals) (a ∷ passed) (to ∷ ways) outs (inr (place, later, how, one, apart, differ, more)) k (inr has) =
+    passed_base s sees m cells depth v facts scope formals passed ways later more k has
 
 -- A place is passed.
 abbrev pub IsOfPlace : Passed → Place → Type 0
@@ -174,7 +182,7 @@ plain_from s m cells x a (inr (inl (shown, z, at, typed))) y k same is many = no
     no_value : (ws : List machine.Word) → IsOfPlace (Value ws) k → ⊥
     no_value ws (inl e) = cc
     no_value ws (inr e) = cc
-plain_from s m cells x a (inr (inr (plain, named, ws, at, fits))) y k same is many = no_value ws (subst (λ b. IsOfPlace b k) at is)
+plain_from s m cells x a (inr (inr (kind, ws, at, fits))) y k same is many = no_value ws (subst (λ b. IsOfPlace b k) at is)
   where
     no_value : (ws : List machine.Word) → IsOfPlace (Value ws) k → ⊥
     no_value ws (inl e) = cc
@@ -187,18 +195,18 @@ IsFrom (x ∷ formals) [] y k = ⊥
 IsFrom (x ∷ formals) (a ∷ passed) y k = ((x ≡ y) × IsOfPlace a k) ⊎ IsFrom formals passed y k
 
 -- it is taken, if it isn't scalar
-pub from_taken : (s : Typing) (m : Memory) (cells : List Lodge) (depth : ℕ) (v : Views) (facts : List Fact) (scope : List ℕ) (formals : List ℕ) (passed : List Passed) (ways : List Way) (outs : List Out)
-    → ArePassedOn s m cells depth v facts scope formals passed ways outs → (y : ℕ) (k : Place) → IsFrom formals passed y k → is_scalar (full s.table (object_at s y).of) ≡ false
-    → (to : Way) × Has ways to × IsPassedOn s cells depth v facts scope y k to
-from_taken s m cells depth v facts scope [] passed ways outs are y k from many = absurd from
-from_taken s m cells depth v facts scope (x ∷ formals) [] ways outs are y k from many = absurd from
-from_taken s m cells depth v facts scope (x ∷ formals) (a ∷ passed) [] outs are y k (inl (same, is)) many = absurd (plain_from s m cells x a are.0 y k same is many)
-from_taken s m cells depth v facts scope (x ∷ formals) (a ∷ passed) [] outs are y k (inr later) many = from_taken s m cells depth v facts scope formals passed [] outs are.1 y k later many
-from_taken s m cells depth v facts scope (x ∷ formals) (a ∷ passed) (to ∷ ways) outs (inl are) y k (inl (same, is)) many = absurd (plain_from s m cells x a are.0 y k same is many)
-from_taken s m cells depth v facts scope (x ∷ formals) (a ∷ passed) (to ∷ ways) outs (inl are) y k (inr later) many =
-    from_taken s m cells depth v facts scope formals passed (to ∷ ways) outs are.1 y k later many
-from_taken s m cells depth v facts scope (x ∷ formals) (a ∷ passed) (to ∷ ways) outs (inr (place, later_outs, how, one, apart, differ, more)) y k (inl (same, is)) many =
-    (to, inl refl, subst (λ z. IsPassedOn s cells depth v facts scope z k to) same (subst (λ z. IsPassedOn s cells depth v facts scope x z to) (same_place how) one))
+pub from_taken : (s : Typing) (sees : ℕ → Bool) (m : Memory) (cells : List Lodge) (depth : ℕ) (v : Views) (facts : List Fact) (scope : List ℕ) (formals : List ℕ) (passed : List Passed) (ways : List Way) (outs : List Out)
+    → ArePassedOn s sees m cells depth v facts scope formals passed ways outs → (y : ℕ) (k : Place) → IsFrom formals passed y k → is_scalar (full s.table (object_at s y).of) ≡ false
+    → (to : Way) × Has ways to × IsPassedOn s sees cells depth v facts scope y k to
+from_taken s sees m cells depth v facts scope [] passed ways outs are y k from many = absurd from
+from_taken s sees m cells depth v facts scope (x ∷ formals) [] ways outs are y k from many = absurd from
+from_taken s sees m cells depth v facts scope (x ∷ formals) (a ∷ passed) [] outs are y k (inl (same, is)) many = absurd (plain_from s m cells x a are.0 y k same is many)
+from_taken s sees m cells depth v facts scope (x ∷ formals) (a ∷ passed) [] outs are y k (inr later) many = from_taken s sees m cells depth v facts scope formals passed [] outs are.1 y k later many
+from_taken s sees m cells depth v facts scope (x ∷ formals) (a ∷ passed) (to ∷ ways) outs (inl are) y k (inl (same, is)) many = absurd (plain_from s m cells x a are.0 y k same is many)
+from_taken s sees m cells depth v facts scope (x ∷ formals) (a ∷ passed) (to ∷ ways) outs (inl are) y k (inr later) many =
+    from_taken s sees m cells depth v facts scope formals passed (to ∷ ways) outs are.1 y k later many
+from_taken s sees m cells depth v facts scope (x ∷ formals) (a ∷ passed) (to ∷ ways) outs (inr (place, later_outs, how, one, apart, differ, more)) y k (inl (same, is)) many =
+    (to, inl refl, subst (λ z. IsPassedOn s sees cells depth v facts scope z k to) same (subst (λ z. IsPassedOn s sees cells depth v facts scope x z to) (same_place how) one))
   where
     one_place : {a b : Place} → IsOfPlace (From a) b ⊎ IsOfPlace (To a) b → a ≡ b
     one_place (inl (inl e)) = cc
@@ -209,39 +217,39 @@ from_taken s m cells depth v facts scope (x ∷ formals) (a ∷ passed) (to ∷ 
     same_place : IsTakenAs s depth v facts place to a outs later_outs → place ≡ k
     same_place (inl (from, whole, rest)) = one_place (inl (subst (λ b. IsOfPlace b k) from is))
     same_place (inr (pos, goes, rest)) = one_place (inr (subst (λ b. IsOfPlace b k) goes is))
-from_taken s m cells depth v facts scope (x ∷ formals) (a ∷ passed) (to ∷ ways) outs (inr (place, later_outs, how, one, apart, differ, more)) y k (inr later) many =
-    let found = from_taken s m cells depth v facts scope formals passed ways later_outs more y k later many in
+from_taken s sees m cells depth v facts scope (x ∷ formals) (a ∷ passed) (to ∷ ways) outs (inr (place, later_outs, how, one, apart, differ, more)) y k (inr later) many =
+    let found = from_taken s sees m cells depth v facts scope formals passed ways later_outs more y k later many in
     (found.0, inr found.1, found.2)
 
 -- two that are taken are one, or are apart
-pub passed_pair : (s : Typing) (m : Memory) (cells : List Lodge) (depth : ℕ) (v : Views) (facts : List Fact) (scope : List ℕ) (formals : List ℕ) (passed : List Passed) (ways : List Way) (outs : List Out)
-    → ArePassedOn s m cells depth v facts scope formals passed ways outs → (u w : Way) → Has ways u → Has ways w → (u ≡ w) ⊎ ((Under u w → ⊥) × (Under w u → ⊥))
-passed_pair s m cells depth v facts scope [] passed ways outs are u w has_u has_w = absurd (subst (λ z. Has z u) are.0 has_u)
-passed_pair s m cells depth v facts scope (x ∷ formals) [] ways outs are u w has_u has_w = absurd (subst (λ z. Has z u) are.0 has_u)
-passed_pair s m cells depth v facts scope (x ∷ formals) (a ∷ passed) [] outs are u w has_u has_w = absurd has_u
-passed_pair s m cells depth v facts scope (x ∷ formals) (a ∷ passed) (to ∷ ways) outs (inl are) u w has_u has_w =
-    passed_pair s m cells depth v facts scope formals passed (to ∷ ways) outs are.1 u w has_u has_w
-passed_pair s m cells depth v facts scope (x ∷ formals) (a ∷ passed) (to ∷ ways) outs (inr (place, later, how, one, apart, differ, more)) u w (inl first) (inl second) = inl (sym first ∙ second)
-passed_pair s m cells depth v facts scope (x ∷ formals) (a ∷ passed) (to ∷ ways) outs (inr (place, later, how, one, apart, differ, more)) u w (inl first) (inr has_w) =
+pub passed_pair : (s : Typing) (sees : ℕ → Bool) (m : Memory) (cells : List Lodge) (depth : ℕ) (v : Views) (facts : List Fact) (scope : List ℕ) (formals : List ℕ) (passed : List Passed) (ways : List Way) (outs : List Out)
+    → ArePassedOn s sees m cells depth v facts scope formals passed ways outs → (u w : Way) → Has ways u → Has ways w → (u ≡ w) ⊎ ((Under u w → ⊥) × (Under w u → ⊥))
+passed_pair s sees m cells depth v facts scope [] passed ways outs are u w has_u has_w = absurd (subst (λ z. Has z u) are.0 has_u)
+passed_pair s sees m cells depth v facts scope (x ∷ formals) [] ways outs are u w has_u has_w = absurd (subst (λ z. Has z u) are.0 has_u)
+passed_pair s sees m cells depth v facts scope (x ∷ formals) (a ∷ passed) [] outs are u w has_u has_w = absurd has_u
+passed_pair s sees m cells depth v facts scope (x ∷ formals) (a ∷ passed) (to ∷ ways) outs (inl are) u w has_u has_w =
+    passed_pair s sees m cells depth v facts scope formals passed (to ∷ ways) outs are.1 u w has_u has_w
+passed_pair s sees m cells depth v facts scope (x ∷ formals) (a ∷ passed) (to ∷ ways) outs (inr (place, later, how, one, apart, differ, more)) u w (inl first) (inl second) = inl (sym first ∙ second)
+passed_pair s sees m cells depth v facts scope (x ∷ formals) (a ∷ passed) (to ∷ ways) outs (inr (place, later, how, one, apart, differ, more)) u w (inl first) (inr has_w) =
     inr (subst (λ z. (Under z w → ⊥) × (Under w z → ⊥)) first (apart w has_w))
-passed_pair s m cells depth v facts scope (x ∷ formals) (a ∷ passed) (to ∷ ways) outs (inr (place, later, how, one, apart, differ, more)) u w (inr has_u) (inl second) =
+passed_pair s sees m cells depth v facts scope (x ∷ formals) (a ∷ passed) (to ∷ ways) outs (inr (place, later, how, one, apart, differ, more)) u w (inr has_u) (inl second) =
     inr (subst (λ z. (Under u z → ⊥) × (Under z u → ⊥)) second ((apart u has_u).1, (apart u has_u).0))
-passed_pair s m cells depth v facts scope (x ∷ formals) (a ∷ passed) (to ∷ ways) outs (inr (place, later, how, one, apart, differ, more)) u w (inr has_u) (inr has_w) =
-    passed_pair s m cells depth v facts scope formals passed ways later more u w has_u has_w
+passed_pair s sees m cells depth v facts scope (x ∷ formals) (a ∷ passed) (to ∷ ways) outs (inr (place, later, how, one, apart, differ, more)) u w (inr has_u) (inr has_w) =
+    passed_pair s sees m cells depth v facts scope formals passed ways later more u w has_u has_w
 
 -- what is emptied is among them
-pub outs_taken : (s : Typing) (m : Memory) (cells : List Lodge) (depth : ℕ) (v : Views) (facts : List Fact) (scope : List ℕ) (formals : List ℕ) (passed : List Passed) (ways : List Way) (outs : List Out)
-    → ArePassedOn s m cells depth v facts scope formals passed ways outs → (o : Out) → Has outs o → Has ways o.way
-outs_taken s m cells depth v facts scope [] passed ways outs none o has = absurd (subst (λ z. Has z o) none.1 has)
-outs_taken s m cells depth v facts scope (x ∷ formals) [] ways outs none o has = absurd (subst (λ z. Has z o) none.1 has)
-outs_taken s m cells depth v facts scope (x ∷ formals) (a ∷ passed) [] outs are o has = outs_taken s m cells depth v facts scope formals passed [] outs are.1 o has
-outs_taken s m cells depth v facts scope (x ∷ formals) (a ∷ passed) (to ∷ ways) outs (inl are) o has = outs_taken s m cells depth v facts scope formals passed (to ∷ ways) outs are.1 o has
-outs_taken s m cells depth v facts scope (x ∷ formals) (a ∷ passed) (to ∷ ways) outs (inr (place, later, inl (from, whole, same), one, apart, differ, more)) o has =
-    inr (outs_taken s m cells depth v facts scope formals passed ways later more o (subst (λ z. Has z o) same has))
-outs_taken s m cells depth v facts scope (x ∷ formals) (a ∷ passed) (to ∷ ways) outs (inr (place, later, inr (pos, goes, same), one, apart, differ, more)) o has =
+pub outs_taken : (s : Typing) (sees : ℕ → Bool) (m : Memory) (cells : List Lodge) (depth : ℕ) (v : Views) (facts : List Fact) (scope : List ℕ) (formals : List ℕ) (passed : List Passed) (ways : List Way) (outs : List Out)
+    → ArePassedOn s sees m cells depth v facts scope formals passed ways outs → (o : Out) → Has outs o → Has ways o.way
+outs_taken s sees m cells depth v facts scope [] passed ways outs none o has = absurd (subst (λ z. Has z o) none.1 has)
+outs_taken s sees m cells depth v facts scope (x ∷ formals) [] ways outs none o has = absurd (subst (λ z. Has z o) none.1 has)
+outs_taken s sees m cells depth v facts scope (x ∷ formals) (a ∷ passed) [] outs are o has = outs_taken s sees m cells depth v facts scope formals passed [] outs are.1 o has
+outs_taken s sees m cells depth v facts scope (x ∷ formals) (a ∷ passed) (to ∷ ways) outs (inl are) o has = outs_taken s sees m cells depth v facts scope formals passed (to ∷ ways) outs are.1 o has
+outs_taken s sees m cells depth v facts scope (x ∷ formals) (a ∷ passed) (to ∷ ways) outs (inr (place, later, inl (from, whole, same), one, apart, differ, more)) o has =
+    inr (outs_taken s sees m cells depth v facts scope formals passed ways later more o (subst (λ z. Has z o) same has))
+outs_taken s sees m cells depth v facts scope (x ∷ formals) (a ∷ passed) (to ∷ ways) outs (inr (place, later, inr (pos, goes, same), one, apart, differ, more)) o has =
     elim (subst (λ z. Has z o) same has) [
       | inl first ↦ inl (ap (λ (z : Out). z.way) first)
-      | inr others ↦ inr (outs_taken s m cells depth v facts scope formals passed ways later more o others)
+      | inr others ↦ inr (outs_taken s sees m cells depth v facts scope formals passed ways later more o others)
     ]
 
 -- Nothing is moved by facts or gone elsewhere in hands, or gone elsewhere in the places that are still to be taken.
@@ -256,9 +264,9 @@ AreBlank s depth m formals =
 
 -- ---- what the formals have then
 
-module _ (s : Typing) (settled : IsSettled s.table) (own_law : OwnsByShape s.table) (in_formals : AreAccess s)
+module _ (s : Typing) (sees : ℕ → Bool) (settled : IsSettled s.table) (own_law : OwnsByShape s.table) (in_formals : AreAccess s)
     (hands : List Waiting) (leaks : List Leak) (depth : ℕ) (v : Views) (far : AreFar (home s depth) v depth)
-    (only : (x : ℕ) (w : Way) → v.way x ≡ Some w → is_view s x ≡ true) (facts : List Fact) (scope : List ℕ) (cells : List Lodge) where
+    (only : AreOnly s v) (facts : List Fact) (scope : List ℕ) (cells : List Lodge) where
   abbrev Home : ℕ → ℕ
   Home = home s depth
 
@@ -277,7 +285,7 @@ module _ (s : Typing) (settled : IsSettled s.table) (own_law : OwnsByShape s.tab
 
   -- ---- one that is taken
 
-  module _ (other : Way → Type 0) (x : ℕ) (k : Place) (to : Way) (passed : IsPassedOn s cells depth v facts scope x k to) (whole : IsWhole s depth v facts to)
+  module _ (other : Way → Type 0) (x : ℕ) (k : Place) (to : Way) (passed : IsPassedOn s sees cells depth v facts scope x k to) (whole : IsWhole s depth v facts to)
       (open_there : IsOpen (IsMovedBy (home s depth) v facts) other (to ∷ []))
       (m : Memory) (typed : Kept s m hands) (stand : StandIn other m)
       (blank : (p : List Step) → word_in s.table (content s m [] (OfRoot (OfVariable (suc depth) x))) p ≡ Empty)
@@ -412,10 +420,10 @@ module _ (s : Typing) (settled : IsSettled s.table) (own_law : OwnsByShape s.tab
           (inside_owns s depth k to passed.inside settled m hands leaks typed stand.owned there) clean n p gone;
     }
 
-    pub one_views : (g y : ℕ) → is_view s y ≡ true
-        → (get_or (variable_slots s g y next.variables) 0 no_slot).word ≡ (get_or (variable_slots s g y m.variables) 0 no_slot).word
-    one_views g y view =
-        ap (λ z. (get_or z 0 no_slot).word)
+    pub one_views : (g y i : ℕ) → is_view s y ≡ true
+        → (get_or (variable_slots s g y next.variables) i no_slot).word ≡ (get_or (variable_slots s g y m.variables) i no_slot).word
+    one_views g y i view =
+        ap (λ z. (get_or z i no_slot).word)
         (new_other g y (λ e. formal_plain (subst (λ z. is_view s z ≡ true) (sym (same_variable (suc depth) x g y (ap OfRoot e)).1) view))
         ∙ put_beside s 0 k.base (take k.at (slots_at s m k.base) ++ marks ++ drop (k.at + length marks) (slots_at s m k.base)) m g y
         (inside_no_view s settled depth k to passed.inside g y view))

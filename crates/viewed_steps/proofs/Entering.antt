@@ -1,11 +1,12 @@
 -- All formals of a call are declared. The places of those that aren't scalar and are copied back are gone
 -- meanwhile, and have no number.
-use Rattle.std.proofs.Common.{◌≡◌, refl, sym, ap, ◌∙◌, subst, ◌⊎◌, inl, inr, ℕ, suc, List, [], ◌∷◌, ◌++◌, get_or, arith, append-nil, append_assoc, Bool, true, false, Some}
+use Rattle.std.proofs.Common.{◌≡◌, refl, sym, ap, ◌∙◌, subst, ◌⊎◌, inl, inr, ℕ, suc, List, [], ◌∷◌, ◌++◌, get_or, arith, append-nil, append_assoc, Bool, true, false}
 use Rattle.spark_base.specs.Lists.{Has}
 use Rattle.spark_base.specs.declared.position.Pos.{Pos}
 use Rattle.place_names.specs.declared.fact.Fact.{Fact}
 use Rattle.flow_paths.specs.Objects.{Typing, object_at}
 use Rattle.machine.specs.Words.{default}
+use Rattle.machine.specs.Words as machine
 use Rattle.machine.specs.Memory.{Memory, Place, no_slot, variable_slots, words_of, moved_out, declared}
 use Rattle.machine.specs.Calls.{Passed, Value, From, To, with_formal, with_formals, returns_of}
 use Rattle.machine.specs.States.{Waiting, Leak, Return}
@@ -26,11 +27,11 @@ use Rattle.viewed_steps.proofs.Left.{cells_same}
 use Rattle.viewed_steps.proofs.Between.{carried_same, carried_then, same_reaches, more_gone, base_along, base_under, taken_more, OwnersStand, same_stand, Begins}
 use Rattle.viewed_steps.proofs.Carried.{inside_begins, inside_low, start_reached, inside_at, inside_spot, inside_owns, inside_word}
 use Rattle.viewed_steps.proofs.Alike.{IsLaidIn, plain_place}
-use Rattle.viewed_steps.proofs.Views.{AreFar, AreAccess}
+use Rattle.viewed_steps.proofs.Views.{AreOnly, AreFar, AreAccess}
 use Rattle.viewed_steps.proofs.Shown.{HasCells, then_cells, taken_cells, Stands, one_stands}
 use Rattle.viewed_steps.proofs.Vacated.{place_checks}
 use Rattle.viewed_steps.proofs.Outs.{Out, IsUnderOne, found_in, HasStill, HaveStill, still_then}
-use Rattle.viewed_steps.proofs.Entered.{IsPlainPassed, IsPlainOne, DiffersFrom, ArePassedOn, IsOpen, AreBlank, passed_base, outs_taken, stand_next, kept_next, one_held, one_carried, one_views, one_bare, one_stays, one_blank, one_still, IsShownTo}
+use Rattle.viewed_steps.proofs.Entered.{IsPlainPassed, IsPlainOne, DiffersFrom, ArePassedOn, IsOpen, AreBlank, passed_base, outs_taken, stand_next, kept_next, one_held, one_carried, one_views, one_bare, one_stays, one_blank, one_still, IsShownTo, HasWords}
 use Rattle.viewed_steps.proofs.Emptying.{out_stand, out_kept, out_views, out_blank, out_held, out_carried, out_bare, out_stays, out_still}
 
 -- what has a number owns
@@ -46,9 +47,9 @@ owns_there s settled own_law m f x q k held = by_type (is_owning s.table (object
     by_type false is =
         absurd (no_number (sym (word_no s.table (content s m [] (OfRoot (OfVariable f x))) q ((keeps s settled own_law).ownerless (object_at s x).of is q)) ∙ held))
 
-module _ (s : Typing) (settled : IsSettled s.table) (own_law : OwnsByShape s.table) (in_formals : AreAccess s)
+module _ (s : Typing) (sees : ℕ → Bool) (settled : IsSettled s.table) (own_law : OwnsByShape s.table) (in_formals : AreAccess s)
     (hands : List Waiting) (depth : ℕ) (v : Views) (far : AreFar (home s depth) v depth)
-    (only : (x : ℕ) (w : Way) → v.way x ≡ Some w → is_view s x ≡ true) (facts : List Fact) (scope : List ℕ)
+    (only : AreOnly s v) (facts : List Fact) (scope : List ℕ)
     (cells : List Lodge) (begins : (c : Lodge) → Has cells c → (g : ℕ) × (y : ℕ) × (base_of c.way ≡ OfRoot (OfVariable g y)) × (g ≡ suc depth → ⊥)) where
   abbrev StandIn : (Way → Type 0) → List Leak → Memory → Type 0
   StandIn other leaks m = OwnersStand (home s depth) v facts other (seen s m hands leaks)
@@ -79,8 +80,8 @@ module _ (s : Typing) (settled : IsSettled s.table) (own_law : OwnsByShape s.tab
     pub held : (g y : ℕ) (p : List Step) (c : ℕ) → word_in s.table (content s n [] (OfRoot (OfVariable g y))) p ≡ Held c
         → (word_in s.table (content s m [] (OfRoot (OfVariable g y))) p ≡ Held c) ⊎ ((g ≡ suc depth) × Has formals y)
     pub views : (g y : ℕ) → is_view s y ≡ true
-        → ((get_or (variable_slots s g y n.variables) 0 no_slot).word ≡ (get_or (variable_slots s g y m.variables) 0 no_slot).word)
-        ⊎ ((g ≡ suc depth) × IsShownTo formals passed y (get_or (variable_slots s g y n.variables) 0 no_slot).word)
+        → ((i : ℕ) → (get_or (variable_slots s g y n.variables) i no_slot).word ≡ (get_or (variable_slots s g y m.variables) i no_slot).word)
+        ⊎ ((g ≡ suc depth) × (ws : List machine.Word) × IsShownTo formals passed y ws × HasWords s g y n ws)
     pub carried : AreCarried s (λ g. g ≡ suc depth → ⊥) cells [] m n
     -- ways from the variables of other frames that don't go on after a place reach what they reached
     pub stays : (w : Way) (g y : ℕ) → base_of w ≡ OfRoot (OfVariable g y) → (g ≡ suc depth → ⊥) → ((to : Way) → Has ways to → Past to w → ⊥) → (c : ℕ)
@@ -88,7 +89,7 @@ module _ (s : Typing) (settled : IsSettled s.table) (own_law : OwnsByShape s.tab
 
   abbrev pub Enter : (Way → Type 0) → List Leak → List Leak → List ℕ → List Passed → List Way → Memory → Memory → Type 0
   Enter other leaks found formals passed ways m n =
-      AreDeclared formals passed ways leaks found m n × StandIn (taken_also other ways) found n × AreTaken s cells n depth v facts scope (returns_of formals passed) ways
+      AreDeclared formals passed ways leaks found m n × StandIn (taken_also other ways) found n × AreTaken s sees cells n depth v facts scope (returns_of formals passed) ways
 
   pub formals_of_returns : (formals : List ℕ) (passed : List Passed) (r : Return) → Has (returns_of formals passed) r → Has formals r.formal
   formals_of_returns [] passed r has = absurd has
@@ -100,7 +101,7 @@ module _ (s : Typing) (settled : IsSettled s.table) (own_law : OwnsByShape s.tab
   formals_of_returns (x ∷ formals) (To k ∷ passed) r (inr has) = inr (formals_of_returns formals passed r has)
 
   plain_returns : (n : Memory) (x : ℕ) (a : Passed) (formals : List ℕ) (passed : List Passed) (ways : List Way) (before : Memory) → IsPlainOne s before cells x a
-      → AreTaken s cells n depth v facts scope (returns_of formals passed) ways → AreTaken s cells n depth v facts scope (returns_of (x ∷ formals) (a ∷ passed)) ways
+      → AreTaken s sees cells n depth v facts scope (returns_of formals passed) ways → AreTaken s sees cells n depth v facts scope (returns_of (x ∷ formals) (a ∷ passed)) ways
   plain_returns n x (Value ws) formals passed ways before plain taken = taken
   plain_returns n x (From k) formals passed [] before (inl plain) taken = (plain, taken)
   plain_returns n x (From k) formals passed (to ∷ ways) before (inl plain) taken = inl (plain, taken)
@@ -108,14 +109,14 @@ module _ (s : Typing) (settled : IsSettled s.table) (own_law : OwnsByShape s.tab
   plain_returns n x (To k) formals passed (to ∷ ways) before (inl plain) taken = inl (plain, taken)
   plain_returns n x (From k) formals passed ways before (inr (inl (shown, z, is, typed))) taken = (let never : From k ≡ Value (z ∷ []) = is in cc)
   plain_returns n x (To k) formals passed ways before (inr (inl (shown, z, is, typed))) taken = (let never : To k ≡ Value (z ∷ []) = is in cc)
-  plain_returns n x (From k) formals passed ways before (inr (inr (plain, named, ws, is, fit))) taken = (let never : From k ≡ Value ws = is in cc)
-  plain_returns n x (To k) formals passed ways before (inr (inr (plain, named, ws, is, fit))) taken = (let never : To k ≡ Value ws = is in cc)
+  plain_returns n x (From k) formals passed ways before (inr (inr (kind, ws, is, fit))) taken = (let never : From k ≡ Value ws = is in cc)
+  plain_returns n x (To k) formals passed ways before (inr (inr (kind, ws, is, fit))) taken = (let never : To k ≡ Value ws = is in cc)
 
   nothing_declared : (formals : List ℕ) (passed : List Passed) (ways : List Way) (leaks : List Leak) (m : Memory) → Kept s m hands → AreDeclared formals passed ways leaks leaks m m
   nothing_declared formals passed ways leaks m typed = record {
     typed = typed;
     held = λ g y p c held. inl held;
-    views = λ g y view. inl refl;
+    views = λ g y view. inl (λ i. refl);
     carried = carried_same s (λ g. g ≡ suc depth → ⊥) cells [] m m (λ g y p. refl) (λ c p. refl);
     stays = λ w g y base other_frame aside c reach. reach;
   }
@@ -130,12 +131,12 @@ module _ (s : Typing) (settled : IsSettled s.table) (own_law : OwnsByShape s.tab
           | inl gone ↦ inl gone
           | inr under ↦ absurd (subst (λ ks. Has ks under.0) no_outs under.1)
         ]) stand,
-        subst (λ z. AreTaken s cells m depth v facts scope z ways) (sym none) no_ways,
+        subst (λ z. AreTaken s sees cells m depth v facts scope z ways) (sym none) no_ways,
       )
 
   -- scalar ones change nothing that owners see
   plain_then : (other : Way → Type 0) (leaks found : List Leak) (x : ℕ) (a : Passed) (formals : List ℕ) (passed : List Passed) (ways : List Way) (before m then_m n : Memory)
-      → IsPlainOne s before cells x a → Stands s settled own_law in_formals hands leaks (suc depth) x a m then_m → Enter other leaks found formals passed ways then_m n
+      → IsPlainOne s before cells x a → Stands s sees settled own_law in_formals hands leaks (suc depth) x a m then_m → Enter other leaks found formals passed ways then_m n
       → Enter other leaks found (x ∷ formals) (a ∷ passed) ways m n
   plain_then other leaks found x a formals passed ways before m then_m n plain on later = (
     record {
@@ -145,10 +146,10 @@ module _ (s : Typing) (settled : IsSettled s.table) (own_law : OwnsByShape s.tab
         | inr h ↦ inr (h.0, inr h.1)
       ];
       views = λ g y view. elim (later.0.views g y view) [
-        | inr shown ↦ inr (shown.0, inr shown.1)
+        | inr shown ↦ inr (shown.0, shown.1, inr shown.2, shown.3)
         | inl same ↦ elim (on.views g y view) [
-          | inl before_it ↦ inl (same ∙ before_it)
-          | inr mine ↦ inr (mine.0, inl (mine.1, mine.2 ∙ ap (λ w. Value (w ∷ [])) (sym same)))
+          | inl before_it ↦ inl (λ i. same i ∙ before_it i)
+          | inr mine ↦ inr (mine.0, mine.2, inl (mine.1, mine.3), λ i. same i ∙ mine.4 i)
         ]
       ];
       carried = carried_then s (λ g. g ≡ suc depth → ⊥) cells [] [] [] m then_m n (λ w taken. taken) (λ w taken. taken)
@@ -161,11 +162,11 @@ module _ (s : Typing) (settled : IsSettled s.table) (own_law : OwnsByShape s.tab
 
   taken_then : (other : Way → Type 0) (leaks mid found : List Leak) (x : ℕ) (k : Place) (a : Passed) (to : Way) (formals : List ℕ) (passed : List Passed) (ways : List Way)
       (m next n : Memory) → returns_of (x ∷ formals) (a ∷ passed) ≡ record { formal = x; to = k } ∷ returns_of formals passed
-      → (one : IsPassedOn s cells depth v facts scope x k to) → IsApartFrom to ways → DiffersFrom x formals
+      → (one : IsPassedOn s sees cells depth v facts scope x k to) → IsApartFrom to ways → DiffersFrom x formals
       → ((g y : ℕ) (p : List Step) (c : ℕ) → word_in s.table (content s next [] (OfRoot (OfVariable g y))) p ≡ Held c
       → (word_in s.table (content s m [] (OfRoot (OfVariable g y))) p ≡ Held c) ⊎ ((g ≡ suc depth) × (y ≡ x)))
-      → ((g y : ℕ) → is_view s y ≡ true
-      → (get_or (variable_slots s g y next.variables) 0 no_slot).word ≡ (get_or (variable_slots s g y m.variables) 0 no_slot).word)
+      → ((g y i : ℕ) → is_view s y ≡ true
+      → (get_or (variable_slots s g y next.variables) i no_slot).word ≡ (get_or (variable_slots s g y m.variables) i no_slot).word)
       → IsBare s depth k to next one.inside → AreCarried s (λ g. g ≡ suc depth → ⊥) cells [] m next
       → ((w : Way) (g y : ℕ) → base_of w ≡ OfRoot (OfVariable g y) → (g ≡ suc depth → ⊥) → (Past to w → ⊥) → (c : ℕ)
       → Reaches (seen s m hands leaks) w (OfCell c) → Reaches (seen s next hands mid) w (OfCell c))
@@ -178,8 +179,8 @@ module _ (s : Typing) (settled : IsSettled s.table) (own_law : OwnsByShape s.tab
         | inl h ↦ elim (held g y p c h) [ inl before ↦ inl before | inr mine ↦ inr (mine.0, inl (sym mine.1)) ]
       ];
       views = λ g y view. elim (later.0.views g y view) [
-        | inr shown ↦ inr (shown.0, inr shown.1)
-        | inl same ↦ inl (same ∙ views g y view)
+        | inr shown ↦ inr (shown.0, shown.1, inr shown.2, shown.3)
+        | inl same ↦ inl (λ i. same i ∙ views g y i view)
       ];
       carried = carried_then s (λ g. g ≡ suc depth → ⊥) cells [] [] [] m next n (λ w taken. taken) (λ w taken. taken) carried later.0.carried;
       stays = λ w g y base other_frame aside c reach. later.0.stays w g y base other_frame (λ z has. aside z (inr has)) c (one_stays w g y base other_frame (aside to (inl refl)) c reach);
@@ -189,7 +190,7 @@ module _ (s : Typing) (settled : IsSettled s.table) (own_law : OwnsByShape s.tab
           | inr taken ↦ inr (taken_more to ways w taken)
           | inl before ↦ elim before [ inl away ↦ inl away | inr (p, is) ↦ inr (to, inl refl, p, is) ]
         ]) later.1,
-    subst (λ z. AreTaken s cells n depth v facts scope z (to ∷ ways)) (sym return_is) (inr (
+    subst (λ z. AreTaken s sees cells n depth v facts scope z (to ∷ ways)) (sym return_is) (inr (
       (
         one,
         (λ p c is. bare p c (start_before (p ++ (one.inside).steps) c is)),
@@ -277,7 +278,7 @@ module _ (s : Typing) (settled : IsSettled s.table) (own_law : OwnsByShape s.tab
     pub there : (c : Lodge) → Has cells c → Reaches (seen s before hands leaks) c.way (OfCell c.cell)
 
   -- a place that is passed on is reached where the cells are
-  pub one_reached : (x : ℕ) (k : Place) (to : Way) (one : IsPassedOn s cells depth v facts scope x k to) (leaks : List Leak) (m : Memory)
+  pub one_reached : (x : ℕ) (k : Place) (to : Way) (one : IsPassedOn s sees cells depth v facts scope x k to) (leaks : List Leak) (m : Memory)
       → ((c : Lodge) → Has cells c → Reaches (seen s m hands leaks) c.way (OfCell c.cell)) → Reaches (seen s m hands leaks) (one.inside).trunk (one.inside).start
   one_reached x k to one leaks m there =
       start_reached s depth k to one.inside (seen s m hands leaks) (λ n is. (
@@ -286,7 +287,7 @@ module _ (s : Typing) (settled : IsSettled s.table) (own_law : OwnsByShape s.tab
 
   -- ---- what a place has still is leaked
 
-  pub still_checks : (x : ℕ) (k : Place) (to : Way) (one : IsPassedOn s cells depth v facts scope x k to) (pos : Pos) (leaks : List Leak) (before m : Memory)
+  pub still_checks : (x : ℕ) (k : Place) (to : Way) (one : IsPassedOn s sees cells depth v facts scope x k to) (pos : Pos) (leaks : List Leak) (before m : Memory)
       → AtFirst before → HasStill s cells depth before m to
       → Checks s.table (content s m hands (trunk (inside_at s depth k to one.inside))) (steps_in (inside_at s depth k to one.inside)) leaks (leaks ++ leaks_at s pos before k)
   still_checks x k to one pos leaks before m first_one still =
@@ -323,13 +324,13 @@ module _ (s : Typing) (settled : IsSettled s.table) (own_law : OwnsByShape s.tab
 
   -- what is passed for a formal of a scalar type
   laid_in : (leaks : List Leak) (m : Memory) (a : Passed) → IsPlainPassed s cells a → Kept s m hands
-      → ((c : Lodge) → Has cells c → Reaches (seen s m hands leaks) c.way (OfCell c.cell)) → IsLaidIn s settled own_law in_formals hands leaks m a
+      → ((c : Lodge) → Has cells c → Reaches (seen s m hands leaks) c.way (OfCell c.cell)) → IsLaidIn s sees settled own_law in_formals hands leaks m a
   laid_in leaks m (Value ws) plain typed there = plain
-  laid_in leaks m (From k) plain typed there = plain_place s settled own_law in_formals hands leaks (suc depth) cells begins m k plain typed there
-  laid_in leaks m (To k) plain typed there = plain_place s settled own_law in_formals hands leaks (suc depth) cells begins m k plain typed there
+  laid_in leaks m (From k) plain typed there = plain_place s sees settled own_law in_formals hands leaks (suc depth) cells begins m k plain typed there
+  laid_in leaks m (To k) plain typed there = plain_place s sees settled own_law in_formals hands leaks (suc depth) cells begins m k plain typed there
 
   pub all_declared : (other : Way → Type 0) (leaks : List Leak) (formals : List ℕ) (passed : List Passed) (ways : List Way) (outs : List Out) (before m : Memory)
-      → ArePassedOn s before cells depth v facts scope formals passed ways outs → IsOpen Moved other ways → AtFirst before → Kept s m hands
+      → ArePassedOn s sees before cells depth v facts scope formals passed ways outs → IsOpen Moved other ways → AtFirst before → Kept s m hands
       → AreThere ways leaks m → StandIn (outs_also other outs) leaks m → AreBlank s depth m formals → HaveStill s cells depth before m outs → HasCells before m
       → Enter other leaks (leaks ++ found_in s before outs) formals passed ways m (with_formals s (suc depth) formals passed m)
   all_declared other leaks [] passed ways outs before m are open_there at_first typed cells_there stand blank still had =
@@ -337,7 +338,7 @@ module _ (s : Typing) (settled : IsSettled s.table) (own_law : OwnsByShape s.tab
   all_declared other leaks (x ∷ formals) [] ways outs before m are open_there at_first typed cells_there stand blank still had =
       nothing_entered other leaks (x ∷ formals) [] ways outs before m refl are typed stand
   all_declared other leaks (x ∷ formals) (a ∷ passed) [] outs before m are open_there at_first typed cells_there stand blank still had =
-      let on = one_stands s settled own_law in_formals hands leaks (suc depth) x a before m cells are.0 (λ plain. laid_in leaks m a plain typed (λ c has. (cells_there c has).0)) had typed in
+      let on = one_stands s sees settled own_law in_formals hands leaks (suc depth) x a before m cells are.0 (λ plain. laid_in leaks m a plain typed (λ c has. (cells_there c has).0)) had typed in
       let mid : Memory = with_formal s (suc depth) x a m in
       plain_then other leaks (leaks ++ found_in s before outs) x a formals passed [] before m mid (with_formals s (suc depth) formals passed mid) are.0 on
       (all_declared other leaks formals passed [] outs before mid are.1 open_there at_first on.typed
@@ -346,7 +347,7 @@ module _ (s : Typing) (settled : IsSettled s.table) (own_law : OwnsByShape s.tab
       (λ y has p. on.hold (suc depth) y p ∙ blank y (inr has) p)
       (λ o has. still_then s cells depth before m mid o.way (still o has) ((λ f y q p low is. on.hold f y (p ++ q)), (λ c q p has is. cells_same s m mid hands leaks on.same c.cell (p ++ q)))) (then_cells before m mid had on.cells))
   all_declared other leaks (x ∷ formals) (a ∷ passed) (to ∷ ways) outs before m (inl are) open_there at_first typed cells_there stand blank still had =
-      let on = one_stands s settled own_law in_formals hands leaks (suc depth) x a before m cells are.0 (λ plain. laid_in leaks m a plain typed (λ c has. (cells_there c has).0)) had typed in
+      let on = one_stands s sees settled own_law in_formals hands leaks (suc depth) x a before m cells are.0 (λ plain. laid_in leaks m a plain typed (λ c has. (cells_there c has).0)) had typed in
       let mid : Memory = with_formal s (suc depth) x a m in
       plain_then other leaks (leaks ++ found_in s before outs) x a formals passed (to ∷ ways) before m mid (with_formals s (suc depth) formals passed mid) are.0 on
       (all_declared other leaks formals passed (to ∷ ways) outs before mid are.1 open_there at_first on.typed
@@ -358,38 +359,38 @@ module _ (s : Typing) (settled : IsSettled s.table) (own_law : OwnsByShape s.tab
       let new = blank x (inl refl) in
       let there_now = one_reached x k to one leaks m (λ c has. (cells_there c has).0) in
       let next : Memory = declared (suc depth) x (words_of s m k) (moved_out s k m) in
-      let among = outs_taken s before cells depth v facts scope formals passed ways later more in
-      let from = passed_base s before cells depth v facts scope formals passed ways later more in
+      let among = outs_taken s sees before cells depth v facts scope formals passed ways later more in
+      let from = passed_base s sees before cells depth v facts scope formals passed ways later more in
       let root : Begins s depth to = inside_begins s depth k to one.inside in
       let mine = taken_open other to ways later among from apart open_there in
       let here : StandIn (outs_also other later) leaks m = subst (λ z. StandIn (outs_also other z) leaks m) same stand in
       subst (λ z. Enter other leaks (leaks ++ found_in s before outs) (x ∷ formals) (z ∷ passed) (to ∷ ways) m (with_formals s (suc depth) (x ∷ formals) (z ∷ passed) m)) (sym is)
       (subst (λ z. Enter other leaks (leaks ++ found_in s before z) (x ∷ formals) (From k ∷ passed) (to ∷ ways) m (with_formals s (suc depth) (x ∷ formals) (From k ∷ passed) m)) (sym same)
       (taken_then other leaks leaks (leaks ++ found_in s before later) x k (From k) to formals passed ways m next (with_formals s (suc depth) formals passed next) refl one apart differ
-      (one_held s settled own_law in_formals hands leaks depth v far only facts scope cells (outs_also other later) x k to one whole mine m typed here new there_now)
-      (one_views s settled own_law in_formals hands leaks depth v far only facts scope cells (outs_also other later) x k to one whole mine m typed here new there_now)
-      (one_bare s settled own_law in_formals hands leaks depth v far only facts scope cells (outs_also other later) x k to one whole mine m typed here new there_now)
-      (one_carried s settled own_law in_formals hands leaks depth v far only facts scope cells (outs_also other later) x k to one whole mine m typed here new there_now)
-      (one_stays s settled own_law in_formals hands leaks depth v far only facts scope cells (outs_also other later) x k to one whole mine m typed here new there_now)
+      (one_held s sees settled own_law in_formals hands leaks depth v far only facts scope cells (outs_also other later) x k to one whole mine m typed here new there_now)
+      (one_views s sees settled own_law in_formals hands leaks depth v far only facts scope cells (outs_also other later) x k to one whole mine m typed here new there_now)
+      (one_bare s sees settled own_law in_formals hands leaks depth v far only facts scope cells (outs_also other later) x k to one whole mine m typed here new there_now)
+      (one_carried s sees settled own_law in_formals hands leaks depth v far only facts scope cells (outs_also other later) x k to one whole mine m typed here new there_now)
+      (one_stays s sees settled own_law in_formals hands leaks depth v far only facts scope cells (outs_also other later) x k to one whole mine m typed here new there_now)
       (all_declared (away other to) leaks formals passed ways later before next more (others_open other to ways root apart open_there) at_first
-      (kept_next s settled own_law in_formals hands leaks depth v far only facts scope cells (outs_also other later) x k to one whole mine m typed here new there_now)
+      (kept_next s sees settled own_law in_formals hands leaks depth v far only facts scope cells (outs_also other later) x k to one whole mine m typed here new there_now)
       (λ c has. (
         (let begin = begins c has in
-            one_stays s settled own_law in_formals hands leaks depth v far only facts scope cells (outs_also other later) x k to one whole mine m typed here new there_now
+            one_stays s sees settled own_law in_formals hands leaks depth v far only facts scope cells (outs_also other later) x k to one whole mine m typed here new there_now
             c.way begin.0 begin.1 begin.2 begin.3 ((cells_there c has).1 to (inl refl)) c.cell (cells_there c has).0),
         (λ z there. (cells_there c has).1 z (inr there)),
       ))
-      (beside_outs other to later leaks next (stand_next s settled own_law in_formals hands leaks depth v far only facts scope cells (outs_also other later) x k to one whole mine m typed here new there_now))
-      (λ y has p. one_blank s settled own_law in_formals hands leaks depth v far only facts scope cells (outs_also other later) x k to one whole mine m typed here new there_now y (differ y has) p (blank y (inr has) p))
+      (beside_outs other to later leaks next (stand_next s sees settled own_law in_formals hands leaks depth v far only facts scope cells (outs_also other later) x k to one whole mine m typed here new there_now))
+      (λ y has p. one_blank s sees settled own_law in_formals hands leaks depth v far only facts scope cells (outs_also other later) x k to one whole mine m typed here new there_now y (differ y has) p (blank y (inr has) p))
       (λ o has. still_then s cells depth before m next o.way (still o (subst (λ z. Has z o) (sym same) has))
-      (one_still s settled own_law in_formals hands leaks depth v far only facts scope cells (outs_also other later) x k to one whole mine m typed here new there_now (λ c has_c. (cells_there c has_c).0) o.way (apart o.way (among o has))))
+      (one_still s sees settled own_law in_formals hands leaks depth v far only facts scope cells (outs_also other later) x k to one whole mine m typed here new there_now (λ c has_c. (cells_there c has_c).0) o.way (apart o.way (among o has))))
       (then_cells before m next had (taken_cells s k (suc depth) x (words_of s m k) m)))))
   all_declared other leaks (x ∷ formals) (a ∷ passed) (to ∷ ways) outs before m (inr (k, later, inr (pos, is, same), one, apart, differ, more)) open_there at_first typed cells_there stand blank still had =
       let new = blank x (inl refl) in
       let there_now = one_reached x k to one leaks m (λ c has. (cells_there c has).0) in
       let next : Memory = declared (suc depth) x (default s.table (object_at s x).of) (moved_out s k m) in
-      let among = outs_taken s before cells depth v facts scope formals passed ways later more in
-      let from = passed_base s before cells depth v facts scope formals passed ways later more in
+      let among = outs_taken s sees before cells depth v facts scope formals passed ways later more in
+      let from = passed_base s sees before cells depth v facts scope formals passed ways later more in
       let root : Begins s depth to = inside_begins s depth k to one.inside in
       let out : Out = record { way = to; place = k; pos = pos } in
       let here : StandIn (outs_also other (out ∷ later)) leaks m = subst (λ z. StandIn (outs_also other z) leaks m) same stand in
@@ -399,26 +400,26 @@ module _ (s : Typing) (settled : IsSettled s.table) (own_law : OwnsByShape s.tab
       (subst (λ z. Enter other leaks (leaks ++ found_in s before z) (x ∷ formals) (To k ∷ passed) (to ∷ ways) m (with_formals s (suc depth) (x ∷ formals) (To k ∷ passed) m)) (sym same)
       (subst (λ z. Enter other leaks z (x ∷ formals) (To k ∷ passed) (to ∷ ways) m (with_formals s (suc depth) (x ∷ formals) (To k ∷ passed) m)) (append_assoc leaks (leaks_at s pos before k) (found_in s before later))
       (taken_then other leaks found (found ++ found_in s before later) x k (To k) to formals passed ways m next (with_formals s (suc depth) formals passed next) refl one apart differ
-      (λ g y p c held. inl (out_held s settled own_law in_formals hands leaks depth v only facts scope cells (outs_also other (out ∷ later)) (outs_also (away other to) later) x k to one
+      (λ g y p c held. inl (out_held s sees settled own_law in_formals hands leaks depth v only facts scope cells (outs_also other (out ∷ later)) (outs_also (away other to) later) x k to one
       m typed here new there_now found mine g y p c held))
-      (out_views s settled own_law in_formals hands leaks depth v only facts scope cells (outs_also other (out ∷ later)) (outs_also (away other to) later) x k to one
+      (out_views s sees settled own_law in_formals hands leaks depth v only facts scope cells (outs_also other (out ∷ later)) (outs_also (away other to) later) x k to one
       m typed here new there_now found)
-      (out_bare s settled own_law in_formals hands leaks depth v only facts scope cells (outs_also other (out ∷ later)) (outs_also (away other to) later) x k to one
+      (out_bare s sees settled own_law in_formals hands leaks depth v only facts scope cells (outs_also other (out ∷ later)) (outs_also (away other to) later) x k to one
       m typed here new there_now found mine)
-      (out_carried s settled own_law in_formals hands leaks depth v only facts scope cells (outs_also other (out ∷ later)) (outs_also (away other to) later) x k to one
+      (out_carried s sees settled own_law in_formals hands leaks depth v only facts scope cells (outs_also other (out ∷ later)) (outs_also (away other to) later) x k to one
       m typed here new there_now found mine)
       (λ w g y base other_frame aside c reach.
-      out_stays s settled own_law in_formals hands leaks depth v only facts scope cells (outs_also other (out ∷ later)) (outs_also (away other to) later) x k to one
+      out_stays s sees settled own_law in_formals hands leaks depth v only facts scope cells (outs_also other (out ∷ later)) (outs_also (away other to) later) x k to one
       m typed here new there_now found mine w aside c reach)
       (all_declared (away other to) found formals passed ways later before next more (others_open other to ways root apart open_there) at_first
-      (out_kept s settled own_law in_formals hands leaks depth v only facts scope cells (outs_also other (out ∷ later)) (outs_also (away other to) later) x k to one
+      (out_kept s sees settled own_law in_formals hands leaks depth v only facts scope cells (outs_also other (out ∷ later)) (outs_also (away other to) later) x k to one
       m typed here new there_now found)
       (λ c has. (
-        out_stays s settled own_law in_formals hands leaks depth v only facts scope cells (outs_also other (out ∷ later)) (outs_also (away other to) later) x k to one
+        out_stays s sees settled own_law in_formals hands leaks depth v only facts scope cells (outs_also other (out ∷ later)) (outs_also (away other to) later) x k to one
             m typed here new there_now found mine c.way ((cells_there c has).1 to (inl refl)) c.cell (cells_there c has).0,
         (λ z there. (cells_there c has).1 z (inr there)),
       ))
-      (out_stand s settled own_law in_formals hands leaks depth v only facts scope cells (outs_also other (out ∷ later)) (outs_also (away other to) later) x k to one
+      (out_stand s sees settled own_law in_formals hands leaks depth v only facts scope cells (outs_also other (out ∷ later)) (outs_also (away other to) later) x k to one
       m typed here new there_now found mine
       (λ w o off. elim o [
         | inl gone ↦ inl (inl gone)
@@ -427,10 +428,10 @@ module _ (s : Typing) (settled : IsSettled s.table) (own_law : OwnsByShape s.tab
           | inr rest ↦ inr (other_one, rest, under)
         ]
       ]) (λ p. inl (inr (p, refl))))
-      (λ y has p. out_blank s settled own_law in_formals hands leaks depth v only facts scope cells (outs_also other (out ∷ later)) (outs_also (away other to) later) x k to one
+      (λ y has p. out_blank s sees settled own_law in_formals hands leaks depth v only facts scope cells (outs_also other (out ∷ later)) (outs_also (away other to) later) x k to one
       m typed here new there_now found y (differ y has) p (blank y (inr has) p))
       (λ o has. still_then s cells depth before m next o.way (still o (subst (λ z. Has z o) (sym same) (inr has)))
-      (out_still s settled own_law in_formals hands leaks depth v only facts scope cells (outs_also other (out ∷ later)) (outs_also (away other to) later) x k to one
+      (out_still s sees settled own_law in_formals hands leaks depth v only facts scope cells (outs_also other (out ∷ later)) (outs_also (away other to) later) x k to one
       m typed here new there_now found mine (λ c has_c. (cells_there c has_c).0) o.way (apart o.way (among o has))))
       (then_cells before m next had (taken_cells s k (suc depth) x (default s.table (object_at s x).of) m))))))
   -- ---- where no place is taken

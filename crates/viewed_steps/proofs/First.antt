@@ -74,7 +74,7 @@ cleared_actual facts u clear f has = elim (bool_cases (breaks_O6 (ways.name_of u
   | inr none ↦ ap (λ b. forbidden_if b O10 (ways.name_of u) f) none
 ]
 
-module _ (s : Typing) (c : TraversalCall) where
+module _ (s : Typing) (sees : ℕ → Bool) (c : TraversalCall) where
   abbrev first : TypedTree
   first = Name c.name_pos c.root c.path c.of
 
@@ -94,4 +94,4 @@ module _ (s : Typing) (c : TraversalCall) where
   first_allowed facts f is clear = subst (AllowsAll facts) (sym (by_mode f is)) (by_owning facts (is_owning s.table (object_at s f).of) clear)
 
   pub first_keeps : (facts : List Fact) (f : ℕ) → (object_at s f).mode ≡ mode.In → after (acts (actual_act (passing s false f) first)) facts ≡ facts
-  first_keeps facts f is = ap (λ z. after z facts) (by_mode f is) ∙ head_keeps s false (is_owning s.table (object_at s f).of) false first facts
+  first_keeps facts f is = ap (λ z. after z facts) (by_mode f is) ∙ head_keeps s sees false (is_owning s.table (object_at s f).of) false first facts

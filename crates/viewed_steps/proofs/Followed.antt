@@ -2,23 +2,19 @@
 use Rattle.viewed_steps.proofs.Standing as standing
 use Rattle.viewed_steps.proofs.Successor as next
 use Rattle.viewed_steps.proofs.Traversing.{first_actual, traversal_keeps}
-use Rattle.viewed_soundness.specs.Holds.{is_given, is_view, IsAccess}
-use Rattle.viewed_soundness.proofs.Names.{given_view, true_false}
-use Rattle.viewed_steps.proofs.Rooted.{own_root}
-use Rattle.viewed_steps.proofs.Views.{AreUnseen, given_type, view_access}
+use Rattle.viewed_soundness.specs.Holds.{is_given, IsAccess}
+use Rattle.viewed_steps.proofs.Views.{AreUnseen, given_type}
 use Rattle.viewed_steps.specs.Ready.{IsReady, IsCalled, IsTraversalCall, IsSeen, IsActualTo, AreActualsTo, AreDifferent, is_shown_type}
 use Rattle.viewed_steps.specs.Sound.{ViewStage}
-use Rattle.viewed_steps.specs.Traversals.{traversed_name, IsBorrowTaker}
+use Rattle.viewed_steps.specs.Traversals.{traversed_name}
 use Rattle.soundness.proofs.Points.{flow_at}
 use Rattle.soundness.proofs.Scalars.{acts, acts_append, after_append}
 use Rattle.soundness.proofs.Inherited.{global_after}
 use Rattle.soundness.proofs.Used.{globals_are, called_are}
 use Rattle.soundness.proofs.Passing.{signature_is}
-use Rattle.soundness.specs.Sound.{Stage, IsNamedSub, IsAtPoint, IsEntered}
+use Rattle.soundness.specs.Sound.{Stage, IsNamedSub, IsAtPoint}
 use Rattle.std.proofs.Common.{◌≡◌, refl, sym, ap, ◌∙◌, subst, ◌⊎◌, inl, inr, ℕ, Bool, true, false, List, [], ◌∷◌, ◌++◌, map, Option, Some, None, if◌then◌else◌}
 use Rattle.spark_base.specs.Lists.{Has}
-use Rattle.spark_base.proofs.Lists.{Has-map}
-use Rattle.place_names.specs.declared.act.Act.TheVariants as act
 use Rattle.place_names.specs.declared.act.Mode.TheVariants as mode
 use Rattle.place_names.specs.declared.act.Placed.{Placed}
 use Rattle.place_names.specs.declared.fact.Fact.{Fact}
@@ -27,19 +23,19 @@ use Rattle.typed_tree.specs.Programs.{TypedProgram}
 use Rattle.flow_paths.specs.Objects.{Signature}
 use Rattle.type_definitions.specs.Types.{Table}
 use Rattle.flow_paths.specs.declared.report.Effects.{Effects}
-use Rattle.flow_paths.specs.Acts.{actual_values, actual_acts, gives_variable}
+use Rattle.flow_paths.specs.Acts.{actual_values, actual_acts}
 use Rattle.flow_paths.specs.Effects.{path_points, globals_of, called_acts, act_writes, act_reads}
 use Rattle.flow_paths.specs.Instructions.{Call}
-use Rattle.flow_paths.specs.Laid.{NamedSub, FlowSub, FlowProgram, flow_sub, flow_program, flow_named, typing_of, flow_typing}
+use Rattle.flow_paths.specs.Laid.{NamedSub, FlowProgram, flow_sub, flow_program, flow_named, typing_of, flow_typing}
 use Rattle.flow_paths.specs.Objects.{Typing, passing, passings, first_traversed, traverses, sub_at, object_at, is_anonymous, is_borrower, is_package_object, view_of}
 use Rattle.flow_paths.specs.Paths.{ControlPath, facts_before}
 use Rattle.flow_paths.specs.Points.{NamedPoint}
-use Rattle.flow_paths.specs.Views.{traversed_formal, traversed_of, sub_acts}
+use Rattle.flow_paths.specs.Views.{traversed_formal, traversed_of}
 use Rattle.machine.specs.States.{State, Frame, sub_of}
 use Rattle.owned_ways.specs.Ways.{Way, after}
 use Rattle.owned_ways.specs.Ways as ways
 use Rattle.owned_loans.proofs.Allowed.{Cleared}
-use Rattle.owned_loans.proofs.Safe.{Unlent}
+use Rattle.viewed_steps.specs.Seeing.{sees_in}
 
 -- The formals of a traversal function, its result, and how its actuals are passed.
 pub record IsTraversing (program : FlowProgram) (n f : ℕ) : Type 0 where
@@ -84,6 +80,9 @@ module _ (table : Table) (typed : TypedProgram) (effects : Effects) (input : Lis
     (path : ControlPath (path_points (flow_program table typed) effects (sub_of (flow_program table typed) top.frame.sub)) top.before top.frame.next)
     (n : ℕ) (actuals : TypedTree) (result : Option ℕ) (is : p.instr ≡ Call n actuals result)
     (f : ℕ) (traversed : traversed_formal (flow_typing (flow_program table typed)) (sub_of (flow_program table typed) n) ≡ Some f) where
+  abbrev sees : ℕ → Bool
+  sees = sees_in (flow_program table typed)
+
   abbrev program : FlowProgram
   program = flow_program table typed
 
@@ -121,7 +120,7 @@ module _ (table : Table) (typed : TypedProgram) (effects : Effects) (input : Lis
   shown = given_type s f given
 
   pub access : IsAccess s f
-  access = view_access s (standing.in_formals table typed effects input ready) f (given_view s f given)
+  access = (ready.traversing.first n f (called.runs).entered traversed).2
 
   pub differ : AreDifferent (f ∷ ways_are.rest)
   differ = subst AreDifferent ways_are.formals called.differ
@@ -139,7 +138,7 @@ module _ (table : Table) (typed : TypedProgram) (effects : Effects) (input : Lis
 
   -- their actuals
   abbrev pub first : TypedTree
-  first = first_actual s ready.owns made.call
+  first = first_actual s sees ready.owns made.call
 
   stays : AreActualsTo s (f ∷ ways_are.rest) (More first made.call.others)
   stays = subst (λ z. AreActualsTo s z (More first made.call.others)) ways_are.formals (subst (AreActualsTo s (sub_of program n).formals) made.actuals_are called.actuals_stay)
@@ -162,7 +161,7 @@ module _ (table : Table) (typed : TypedProgram) (effects : Effects) (input : Lis
   call_keeps : after (acts (values ++ copies)) own_facts ≡ own_facts
   call_keeps =
       (λ i. after (acts (actual_values s (ways_are.ways i) (made.actuals_are i) ++ actual_acts (ways_are.ways i) (made.actuals_are i))) own_facts)
-      ∙ traversal_keeps s ready.owns ready.class.parts_named f ways_are.rest made.call seen_first.0 unseen others_stay modes own_facts
+      ∙ traversal_keeps s sees ready.owns ready.class.parts_named f ways_are.rest made.call seen_first.0 unseen others_stay modes own_facts
 
   -- the call changes no fact
   pub facts_stay : facts_before (standing.points table typed effects input ready state top older outer named p frames of_sub at_point) (top.frame.next ∷ top.before) ≡ own_facts
@@ -182,14 +181,7 @@ module _ (table : Table) (typed : TypedProgram) (effects : Effects) (input : Lis
       next.clear_here table typed effects input ready state top older outer named p frames of_sub at_point path k has q at_q own_facts facts_stay n made.call
       (made.taker k has q at_q) u called
 
-  -- nor is it lent where the taker borrows
-  pub unlent_at_call : (k : ℕ) (has : Has (flow_at (typing_of table typed) named p).next k) (q : NamedPoint) (at_q : IsAtPoint named.points k q)
-      → IsBorrowTaker s n made.call named.sub.result q.instr → (u : Way) → ways.name_of u ≡ traversed_name made.call → Unlent own_facts u
-  unlent_at_call k has q at_q borrows u called =
-      next.unlent_here table typed effects input ready state top older outer named p frames of_sub at_point path k has q at_q own_facts facts_stay n made.call
-      (made.taker k has q at_q) borrows u called
-
-  -- there the object that the first actual is rooted in is named, if it is of a package, and written where a borrower is given
+  -- there the object that the first actual is rooted in is named, if it is of a package
   module _ (k : ℕ) (has : Has (flow_at (typing_of table typed) named p).next k) (q : NamedPoint) (at_q : IsAtPoint named.points k q)
       (borrower_local : (x : ℕ) → is_borrower s x ≡ true → is_package_object s x ≡ false) (shared : is_package_object s made.call.root ≡ true) where
     pub names_root : Has (flow_sub (typing_of table typed) named).points (flow_at (typing_of table typed) named q) × ((a : Placed) × Has (flow_at (typing_of table typed) named q).acts a
@@ -199,35 +191,3 @@ module _ (table : Table) (typed : TypedProgram) (effects : Effects) (input : Lis
       next.names_next table typed effects input ready state top older outer named p frames of_sub at_point path k has q at_q n made.call borrower_local shared
           (made.taker k has q at_q),
     )
-
-    pub writes_root : IsEntered program top.frame.sub → ((x : ℕ) → is_view s x ≡ true → is_package_object s x ≡ false) → gives_variable s (sub_at s n).result ≡ true
-        → Has (flow_sub (typing_of table typed) named).points (flow_at (typing_of table typed) named q)
-        × ((a : Placed) × Has (flow_at (typing_of table typed) named q).acts a × (act_writes made.call.root a.act ≡ true))
-    writes_root entered local borrows = (
-      next.in_next table typed effects input ready state top older outer named p frames of_sub at_point path k has q at_q,
-      elim (next.writes_next table typed effects input ready state top older outer named p frames of_sub at_point path k has q at_q n made.call borrower_local shared
-          ((made.borrows borrows).1 k has q at_q)) [
-            | inl writes ↦ writes
-            | inr (a, there, gives) ↦ absurd (never_given a there gives)
-          ],
-    )
-      where
-        plain : is_view s made.call.root ≡ false
-        plain = by (is_view s made.call.root) refl
-          where
-            by : (b : Bool) → is_view s made.call.root ≡ b → b ≡ false
-            by false same = refl
-            by true same = absurd (true_false (is_package_object s made.call.root) shared (local made.call.root same))
-
-        -- what is given is rooted in the first formal alone
-        never_given : (a : Placed) → Has (flow_at (typing_of table typed) named q).acts a → a.act ≡ act.Give (traversed_name made.call) true → ⊥
-        never_given a there gives =
-            ready.traversing.given (flow_sub (typing_of table typed) named)
-            (standing.in_program table typed effects input ready state top older outer named p frames of_sub at_point) (flow_at (typing_of table typed) named q)
-            (next.in_next table typed effects input ready state top older outer named p frames of_sub at_point path k has q at_q) (traversed_name made.call) true
-            (subst (Has (acts (flow_at (typing_of table typed) named q).acts)) gives (Has-map (λ (z : Placed). z.act) (flow_at (typing_of table typed) named q).acts a there))
-            (λ g traversed_own only.
-            (let root_is : made.call.root ≡ g = only.1 made.call.root (own_root s (sub_acts (flow_sub (typing_of table typed) named)) g None made.call.root plain) in
-            let first_own = ready.traversing.first top.frame.sub g entered
-            (subst (λ (z : FlowSub). traversed_formal s z ≡ Some g) (sym (standing.sub_is table typed effects input ready state top older outer named p frames of_sub at_point)) traversed_own) in
-            true_false (is_view s g) (given_view s g first_own.1) (ap (is_view s) (sym root_is) ∙ plain)))

@@ -18,7 +18,7 @@ use Rattle.flow_paths.specs.Views.{sub_acts, traversed_formal, IsOnlyRoot}
 use Rattle.viewed_steps.specs.Traversals.{GivesView, IsSourceIn, SeesFirst, IsSourceName, AreGiven, traversed_name}
 use Rattle.viewed_steps.proofs.Sources.{view_shape}
 use Rattle.spark_base.specs.declared.position.Pos.{Pos}
-use Rattle.viewed_soundness.proofs.Names.{given_view, true_false}
+use Rattle.viewed_soundness.proofs.ViewKinds.{given_view, access_bundle, true_false}
 use Rattle.std.proofs.Common.{◌≡◌, refl, sym, ap, ◌∙◌, subst, ◌⊎◌, inl, inr, ℕ, suc, ◌<◌, Bool, true, false, List, [], ◌∷◌, ◌++◌, drop, length, Some, None, map, Option, ◌||◌, append-nil, not, take, if◌then◌else◌}
 use Rattle.spark_base.specs.Lists.{Has}
 use Rattle.place_names.specs.declared.act.Act.{Act}
@@ -58,7 +58,7 @@ use Rattle.soundness.proofs.Around.{IsFar}
 use Rattle.soundness.proofs.Waited.{FillsNone}
 use Rattle.soundness.proofs.Eased.{eased}
 use Rattle.owned_loans.specs.Views.{Around, known_gone, Views, Viewed, Go, ViewedAlone}
-use Rattle.viewed_soundness.specs.Holds.{is_view, sees_only}
+use Rattle.viewed_soundness.specs.Holds.{is_view, is_bundle, Seeing}
 use Rattle.viewed_soundness.proofs.Outcomes.{Leads_on, IsGood}
 use Rattle.viewed_steps.specs.Awaited.{AreValues, lasting_of, AreAwaited, TakesAlone, TakesTogether, AreScalar, TakesScalars, temporaries_of}
 use Rattle.viewed_steps.proofs.Waited.{Shares}
@@ -72,23 +72,27 @@ use Rattle.viewed_steps.proofs.Standing as standing
 use Rattle.viewed_steps.proofs.Packages as packages
 use Rattle.viewed_steps.proofs.Innermost as innermost
 use Rattle.machine.specs.Step.{led}
-use Rattle.soundness.specs.Seen.{seen}
 use Rattle.soundness.specs.Ready.{IsSupplied}
 use Rattle.viewed_steps.proofs.EachInstruction as each
 use Rattle.flow_paths.specs.Instructions.{Hold}
-use Rattle.type_definitions.specs.Types.{shape_of}
 use Rattle.owned_ways.specs.Ways as ways
 use Rattle.owned_loans.specs.Views.{on, expand}
-use Rattle.viewed_soundness.proofs.Outcomes.{IsGood}
 use Rattle.viewed_soundness.proofs.Lends.{matches_on}
 use Rattle.viewed_soundness.proofs.Coming.{IsComing}
-use Rattle.viewed_steps.specs.Traversals.{traversed_name}
 use Rattle.viewed_steps.proofs.Blank.{reached_with, with_view, kept_with_view}
 use Rattle.viewed_steps.proofs.Sources.{view_scalar}
-use Rattle.viewed_steps.specs.Traversals.{GivesView, IsGivenTo, AreGiven}
+use Rattle.viewed_steps.specs.Traversals.{IsGivenTo}
 use Rattle.viewed_steps.proofs.Views.{AreAccess}
+use Rattle.viewed_steps.specs.Seeing.{sees_in}
+use Rattle.viewed_steps.proofs.Sees.{sees_seeing}
 
 module _ (table : Table) (typed : TypedProgram) (effects : Effects) (input : List ℕ) (ready : IsReady table typed effects) where
+  abbrev sees : ℕ → Bool
+  sees = sees_in (flow_program table typed)
+
+  abbrev seeing : Seeing (flow_typing (flow_program table typed)) sees
+  seeing = sees_seeing (flow_program table typed)
+
   abbrev program : FlowProgram
   program = flow_program table typed
 
@@ -114,9 +118,9 @@ module _ (table : Table) (typed : TypedProgram) (effects : Effects) (input : Lis
       (awaiting : AreAwaited table typed None (top ∷ stages_of (below ∷ more_frames)))
       (of_sub : IsNamedSub (flow_named table typed) top.frame.sub named) (at_point : IsAtPoint named.points top.frame.next p)
       (path : ControlPath (path_points program effects (sub_of program top.frame.sub)) top.before top.frame.next) (views : Views)
-      (viewed_before : ViewedAlone (home s (suc (length rest))) (sees_only s) (known_gone (home s (suc (length rest))) (GoneElsewhere program effects (below ∷ more_frames))) views
+      (viewed_before : ViewedAlone (home s (suc (length rest))) sees (known_gone (home s (suc (length rest))) (GoneElsewhere program effects (below ∷ more_frames))) views
       (view_here s state) (facts_of program effects top))
-      (kept : Kept s state.memory (waiting_in state)) (scope : InScope s state.memory (suc (length rest)) (lasting_of s p.scope)) (holds : HoldsAt s (suc (length rest)) views state.memory p)
+      (kept : Kept s state.memory (waiting_in state)) (scope : InScope s state.memory (suc (length rest)) (lasting_of s p.scope)) (holds : HoldsAt s sees (suc (length rest)) views state.memory p)
       (placed_before : ArePlaced program (suc (length rest)) (facts_of program effects top) views p.scope × IsBeyond program effects (suc (length rest)) views (below ∷ more_frames)) (above : NoneAbove s (suc (length rest)) state.memory
       × HasTraversals table typed (view_here s state) (record { stage = top; views = views; cells = [] } ∷ (below ∷ more_frames))) where
     abbrev outer : List Frame
@@ -156,7 +160,7 @@ module _ (table : Table) (typed : TypedProgram) (effects : Effects) (input : Lis
         → AllowsAll facts_now (acts_of_main p.instr)
     allowed_now = innermost.allowed_now table typed effects input ready state top below more_frames rest named p frames deep stages running awaiting of_sub at_point path views viewed_before kept scope holds placed_before above
 
-    abbrev viewed : Viewed (home s depth) (sees_only s) other views (view_here s state) facts_now
+    abbrev viewed : Viewed (home s depth) sees other views (view_here s state) facts_now
     viewed = innermost.viewed table typed effects input ready state top below more_frames rest named p frames deep stages running awaiting of_sub at_point path views viewed_before kept scope holds placed_before above
 
     abbrev left_scope : List ℕ
@@ -196,7 +200,7 @@ module _ (table : Table) (typed : TypedProgram) (effects : Effects) (input : Lis
     may x y = MayBe program (scope_behind p) x y × IsStoredAt p.instr x × IsSourceIn (sub_acts (sub_of program top.frame.sub)) x y
 
     abbrev LeadsFrom : Instruction → Outcome → Type 0
-    LeadsFrom i outcome = Leads_on easy ready.accepted.settled ready.owns other alone views ready.class.parts_named may refl refl (after (acts_of_main i) facts_now) outcome
+    LeadsFrom i outcome = Leads_on easy sees seeing ready.accepted.settled ready.owns other alone views ready.class.parts_named may refl refl (after (acts_of_main i) facts_now) outcome
 
     abbrev orderly : AreOrderly program p (λ q. (n : ℕ) × Has (map (number_in named.points) p.next) n × IsAtPoint named.points n q)
     orderly = innermost.orderly table typed effects input ready state top below more_frames rest named p frames deep stages running awaiting of_sub at_point path views viewed_before kept scope holds placed_before above
@@ -237,8 +241,10 @@ module _ (table : Table) (typed : TypedProgram) (effects : Effects) (input : Lis
       none_back : top.frame.returns ≡ []
       none_back = ((above.1).1.0 first_formal.0 first_formal.1).3
 
-      formal_view : is_view s first_formal.0 ≡ true
-      formal_view = given_view s first_formal.0 (ready.traversing.first top.frame.sub first_formal.0 (running.0).entered first_formal.1).1
+      formal_view : (is_view s first_formal.0 ≡ true) × (is_bundle s first_formal.0 ≡ false)
+      formal_view =
+          let is_first = ready.traversing.first top.frame.sub first_formal.0 (running.0).entered first_formal.1 in
+          (given_view s first_formal.0 is_first.1, access_bundle s first_formal.0 is_first.2)
 
       -- What is given, by what was in hand before.
       abbrev in_hand : List Waiting
@@ -258,36 +264,36 @@ module _ (table : Table) (typed : TypedProgram) (effects : Effects) (input : Lis
       -- it is given to the frame below
       module _ (z : machine.Word) (back : IsGivenBack z) (other_named : NamedSub) (other_of : IsNamedSub (flow_named table typed) below.stage.frame.sub other_named) (q : NamedPoint)
           (at_q : IsAtPoint other_named.points below.stage.frame.next q) where
-        abbrev sees : SeesFirst s below.stage.depth q.instr top.frame.sub below.views first
-        sees = seen_first other_named other_of q at_q
+        abbrev sight : SeesFirst s below.stage.depth q.instr top.frame.sub below.views first
+        sight = seen_first other_named other_of q at_q
 
         nothing_given : ((k : ℕ) → z ≡ machine.Cell k → ⊥) → IsGivenTo s (seen s state.memory (value_of (z ∷ []) ∷ in_hand) state.leaks) below.stage.depth q.instr below.views (value_of (z ∷ []))
         nothing_given none = record {
           sub = top.frame.sub;
-          traverses = sees.traverses;
+          traverses = sight.traverses;
           rest = [];
           word = z;
           is = refl;
           reached = λ k e. absurd (none k e);
-          lifted = λ is_view_there k e. absurd (none k e);
+          goes = λ k e. absurd (none k e);
         }
 
         given_word : (y : machine.Word) → z ≡ y → IsGivenTo s (seen s state.memory (value_of (z ∷ []) ∷ in_hand) state.leaks) below.stage.depth q.instr below.views (value_of (z ∷ []))
         given_word (machine.Cell k) e =
             let there = back.goes k e in record {
               sub = top.frame.sub;
-              traverses = sees.traverses;
+              traverses = sight.traverses;
               rest = there.2;
               word = z;
               is = refl;
               reached = λ j same. (
                   let number : k ≡ j = same_cell k j (sym e ∙ same) in
-                  let way : expand below.views (on (ways.All (sees.traverses).place) there.2) ≡ on there.0 there.2 =
-                  expand_on below.views (ways.All (sees.traverses).place) there.2 (λ d. d) ∙ ap (λ w. on w there.2) (sees.leads there.0 there.1) in
-                  subst (λ n. ways.Reaches (seen s state.memory (value_of (z ∷ []) ∷ in_hand) state.leaks) (expand below.views (on (ways.All (sees.traverses).place) there.2)) (ways.OfCell n)) number
+                  let way : expand below.views (on (ways.All (sight.traverses).place) there.2) ≡ on there.0 there.2 =
+                  expand_on below.views (ways.All (sight.traverses).place) there.2 (λ d. d) (inl tt) ∙ ap (λ w. on w there.2) (sight.leads there.0 there.1) in
+                  subst (λ n. ways.Reaches (seen s state.memory (value_of (z ∷ []) ∷ in_hand) state.leaks) (expand below.views (on (ways.All (sight.traverses).place) there.2)) (ways.OfCell n)) number
                   (subst (λ w. ways.Reaches (seen s state.memory (value_of (z ∷ []) ∷ in_hand) state.leaks) w (ways.OfCell k)) (sym way)
                   (reached_with s ready.accepted.settled state.memory (value_of (z ∷ [])) in_hand view state.leaks (on there.0 there.2) (ways.OfCell k) there.3)));
-              lifted = λ is_view_there j same. sees.lifted is_view_there there.0 there.1;
+              goes = λ j same. sight.goes there.0 there.1;
             }
           where
             same_cell : (k j : ℕ) → machine.Cell k ≡ machine.Cell j → k ≡ j
@@ -298,7 +304,7 @@ module _ (table : Table) (typed : TypedProgram) (effects : Effects) (input : Lis
 
       -- ---- the state afterwards
 
-      module _ (good : IsGood easy ready.accepted.settled ready.owns other alone views ready.class.parts_named may refl refl views facts_now easy.state)
+      module _ (good : IsGood easy sees seeing ready.accepted.settled ready.owns other alone views ready.class.parts_named may refl refl views facts_now easy.state)
           (facts_same : after (acts_of_main p.instr) facts_now ≡ facts_now) where
         given_below : (z : machine.Word) → IsGivenBack z
             → IsGivenBelow table typed (seen s state.memory (value_of (z ∷ []) ∷ in_hand) state.leaks) (results.top_stage_then table typed effects input ready state top below more_frames rest named p frames deep stages running awaiting of_sub at_point path views viewed_before kept scope holds placed_before above e last is of result source alone_there)
@@ -321,8 +327,8 @@ module _ (table : Table) (typed : TypedProgram) (effects : Effects) (input : Lis
         gives_it : (z : machine.Word) → IsGivenBack z → Along (Goes (results.state_then table typed effects input ready state top below more_frames rest named p frames deep stages running awaiting of_sub at_point path views viewed_before kept scope holds placed_before above e last is of result source alone_there (z ∷ []) state.memory))
         gives_it z back =
             results.returned_to table typed effects input ready state top below more_frames rest named p frames deep stages running awaiting of_sub at_point path views viewed_before kept scope holds placed_before above e last is of result source alone_there (z ∷ []) state.memory
-            (subst (Viewed (home s depth) (sees_only s) other views (seen s state.memory (value_of (z ∷ []) ∷ in_hand) state.leaks)) (sym facts_same)
-            (with_view s ready.accepted.settled state.memory (value_of (z ∷ [])) in_hand view (home s depth) (sees_only s) other views state.leaks facts_now good.viewed))
+            (subst (Viewed (home s depth) sees other views (seen s state.memory (value_of (z ∷ []) ∷ in_hand) state.leaks)) (sym facts_same)
+            (with_view s ready.accepted.settled state.memory (value_of (z ∷ [])) in_hand view (home s depth) sees other views state.leaks facts_now good.viewed))
             (kept_with_view s ready.accepted.settled state.memory (value_of (z ∷ [])) in_hand view z refl back.typed_there good.kept)
             good.holds one_word inside_left (λ f y some others o. record { word = refl; gone = λ g. g }) (given_below z back)
           where
@@ -348,11 +354,11 @@ module _ (table : Table) (typed : TypedProgram) (effects : Effects) (input : Lis
       -- It changes no facts and nothing in memory.
       abbrev pub GivesQuietly : Type 0
       GivesQuietly =
-          IsGood easy ready.accepted.settled ready.owns other alone views ready.class.parts_named may refl refl views facts_now easy.state
+          IsGood easy sees seeing ready.accepted.settled ready.owns other alone views ready.class.parts_named may refl refl views facts_now easy.state
           × (after (acts_of_main p.instr) facts_now ≡ facts_now)
           × Quiet (record { memory = state.memory; waits = [] }) (λ ws. (z : machine.Word) × (ws ≡ z ∷ []) × IsGivenBack z) (steps.taken_by main_turn of e (start main_turn))
 
-      quietly : IsGood easy ready.accepted.settled ready.owns other alone views ready.class.parts_named may refl refl views facts_now easy.state
+      quietly : IsGood easy sees seeing ready.accepted.settled ready.owns other alone views ready.class.parts_named may refl refl views facts_now easy.state
           → after (acts_of_main p.instr) facts_now ≡ facts_now
           → Quiet (record { memory = state.memory; waits = [] }) (λ ws. (z : machine.Word) × (ws ≡ z ∷ []) × IsGivenBack z) (steps.taken_by main_turn of e (start main_turn)) → GivesQuietly
       quietly good same quiet = (good, same, quiet)
@@ -370,13 +376,13 @@ module _ (table : Table) (typed : TypedProgram) (effects : Effects) (input : Lis
       -- What comes by a name that has no other root than the first formal, or none that isn't refuted.
       comes_back : (d k y : ℕ) (c n o m : Bool) (u : ℕ) (name : PlaceName) (z : machine.Word) → shape_of s.table of ≡ shape.Access k c n → Matches s.table d k
           → ((IsOnlyRoot s (sub_acts (sub_of program top.frame.sub)) y first_formal.0 → ⊥) → ⊥)
-          → IsComing easy ready.accepted.settled ready.owns other alone views ready.class.parts_named may refl refl y d name z → IsGivenBack z
+          → IsComing easy sees seeing ready.accepted.settled ready.owns other alone views ready.class.parts_named may refl refl y d name z → IsGivenBack z
       comes_back d k y c n o m u name z want fits only coming = record {
         typed_there = λ d' c' n' j shape_there e. (
             let there = coming.typed j e in
             let same : k ≡ d' = same_designated k d' c n c' n' (sym want ∙ shape_there) in
             (there.0, there.1, matches_on s.table d d' (cell state.memory j).of (subst (Matches s.table d) same fits) there.2));
-        goes = λ j e. goes_on easy ready.accepted.settled ready.owns other alone views ready.class.parts_named may refl refl (sub_acts (sub_of program top.frame.sub)) first_formal.0 first
+        goes = λ j e. goes_on easy sees seeing ready.accepted.settled ready.owns other alone views ready.class.parts_named may refl refl (sub_acts (sub_of program top.frame.sub)) first_formal.0 first
             formal_view ((above.1).1.0 first_formal.0 first_formal.1).1 y d name z only coming j e;
       }
         where
@@ -414,7 +420,7 @@ module _ (table : Table) (typed : TypedProgram) (effects : Effects) (input : Lis
       unfolding waits_in
       by_name plain q y steps_there u name =
           let good = each.good table typed effects input ready state top below more_frames rest named p frames deep stages running awaiting of_sub at_point path views viewed_before kept scope holds placed_before above going_then no_call_then plain.0 in
-          let looks = names_view easy ready.accepted.settled ready.owns other alone views ready.class.parts_named may refl refl q of y u steps_there view (subst (Source s of) name source) in
+          let looks = names_view easy sees seeing ready.accepted.settled ready.owns other alone views ready.class.parts_named may refl refl q of y u steps_there view (subst (Source s of) name source) in
           let takes : Takes (waits_in steps_there) given_words [] =
           takes_as (taken (Hold (More e last))) (waits_in steps_there) given_words []
           ((λ j. taken (Hold (More (name j) (alone_there j)))) ∙ nothing_more (waits_in steps_there)) (innermost.takes_of table typed effects input ready state top below more_frames rest named p frames deep stages running awaiting of_sub at_point path views viewed_before kept scope holds placed_before above plain.0 (Hold (More e last)) is) in
@@ -424,12 +430,12 @@ module _ (table : Table) (typed : TypedProgram) (effects : Effects) (input : Lis
           let allowed_name = subst (AllowsAll facts_now) acts_name allowed_there in
           quietly good
           (ap (λ z. after z facts_now) acts_name
-          ∙ changes_nothing easy ready.accepted.settled ready.owns other alone views ready.class.parts_named may refl refl given_words q of y u steps_there view looks takes facts_now good allowed_name
+          ∙ changes_nothing easy sees seeing ready.accepted.settled ready.owns other alone views ready.class.parts_named may refl refl given_words q of y u steps_there view looks takes facts_now good allowed_name
           ∙ give_same (name_of y steps_there) (flow.gives_variable s (Some of)) facts_now)
           (subst (λ z. Quiet (record { memory = state.memory; waits = [] }) (λ ws. (w : machine.Word) × (ws ≡ w ∷ []) × IsGivenBack w) (steps.taken_by main_turn of z (start main_turn))) (sym name)
           (quiet_on (steps.taken_by main_turn of (Name q y steps_there u) (start main_turn))
           (λ w coming. comes_back looks.d looks.k y looks.e looks.o true true u (name_of y steps_there) w looks.want looks.fits (only_root q y steps_there u (inl name)) coming)
-          (name_given easy ready.accepted.settled ready.owns other alone views ready.class.parts_named may refl refl given_words q of y u steps_there view looks takes facts_now good allowed_name)))
+          (name_given easy sees seeing ready.accepted.settled ready.owns other alone views ready.class.parts_named may refl refl given_words q of y u steps_there view looks takes facts_now good allowed_name)))
         where
           quiet_on : {C : machine.Word → Type 0} (a : Evaluated (List machine.Word)) → ((w : machine.Word) → C w → IsGivenBack w)
               → Quiet (record { memory = state.memory; waits = [] }) (λ ws. (w : machine.Word) × (ws ≡ w ∷ []) × C w) a

@@ -64,13 +64,24 @@ module _ (program : FlowProgram) (effects : Effects) where
       subst (λ z. Has (if z then text_report b.actual.pos A2 b.actual.name ∷ [] else []) (text_report b.actual.pos A2 b.actual.name))
       (sym (λ j. shared j && meets j)) (inl refl)
 
+  -- and so is what it writes, but for scalars
+  written_report : (n : ℕ) (b : alias.Passed) → alias.is_scalar_formal s b.formal ≡ false → is_package_object s b.actual.name.root ≡ true
+      → Has (written_by effects n) b.actual.name.root → Has (global_reports s effects n b) (text_report b.actual.pos A2 b.actual.name)
+  written_report n b many shared writes =
+      let g : ℕ = b.actual.name.root in
+      let written : is_in g (written_by effects n) ≡ true = any_has (λ y. g == y) (written_by effects n) g writes (eq-eqb g g refl) in
+      let meets : meets_global s (is_in g (read_by effects n)) (is_in g (written_by effects n)) b.formal ≡ true =
+      either_of ((is_in g (read_by effects n) || is_in g (written_by effects n)) && not (alias.is_immutable s b.formal)) _
+      (inr ((λ j. written j && not (many j)))) in
+      subst (λ z. Has (if z then text_report b.actual.pos A2 b.actual.name ∷ [] else []) (text_report b.actual.pos A2 b.actual.name))
+      (sym (λ j. shared j && meets j)) (inl refl)
+
   -- Nor one that is shown to a formal of a procedure that changes it.
-  pub changed_unused : AreReports program effects [] → (sub : FlowSub) → Has program.subs sub → (p : FlowPoint) → Has sub.points p
+  unreported : AreReports program effects [] → (sub : FlowSub) → Has program.subs sub → (p : FlowPoint) → Has sub.points p
       → (n : ℕ) (actuals : TypedTree) (result : Option ℕ) → p.instr ≡ Call n actuals result → is_some (sub_of program n).result ≡ is_some result
       → (sub_of program n).result ≡ None
-      → (b : alias.Passed) → Has (alias.passed (sub_of program n).formals actuals) b → not (alias.is_immutable s b.formal) ≡ true
-      → is_package_object s b.actual.name.root ≡ true → Uses effects n b.actual.name.root → ⊥
-  changed_unused none sub in_program p in_sub n actuals result e answers given b has mutable shared uses =
+      → (b : alias.Passed) → Has (alias.passed (sub_of program n).formals actuals) b → Has (global_reports s effects n b) (text_report b.actual.pos A2 b.actual.name) → ⊥
+  unreported none sub in_program p in_sub n actuals result e answers given b has reported =
       no_call_reports program effects none sub in_program p in_sub (text_report b.actual.pos A2 b.actual.name)
       (subst (λ i. Has (call_reports s effects i) (text_report b.actual.pos A2 b.actual.name)) (sym e)
       (subst (λ z. Has z (text_report b.actual.pos A2 b.actual.name)) (sym (reports_are result (sym answers ∙ ap is_some given)))
@@ -79,13 +90,29 @@ module _ (program : FlowProgram) (effects : Effects) where
       (subst (λ z. Has (if is_some z then [] else passed_reports s effects n (alias.passed (sub_of program n).formals actuals)) (text_report b.actual.pos A2 b.actual.name)) (sym given)
       (Has-append_right (overlap_reports s (alias.passed (sub_of program n).formals actuals))
       (flat_map (global_reports s effects n) (alias.passed (sub_of program n).formals actuals)) (text_report b.actual.pos A2 b.actual.name)
-      (flat_has (global_reports s effects n) (alias.passed (sub_of program n).formals actuals) b (text_report b.actual.pos A2 b.actual.name) has
-      (used_report n b mutable shared uses)))))))
+      (flat_has (global_reports s effects n) (alias.passed (sub_of program n).formals actuals) b (text_report b.actual.pos A2 b.actual.name) has reported))))))
     where
       reports_are : (o : Option ℕ) → is_some o ≡ false → call_reports s effects (Call n actuals o)
           ≡ (if is_some (sub_at s n).result then [] else passed_reports s effects n (alias.passed (sub_at s n).formals actuals))
       reports_are None no_result = refl
       reports_are (Some of) no_result = cc
+
+  pub changed_unused : AreReports program effects [] → (sub : FlowSub) → Has program.subs sub → (p : FlowPoint) → Has sub.points p
+      → (n : ℕ) (actuals : TypedTree) (result : Option ℕ) → p.instr ≡ Call n actuals result → is_some (sub_of program n).result ≡ is_some result
+      → (sub_of program n).result ≡ None
+      → (b : alias.Passed) → Has (alias.passed (sub_of program n).formals actuals) b → not (alias.is_immutable s b.formal) ≡ true
+      → is_package_object s b.actual.name.root ≡ true → Uses effects n b.actual.name.root → ⊥
+  changed_unused none sub in_program p in_sub n actuals result e answers given b has mutable shared uses =
+      unreported none sub in_program p in_sub n actuals result e answers given b has (used_report n b mutable shared uses)
+
+  -- Nor does it write one that is shown to a formal that isn't scalar.
+  pub shown_unwritten : AreReports program effects [] → (sub : FlowSub) → Has program.subs sub → (p : FlowPoint) → Has sub.points p
+      → (n : ℕ) (actuals : TypedTree) (result : Option ℕ) → p.instr ≡ Call n actuals result → is_some (sub_of program n).result ≡ is_some result
+      → (sub_of program n).result ≡ None
+      → (b : alias.Passed) → Has (alias.passed (sub_of program n).formals actuals) b → alias.is_scalar_formal s b.formal ≡ false
+      → is_package_object s b.actual.name.root ≡ true → Has (written_by effects n) b.actual.name.root → ⊥
+  shown_unwritten none sub in_program p in_sub n actuals result e answers given b has many shared writes =
+      unreported none sub in_program p in_sub n actuals result e answers given b has (written_report n b many shared writes)
 
   -- The callee uses no package object that is passed to be copied back to.
   pub passed_unused : AreReports program effects [] → (sub : FlowSub) → Has program.subs sub → (p : FlowPoint) → Has sub.points p

@@ -28,9 +28,10 @@ use Rattle.soundness.proofs.Around.{near_or_far}
 use Rattle.soundness.proofs.Inherited.{Splits}
 use Rattle.owned_loans.specs.Views.{Around, known_gone, Views, AreClear, ExcusedBy, HasLoan, Viewed, ViewedAlone}
 use Rattle.owned_loans.proofs.Moves.{view_on, own_loan, reached}
-use Rattle.viewed_soundness.specs.Holds.{is_view, sees_only}
+use Rattle.viewed_soundness.specs.Holds.{is_view}
 use Rattle.viewed_steps.specs.Sound.{ViewStage, GoneElsewhere}
 use Rattle.viewed_steps.proofs.Waiting.{StandsBetween, AreTheirs, LentElsewhere, beside_them, handed, lent_handed, none_moved, loans_has, near_lent, far_met, unused_there}
+use Rattle.viewed_steps.specs.Seeing.{sees_in}
 
 both_first : (a b : Bool) → a && b ≡ true → a ≡ true
 both_first true b e = refl
@@ -41,6 +42,9 @@ module _ (table : Table) (typed : TypedProgram) (effects : Effects)
     (local : (x : ℕ) → is_view (flow_typing (flow_program table typed)) x ≡ true
     → is_package_object (flow_typing (flow_program table typed)) x ≡ false) (state : State) (depth : ℕ) (older : List ViewStage)
     (between : (g : ViewStage) → Has older g → StandsBetween table typed effects unmoved local state depth older g) where
+  abbrev sees : ℕ → Bool
+  sees = sees_in (flow_program table typed)
+
   abbrev program : FlowProgram
   program = flow_program table typed
 
@@ -65,7 +69,7 @@ module _ (table : Table) (typed : TypedProgram) (effects : Effects)
   ]
 
   -- facts stay clear beside theirs
-  pub clear_with : (facts : List Fact) → AreApart facts → AreClear (sees_only s) facts → AreClear (sees_only s) (facts ++ handed_on)
+  pub clear_with : (facts : List Fact) → AreApart facts → AreClear sees facts → AreClear sees (facts ++ handed_on)
   clear_with facts apart own = record {
     moved = λ l h n m has lends over. elim (cases (Moved n) has) [
       | inl fact ↦ elim (cases (Lent l h m) lends) [
@@ -108,10 +112,10 @@ module _ (table : Table) (typed : TypedProgram) (effects : Effects)
 
   -- with them
   pub with_them : (v : Views) (view : View) (facts : List Fact) → ((x : ℕ) (w : Way) → v.way x ≡ Some w → is_package_object s x ≡ false)
-      → ((x : ℕ) → is_package_object s x ≡ true → sees_only s x ≡ false) → AreApart facts
+      → ((x : ℕ) → is_package_object s x ≡ true → sees x ≡ false) → AreApart facts
       → AreTheirs table typed effects unmoved local older view → IsBeyond program effects depth v older
-      → ViewedAlone (home s depth) (sees_only s) (known_gone (home s depth) (GoneElsewhere program effects older)) v view facts
-      → Viewed (home s depth) (sees_only s) (beside_them table typed effects unmoved local state depth older between) v view (facts ++ handed_on)
+      → ViewedAlone (home s depth) sees (known_gone (home s depth) (GoneElsewhere program effects older)) v view facts
+      → Viewed (home s depth) sees (beside_them table typed effects unmoved local state depth older between) v view (facts ++ handed_on)
   with_them v view facts only plain apart reach past well = record {
     owned = well.owned;
     covered = well.covered;
@@ -121,12 +125,17 @@ module _ (table : Table) (typed : TypedProgram) (effects : Effects)
       | inr away ↦ elsewhere_excused v facts w away
     ];
     clear = clear_with facts apart well.clear;
-    views = λ x w has.
-        view_on (home s depth) (sees_only s) (known_gone (home s depth) (GoneElsewhere program effects older)) v view view facts (facts ++ handed_on) x w
-        (well.views x w has)
-        (λ b n loan. own_loan (sees_only s) facts (facts ++ handed_on) (λ l h m own. Has-append_left facts handed_on (Lent l h m) own) b x n loan)
-        (reached (home s depth) (sees_only s) (beside_them table typed effects unmoved local state depth older between) v view facts x w (well.views x w has));
+    views = (
+      λ x w has.
+          view_on (home s depth) sees (known_gone (home s depth) (GoneElsewhere program effects older)) v view view facts (facts ++ handed_on) x w
+          (well.views.0 x w has)
+          (λ b n loan. own_loan sees facts (facts ++ handed_on) (λ l h m own. Has-append_left facts handed_on (Lent l h m) own) b x n loan)
+          (reached (home s depth) sees (beside_them table typed effects unmoved local state depth older between) v view facts x w (well.views.0 x w has)),
+      well.views.1,
+    );
     whole = λ x w z has outer gone meets. well.whole x w z has outer gone.1 meets;
+    whole_parts = λ x p w z has gone meets. well.whole_parts x p w z has gone.1 meets;
+    parts_away = λ x p w z has away meets. well.whole_parts x p w z has away.1 meets;
     whole_away = λ x w z has given away meets. well.whole x w z has (inr given) away.1 meets;
     shown = past.1;
     past = past.0;
@@ -148,10 +157,10 @@ module _ (table : Table) (typed : TypedProgram) (effects : Effects)
 
   -- and without them
   pub without_them : (v : Views) (view : View) (all facts : List Fact) → ((x : ℕ) (w : Way) → v.way x ≡ Some w → is_package_object s x ≡ false)
-      → ((x : ℕ) → is_package_object s x ≡ true → sees_only s x ≡ false)
+      → ((x : ℕ) → is_package_object s x ≡ true → sees x ≡ false)
       → ((f : Fact) → Has facts f → Has all f) → Splits all facts handed_on
-      → Viewed (home s depth) (sees_only s) (beside_them table typed effects unmoved local state depth older between) v view all
-      → ViewedAlone (home s depth) (sees_only s) (known_gone (home s depth) (GoneElsewhere program effects older)) v view facts
+      → Viewed (home s depth) sees (beside_them table typed effects unmoved local state depth older between) v view all
+      → ViewedAlone (home s depth) sees (known_gone (home s depth) (GoneElsewhere program effects older)) v view facts
   without_them v view all facts only plain part from well = record {
     owned = well.owned;
     covered = well.covered;
@@ -176,9 +185,16 @@ module _ (table : Table) (typed : TypedProgram) (effects : Effects)
         | inl foreign ↦ (far_met table typed effects unmoved local state depth older between w z foreign gone meets).0 near
       ]
     ];
-    views = λ x w has.
-        view_on (home s depth) (sees_only s) (beside_them table typed effects unmoved local state depth older between) v view view all facts x w (well.views x w has) (λ b n loan. loan_kept x w has b n loan)
-        (reached (home s depth) (sees_only s) (beside_them table typed effects unmoved local state depth older between) v view all x w (well.views x w has));
+    whole_parts = λ x p w z has gone meets. elim (near_or_far depth z) [
+      | inr far ↦ well.whole_parts x p w z has (far, gone) meets
+      | inl near ↦ well.parts_away x p w z has (near_lent table typed effects unmoved local state depth older between z near gone, gone) meets
+    ];
+    views = (
+      λ x w has.
+          view_on (home s depth) sees (beside_them table typed effects unmoved local state depth older between) v view view all facts x w (well.views.0 x w has) (λ b n loan. loan_kept x w has b n loan)
+          (reached (home s depth) sees (beside_them table typed effects unmoved local state depth older between) v view all x w (well.views.0 x w has)),
+      well.views.1,
+    );
   }
     where
       not_both : (b : Bool) → b ≡ true → b ≡ false → ⊥
@@ -186,11 +202,11 @@ module _ (table : Table) (typed : TypedProgram) (effects : Effects)
       not_both false e h = cc
 
       -- the frame's own loans are held by its own objects
-      loan_kept : (x : ℕ) (w : Way) → v.way x ≡ Some w → (b : Bool) (n : Name) → HasLoan (sees_only s) b x all n → HasLoan (sees_only s) b x facts n
-      loan_kept x w has true n (h, lent, sees) = elim (from (Lent Observed h n) lent) [
-        | inl mine ↦ (h, mine, sees)
+      loan_kept : (x : ℕ) (w : Way) → v.way x ≡ Some w → (b : Bool) (n : Name) → HasLoan sees b x all n → HasLoan sees b x facts n
+      loan_kept x w has true n (h, lent, sight) = elim (from (Lent Observed h n) lent) [
+        | inl mine ↦ (h, mine, sight)
         | inr there ↦ absurd (let away = lent_handed table typed effects unmoved local state depth older between Observed h n there in
-            not_both (sees_only s h) sees (plain h (ap (is_package_object s) away.0 ∙ (away.1).5)))
+            not_both (sees h) sight (plain h (ap (is_package_object s) away.0 ∙ (away.1).5)))
       ]
       loan_kept x w has false n lent = elim (from (Lent Borrowed x n) lent) [
         | inl mine ↦ mine
@@ -216,8 +232,8 @@ module _ (table : Table) (typed : TypedProgram) (effects : Effects)
   }
 
   pub with_gone : (v : Views) (view : View) (facts : List Fact)
-      → Viewed (home s depth) (sees_only s) (beside_them table typed effects unmoved local state depth older between) v view facts
-      → Viewed (home s depth) (sees_only s) gone_lent v view facts
+      → Viewed (home s depth) sees (beside_them table typed effects unmoved local state depth older between) v view facts
+      → Viewed (home s depth) sees gone_lent v view facts
   with_gone v view facts well = record {
     owned = well.owned;
     covered = well.covered;
@@ -236,6 +252,11 @@ module _ (table : Table) (typed : TypedProgram) (effects : Effects)
       ]
     ];
     whole_away = λ x w z has given none. absurd none;
+    whole_parts = λ x p w z has gone meets. elim (near_or_far depth z) [
+      | inr far ↦ well.whole_parts x p w z has (far, gone) meets
+      | inl near ↦ well.parts_away x p w z has (near_lent table typed effects unmoved local state depth older between z near gone, gone) meets
+    ];
+    parts_away = λ x p w z has none. absurd none;
     shown = well.shown;
     past = λ x w has given plain k n none. absurd none;
     lends = well.lends;
@@ -257,8 +278,8 @@ module _ (table : Table) (typed : TypedProgram) (effects : Effects)
 
     pub apart_of : AreApart (facts_of program effects e)
     apart_of = record {
-      seen = λ n m (g, has, deep_there, f, kept, shared, borrowed, is) (k, there, some, o, sees, also, observed, at) over.
-          held_apart table typed effects are (unused_there table typed effects unmoved local) state e.frame.sub backs older waiting g k has there deep_there some f o kept sees borrowed observed
+      seen = λ n m (g, has, deep_there, f, kept, shared, borrowed, is) (k, there, some, o, sight, also, observed, at) over.
+          held_apart table typed effects are (unused_there table typed effects unmoved local) state e.frame.sub backs older waiting g k has there deep_there some f o kept sight borrowed observed
           (ap (λ (z : Name). is_package_object s z.root) is ∙ shared) ((λ j. overlaps (is j) (at j)) ∙ over);
       own_moved = λ n moved l m lent root.
           spared_by l m lent (subst (Has (written_by effects e.frame.sub)) root

@@ -4,7 +4,7 @@ use Rattle.place_names.specs.declared.act.Act.TheVariants as act
 use Rattle.flow_paths.specs.Views.{sub_acts, traversed_formal}
 use Rattle.viewed_steps.proofs.Rooted.{own_root}
 use Rattle.viewed_steps.proofs.Traversed.{named_left, named_brought}
-use Rattle.viewed_soundness.specs.Holds.{is_view, sees_only, is_given}
+use Rattle.viewed_soundness.specs.Holds.{is_view, Seeing}
 use Rattle.soundness.proofs.Lasting.{ownerless}
 use Rattle.typed_tree.specs.declared.object.ObjectKind.{ObjectKind}
 use Rattle.typed_tree.specs.declared.object.ObjectKind.TheVariants as object_kind
@@ -59,7 +59,7 @@ use Rattle.soundness.proofs.Waited.{within_left, FillsNone}
 use Rattle.soundness.proofs.Eased.{eased, takes_all}
 use Rattle.soundness.proofs.Raised.{raised_owned}
 use Rattle.owned_loans.specs.Views.{Around, known_gone, Views, Viewed, ViewedAlone}
-use Rattle.viewed_soundness.proofs.Names.{true_false, given_view}
+use Rattle.viewed_soundness.proofs.ViewKinds.{true_false, given_view}
 use Rattle.viewed_steps.specs.Awaited.{TakesPassed, IsTakenAt, AreOwnless, AreFor, AreValues, temporaries_of, is_held, lasting_of, awaited, AreAwaited, AreScalar, TakesScalars, StoresNone, IsTaken}
 use Rattle.viewed_steps.proofs.Waited.{split_list, plain_unheld, ended_held, lasting_within, within_lasting, lasting_more, brought_temporaries, Shares, shares, scalar_values}
 use Rattle.viewed_steps.specs.Sound.{IsBeyond, HoldsAt, ArePlaced, NoneAbove, Lasts, ViewStage, stages_of, GoneElsewhere, Disturbs, AreWaiting, LeadsOn, IsResting, HasTraversals}
@@ -76,11 +76,13 @@ use Rattle.viewed_steps.proofs.Standing.{or_right}
 use Rattle.viewed_steps.proofs.Standing as standing
 use Rattle.viewed_steps.proofs.Packages as packages
 use Rattle.viewed_steps.proofs.Views.{anonymous_view, view_ends}
-use Rattle.viewed_soundness.proofs.Names.{borrower_sees}
+use Rattle.viewed_soundness.proofs.ViewKinds.{plain_sees}
 use Rattle.viewed_steps.proofs.Handed.{AreApart, with_them, without_them}
 use Rattle.viewed_soundness.specs.Taken.{types_taken}
 use Rattle.viewed_soundness.proofs.Hands.{words_first}
 use Rattle.viewed_steps.proofs.Supplied.{Supplies, scalar_ownless, ownless_values, of_types, points_there}
+use Rattle.viewed_steps.specs.Seeing.{sees_in}
+use Rattle.viewed_steps.proofs.Sees.{sees_seeing}
 
 unless : (b : Bool) → (b ≡ true → ⊥) → b ≡ false
 unless true e = absurd (e refl)
@@ -104,6 +106,12 @@ observer_anonymous s x e = either_view (is_variable (object_at s x).kind) (is_bo
     either_view false a b e = cc
 
 module _ (table : Table) (typed : TypedProgram) (effects : Effects) (input : List ℕ) (ready : IsReady table typed effects) where
+  abbrev sees : ℕ → Bool
+  sees = sees_in (flow_program table typed)
+
+  abbrev seeing : Seeing (flow_typing (flow_program table typed)) sees
+  seeing = sees_seeing (flow_program table typed)
+
   abbrev program : FlowProgram
   program = flow_program table typed
 
@@ -128,9 +136,9 @@ module _ (table : Table) (typed : TypedProgram) (effects : Effects) (input : Lis
       (awaiting : AreAwaited table typed None (top ∷ stages_of (below ∷ more_frames)))
       (of_sub : IsNamedSub (flow_named table typed) top.frame.sub named) (at_point : IsAtPoint named.points top.frame.next p)
       (path : ControlPath (path_points program effects (sub_of program top.frame.sub)) top.before top.frame.next) (views : Views)
-      (viewed_before : ViewedAlone (home s (suc (length rest))) (sees_only s) (known_gone (home s (suc (length rest))) (GoneElsewhere program effects (below ∷ more_frames))) views
+      (viewed_before : ViewedAlone (home s (suc (length rest))) sees (known_gone (home s (suc (length rest))) (GoneElsewhere program effects (below ∷ more_frames))) views
       (view_here s state) (facts_of program effects top))
-      (kept : Kept s state.memory (waiting_in state)) (scope : InScope s state.memory (suc (length rest)) (lasting_of s p.scope)) (holds : HoldsAt s (suc (length rest)) views state.memory p)
+      (kept : Kept s state.memory (waiting_in state)) (scope : InScope s state.memory (suc (length rest)) (lasting_of s p.scope)) (holds : HoldsAt s sees (suc (length rest)) views state.memory p)
       (placed_before : ArePlaced program (suc (length rest)) (facts_of program effects top) views p.scope × IsBeyond program effects (suc (length rest)) views (below ∷ more_frames)) (above : NoneAbove s (suc (length rest)) state.memory
       × HasTraversals table typed (view_here s state) (record { stage = top; views = views; cells = [] } ∷ (below ∷ more_frames))) where
     abbrev pub outer : List Frame
@@ -170,8 +178,8 @@ module _ (table : Table) (typed : TypedProgram) (effects : Effects) (input : Lis
     abbrev pub acts_of_main : Instruction → List Act
     acts_of_main i = standing.acts_here table typed effects input ready state top older outer named p frames of_sub at_point i
 
-    pub viewed_own : ViewedAlone (home s depth) (sees_only s) (known_gone (home s depth) (GoneElsewhere program effects older)) views (view_here s state) own_facts
-    viewed_own = subst (ViewedAlone (home s depth) (sees_only s) (known_gone (home s depth) (GoneElsewhere program effects older)) views (view_here s state)) (standing.facts_are table typed effects input ready state top older outer named p frames of_sub at_point path) viewed_before
+    pub viewed_own : ViewedAlone (home s depth) sees (known_gone (home s depth) (GoneElsewhere program effects older)) views (view_here s state) own_facts
+    viewed_own = subst (ViewedAlone (home s depth) sees (known_gone (home s depth) (GoneElsewhere program effects older)) views (view_here s state)) (standing.facts_are table typed effects input ready state top older outer named p frames of_sub at_point path) viewed_before
 
     -- ---- which package objects it uses
 
@@ -222,9 +230,9 @@ module _ (table : Table) (typed : TypedProgram) (effects : Effects) (input : Lis
     -- so they meet none of what is handed on
     pub apart : AreApart table typed effects unmoved_stage local state (suc (length rest)) (below ∷ more_frames) between own_facts
     apart = record {
-      seen = λ n m (g, has, deep_there, f, kept, shared, borrowed, is) (k, there, some, o, sees, also, observed, at) over.
+      seen = λ n m (g, has, deep_there, f, kept, shared, borrowed, is) (k, there, some, o, sight, also, observed, at) over.
           held_apart table typed effects ready.accepted.effects_are (unused_there table typed effects unmoved_stage local) state top.frame.sub top.frame.returns older running.2
-          g k has there deep_there some f o kept sees borrowed observed (ap (λ (z : PlaceName). is_package_object s z.root) is ∙ shared)
+          g k has there deep_there some f o kept sight borrowed observed (ap (λ (z : PlaceName). is_package_object s z.root) is ∙ shared)
           ((λ j. overlaps (is j) (at j)) ∙ over);
       own_moved = λ n moved l m lent root. (
           let written = moved_writes n moved (ap (is_package_object s) root ∙ lent.5) in
@@ -275,12 +283,11 @@ module _ (table : Table) (typed : TypedProgram) (effects : Effects) (input : Lis
     own_views x w has = local x (holds.only x w has)
 
     pub package_plain : (x : ℕ) → is_package_object s x ≡ true → is_observer s x ≡ false
-    package_plain x shared = unless (is_observer s x) (λ sees. true_false (is_package_object s x) shared (local x (anonymous_view s x (observer_anonymous s x sees))))
+    package_plain x shared = unless (is_observer s x) (λ sight. true_false (is_package_object s x) shared (local x (anonymous_view s x (observer_anonymous s x sight))))
 
-    pub package_owns : (x : ℕ) → is_package_object s x ≡ true → sees_only s x ≡ false
+    pub package_owns : (x : ℕ) → is_package_object s x ≡ true → sees x ≡ false
     package_owns x shared =
-        borrower_sees s x (package_plain x shared)
-        (unless (is_given s x) (λ given. true_false (is_package_object s x) shared (local x (given_view s x given))))
+        plain_sees s sees seeing x (unless (is_view s x) (λ view. true_false (is_package_object s x) shared (local x view)))
 
     -- what is lent around is no part of an object of the frame
     pub not_lent : (x : ℕ) → is_package_object s x ≡ false → (l : Loan) (name : PlaceName) → other.lent l name → name.root ≡ x → ⊥
@@ -292,14 +299,14 @@ module _ (table : Table) (typed : TypedProgram) (effects : Effects) (input : Lis
         let none : depth ≡ 0 = at_home ∙ ap (λ b. if b then 0 else depth) shared in omega (arith, none)
 
     -- with the views of those that wait, and their facts on package objects
-    pub viewed : Viewed (home s depth) (sees_only s) other views (view_here s state) facts_now
+    pub viewed : Viewed (home s depth) sees other views (view_here s state) facts_now
     viewed = with_them table typed effects unmoved_stage local state depth older between views (view_here s state) own_facts own_views package_owns apart
         (theirs table typed effects unmoved_stage local state depth older between) placed_before.1 viewed_own
 
     -- and without them
     pub apart_from_them : (done : List Act) (v : Views) (view : ways.View) → ((x : ℕ) (w : Way) → v.way x ≡ Some w → is_view s x ≡ true)
-        → Viewed (home s depth) (sees_only s) other v view (after done facts_now)
-        → ViewedAlone (home s depth) (sees_only s) (known_gone (home s depth) (GoneElsewhere program effects older)) v view (after done own_facts)
+        → Viewed (home s depth) sees other v view (after done facts_now)
+        → ViewedAlone (home s depth) sees (known_gone (home s depth) (GoneElsewhere program effects older)) v view (after done own_facts)
     apart_from_them done v view only well =
         without_them table typed effects unmoved_stage local state depth older between v view (after done facts_now) (after done own_facts)
         (λ x w has. local x (only x w has)) package_owns (after_more done own_facts facts_now (λ f has. Has-append_left own_facts handed_on f has))
@@ -309,27 +316,27 @@ module _ (table : Table) (typed : TypedProgram) (effects : Effects) (input : Lis
     placed_own = subst (λ z. ArePlaced program depth z views p.scope) (standing.facts_are table typed effects input ready state top older outer named p frames of_sub at_point path) placed_before.0
 
     pub placed_by : (some all : List Fact) (v : Views) (scope_there : List ℕ)
-        → ((h : ℕ) (m : PlaceName) → sees_only s h ≡ true → Has some (Lent Observed h m) → Has all (Lent Observed h m))
+        → ((h : ℕ) (m : PlaceName) → sees h ≡ true → Has some (Lent Observed h m) → Has all (Lent Observed h m))
         → ArePlaced program (suc (length rest)) some v scope_there → ArePlaced program (suc (length rest)) all v scope_there
     placed_by some all v scope_there lends there x w has = (let old = there x w has in record {
       within = old.within;
       plain = old.plain;
       up = old.up;
       root = old.root;
-      holder = λ named_up sees. (let h = old.holder named_up sees in (h.0, lends h.0 (ways.name_of (v.loan x)) h.3 h.1, h.2, h.3));
+      holder = λ named_up sight. (let h = old.holder named_up sight in (h.0, lends h.0 (ways.name_of (v.loan x)) h.3 h.1, h.2, h.3));
     })
 
     pub placed : ArePlaced program (suc (length rest)) facts_now views p.scope
-    placed = placed_by own_facts facts_now views p.scope (λ h m sees has. Has-append_left own_facts handed_on (Lent Observed h m) has) placed_own
+    placed = placed_by own_facts facts_now views p.scope (λ h m sight has. Has-append_left own_facts handed_on (Lent Observed h m) has) placed_own
 
     -- loans are those of the frame
-    pub own_loans : (done : List Act) (h : ℕ) (m : PlaceName) → sees_only s h ≡ true → Has (after done facts_now) (Lent Observed h m)
+    pub own_loans : (done : List Act) (h : ℕ) (m : PlaceName) → sees h ≡ true → Has (after done facts_now) (Lent Observed h m)
         → Has (after done own_facts) (Lent Observed h m)
-    own_loans done h m sees has = elim (after_splits done facts_now own_facts handed_on from_both (Lent Observed h m) has) [
+    own_loans done h m sight has = elim (after_splits done facts_now own_facts handed_on from_both (Lent Observed h m) has) [
       | inl mine ↦ mine
       | inr there ↦ (
           let lent = lent_handed table typed effects unmoved_stage local state (suc (length rest)) (below ∷ more_frames) between Observed h m there in
-          absurd (true_false (sees_only s h) sees (package_owns h (ap (is_package_object s) lent.0 ∙ (lent.1).5))))
+          absurd (true_false (sees h) sight (package_owns h (ap (is_package_object s) lent.0 ∙ (lent.1).5))))
     ]
 
     -- no moved place is handed on
@@ -414,12 +421,12 @@ module _ (table : Table) (typed : TypedProgram) (effects : Effects) (input : Lis
     abbrev pub easy : Turn
     easy = eased main_turn
 
-    pub ownless_easy : Ownless → Viewed (home s depth) (sees_only s) other views (view_here s easy.state) facts_now × Kept s state.memory (waiting_in easy.state)
+    pub ownless_easy : Ownless → Viewed (home s depth) sees other views (view_here s easy.state) facts_now × Kept s state.memory (waiting_in easy.state)
     ownless_easy none =
-        eased_viewed main_turn ready.accepted.settled ready.owns (home s depth) (sees_only s) other views facts_now frames
+        eased_viewed main_turn ready.accepted.settled ready.owns (home s depth) sees other views facts_now frames
         (ownless_values s ready.owns (take count top.frame.waits) (temporaries_of s (take count p.scope)) shared.taken none) viewed kept
 
-    pub viewed_easy : Plain → Viewed (home s depth) (sees_only s) other views (view_here s easy.state) facts_now × Kept s state.memory (waiting_in easy.state)
+    pub viewed_easy : Plain → Viewed (home s depth) sees other views (view_here s easy.state) facts_now × Kept s state.memory (waiting_in easy.state)
     viewed_easy plain = ownless_easy (plain_ownless plain)
 
     taken_at : IsTakenAt s named.sub.result p
@@ -487,7 +494,7 @@ module _ (table : Table) (typed : TypedProgram) (effects : Effects) (input : Lis
       plain = old.plain;
       up = λ named_up. lasts_left (number_of (views.up x)) x (old.up named_up);
       root = λ at_home. lasts_left (number_of w) x (old.root at_home);
-      holder = λ named_up sees. (let h = old.holder named_up sees in (h.0, h.1, lasts_left h.0 x h.2, h.3));
+      holder = λ named_up sight. (let h = old.holder named_up sight in (h.0, h.1, lasts_left h.0 x h.2, h.3));
     })
 
     -- what is in scope afterwards, but for the result of a call, is of no anonymous type if it is a temporary
@@ -587,8 +594,12 @@ module _ (table : Table) (typed : TypedProgram) (effects : Effects) (input : Lis
 
     -- the variables of views above stay without numbers
     pub still_above : (m : Memory) → OthersKept s depth state.memory m → NoneAbove s depth m
-    still_above m stay f x n less view e =
-        above.0 f x n less view (sym (stay f x (λ first. omega (arith, less, first)) (λ same_depth. omega (arith, less, same_depth)) 0).word ∙ e)
+    still_above m stay = (
+      λ f x n less view e.
+          (above.0).0 f x n less view (sym (stay f x (λ first. omega (arith, less, first)) (λ same_depth. omega (arith, less, same_depth)) 0).word ∙ e),
+      λ f x i n less bundle e.
+          (above.0).1 f x i n less bundle (sym (stay f x (λ first. omega (arith, less, first)) (λ same_depth. omega (arith, less, same_depth)) i).word ∙ e),
+    )
 
     -- those that wait do so still
     pub wait_still : (next : State) (after_scope : List ℕ) → Inside s IsOld next.memory depth after_scope → OthersKept s depth state.memory next.memory
@@ -596,7 +607,7 @@ module _ (table : Table) (typed : TypedProgram) (effects : Effects) (input : Lis
         → AreWaiting table typed effects next top.frame.sub top.frame.returns older
     wait_still next after_scope in_there stay reach =
         all_on table typed effects unmoved_stage local state next depth (still next.memory stay)
-        (λ f x some less view. (stay f x (λ first. omega (arith, some, first)) (λ same_depth. omega (arith, less, same_depth)) 0).word)
+        (λ f x i some less view. (stay f x (λ first. omega (arith, some, first)) (λ same_depth. omega (arith, less, same_depth)) i).word)
         top.frame.sub top.frame.returns older outer stages (omega arith) reach running.2
 
     pub with_successors : (i : Instruction) (n : ℕ) → p.instr ≡ i → n < successors i → n < successors main_turn.point.instr

@@ -101,11 +101,11 @@ module _ (s : Typing) (m : Memory) (f : ℕ) (hands : List Waiting) (leaks : Lis
 
 -- the variables of other frames stay, and those of the frame have no number
 module _ (s : Typing) (m : Memory) (f : ℕ) where
-  pub other_word : (g y : ℕ) → (g ≡ f → ⊥)
-      → (get_or (variable_slots s g y (without_frame f m).variables) 0 no_slot).word ≡ (get_or (variable_slots s g y m.variables) 0 no_slot).word
-  other_word g y ne = ap (λ z. (get_or z 0 no_slot).word) (frame_other s f g y ne m.variables)
+  pub other_word : (g y i : ℕ) → (g ≡ f → ⊥)
+      → (get_or (variable_slots s g y (without_frame f m).variables) i no_slot).word ≡ (get_or (variable_slots s g y m.variables) i no_slot).word
+  other_word g y i ne = ap (λ z. (get_or z i no_slot).word) (frame_other s f g y ne m.variables)
 
-  pub no_word : (y n : ℕ) → (get_or (variable_slots s f y (without_frame f m).variables) 0 no_slot).word ≡ machine.Cell n → ⊥
-  no_word y n e =
-      none_default s.table (object_at s y).of n (cell_has (default s.table (object_at s y).of) 0 n
-      (ap (λ (z : List Slot). (get_or z 0 no_slot).word) (sym (frame_same s f y m.variables)) ∙ e))
+  pub no_word : (y i n : ℕ) → (get_or (variable_slots s f y (without_frame f m).variables) i no_slot).word ≡ machine.Cell n → ⊥
+  no_word y i n e =
+      none_default s.table (object_at s y).of n (cell_has (default s.table (object_at s y).of) i n
+      (ap (λ (z : List Slot). (get_or z i no_slot).word) (sym (frame_same s f y m.variables)) ∙ e))

@@ -18,7 +18,8 @@ use Rattle.place_names.specs.Names.{Name as PlaceName, extend, overlaps, covers,
 use Rattle.place_names.proofs.Names.{overlaps-sym, both_parts, both_true, is_equal-decides}
 use Rattle.place_names.specs.Facts.{is_moved_under}
 use Rattle.place_names.specs.Reports.{Report}
-use Rattle.place_names.specs.Rules.{moved_or_lent}
+use Rattle.place_names.specs.declared.rule.Loan.TheVariants.{Borrowed, Observed}
+use Rattle.place_names.specs.Rules.{moved_or_lent, moved_or_borrowed, breaks_O10}
 use Rattle.typed_tree.specs.Trees.{TypedTree, More}
 use Rattle.type_definitions.specs.Types.{is_owning}
 use Rattle.flow_paths.specs.Objects.{Typing, object_at, is_variable_access, is_named_access, view_of, Place, passing, passing_by}
@@ -27,12 +28,12 @@ use Rattle.flow_paths.specs.Names.{Written, written}
 use Rattle.flow_paths.specs.Views.{is_in_mode, text_report}
 use Rattle.flow_paths.specs.Aliases.{pair_reports, overlap_reports, may_overlap}
 use Rattle.flow_paths.specs.Aliases as alias
-use Rattle.owned_ways.specs.Ways.{AllowsAll, after}
+use Rattle.owned_ways.specs.Ways.{Allows, AllowsAll, after}
 use Rattle.owned_ways.proofs.Assigned.{kept_fact, is_false}
 use Rattle.soundness.proofs.Scalars.{acts, acts_append, allows_both}
 use Rattle.owned_loans.proofs.Clear.{refused}
-use Rattle.viewed_soundness.specs.Holds.{sees_only, is_fixed, AllKeep}
-use Rattle.viewed_soundness.proofs.Names.{free_sees}
+use Rattle.viewed_soundness.specs.Holds.{is_fixed, AllKeep}
+use Rattle.viewed_soundness.proofs.ViewKinds.{free_sees}
 use Rattle.viewed_soundness.proofs.Evaluated.{keep_both}
 use Rattle.viewed_steps.specs.Ready.{AreDifferent}
 use Rattle.viewed_steps.specs.Sound.{IsCopiedBack}
@@ -71,7 +72,7 @@ actual_named (x ∷ formals) (More e rest) y a m (inr later) called =
 actual_named [] actuals y a m of called = absurd of
 actual_named (x ∷ formals) _ y a m of called = absurd of
 
-module _ (s : Typing) where
+module _ (s : Typing) (sees : ℕ → Bool) where
   -- A formal whose actual may change.
   abbrev pub IsChanged : ℕ → Type 0
   IsChanged x = IsCopiedBack s x ⊎ (is_variable_access (view_of s x) ≡ true)
@@ -93,26 +94,39 @@ module _ (s : Typing) where
   never a b one two =
       (λ j. (mutable a.formal one j && mutable b.formal two j) || ((mutable a.formal one j && alias.is_scalar_formal s a.formal) || (mutable b.formal two j && alias.is_scalar_formal s b.formal)))
 
-  apart_pair : (a b : alias.Passed) → IsChanged a.formal → IsChanged b.formal → ((r : Report) → Has (pair_reports s a b) r → ⊥)
-      → overlaps a.actual.name b.actual.name ≡ true → ⊥
-  apart_pair a b one two none over =
-      let test : overlaps a.actual.name b.actual.name && not (may_overlap s a b) ≡ true =
-      ap (λ z. z && not (may_overlap s a b)) over ∙ ap not (never a b one two) in
+  -- One whose actual may not overlap that of such a one.
+  abbrev pub IsKeptApart : ℕ → Type 0
+  IsKeptApart x = IsChanged x ⊎ (alias.is_scalar_formal s x ≡ false)
+
+  kept_apart : (a b : alias.Passed) → IsChanged a.formal → IsKeptApart b.formal → (may_overlap s a b ≡ false) × (may_overlap s b a ≡ false)
+  kept_apart a b one (inl two) = (never a b one two, never b a two one)
+  kept_apart a b one (inr many) =
+      by (alias.is_immutable s a.formal) (alias.is_immutable s b.formal) (alias.is_scalar_formal s a.formal) (alias.is_scalar_formal s b.formal) (mutable a.formal one) many
+    where
+      by : (i k x y : Bool) → i ≡ false → y ≡ false → ((i && k) || ((i && x) || (k && y)) ≡ false) × ((k && i) || ((k && y) || (i && x)) ≡ false)
+      by true k x y e f = cc
+      by false k x true e f = cc
+      by false true x false e f = (refl, refl)
+      by false false x false e f = (refl, refl)
+
+  refuted : (a b : alias.Passed) → may_overlap s a b ≡ false → ((r : Report) → Has (pair_reports s a b) r → ⊥) → overlaps a.actual.name b.actual.name ≡ true → ⊥
+  refuted a b apart none over =
+      let test : overlaps a.actual.name b.actual.name && not (may_overlap s a b) ≡ true = ap (λ z. z && not (may_overlap s a b)) over ∙ ap not apart in
       none (text_report b.actual.pos A1 b.actual.name)
       (subst (λ z. Has (if z then text_report b.actual.pos A1 b.actual.name ∷ [] else []) (text_report b.actual.pos A1 b.actual.name)) (sym test) (inl refl))
 
-  -- names of different formals that may change don't overlap
+  -- names of different formals don't overlap, where one may change, and the other one may or isn't scalar
   pub apart_listed : (all : List alias.Passed) → ((r : Report) → Has (overlap_reports s all) r → ⊥) → (a b : alias.Passed) → Has all a → Has all b
-      → (a.formal ≡ b.formal → ⊥) → IsChanged a.formal → IsChanged b.formal → overlaps a.actual.name b.actual.name ≡ true → ⊥
+      → (a.formal ≡ b.formal → ⊥) → IsChanged a.formal → IsKeptApart b.formal → overlaps a.actual.name b.actual.name ≡ true → ⊥
   apart_listed [] none a b one two differ ca cb over = absurd one
   apart_listed (c ∷ rest) none a b (inl one) (inl two) differ ca cb over =
       differ (sym (ap (λ (z : alias.Passed). z.formal) one) ∙ ap (λ (z : alias.Passed). z.formal) two)
   apart_listed (c ∷ rest) none a b (inl one) (inr two) differ ca cb over =
-      apart_pair a b ca cb
+      refuted a b (kept_apart a b ca cb).0
       (λ r report. none r (Has-append_left (flat_map (pair_reports s c) rest) (overlap_reports s rest) r
       (flat_has (pair_reports s c) rest b r two (subst (λ z. Has (pair_reports s z b) r) (sym one) report)))) over
   apart_listed (c ∷ rest) none a b (inr one) (inl two) differ ca cb over =
-      apart_pair b a cb ca
+      refuted b a (kept_apart a b ca cb).1
       (λ r report. none r (Has-append_left (flat_map (pair_reports s c) rest) (overlap_reports s rest) r
       (flat_has (pair_reports s c) rest a r one (subst (λ z. Has (pair_reports s z a) r) (sym two) report))))
       (overlaps-sym b.actual.name a.actual.name ∙ over)
@@ -167,20 +181,32 @@ module _ (s : Typing) where
   under_over k u (Moved n) c over = covers_over k n u c over
   under_over k u (Lent l h n) c over = cc
 
-  -- nothing that overlaps what is lent is moved or lent before the call
-  pub lent_clear : (formals : List ℕ) (actuals : TypedTree) (known : List Fact) → AreDifferent formals → AllowsAll known (acts (copies_of formals actuals))
-      → ((r : Report) → Has (overlap_reports s (alias.passed formals actuals)) r → ⊥) → (y : ℕ) (m : Written) → IsNameOf formals actuals y m → IsLentTo y
-      → is_variable_access (view_of s y) ≡ true → (f : Fact) → Has known f → moved_or_lent m.name f ≡ true → ⊥
-  lent_clear [] actuals known differ allowed none y m of lent access f has over = absurd of
-  lent_clear (x ∷ formals) (More e rest) known differ allowed none y m of lent access f has over =
+  pub borrowed_lent : (m : PlaceName) (f : Fact) → moved_or_borrowed m f ≡ true → moved_or_lent m f ≡ true
+  borrowed_lent m (Moved n) over = over
+  borrowed_lent m (Lent Borrowed h n) over = over
+  borrowed_lent m (Lent Observed h n) over = cc
+
+  -- A fact that overlaps the actual of such a formal is there still where its act comes: no act before it takes that back.
+  pub record Comes (m : Written) (access : Bool) (f : Fact) : Type 0 where
+    pub facts : List Fact
+    pub there : Has facts f
+    pub allowed : Allows facts (act.Actual m.name mode.In true access)
+
+  pub act_comes : (formals : List ℕ) (actuals : TypedTree) (known : List Fact) → AreDifferent formals → AllowsAll known (acts (copies_of formals actuals))
+      → ((r : Report) → Has (overlap_reports s (alias.passed formals actuals)) r → ⊥) → (y : ℕ) (m : Written) → IsNameOf formals actuals y m
+      → (access : Bool) → passing s true y ≡ Place mode.In true access → IsKeptApart y → (f : Fact) → Has known f → moved_or_lent m.name f ≡ true → Comes m access f
+  act_comes [] actuals known differ allowed none y m of access lent kept f has over = absurd of
+  act_comes (x ∷ formals) (More e rest) known differ allowed none y m of access lent kept f has over =
       let first : List Act = acts (actual_act (passing s true x) e) in
       let each = allows_both known first (acts (copies_of formals rest))
       (subst (AllowsAll known) (acts_append (actual_act (passing s true x) e) (copies_of formals rest)) allowed) in
       elim (Has-append_cases (alias.passed_as x (written e)) (alias.passed formals rest) (record { formal = y; actual = m }) of) [
-        | inl here ↦ (let is = is_first (written e) here in
-            head_refuses (written e) refl is.1
-            (subst (λ z. AllowsAll known (acts (actual_act z e))) (ap (passing s true) is.0 ∙ lent_passing y lent) each.0))
-        | inr later ↦ lent_clear formals rest (after first known) differ.1 each.1 (later_none s x e formals rest none) y m later lent access f
+        | inl here ↦ (let is = is_first (written e) here in record {
+          facts = known;
+          there = has;
+          allowed = head_allows (written e) refl is.1 (subst (λ z. AllowsAll known (acts (actual_act z e))) (ap (passing s true) is.0 ∙ lent) each.0);
+        })
+        | inr later ↦ act_comes formals rest (after first known) differ.1 each.1 (later_none s x e formals rest none) y m later access lent kept f
             (by_passing (object_at s x).mode refl (is_owning s.table (object_at s x).of) later) over
       ]
     where
@@ -189,10 +215,9 @@ module _ (s : Typing) where
       is_first (Some k) (inr none_more) = absurd none_more
       is_first (Some k) (inl same) = (ap (λ (z : alias.Passed). z.formal) same, ap (λ (z : alias.Passed). Some z.actual) same)
 
-      head_refuses : (w : Option Written) → written e ≡ w → w ≡ Some m → AllowsAll known (acts (naming (written e) (λ k. act.Actual k mode.In true true))) → ⊥
-      head_refuses w is same allows =
-          refused (moved_or_lent m.name f) O10 m.name f over
-          ((subst (λ z. AllowsAll known (acts (naming z (λ k. act.Actual k mode.In true true)))) (is ∙ same) allows).0 f has)
+      head_allows : (w : Option Written) → written e ≡ w → w ≡ Some m → AllowsAll known (acts (naming (written e) (λ k. act.Actual k mode.In true access)))
+          → Allows known (act.Actual m.name mode.In true access)
+      head_allows w is same allows = (subst (λ z. AllowsAll known (acts (naming z (λ k. act.Actual k mode.In true access)))) (is ∙ same) allows).0
 
       covers_not : (k : Written) → Has (alias.passed formals rest) (record { formal = y; actual = m }) → written e ≡ Some k → (object_at s x).mode ≡ mode.Out
           → is_moved_under k.name f ≡ true → ⊥
@@ -202,7 +227,7 @@ module _ (s : Typing) where
           apart_listed (alias.passed (x ∷ formals) (More e rest)) none a b
           (Has-append_left (alias.passed_as x (written e)) (alias.passed formals rest) a (subst (λ z. Has (alias.passed_as x z) a) (sym called) (inl refl)))
           (Has-append_right (alias.passed_as x (written e)) (alias.passed formals rest) b later)
-          (λ same. differ.0 y (named_has formals rest b later) (sym same)) (inl (λ is_in. out_in (sym out ∙ is_in))) (inr access)
+          (λ same. differ.0 y (named_has formals rest b later) (sym same)) (inl (λ is_in. out_in (sym out ∙ is_in))) kept
           (under_over k.name m.name f c over)
         where
           out_in : mode.Out ≡ mode.In → ⊥
@@ -225,18 +250,34 @@ module _ (s : Typing) where
             where
               in_out : mode.InOut ≡ mode.Out → ⊥
               in_out e = cc
-  lent_clear (x ∷ formals) _ known differ allowed none y m of lent access f has over = absurd of
+  act_comes (x ∷ formals) _ known differ allowed none y m of access lent kept f has over = absurd of
+
+  -- nothing that overlaps what is lent is moved or lent before the call
+  pub lent_clear : (formals : List ℕ) (actuals : TypedTree) (known : List Fact) → AreDifferent formals → AllowsAll known (acts (copies_of formals actuals))
+      → ((r : Report) → Has (overlap_reports s (alias.passed formals actuals)) r → ⊥) → (y : ℕ) (m : Written) → IsNameOf formals actuals y m → IsLentTo y
+      → is_variable_access (view_of s y) ≡ true → (f : Fact) → Has known f → moved_or_lent m.name f ≡ true → ⊥
+  lent_clear formals actuals known differ allowed none y m of lent access f has over =
+      let comes = act_comes formals actuals known differ allowed none y m of true (lent_passing y lent) (inl (inr access)) f has over in
+      refused (moved_or_lent m.name f) O10 m.name f over (comes.allowed f comes.there)
+
+  -- nor is what a formal with parts that see is shown moved or borrowed
+  pub shown_clear : (formals : List ℕ) (actuals : TypedTree) (known : List Fact) → AreDifferent formals → AllowsAll known (acts (copies_of formals actuals))
+      → ((r : Report) → Has (overlap_reports s (alias.passed formals actuals)) r → ⊥) → (y : ℕ) (m : Written) → IsNameOf formals actuals y m
+      → passing s true y ≡ Place mode.In true false → alias.is_scalar_formal s y ≡ false → (f : Fact) → Has known f → moved_or_borrowed m.name f ≡ true → ⊥
+  shown_clear formals actuals known differ allowed none y m of shown many f has over =
+      let comes = act_comes formals actuals known differ allowed none y m of false shown (inr many) f has (borrowed_lent m.name f over) in
+      refused (breaks_O10 m.name mode.In true false f) O10 m.name f over (comes.allowed f comes.there)
 
   -- what is lent isn't fixed
-  pub lent_free : (formals : List ℕ) (actuals : TypedTree) → AllKeep (is_fixed s) (acts (copies_of formals actuals)) → (y : ℕ) (m : Written)
-      → IsNameOf formals actuals y m → IsLentTo y → sees_only s m.name.root ≡ false
+  pub lent_free : (formals : List ℕ) (actuals : TypedTree) → AllKeep (is_fixed s sees) (acts (copies_of formals actuals)) → (y : ℕ) (m : Written)
+      → IsNameOf formals actuals y m → IsLentTo y → sees m.name.root ≡ false
   lent_free [] actuals keep y m of lent = absurd of
   lent_free (x ∷ formals) (More e rest) keep y m of lent =
-      let each = keep_both (is_fixed s) (acts (actual_act (passing s true x) e)) (acts (copies_of formals rest))
-      (subst (AllKeep (is_fixed s)) (acts_append (actual_act (passing s true x) e) (copies_of formals rest)) keep) in
+      let each = keep_both (is_fixed s sees) (acts (actual_act (passing s true x) e)) (acts (copies_of formals rest))
+      (subst (AllKeep (is_fixed s sees)) (acts_append (actual_act (passing s true x) e) (copies_of formals rest)) keep) in
       elim (Has-append_cases (alias.passed_as x (written e)) (alias.passed formals rest) (record { formal = y; actual = m }) of) [
         | inl here ↦ (let is = is_first (written e) here in
-            head_free (written e) is.1 (subst (λ z. AllKeep (is_fixed s) (acts (actual_act z e))) (ap (passing s true) is.0 ∙ lent_passing y lent) each.0))
+            head_free (written e) is.1 (subst (λ z. AllKeep (is_fixed s sees) (acts (actual_act z e))) (ap (passing s true) is.0 ∙ lent_passing y lent) each.0))
         | inr later ↦ lent_free formals rest each.1 y m later lent
       ]
     where
@@ -245,7 +286,7 @@ module _ (s : Typing) where
       is_first (Some k) (inr none_more) = absurd none_more
       is_first (Some k) (inl same) = (ap (λ (z : alias.Passed). z.formal) same, ap (λ (z : alias.Passed). Some z.actual) same)
 
-      head_free : (w : Option Written) → w ≡ Some m → AllKeep (is_fixed s) (acts (naming w (λ k. act.Actual k mode.In true true))) → sees_only s m.name.root ≡ false
+      head_free : (w : Option Written) → w ≡ Some m → AllKeep (is_fixed s sees) (acts (naming w (λ k. act.Actual k mode.In true true))) → sees m.name.root ≡ false
       head_free w is keeps =
-          free_sees s (extend m.name (Deref ∷ [])) (subst (λ z. AllKeep (is_fixed s) (acts (naming z (λ k. act.Actual k mode.In true true)))) is keeps).0
+          free_sees s sees (extend m.name (Deref ∷ [])) (subst (λ z. AllKeep (is_fixed s sees) (acts (naming z (λ k. act.Actual k mode.In true true)))) is keeps).0
   lent_free (x ∷ formals) _ keep y m of lent = absurd of

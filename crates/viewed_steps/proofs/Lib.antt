@@ -1,3 +1,4 @@
+pub mod Sees
 pub mod Views
 pub mod Faded
 pub mod Declared
@@ -82,7 +83,6 @@ pub mod Giving
 pub mod ScopeEnds
 pub mod CallEnds
 -- calls of traversal functions
-pub mod Unlent
 pub mod Taker
 pub mod TakerActs
 pub mod Traversing

@@ -4,13 +4,13 @@ use Rattle.flow_paths.specs.Instructions.{Instruction}
 use Rattle.flow_paths.specs.Objects.{Typing, object_at, is_package_object}
 use Rattle.machine.specs.Memory.{Slot, Memory, undeclared}
 use Rattle.machine.specs.States.{Waiting, Leak}
-use Rattle.owned_ways.specs.Ways.{OfVariable, OfHand, Loc, OfRoot, OfCell, Inside, Way, Object, Lost, Into, All, View, Reaches, base_of, number_of}
+use Rattle.owned_ways.specs.Ways.{Step, OfVariable, OfHand, Loc, OfRoot, OfCell, Inside, Way, Object, Lost, Into, All, View, Reaches, base_of, number_of}
 use Rattle.soundness.specs.Seen.{content, trunk, steps_in, word_in, seen, home}
 use Rattle.soundness.proofs.Contents.{bool_cases}
 use Rattle.soundness.proofs.Memories.{removed_other}
 use Rattle.owned_ways.proofs.Dropped.{named_base}
 use Rattle.owned_loans.specs.Views.{on, Views, expand}
-use Rattle.owned_loans.proofs.Ways.{base_on, lifts, lifted_way}
+use Rattle.owned_loans.proofs.Ways.{in_part_way, base_on, lifts, lifted_way}
 use Rattle.viewed_steps.specs.Traversals.{IsGivenTo, AreGiven}
 
 -- What a location is a part of is a cell, or a variable of a frame below.
@@ -61,11 +61,12 @@ given_again s frame v i view next w was reach = record {
   word = was.word;
   is = was.is;
   reached = λ k e. reach (expand v (on (All (was.traverses).place) was.rest)) refl k (was.reached k e);
-  lifted = was.lifted;
+  goes = was.goes;
 }
 
 -- What is given to a frame below begins so, if what its views go by does.
-module _ (s : Typing) (depth frame : ℕ) (less : frame < depth) (some : 0 < depth) (v : Views) (views_low : (x : ℕ) (w : Way) → v.way x ≡ Some w → BeginsLow depth w) where
+module _ (s : Typing) (depth frame : ℕ) (less : frame < depth) (some : 0 < depth) (v : Views) (views_low : (x : ℕ) (w : Way) → v.way x ≡ Some w → BeginsLow depth w)
+    (parts_low : (x : ℕ) (p : List Step) (w : Way) → v.part_way x p ≡ Some w → BeginsLow depth w) where
   low_home : (x : ℕ) → home s frame x < depth
   low_home x = elim (bool_cases (is_package_object s x)) [
     | inl shared ↦ subst (λ z. z < depth) (sym (ap (λ b. if b then 0 else frame) shared)) some
@@ -81,7 +82,8 @@ module _ (s : Typing) (depth frame : ℕ) (less : frame < depth) (some : 0 < dep
       ap base_of itself ∙ base_on (All (given.traverses).place) given.rest ∙ named_base (home s frame) (given.traverses).place (given.traverses).named,
       low_home (number_of (given.traverses).place),
     )
-    | inr l ↦ (let low = views_low l.object l.way l.has in (low.0, low.1, ap base_of (lifted_way v there l) ∙ base_on l.way l.rest ∙ low.2, low.3))
+    | inr (inr l) ↦ (let low = parts_low l.object l.steps l.way l.has in (low.0, low.1, ap base_of (in_part_way v there l) ∙ base_on l.way l.rest ∙ low.2, low.3))
+    | inr (inl l) ↦ (let low = views_low l.object l.way l.has in (low.0, low.1, ap base_of (lifted_way v there l) ∙ base_on l.way l.rest ∙ low.2, low.3))
   ]
     where
       there : Way

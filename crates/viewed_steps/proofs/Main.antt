@@ -1,7 +1,6 @@
 -- The state before the first step is sound, and so each moment of the run is well owned, and none is
 -- a trap.
 use Rattle.viewed_steps.proofs.Traversed.{none_given, empty_given, begins_given, procedure_traverses}
-use Rattle.viewed_soundness.specs.Holds.{sees_only}
 use Rattle.viewed_steps.specs.Awaited.{lasting_of}
 use Rattle.std.proofs.Common.{◌≡◌, refl, sym, ap, subst, ℕ, zero, suc, Bool, true, false, nat_le, List, [], ◌∷◌, ◌++◌, get_or, inl, inr, Some, None, if◌then◌else◌, ◌∙◌}
 use Rattle.spark_base.specs.Lists.{Has}
@@ -32,18 +31,22 @@ use Rattle.viewed_steps.specs.Sound.{ViewStage, GoneElsewhere, IsSound, LeadsOn}
 use Rattle.viewed_steps.specs.Ready.{IsReady}
 use Rattle.viewed_steps.proofs.Packages.{stage, first_point, first_waits, main_awaits, main_runs}
 use Rattle.viewed_steps.proofs.Stepping.{sound_step}
+use Rattle.viewed_steps.proofs.Standing.{bundle_sees, in_formals}
+use Rattle.viewed_steps.proofs.Views.{parts_none}
+use Rattle.viewed_soundness.specs.Holds.{PartsHold}
+use Rattle.viewed_steps.specs.Seeing.{sees_in}
 
 -- ---- the start
 
 -- No object has a way.
 abbrev pub no_views : Views
-no_views = record { way = λ x. None; loan = λ x. Lost 0; up = λ x. Lost 0; cell = λ x. 0 }
+no_views = record { way = λ x. None; loan = λ x. Lost 0; up = λ x. Lost 0; cell = λ x. 0; part_way = λ x p. None; part_cell = λ x p. 0 }
 
 none_some : (w : Way) → None ≡ Some w → ⊥
 none_some w e = cc
 
-module _ (s : Typing) where
-  empty_viewed : (at_home : ℕ → ℕ) (other : Way → Type 0) → ViewedAlone at_home (sees_only s) (known_gone at_home other) no_views (seen s empty_memory [] []) []
+module _ (s : Typing) (sees : ℕ → Bool) where
+  empty_viewed : (at_home : ℕ → ℕ) (other : Way → Type 0) → ViewedAlone at_home sees (known_gone at_home other) no_views (seen s empty_memory [] []) []
   empty_viewed at_home other =
       let sound = empty_sound s at_home other [] in
       record {
@@ -56,14 +59,24 @@ module _ (s : Typing) where
           seen = λ b h n m has there over. has;
           owned = λ n has. absurd has;
         };
-        views = λ x w has. absurd (none_some w has);
+        views = (λ x w has. absurd (none_some w has), λ x p w has. absurd (none_some w has));
         whole = λ x w z has. absurd (none_some w has);
+        whole_parts = λ x p w z has. absurd (none_some w has);
       }
 
-  empty_word : (f x n : ℕ) → (get_or (variable_slots s f x empty_memory.variables) 0 no_slot).word ≡ machine.Cell n → ⊥
-  empty_word f x n e = none_default s.table (object_at s x).of n (cell_has (machine.default s.table (object_at s x).of) 0 n e)
+  empty_word : (f x i n : ℕ) → (get_or (variable_slots s f x empty_memory.variables) i no_slot).word ≡ machine.Cell n → ⊥
+  empty_word f x i n e = none_default s.table (object_at s x).of n (cell_has (machine.default s.table (object_at s x).of) i n e)
 
 module _ (table : Table) (typed : TypedProgram) (effects : Effects) (input : List ℕ) (ready : IsReady table typed effects) where
+  abbrev sees : ℕ → Bool
+  sees = sees_in (flow_program table typed)
+
+  empty_parts : (frame : ℕ) → PartsHold (flow_typing (flow_program table typed)) sees frame no_views empty_memory
+  empty_parts frame =
+      parts_none (flow_typing (flow_program table typed)) sees (in_formals table typed effects input ready) frame no_views empty_memory
+      (λ x i n bundle at. empty_word (flow_typing (flow_program table typed)) sees (home (flow_typing (flow_program table typed)) frame x) x i n at)
+      (bundle_sees table typed effects input ready) (λ x p. refl)
+
   abbrev program : FlowProgram
   program = flow_program table typed
 
@@ -93,10 +106,10 @@ module _ (table : Table) (typed : TypedProgram) (effects : Effects) (input : Lis
       views = no_views;
       older = [];
       stages = (refl, refl, tt);
-      running = (refl, (refl, refl, refl), (λ x. refl), refl, refl);
+      running = (refl, (refl, refl, refl), (λ x. refl), refl, refl, (λ x p. refl));
       awaited = (refl, refl);
       path = begins (first_point table typed effects input ready 0 ready.packages ready.stands p rest is);
-      viewed = empty_viewed s (home s 0) (GoneElsewhere program effects []);
+      viewed = empty_viewed s sees (home s 0) (GoneElsewhere program effects []);
       kept = empty_kept s;
       named = ready.packages;
       of_sub = ready.stands;
@@ -104,17 +117,20 @@ module _ (table : Table) (typed : TypedProgram) (effects : Effects) (input : Lis
       at_point = ([], rest, is, refl);
       scope = empty_scope s 0 (lasting_of s p.scope);
       holds = record {
-        held = λ x n lasts view e. absurd (empty_word s (home s 0 x) x n e);
-        within = λ x n view e. absurd (empty_word s (home s 0 x) x n e);
+        held = λ x n lasts view bare e. absurd (empty_word s sees (home s 0 x) x 0 n e);
+        within = λ x n view bare e. absurd (empty_word s sees (home s 0 x) x 0 n e);
         only = λ x w has. absurd (none_some w has);
         lies = λ x w has. absurd (none_some w has);
         owners = λ x w has. absurd (none_some w has);
         passed = λ x w has. absurd (none_some w has);
         own = λ x w has. absurd (none_some w has);
+        taken = λ x w has. absurd (none_some w has);
+        parts = empty_parts 0;
+        low = λ x p w has. absurd (none_some w has);
       };
       placed = λ x w has. absurd (none_some w has);
-      past = ((λ x w has. absurd (none_some w has)), (λ x w has. absurd (none_some w has)));
-      none_above = λ f x n less view e. empty_word s f x n e;
+      past = ((λ x w has. absurd (none_some w has)), ((λ x w has. absurd (none_some w has)), (λ x q w has. absurd (none_some w has))));
+      none_above = (λ f x n less view e. empty_word s sees f x 0 n e, λ f x i n less bundle e. empty_word s sees f x i n e);
       traversals = (none_given table typed (view_here s (started (frame_at_start 0 [] ∷ []))) first_frame (empty_given table typed first_frame refl), tt);
     },
     λ g has. elim has [ inl e ↦ ap (λ (z : ViewStage). z.stage.before) (sym e) | inr none ↦ absurd none ],
@@ -131,7 +147,7 @@ module _ (table : Table) (typed : TypedProgram) (effects : Effects) (input : Lis
       running = (
         main_runs table typed effects input ready,
         ((λ x has. inl (ready.main_plain x has)), (λ r has. absurd has)),
-        ((refl, (refl, refl, refl), (λ x. refl), refl, refl), refl),
+        ((refl, (refl, refl, refl), (λ x. refl), refl, refl, (λ x p. refl)), refl),
       );
       awaited = (
         first_waits table typed effects input ready 1 ready.main [] ready.main_there.named ready.main_there.stands ready.main_there.point
@@ -140,7 +156,7 @@ module _ (table : Table) (typed : TypedProgram) (effects : Effects) (input : Lis
       );
       path = begins (first_point table typed effects input ready ready.main ready.main_there.named ready.main_there.stands
           ready.main_there.point ready.main_there.points ready.main_there.begins);
-      viewed = empty_viewed s (home s 1) (GoneElsewhere program effects (record { stage = stage_of 0 0; views = no_views; cells = [] } ∷ []));
+      viewed = empty_viewed s sees (home s 1) (GoneElsewhere program effects (record { stage = stage_of 0 0; views = no_views; cells = [] } ∷ []));
       kept = empty_kept s;
       named = ready.main_there.named;
       of_sub = ready.main_there.stands;
@@ -148,17 +164,20 @@ module _ (table : Table) (typed : TypedProgram) (effects : Effects) (input : Lis
       at_point = ([], ready.main_there.points, ready.main_there.begins, refl);
       scope = empty_scope s 1 (lasting_of s ready.main_there.point.scope);
       holds = record {
-        held = λ x n lasts view e. absurd (empty_word s (home s 1 x) x n e);
-        within = λ x n view e. absurd (empty_word s (home s 1 x) x n e);
+        held = λ x n lasts view bare e. absurd (empty_word s sees (home s 1 x) x 0 n e);
+        within = λ x n view bare e. absurd (empty_word s sees (home s 1 x) x 0 n e);
         only = λ x w has. absurd (none_some w has);
         lies = λ x w has. absurd (none_some w has);
         owners = λ x w has. absurd (none_some w has);
         passed = λ x w has. absurd (none_some w has);
         own = λ x w has. absurd (none_some w has);
+        taken = λ x w has. absurd (none_some w has);
+        parts = empty_parts 1;
+        low = λ x p w has. absurd (none_some w has);
       };
       placed = λ x w has. absurd (none_some w has);
-      past = ((λ x w has. absurd (none_some w has)), (λ x w has. absurd (none_some w has)));
-      none_above = λ f x n less view e. empty_word s f x n e;
+      past = ((λ x w has. absurd (none_some w has)), ((λ x w has. absurd (none_some w has)), (λ x q w has. absurd (none_some w has))));
+      none_above = (λ f x n less view e. empty_word s sees f x 0 n e, λ f x i n less bundle e. empty_word s sees f x i n e);
       traversals = (
         begins_given table typed (view_here s (started (frame_at_start ready.main [] ∷ (frame_at_start 0 [] ∷ [])))) (record { stage = stage_of ready.main 1; views = no_views; cells = [] })
             first_frame refl refl,

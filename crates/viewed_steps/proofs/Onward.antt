@@ -1,5 +1,8 @@
 -- After a step of the innermost frame, those around it wait on.
-use Rattle.viewed_soundness.specs.Holds.{is_view, sees_only}
+use Rattle.viewed_soundness.specs.Holds.{is_view}
+use Rattle.part_offsets.specs.Parts.{offset_in}
+use Rattle.viewed_soundness.proofs.Names.{parts_same}
+use Rattle.viewed_soundness.proofs.ViewKinds.{bundle_view}
 use Rattle.std.proofs.Common.{◌≡◌, refl, sym, ap, ◌∙◌, subst, inl, inr, ℕ, ◌<◌, ◌≤◌, Bool, true, false, List, [], ◌∷◌, ◌++◌, length, get_or, arith, if◌then◌else◌}
 use Rattle.spark_base.specs.Lists.{Has}
 use Rattle.place_names.specs.declared.fact.Fact.TheVariants.{Moved}
@@ -7,7 +10,7 @@ use Rattle.place_names.specs.Names.{Name}
 use Rattle.type_definitions.specs.Types.{Table}
 use Rattle.typed_tree.specs.Programs.{TypedProgram}
 use Rattle.flow_paths.specs.declared.report.Effects.{Effects}
-use Rattle.flow_paths.specs.Objects.{Typing, is_package_object}
+use Rattle.flow_paths.specs.Objects.{object_at, Typing, is_package_object}
 use Rattle.flow_paths.specs.Laid.{FlowProgram, flow_typing, flow_program}
 use Rattle.machine.specs.Words as machine
 use Rattle.machine.specs.Memory.{variable_slots, no_slot, Place}
@@ -16,17 +19,21 @@ use Rattle.owned_ways.specs.Ways.{Loc, IsSame, Step, OfVariable, OfRoot, OfCell,
 use Rattle.soundness.specs.Seen.{content, word_in, home}
 use Rattle.soundness.specs.Sound.{Stage, facts_of, AreStages, view_of as view_here}
 use Rattle.owned_loans.specs.Views.{known_gone}
-use Rattle.owned_loans.proofs.Moves.{view_on}
+use Rattle.owned_loans.proofs.Moves.{view_on, parts_on}
 use Rattle.viewed_steps.specs.Taken.{IsInside, IsBare, IsAmong, IsOwnAt}
 use Rattle.viewed_steps.proofs.Between.{still_taken}
 use Rattle.viewed_steps.specs.Awaited.{lasting_of}
 use Rattle.viewed_steps.specs.Sound.{ViewStage, stages_of, IsWaiting, AreWaiting, IsWayOf, IsBareOf}
 use Rattle.viewed_steps.proofs.Waiting.{AreTheirs, all_between, theirs, bare_word, same_reaches, some_frames}
+use Rattle.viewed_steps.specs.Seeing.{sees_in}
 
 module _ (table : Table) (typed : TypedProgram) (effects : Effects)
     (unmoved : (e : Stage) → e.frame.sub ≡ 0 → (name : Name) → Has (facts_of (flow_program table typed) effects e) (Moved name) → ⊥)
     (local : (x : ℕ) → is_view (flow_typing (flow_program table typed)) x ≡ true
     → is_package_object (flow_typing (flow_program table typed)) x ≡ false) where
+  abbrev sees : ℕ → Bool
+  sees = sees_in (flow_program table typed)
+
   abbrev program : FlowProgram
   program = flow_program table typed
 
@@ -36,8 +43,8 @@ module _ (table : Table) (typed : TypedProgram) (effects : Effects)
   module _ (state next : State) (depth : ℕ)
       (still : (f x : ℕ) (p : List Step) (c : ℕ) → 0 < f → f < depth → word_in s.table (content s next.memory [] (OfRoot (OfVariable f x))) p ≡ Held c
       → word_in s.table (content s state.memory [] (OfRoot (OfVariable f x))) p ≡ Held c)
-      (words : (f x : ℕ) → 0 < f → f < depth → is_view s x ≡ true
-      → (get_or (variable_slots s f x next.memory.variables) 0 no_slot).word ≡ (get_or (variable_slots s f x state.memory.variables) 0 no_slot).word) where
+      (words : (f x i : ℕ) → 0 < f → f < depth → is_view s x ≡ true
+      → (get_or (variable_slots s f x next.memory.variables) i no_slot).word ≡ (get_or (variable_slots s f x state.memory.variables) i no_slot).word) where
     waits_on : (callee : ℕ) (backs : List Return) (g : ViewStage) → 0 < g.stage.depth → g.stage.depth < depth
         → ((w : Way) (n : ℕ) → IsWayOf g w n → Reaches (view_here s next) w (OfCell n))
         → ((w : Way) (l : Loc) (p : List Step) → IsBareOf s g w l p → (q : List Step) (k : ℕ) → (view_here s next).word (part l (q ++ p)) ≡ Held k → ⊥)
@@ -59,30 +66,39 @@ module _ (table : Table) (typed : TypedProgram) (effects : Effects)
       goes = waits.goes;
       names = waits.names;
       off = waits.off;
+      off_parts = waits.off_parts;
       uses = waits.uses;
       writes = waits.writes;
       clear = waits.clear;
-      views = λ x w has.
-          view_on (home s g.stage.depth) (sees_only s) (known_gone (home s g.stage.depth) (λ z. ⊥)) g.views (view_here s state) (view_here s next)
-          (facts_of program effects g.stage) (facts_of program effects g.stage) x w (waits.views x w has) (λ b n loan. loan) (reach w (g.views.cell x) (inl (x, has, refl)));
+      views = (
+        λ x w has.
+            view_on (home s g.stage.depth) sees (known_gone (home s g.stage.depth) (λ z. ⊥)) g.views (view_here s state) (view_here s next)
+            (facts_of program effects g.stage) (facts_of program effects g.stage) x w (waits.views.0 x w has) (λ b n loan. loan) (reach w (g.views.cell x) (inl (x, has, refl))),
+        parts_on (home s g.stage.depth) sees (known_gone (home s g.stage.depth) (λ z. ⊥)) g.views (view_here s state) (view_here s next) waits.views.1
+            (λ x p w has old. reach w (g.views.part_cell x p) (inr (inr (x, p, has, refl)))),
+      );
       holds = record {
-        held = λ x n lasts view e. waits.holds.held x n lasts view (word_before x n view e);
-        within = λ x n view e. waits.holds.within x n view (word_before x n view e);
+        held = λ x n lasts view bare e. waits.holds.held x n lasts view bare (word_before x n view e);
+        within = λ x n view bare e. waits.holds.within x n view bare (word_before x n view e);
         only = waits.holds.only;
         lies = waits.holds.lies;
         owners = waits.holds.owners;
         passed = waits.holds.passed;
         own = waits.holds.own;
+        taken = waits.holds.taken;
+        parts = parts_same s sees g.stage.depth g.views state.memory next.memory
+            (λ x p bundle. words_there x (offset_in s.table (object_at s x).of p) (bundle_view s x bundle)) waits.holds.parts;
+        low = waits.holds.low;
       };
       placed = waits.placed;
       bare = λ w l p taken q k held. bare w l p taken q k (bare_word s next g w l p (q ++ p) taken ∙ held);
       kept = λ c has. (let kept = waits.kept c has in record {
         named = kept.named;
         leads = kept.leads;
-        reaches = reach c.way c.cell (inr (c, has, refl, refl));
+        reaches = reach c.way c.cell (inr (inl (c, has, refl, refl)));
         aside = kept.aside;
       });
-      taken = still_taken s g.cells state.memory next.memory g.stage.depth g.views (facts_of program effects g.stage) (lasting_of s waits.point.scope) backs g.stage.returns
+      taken = still_taken s sees g.cells state.memory next.memory g.stage.depth g.views (facts_of program effects g.stage) (lasting_of s waits.point.scope) backs g.stage.returns
           (λ k to has inside among none p c held. place_on k to has inside among none p c held) waits.taken;
     }
       where
@@ -114,13 +130,20 @@ module _ (table : Table) (typed : TypedProgram) (effects : Effects)
               bare inside.trunk inside.start inside.steps taken p c (bare_word s next g inside.trunk inside.start inside.steps (p ++ inside.steps) taken ∙ held))
         ]
 
+        words_there : (x i : ℕ) → is_view s x ≡ true
+            → (get_or (variable_slots s (home s g.stage.depth x) x next.memory.variables) i no_slot).word ≡ (get_or (variable_slots s (home s g.stage.depth x) x state.memory.variables) i no_slot).word
+        words_there x i view =
+            let own : home s g.stage.depth x ≡ g.stage.depth = ap (λ z. if z then 0 else g.stage.depth) (local x view) in
+            subst (λ f. (get_or (variable_slots s f x next.memory.variables) i no_slot).word ≡ (get_or (variable_slots s f x state.memory.variables) i no_slot).word) (sym own)
+            (words g.stage.depth x i some less view)
+
         word_before : (x n : ℕ) → is_view s x ≡ true
             → (get_or (variable_slots s (home s g.stage.depth x) x next.memory.variables) 0 no_slot).word ≡ machine.Cell n
             → (get_or (variable_slots s (home s g.stage.depth x) x state.memory.variables) 0 no_slot).word ≡ machine.Cell n
         word_before x n view e =
             let own : home s g.stage.depth x ≡ g.stage.depth = ap (λ z. if z then 0 else g.stage.depth) (local x view) in
             subst (λ f. (get_or (variable_slots s f x state.memory.variables) 0 no_slot).word ≡ machine.Cell n) (sym own)
-            (sym (words g.stage.depth x some less view)
+            (sym (words g.stage.depth x 0 some less view)
             ∙ subst (λ f. (get_or (variable_slots s f x next.memory.variables) 0 no_slot).word ≡ machine.Cell n) own e)
 
     pub all_on : (callee : ℕ) (backs : List Return) (older : List ViewStage) (outer : List Frame) → AreStages (stages_of older) outer → length outer ≤ depth

@@ -1,5 +1,5 @@
 -- The operand of a short circuit, whose value waits: it leads on where views are, too.
-use Rattle.std.proofs.Common.{◌≡◌, refl, sym, ap, ◌∙◌, subst, ℕ, true, List, [], ◌∷◌, ◌++◌, flat_map, drop, length, if◌then◌else◌}
+use Rattle.std.proofs.Common.{◌≡◌, refl, sym, ap, ◌∙◌, subst, ℕ, true, List, [], ◌∷◌, ◌++◌, flat_map, drop, length, if◌then◌else◌, Bool}
 use Rattle.place_names.specs.declared.fact.Fact.{Fact}
 use Rattle.type_definitions.specs.Entries.{boolean}
 use Rattle.type_definitions.specs.Types.{is_scalar, full}
@@ -35,12 +35,12 @@ use Rattle.soundness.proofs.Evaluated.{changed_hand}
 use Rattle.soundness.proofs.Waits.{waits_of, led_waits, drop_none}
 use Rattle.owned_loans.specs.Views.{Around, Views, Viewed}
 use Rattle.owned_loans.proofs.Moves.{same_viewed}
-use Rattle.viewed_soundness.specs.Holds.{PartsAreNamed, Holds, sees_only}
+use Rattle.viewed_soundness.specs.Holds.{PartsAreNamed, Holds, Seeing}
 use Rattle.viewed_soundness.proofs.Evaluated.{scalar_given}
 use Rattle.viewed_steps.proofs.Views.{AreAccess}
 use Rattle.viewed_soundness.proofs.Outcomes.{IsGood, Leads_on, raises, unturned, scalar_taken}
 
-module _ (t : Turn) (settled : IsSettled (typing t).table) (own_law : OwnsByShape (typing t).table) (other : Around (home (typing t) (length t.outer)))
+module _ (t : Turn) (sees : ℕ → Bool) (seeing : Seeing (typing t) sees) (settled : IsSettled (typing t).table) (own_law : OwnsByShape (typing t).table) (other : Around (home (typing t) (length t.outer)))
     (alone : (w : Way) → IsNear (length t.outer) w → other.gone w → ⊥) (in_formals : AreAccess (typing t))
     (v : Views) (parts_named : PartsAreNamed (typing t).table) (may : ℕ → ℕ → Type 0)
     (frames : t.state.frames ≡ t.frame ∷ t.outer) (none : taken t.point.instr ≡ 0)
@@ -55,10 +55,10 @@ module _ (t : Turn) (settled : IsSettled (typing t).table) (own_law : OwnsByShap
   hands = waiting_in t.state
 
   abbrev Good : List Fact → Type 0
-  Good facts = IsGood t settled own_law other alone v parts_named may frames none v facts t.state
+  Good facts = IsGood t sees seeing settled own_law other alone v parts_named may frames none v facts t.state
 
   abbrev LeadsHere : List Fact → Outcome → Type 0
-  LeadsHere facts outcome = Leads_on t settled own_law other alone v parts_named may frames none facts outcome
+  LeadsHere facts outcome = Leads_on t sees seeing settled own_law other alone v parts_named may frames none facts outcome
 
   abbrev now : Now
   now = record { memory = t.state.memory; waits = [] }
@@ -70,15 +70,23 @@ module _ (t : Turn) (settled : IsSettled (typing t).table) (own_law : OwnsByShap
   Waits waits behind = waits ++ flat_map waits_of t.outer ≡ behind
 
   waits_on : (waits hands' : List Waiting) → Waits waits hands' → (m : Memory) (k : ℕ) (facts : List Fact)
-      → Viewed (home s depth) (sees_only s) other v (seen s m hands' t.state.leaks) facts → Kept s m hands' → Holds s depth v m → LeadsHere facts (Goes (behind t waits m k))
+      → Viewed (home s depth) sees other v (seen s m hands' t.state.leaks) facts → Kept s m hands' → Holds s sees depth v m → LeadsHere facts (Goes (behind t waits m k))
   waits_on waits hands' same m k facts viewed kept holds =
       let waits_behind = led_waits t (record t.frame { waits = waits }) (successor t k) ∙ same in (
         v,
-        unturned t settled own_law other alone v parts_named may frames none facts,
+        unturned t sees seeing settled own_law other alone v parts_named may frames none facts,
         record {
-          viewed = subst (λ z. Viewed (home s depth) (sees_only s) other v (seen s m z t.state.leaks) facts) (sym waits_behind) viewed;
+          viewed = subst (λ z. Viewed (home s depth) sees other v (seen s m z t.state.leaks) facts) (sym waits_behind) viewed;
           kept = subst (Kept s m) (sym waits_behind) kept;
-          holds = record { held = holds.held; only = holds.only; owners = holds.owners; access = holds.access; own = holds.own };
+          holds = record {
+            held = holds.held;
+            only = holds.only;
+            owners = holds.owners;
+            access = holds.access;
+            own = holds.own;
+            taken = holds.taken;
+            parts = record { held = holds.parts.held; only = holds.parts.only; owners = holds.parts.owners; looks = holds.parts.looks };
+          };
         },
       )
 
@@ -91,13 +99,13 @@ module _ (t : Turn) (settled : IsSettled (typing t).table) (own_law : OwnsByShap
   then_waits : (facts : List Fact) → Good facts → (k : List machine.Word → ℕ) (y : Evaluated (List machine.Word)) → Quiet now One y
       → LeadsHere facts (steps.evaluated t y (λ ws m. Goes (behind t (steps.truth_waiting ws ∷ waiting t) m (k ws))))
   then_waits facts good k (Done ws n) (same, one) =
-      let given = scalar_given (here t) settled t.state.leaks [] other alone (keeps s settled own_law) index_law own_law v parts_named
+      let given = scalar_given (here t) sees seeing settled t.state.leaks [] other alone (keeps s settled own_law) index_law own_law v parts_named
       t.state.memory hands facts facts boolean (record { viewed = good.viewed; kept = good.kept; holds = good.holds }) refl truth (Done ws now) (refl, one) in
       subst (λ (z : Now). LeadsHere facts (Goes (behind t (steps.truth_waiting ws ∷ waiting t) z.memory (k ws)))) (sym same)
       (waits_on (steps.truth_waiting ws ∷ waiting t) (steps.truth_waiting ws ∷ hands) (ap (λ z. steps.truth_waiting ws ∷ z) all_wait)
       t.state.memory (k ws) facts given.0.viewed given.0.kept given.0.holds)
   then_waits facts good k (Raises e n) is =
-      ((λ trap. trap), raises t settled own_law other alone v parts_named may frames none facts good n.memory)
+      ((λ trap. trap), raises t sees seeing settled own_law other alone v parts_named may frames none facts good n.memory)
   then_waits facts good k (Traps e n) never = absurd never
 
   -- the right operand: its value waits in place of that of the left one
@@ -114,15 +122,15 @@ module _ (t : Turn) (settled : IsSettled (typing t).table) (own_law : OwnsByShap
       let shows : (p : List ways.Step) → word_in s.table (in_hand right) p ≡ word_in s.table (in_hand left) p =
       (λ p. word_no s.table (in_hand right) p (no_leaf s.table settled boolean truth p)
       ∙ sym (word_no s.table (in_hand left) p (no_leaf s.table settled left.of plain p))) in
-      let viewed_before = subst (λ z. Viewed (home s depth) (sees_only s) other v (seen s m z t.state.leaks) facts) before good.viewed in
+      let viewed_before = subst (λ z. Viewed (home s depth) sees other v (seen s m z t.state.leaks) facts) before good.viewed in
       let kept_before = subst (Kept s m) before good.kept in
       subst (λ (z : Now). LeadsHere facts (Goes (behind t (right ∷ drop 1 (waiting t)) z.memory 0))) (sym same)
       (waits_on (right ∷ drop 1 (waiting t)) (right ∷ below) (ap (λ z. right ∷ (z ++ flat_map waits_of t.outer)) others) m 0 facts
-      (same_viewed (home s depth) (sees_only s) other v (seen s m (left ∷ below) t.state.leaks) (seen s m (right ∷ below) t.state.leaks) facts
+      (same_viewed (home s depth) sees other v (seen s m (left ∷ below) t.state.leaks) (seen s m (right ∷ below) t.state.leaks) facts
       (changed_hand s m t.state.leaks left right below shows) viewed_before)
       (scalar s settled m right below truth (less_kept s settled m left below kept_before)) good.holds)
   then_replaced left rest waits plain facts good (Raises e n) is =
-      ((λ trap. trap), raises t settled own_law other alone v parts_named may frames none facts good n.memory)
+      ((λ trap. trap), raises t sees seeing settled own_law other alone v parts_named may frames none facts good n.memory)
   then_replaced left rest waits plain facts good (Traps e n) never = absurd never
 
   -- a left operand, which takes these values
@@ -132,7 +140,7 @@ module _ (t : Turn) (settled : IsSettled (typing t).table) (own_law : OwnsByShap
       (λ vs m. Goes (behind t (steps.truth_waiting vs ∷ waiting t) m (if run.decides op vs then 1 else 0))))
   left_operand_on ws e op stays takes facts good allowed =
       let before : Now = record { memory = t.state.memory; waits = ws } in
-      let q = scalar_taken t settled own_law other alone v parts_named may frames none ws e stays takes facts good allowed in
+      let q = scalar_taken t sees seeing settled own_law other alone v parts_named may frames none ws e stays takes facts good allowed in
       subst (λ z. LeadsHere z (steps.evaluated t (value (here t) e before) (λ vs m. Goes (behind t (steps.truth_waiting vs ∷ waiting t) m (if run.decides op vs then 1 else 0))))) (sym q.1)
       (then_waits facts good (λ vs. if run.decides op vs then 1 else 0) (value (here t) e before) q.0)
 
@@ -144,6 +152,6 @@ module _ (t : Turn) (settled : IsSettled (typing t).table) (own_law : OwnsByShap
       (λ vs m. Goes (behind t (steps.truth_waiting vs ∷ drop 1 (waiting t)) m 0)))
   right_operand_on ws e left rest waits plain stays takes facts good allowed =
       let before : Now = record { memory = t.state.memory; waits = ws } in
-      let q = scalar_taken t settled own_law other alone v parts_named may frames none ws e stays takes facts good allowed in
+      let q = scalar_taken t sees seeing settled own_law other alone v parts_named may frames none ws e stays takes facts good allowed in
       subst (λ z. LeadsHere z (steps.evaluated t (value (here t) e before) (λ vs m. Goes (behind t (steps.truth_waiting vs ∷ drop 1 (waiting t)) m 0)))) (sym q.1)
       (then_replaced left rest waits plain facts good (value (here t) e before) q.0)

@@ -1,6 +1,6 @@
 -- What is taken from places of a frame meets nothing that the frames around keep: of package objects, they
 -- keep nothing of those that it begins at.
-use Rattle.std.proofs.Common.{◌≡◌, sym, ap, ◌∙◌, inl, inr, ℕ, true, false, List, ◌⊎◌, Some, ◌++◌}
+use Rattle.std.proofs.Common.{◌≡◌, sym, ap, ◌∙◌, inl, inr, ℕ, true, false, List, ◌⊎◌, Some, ◌++◌, Bool}
 use Rattle.spark_base.specs.Lists.{Has}
 use Rattle.type_definitions.specs.Types.{Table}
 use Rattle.typed_tree.specs.Programs.{TypedProgram}
@@ -17,7 +17,7 @@ use Rattle.owned_ways.proofs.Dropped.{named_base}
 use Rattle.soundness.specs.Seen.{home}
 use Rattle.soundness.specs.Sound.{Stage, facts_of}
 use Rattle.soundness.proofs.Near.{named_near}
-use Rattle.viewed_soundness.specs.Holds.{is_view, sees_only}
+use Rattle.viewed_soundness.specs.Holds.{is_view}
 use Rattle.viewed_steps.specs.Sound.{ViewStage, GoneElsewhere, KeptBy}
 use Rattle.viewed_steps.proofs.Views.{base_named}
 use Rattle.viewed_steps.proofs.Between.{base_under, same_variable}
@@ -29,12 +29,16 @@ use Rattle.owned_loans.specs.Views.{Views, expand, AreViews, IsOuter}
 use Rattle.owned_loans.proofs.Meeting.{stands}
 use Rattle.place_names.specs.declared.fact.Fact.{Fact}
 use Rattle.viewed_steps.proofs.Roots.{FromGiven}
+use Rattle.viewed_steps.specs.Seeing.{sees_in}
 
 module _ (table : Table) (typed : TypedProgram) (effects : Effects)
     (unmoved : (e : Stage) → e.frame.sub ≡ 0 → (name : Name) → Has (facts_of (flow_program table typed) effects e) (Moved name) → ⊥)
     (local : (x : ℕ) → is_view (flow_typing (flow_program table typed)) x ≡ true
     → is_package_object (flow_typing (flow_program table typed)) x ≡ false) (state : State) (depth : ℕ) (older : List ViewStage)
     (between : (g : ViewStage) → Has older g → StandsBetween table typed effects unmoved local state depth older g) where
+  abbrev sees : ℕ → Bool
+  sees = sees_in (flow_program table typed)
+
   abbrev program : FlowProgram
   program = flow_program table typed
 
@@ -101,17 +105,17 @@ module _ (table : Table) (typed : TypedProgram) (effects : Effects)
       gone_clear to free (along w (q ++ p)) (g, has, inr (along w p, bare.0, q, along_both w q p)) (inl below)
 
   -- a name of the frame stands for such a way
-  pub free_name : (views : Views) (view : View) (facts : List Fact) (are : AreViews (home s depth) (sees_only s) views view facts)
-      → ((x : ℕ) (w : Way) → views.way x ≡ Some w → (Named (home s depth) (views.up x) → ⊥) → sees_only s x ≡ false → (k : Way) (n : ℕ) → KeptBy older k n → Past w k → ⊥)
+  pub free_name : (views : Views) (view : View) (facts : List Fact) (are : AreViews (home s depth) sees views view facts)
+      → ((x : ℕ) (w : Way) → views.way x ≡ Some w → (Named (home s depth) (views.up x) → ⊥) → sees x ≡ false → (k : Way) (n : ℕ) → KeptBy older k n → Past w k → ⊥)
       → ((x : ℕ) (w z : Way) → views.way x ≡ Some w → IsOuter (home s depth) views x w → GoneElsewhere program effects older z → Under z w ⊎ Under w z → ⊥)
-      → (name : Way) → Named (home s depth) name → sees_only s (number_of name) ≡ false
-      → ((y : ℕ) → base_of (expand views name) ≡ OfRoot (OfVariable (home s depth y) y) → IsSpared y ⊎ FromGiven (home s depth) (sees_only s) views view facts are (expand views name)) → IsFree (expand views name)
-  free_name views view facts are past unmet name named plain spared = elim (stands (home s depth) (sees_only s) views view facts are name (named, plain)) [
+      → (name : Way) → Named (home s depth) name → sees (number_of name) ≡ false
+      → ((y : ℕ) → base_of (expand views name) ≡ OfRoot (OfVariable (home s depth y) y) → IsSpared y ⊎ FromGiven (home s depth) sees views view facts are (expand views name)) → IsFree (expand views name)
+  free_name views view facts are past unmet name named plain spared = elim (stands (home s depth) sees views view facts are name (named, plain)) [
     | inl own ↦ (
         let base = named_base (home s depth) (expand views name) own.named in
         elim (spared (number_of (expand views name)) base) [
           | inl none ↦ inl (number_of (expand views name), base, none)
-          | inr (x, w, has, given, sees, under) ↦ inr (record { way = w; under = under; past = past x w has given sees; unmet = λ z gone meets. unmet x w z has (inr given) gone meets })
+          | inr (x, w, has, given, sight, under) ↦ inr (record { way = w; under = under; past = past x w has given sight; unmet = λ z gone meets. unmet x w z has (inr given) gone meets })
         ])
     | inr held ↦ inr (record {
       way = held.way;

@@ -3,7 +3,7 @@
 use Rattle.viewed_steps.proofs.Traversed.{none_given, empty_given, begins_given, procedure_traverses}
 use Rattle.soundness.specs.Ready.{Fills}
 use Rattle.viewed_steps.proofs.Waited.{within_lasting, lasting_within, lasting_more, plain_unheld}
-use Rattle.std.proofs.Common.{◌≡◌, refl, sym, ap, ◌∙◌, subst, inl, inr, ℕ, ◌<◌, true, false, not, ◌||◌, ◌==◌, eq-eqb, List, [], ◌∷◌, ◌++◌, drop, get_or, arith, Option, Some, None, if◌then◌else◌, length}
+use Rattle.std.proofs.Common.{◌≡◌, refl, sym, ap, ◌∙◌, subst, inl, inr, ℕ, ◌<◌, true, false, not, ◌||◌, ◌==◌, eq-eqb, List, [], ◌∷◌, ◌++◌, drop, get_or, arith, Option, Some, None, if◌then◌else◌, length, Bool}
 use Rattle.spark_base.specs.Lists.{Has}
 use Rattle.spark_base.specs.declared.position.Pos.{Pos}
 use Rattle.spark_base.proofs.Lists.{Has-append_cases, Has-map_from}
@@ -47,8 +47,8 @@ use Rattle.soundness.proofs.Following.{Each, Declares, declare_on}
 use Rattle.soundness.proofs.Waits.{no_waits, drop_none}
 use Rattle.soundness.proofs.Successors.{not_true, successor_cases, unmoved_after}
 use Rattle.owned_loans.specs.Views.{Around, known_gone, Views, Viewed, IsForeign, ViewedAlone}
-use Rattle.viewed_soundness.specs.Holds.{AllKeep, is_view, sees_only, is_fixed}
-use Rattle.viewed_soundness.proofs.Names.{plain_named, true_false}
+use Rattle.viewed_soundness.specs.Holds.{AllKeep, is_view, is_fixed, Seeing}
+use Rattle.viewed_soundness.proofs.ViewKinds.{bundle_view, plain_named, true_false}
 use Rattle.viewed_soundness.proofs.Outcomes.{IsGood, Turned, Leads_on}
 use Rattle.viewed_steps.specs.Awaited.{AreFor, temporaries_of, lasting_of, awaited, WaitsAt}
 use Rattle.viewed_steps.specs.Sound.{HoldsAt, NoneAbove, ViewStage, GoneElsewhere, IsFirst, steps_on, begins_main, IsSound, LeadsAlong}
@@ -58,10 +58,18 @@ use Rattle.viewed_steps.proofs.Placed.{scope_on}
 use Rattle.viewed_steps.proofs.Ended.{none_some}
 use Rattle.viewed_steps.proofs.Standing.{or_right}
 use Rattle.viewed_steps.proofs.Standing as standing
-use Rattle.viewed_steps.proofs.Views.{AreAccess, all_held}
+use Rattle.viewed_steps.proofs.Views.{AreAccess, all_held, parts_none}
 use Rattle.owned_loans.proofs.Alone.{viewed_alone, alone_viewed}
+use Rattle.viewed_steps.specs.Seeing.{sees_in}
+use Rattle.viewed_steps.proofs.Sees.{sees_seeing}
 
 module _ (table : Table) (typed : TypedProgram) (effects : Effects) (input : List ℕ) (ready : IsReady table typed effects) where
+  abbrev sees : ℕ → Bool
+  sees = sees_in (flow_program table typed)
+
+  abbrev seeing : Seeing (flow_typing (flow_program table typed)) sees
+  seeing = sees_seeing (flow_program table typed)
+
   abbrev program : FlowProgram
   program = flow_program table typed
 
@@ -177,23 +185,26 @@ module _ (table : Table) (typed : TypedProgram) (effects : Effects) (input : Lis
 
   -- a state without views
   abbrev HasNone : Views → Type 0
-  HasNone v = (x : ℕ) → v.way x ≡ None
+  HasNone v = ((x : ℕ) → v.way x ≡ None) × ((x : ℕ) (p : List Step) → v.part_way x p ≡ None)
 
   no_views : {A : Type 0} (v : Views) → HasNone v → (x : ℕ) (w : Way) → v.way x ≡ Some w → A
-  no_views v none x w has = absurd (none_some w (sym (none x) ∙ has))
+  no_views v none x w has = absurd (none_some w (sym (none.0 x) ∙ has))
+
+  no_parts : {A : Type 0} (v : Views) → HasNone v → (x : ℕ) (p : List Step) (w : Way) → v.part_way x p ≡ Some w → A
+  no_parts v none x p w has = absurd (none_some w (sym (none.1 x p) ∙ has))
 
   -- ---- a step of the package objects
 
   -- the main procedure begins, over the frame of the package objects
   module _ (below : ViewStage) (first : IsFirst below) (deep : below.stage.depth ≡ 0) (state : State) (views : Views) (none : HasNone views)
       (begins_main : state.frames ≡ frame_at_start ready.main [] ∷ (below.stage.frame ∷ [])) (facts_there : List Fact)
-      (viewed : ViewedAlone (home s 0) (sees_only s) (known_gone (home s 0) (GoneElsewhere program effects [])) views (view_here s state) facts_there)
+      (viewed : ViewedAlone (home s 0) sees (known_gone (home s 0) (GoneElsewhere program effects [])) views (view_here s state) facts_there)
       (unmoved : (name : PlaceName) → Has facts_there (Moved name) → ⊥) (kept : Kept s state.memory (waiting_in state))
       (scope : (f x : ℕ) (q : List Step) (n : ℕ) → word_in s.table (content s state.memory [] (OfRoot (OfVariable f x))) q ≡ Held n → f < 1)
       (above : NoneAbove s 0 state.memory) where
     nothing_there : (x n : ℕ) → is_view s x ≡ true → (get_or (variable_slots s (home s 1 x) x state.memory.variables) 0 no_slot).word ≡ machine.Cell n → ⊥
     nothing_there x n view e =
-        above 1 x n (omega arith) view (subst (λ f. (get_or (variable_slots s f x state.memory.variables) 0 no_slot).word ≡ machine.Cell n)
+        above.0 1 x n (omega arith) view (subst (λ f. (get_or (variable_slots s f x state.memory.variables) 0 no_slot).word ≡ machine.Cell n)
         (ap (λ b. if b then 0 else 1) (local x view)) e)
 
     pub main_begun : IsSound table typed effects state
@@ -222,8 +233,9 @@ module _ (table : Table) (typed : TypedProgram) (effects : Effects) (input : Lis
           seen = λ b h n m has there over. has;
           owned = λ n has. absurd has;
         };
-        views = λ x w has. no_views views none x w has;
+        views = (λ x w has. no_views views none x w has, λ x p w has. no_parts views none x p w has);
         whole = λ x w z has. no_views views none x w has;
+        whole_parts = λ x p w z has. no_parts views none x p w has;
       };
       kept = kept;
       named = ready.main_there.named;
@@ -232,17 +244,23 @@ module _ (table : Table) (typed : TypedProgram) (effects : Effects) (input : Lis
       at_point = ([], ready.main_there.points, ready.main_there.begins, refl);
       scope = λ f x q n held. inl (scope f x q n held);
       holds = record {
-        held = λ x n lasts view e. absurd (nothing_there x n view e);
-        within = λ x n view e. absurd (nothing_there x n view e);
+        held = λ x n lasts view bare e. absurd (nothing_there x n view e);
+        within = λ x n view bare e. absurd (nothing_there x n view e);
         only = λ x w has. no_views views none x w has;
         lies = λ x w has. no_views views none x w has;
         owners = λ x w has. no_views views none x w has;
         passed = λ x w has. no_views views none x w has;
         own = λ x w has. no_views views none x w has;
+        taken = λ x w has. no_views views none x w has;
+        parts = parts_none s sees in_formals 1 views state.memory
+            (λ x i n bundle at. above.1 1 x i n (omega arith) bundle (subst (λ f. (get_or (variable_slots s f x state.memory.variables) i no_slot).word ≡ machine.Cell n)
+            (ap (λ b. if b then 0 else 1) (local x (bundle_view s x bundle))) at))
+            (standing.bundle_sees table typed effects input ready) none.1;
+        low = λ x p w has. no_parts views none x p w has;
       };
       placed = λ x w has. no_views views none x w has;
-      past = ((λ x w has. no_views views none x w has), (λ x w has. no_views views none x w has));
-      none_above = λ f x n less view e. above f x n (omega (arith, less)) view e;
+      past = ((λ x w has. no_views views none x w has), ((λ x w has. no_views views none x w has), (λ x q w has. no_parts views none x q w has)));
+      none_above = (λ f x n less view e. above.0 f x n (omega (arith, less)) view e, λ f x i n less bundle e. above.1 f x i n (omega (arith, less)) bundle e);
       traversals = (
         begins_given table typed (view_here s state) (record { stage = stage ready.main 1; views = views; cells = [] }) below refl (first.1).0,
         (
@@ -255,11 +273,11 @@ module _ (table : Table) (typed : TypedProgram) (effects : Effects) (input : Lis
     }
 
   module _ (state : State) (top : Stage) (named : NamedSub) (p : NamedPoint) (frames : state.frames ≡ top.frame ∷ []) (deep : top.depth ≡ 0) (views : Views)
-      (running : (top.frame.sub ≡ 0) × IsPlain top × ((x : ℕ) → views.way x ≡ None) × (top.depth ≡ 0)) (above : NoneAbove s 0 state.memory)
+      (running : (top.frame.sub ≡ 0) × IsPlain top × ((x : ℕ) → views.way x ≡ None) × (top.depth ≡ 0) × ((x : ℕ) (p : List Step) → views.part_way x p ≡ None)) (above : NoneAbove s 0 state.memory)
       (of_sub : IsNamedSub (flow_named table typed) top.frame.sub named) (at_point : IsAtPoint named.points top.frame.next p)
       (path : ControlPath (path_points program effects (sub_of program top.frame.sub)) top.before top.frame.next)
-      (viewed_before : ViewedAlone (home s 0) (sees_only s) (known_gone (home s 0) (GoneElsewhere program effects [])) views (view_here s state) (facts_of program effects top))
-      (kept : Kept s state.memory (waiting_in state)) (scope : InScope s state.memory 0 (lasting_of s p.scope)) (holds : HoldsAt s 0 views state.memory p) where
+      (viewed_before : ViewedAlone (home s 0) sees (known_gone (home s 0) (GoneElsewhere program effects [])) views (view_here s state) (facts_of program effects top))
+      (kept : Kept s state.memory (waiting_in state)) (scope : InScope s state.memory 0 (lasting_of s p.scope)) (holds : HoldsAt s sees 0 views state.memory p) where
     -- where it leads, and how the frames come from those before
     abbrev Along : Outcome → Type 0
     Along outcome = LeadsAlong table typed effects p.instr state.memory (record { stage = top; views = views; cells = [] }) [] outcome
@@ -282,10 +300,10 @@ module _ (table : Table) (typed : TypedProgram) (effects : Effects) (input : Lis
     abbrev acts_first : Instruction → List Act
     acts_first i = standing.acts_here table typed effects input ready state top [] [] named p frames of_sub at_point i
 
-    viewed_first : Viewed (home s 0) (sees_only s) nowhere views (view_here s state) facts_first
+    viewed_first : Viewed (home s 0) sees nowhere views (view_here s state) facts_first
     viewed_first =
-        alone_viewed (home s 0) (sees_only s) views (view_here s state) facts_first (GoneElsewhere program effects []) (λ x w has. none_some w (sym (running.2 x) ∙ has))
-        (subst (ViewedAlone (home s 0) (sees_only s) (known_gone (home s 0) (GoneElsewhere program effects [])) views (view_here s state)) (standing.facts_are table typed effects input ready state top [] [] named p frames of_sub at_point path) viewed_before)
+        alone_viewed (home s 0) sees views (view_here s state) facts_first (GoneElsewhere program effects []) (λ x w has. none_some w (sym (running.2 x) ∙ has)) (no_parts views (running.2, running.4))
+        (subst (ViewedAlone (home s 0) sees (known_gone (home s 0) (GoneElsewhere program effects [])) views (view_here s state)) (standing.facts_are table typed effects input ready state top [] [] named p frames of_sub at_point path) viewed_before)
 
     in_packages : Has (sub_of program 0).points first_turn.point
     in_packages =
@@ -325,7 +343,12 @@ module _ (table : Table) (typed : TypedProgram) (effects : Effects) (input : Lis
       free_first : ((y : ℕ) (w : Way) → views.way y ≡ Some w
           → ((foreign : IsForeign (home s 0) w) → foreign.0 ≡ 0 → ⊥) × IsElsewhere (home s 0) 0 x w)
           × ((l : Loan) (name : PlaceName) → nowhere.lent l name → name.root ≡ x → 0 ≡ home s 0 x → ⊥)
-      free_first = (λ y w has. no_views views running.2 y w has, λ l name lent root at_home. lent)
+          × ((y : ℕ) (q : List Step) (w : Way) → views.part_way y q ≡ Some w → ways.base_of w ≡ OfRoot (OfVariable 0 x) → ⊥)
+      free_first = (
+        λ y w has. no_views views (running.2, running.4) y w has,
+        λ l name lent root at_home. lent,
+        λ y q w has. no_parts views (running.2, running.4) y q w has,
+      )
 
       blank_first : (q : List Step) (w : ways.Word) → word_in s.table (content s state.memory [] (OfRoot (OfVariable 0 x))) q ≡ w
           → word_in s.table (content s state.memory [] (OfRoot (OfVariable 0 x))) q ≡ ways.Empty
@@ -337,14 +360,14 @@ module _ (table : Table) (typed : TypedProgram) (effects : Effects) (input : Lis
       blank_first q ways.Gone is =
           let root : ways.Root = OfVariable 0 x in
           let w : Way = along (ways.Object root) q in
-          absurd (not_gone first_turn ready.accepted.settled ready.owns nowhere alone_first in_formals views ready.class.parts_named no_sources frames first_takes
+          absurd (not_gone first_turn sees seeing ready.accepted.settled ready.owns nowhere alone_first in_formals views ready.class.parts_named no_sources frames first_takes
           x facts_first (view_here s state) viewed_first (λ name has root at_home. new_before state top [] [] named p frames of_sub at_point path x v e name has root) free_first q
           (viewed_first.known w (ways.part (OfRoot root) q) (rooted_along (ways.Object root) q tt)
           (reaches_along (view_here s state) (ways.Object root) (OfRoot root) q refl)
           (word_root s.table (content s state.memory (waiting_in state)) root q ∙ is)))
 
       abbrev GoodFirst : State → Type 0
-      GoodFirst st = IsGood first_turn ready.accepted.settled ready.owns nowhere alone_first views ready.class.parts_named no_sources frames first_takes views facts_first st
+      GoodFirst st = IsGood first_turn sees seeing ready.accepted.settled ready.owns nowhere alone_first views ready.class.parts_named no_sources frames first_takes views facts_first st
 
       same_declare : (a b : ℕ) (c : TypedTree) → Declare b c ≡ EndScope a → ⊥
       same_declare a b c e = cc
@@ -353,34 +376,34 @@ module _ (table : Table) (typed : TypedProgram) (effects : Effects) (input : Lis
       good_first = record {
         viewed = viewed_first;
         kept = kept;
-        holds = all_held s in_formals 0 views state.memory (λ y n view at. holds.held y n (λ fading. same_declare fading.0 x v (sym e ∙ fading.1)) view at)
-            holds.only holds.owners holds.own;
+        holds = all_held s sees in_formals 0 views state.memory (λ y n view bare at. holds.held y n (λ fading. same_declare fading.0 x v (sym e ∙ fading.1)) view bare at)
+            holds.only holds.owners holds.own holds.taken holds.parts;
       }
 
       abbrev LeadsFirst : Outcome → Type 0
       LeadsFirst outcome =
-          Leads_on first_turn ready.accepted.settled ready.owns nowhere alone_first views ready.class.parts_named no_sources frames first_takes
+          Leads_on first_turn sees seeing ready.accepted.settled ready.owns nowhere alone_first views ready.class.parts_named no_sources frames first_takes
           (after (acts_first (Declare x v)) facts_first) outcome
 
       first_leads : LeadsFirst (turn first_turn (Declare x v))
       first_leads =
-          declare_leads first_turn ready.accepted.settled ready.owns nowhere alone_first in_formals views ready.class.parts_named no_sources frames first_takes
+          declare_leads first_turn sees seeing ready.accepted.settled ready.owns nowhere alone_first in_formals views ready.class.parts_named no_sources frames first_takes
           x v (plain_named s.table (object_at s x).of owner) no_formal (subst (IsFine s named.sub.result) e (standing.fine table typed effects input ready state top [] [] named p frames of_sub at_point))
           no_call facts_first good_first
           (subst (λ i. AllowsAll facts_first (acts_first i)) e (standing.allowed table typed effects input ready state top [] [] named p frames of_sub at_point path (calls_plain x v e)))
-          (subst (λ i. AllKeep (is_fixed s) (acts_first i)) e (standing.keeps_there table typed effects input ready state top [] [] named p frames of_sub at_point))
+          (subst (λ i. AllKeep (is_fixed s sees) (acts_first i)) e (standing.keeps_there table typed effects input ready state top [] [] named p frames of_sub at_point))
           (λ q. blank_first q (word_in s.table (content s state.memory [] (OfRoot (OfVariable 0 x))) q) refl)
           (λ name has root at_home. new_after state top [] [] named p frames of_sub at_point path x v e (calls_plain x v e) name
           (subst (λ i. Has (after (acts_first i) facts_first) (Moved name)) (sym e) has) root)
           free_first (λ w keeps base. elim keeps [ inl there ↦ there.1 | inr there ↦ there.2 ])
 
-      none_left : (turned_views : Views) → Turned first_turn ready.accepted.settled ready.owns nowhere alone_first views ready.class.parts_named no_sources frames first_takes
+      none_left : (turned_views : Views) → Turned first_turn sees seeing ready.accepted.settled ready.owns nowhere alone_first views ready.class.parts_named no_sources frames first_takes
           turned_views (after (acts_first (Declare x v)) facts_first) → HasNone turned_views
-      none_left turned_views turned y = by_way (turned_views.way y) refl
+      none_left turned_views turned = (λ y. by_way y (turned_views.way y) refl, λ y q. (turned.1 y q).0 ∙ running.4 y q)
         where
-          by_way : (o : Option Way) → turned_views.way y ≡ o → turned_views.way y ≡ None
-          by_way None is = is
-          by_way (Some w) is = absurd (elim (turned y w is) [
+          by_way : (y : ℕ) (o : Option Way) → turned_views.way y ≡ o → turned_views.way y ≡ None
+          by_way y None is = is
+          by_way y (Some w) is = absurd (elim (turned.0 y w is) [
             | inl same_there ↦ none_some w (sym (running.2 y) ∙ sym same_there.way ∙ is)
             | inr (z, never, comes) ↦ never
           ])
@@ -399,21 +422,29 @@ module _ (table : Table) (typed : TypedProgram) (effects : Effects) (input : Lis
                 let lead : Leads s (scope_behind p) (q.0).scope = q.2 in
                 standing.goes_to_next table typed effects input ready state top [] [] named p frames of_sub at_point path (calls_plain x v e) after_step [] top.frame.loops found.0 found.2 q.0 q.1
                 (on.frames ∙ ap (led first_turn (record top.frame { waits = [] })) found.1) deep tt turned_views
-                (running.0, (refl, running.1.1, running.1.2), none_now, deep, refl) (refl, refl)
-                (viewed_alone (home s 0) (sees_only s) turned_views (view_here s after_step) (after (acts_first p.instr) facts_first) nowhere
-                (subst (Viewed (home s 0) (sees_only s) nowhere turned_views (view_here s after_step)) facts_on_e well.viewed)) well.kept
+                (running.0, (refl, running.1.1, running.1.2), none_now.0, deep, refl, none_now.1) (refl, refl)
+                (viewed_alone (home s 0) sees turned_views (view_here s after_step) (after (acts_first p.instr) facts_first) nowhere
+                (subst (Viewed (home s 0) sees nowhere turned_views (view_here s after_step)) facts_on_e well.viewed)) well.kept
                 (scope_on s ready.owns after_step.memory 0 (scope_behind p) (q.0).scope (subst (λ z. InScope s after_step.memory 0 (lasting_of s z)) (sym scope_first) on.inside) lead)
                 (record {
-                  held = λ y n lasts view at. well.holds.held y n view at;
-                  within = λ y n view at. (
-                      let own_way = well.holds.held y n view at in no_views turned_views none_now y own_way.0 own_way.1);
+                  held = λ y n lasts view bare at. well.holds.held y n view bare at;
+                  within = λ y n view bare at. (
+                      let own_way = well.holds.held y n view bare at in no_views turned_views none_now y own_way.0 own_way.1);
                   only = λ y w has. no_views turned_views none_now y w has;
                   lies = λ y w has. no_views turned_views none_now y w has;
                   owners = λ y w has. no_views turned_views none_now y w has;
                   passed = λ y w has. no_views turned_views none_now y w has;
                   own = λ y w has. no_views turned_views none_now y w has;
-                })
-                ((λ y w has. no_views turned_views none_now y w has), ((λ y w has. no_views turned_views none_now y w has), (λ y w has. no_views turned_views none_now y w has))) (
+                  taken = λ y w has. no_views turned_views none_now y w has;
+                  parts = well.holds.parts;
+                  low = λ y q w has. no_parts turned_views none_now y q w has;
+                }) (
+                  (λ y w has. no_views turned_views none_now y w has),
+                  (
+                    (λ y w has. no_views turned_views none_now y w has),
+                    ((λ y w has. no_views turned_views none_now y w has), (λ y q w has. no_parts turned_views none_now y q w has)),
+                  ),
+                ) (
                   nones,
                   (
                     none_given table typed (view_here s after_step) (record { stage = standing.at_next table typed effects input ready state top [] [] named p frames of_sub at_point path [] top.frame.loops found.0; views = turned_views; cells = [] })
@@ -431,8 +462,8 @@ module _ (table : Table) (typed : TypedProgram) (effects : Effects) (input : Lis
                 let same_facts : after (acts_first p.instr) facts_first ≡ facts_of program effects below =
                 sym (standing.facts_on table typed effects input ready state top [] [] named p frames of_sub at_point path (calls_plain x v e))
                 ∙ ap (λ (z : FlowSub). facts_before (path_points program effects z) (top.frame.next ∷ top.before)) (sym (standing.sub_is table typed effects input ready state top [] [] named p frames of_sub at_point)) in (
-                  main_begun (record { stage = below; views = turned_views; cells = [] }) (running.0, (refl, running.1.1, refl), none_now, refl, refl) refl after_step turned_views none_now main_frames (after (acts_first (Declare x v)) facts_first)
-                      (viewed_alone (home s 0) (sees_only s) turned_views (view_here s after_step) (after (acts_first (Declare x v)) facts_first) nowhere well.viewed)
+                  main_begun (record { stage = below; views = turned_views; cells = [] }) (running.0, (refl, running.1.1, refl), none_now.0, refl, refl, none_now.1) refl after_step turned_views none_now main_frames (after (acts_first (Declare x v)) facts_first)
+                      (viewed_alone (home s 0) sees turned_views (view_here s after_step) (after (acts_first (Declare x v)) facts_first) nowhere well.viewed)
                       (λ name has. unmoved_stage below running.0 name (subst (λ z. Has z (Moved name)) (facts_on_e ∙ same_facts) has)) well.kept
                       (λ f y q n held. elim (on.inside f y q n held) [
                         | inl less ↦ absurd (omega (arith, less))
@@ -444,15 +475,17 @@ module _ (table : Table) (typed : TypedProgram) (effects : Effects) (input : Lis
 
       have_none_on : Each (λ (st : State). NoneAbove s 0 st.memory) (turn first_turn (Declare x v))
       have_none_on = each_on (turn first_turn (Declare x v))
-          (others_stay first_turn ready.accepted.settled ready.owns nowhere alone_first in_formals views ready.class.parts_named no_sources frames first_takes
+          (others_stay first_turn sees seeing ready.accepted.settled ready.owns nowhere alone_first in_formals views ready.class.parts_named no_sources frames first_takes
           (start first_turn).waits x v (subst (IsFine s named.sub.result) e (standing.fine table typed effects input ready state top [] [] named p frames of_sub at_point)))
         where
           frame_is : (g x y : ℕ) → OfVariable 0 x ≡ OfVariable g y → 0 ≡ g
           frame_is g x y same_there = cc
 
           each_on : (outcome : Outcome) → Each (λ (st : State). OthersStay s state.memory 0 x st.memory) outcome → Each (λ (st : State). NoneAbove s 0 st.memory) outcome
-          each_on (Goes st) stay = λ g y n less view at.
-              above g y n less view (sym (stay g y (λ same_there. (let none = frame_is g x y same_there in omega (arith, less, none)))) ∙ at)
+          each_on (Goes st) stay = (
+            λ g y n less view at. above.0 g y n less view (sym (stay g y 0 (λ same_there. (let none = frame_is g x y same_there in omega (arith, less, none)))) ∙ at),
+            λ g y i n less bundle at. above.1 g y i n less bundle (sym (stay g y i (λ same_there. (let none = frame_is g x y same_there in omega (arith, less, none)))) ∙ at),
+          )
           each_on (Ends how st) stay = tt
 
       declares_first : Along (turn first_turn (Declare x v))

@@ -61,7 +61,7 @@ use Rattle.owned_loans.proofs.Allowed.{either_right}
 use Rattle.owned_loans.proofs.Safe.{Unlent, Unmoved, clean_below}
 use Rattle.viewed_steps.specs.Sound.{IsScalarObject, IsCopiedBack, IsKindOfFormal}
 use Rattle.viewed_steps.specs.Ready.{roots_passed, AreDifferent, AreActualsTo}
-use Rattle.viewed_soundness.proofs.Names.{true_false, both_no, owner_sees}
+use Rattle.viewed_soundness.proofs.ViewKinds.{sees_view, true_false, both_no, owner_sees}
 use Rattle.viewed_soundness.proofs.Outcomes.{named_plain}
 use Rattle.viewed_steps.proofs.Views.{given_cases, given_type, unowned_view, scalar_unseen}
 use Rattle.viewed_steps.specs.Taken.{Lodge, IsInside, IsAmong, IsPlainPlace, IsApartFrom, IsOwnAt}
@@ -71,7 +71,7 @@ use Rattle.viewed_steps.proofs.Called.{copies_add}
 use Rattle.viewed_steps.proofs.Entered.{IsPlainOne, DiffersFrom, IsTakenAs, ArePassedOn, own_named, own_number, own_plain, own_itself}
 use Rattle.soundness.proofs.Fixed.{plain_word}
 use Rattle.viewed_steps.proofs.Aside.{names_off}
-use Rattle.viewed_soundness.specs.Holds.{is_view, sees_only}
+use Rattle.viewed_soundness.specs.Holds.{is_bundle, is_view, Seeing}
 use Rattle.place_names.specs.declared.rule.Loan.TheVariants.{Borrowed}
 
 -- ---- what the rules on facts say
@@ -223,13 +223,13 @@ module _ (program : FlowProgram) (effects : Effects) where
 -- ---- what is passed
 
 -- A way that the name of an actual stands for, with its formal, which isn't scalar.
-pub record IsNamedBy (s : Typing) (depth : ℕ) (v : Views) (facts : List Fact) (formals : List ℕ) (actuals : TypedTree) (to : Way) : Type 0 where
+pub record IsNamedBy (s : Typing) (sees : ℕ → Bool) (depth : ℕ) (v : Views) (facts : List Fact) (formals : List ℕ) (actuals : TypedTree) (to : Way) : Type 0 where
   pub by : alias.Passed
   pub among : Has (alias.passed formals actuals) by
   pub back : IsCopiedBack s by.formal
   pub name : Way
   pub named : Named (home s depth) name
-  pub plain : sees_only s (ways.number_of name) ≡ false
+  pub plain : sees (ways.number_of name) ≡ false
   pub means : expand v name ≡ to
   pub called : by.actual.name ≡ ways.name_of name
   pub unlent : Unlent facts name
@@ -273,19 +273,19 @@ after_less (a ∷ more) none facts f has =
 
 -- ---- all that is passed
 
-module _ (s : Typing) (own_law : OwnsByShape s.table) (settled : IsSettled s.table) (m : Memory) (cells : List Lodge) (depth : ℕ) (v : Views)
+module _ (s : Typing) (sees : ℕ → Bool) (seeing : Seeing s sees) (own_law : OwnsByShape s.table) (settled : IsSettled s.table) (m : Memory) (cells : List Lodge) (depth : ℕ) (v : Views)
     (only : (x : ℕ) (w : Way) → v.way x ≡ Some w → is_view s x ≡ true) (view : ways.View) (facts : List Fact)
-    (other : Around (home s depth)) (stilled : ways.View) (viewed : Viewed (home s depth) (sees_only s) other v stilled facts) (scope : List ℕ) (procedure : Bool) where
+    (other : Around (home s depth)) (stilled : ways.View) (viewed : Viewed (home s depth) sees other v stilled facts) (scope : List ℕ) (procedure : Bool) where
   abbrev copies_of : List ℕ → TypedTree → List Placed
   copies_of formals actuals = actual_acts (map (passing s procedure) formals) actuals
 
   -- its ways
   abbrev Passes : List ℕ → TypedTree → List Passed → List Out → Type 0
   Passes formals actuals passed outs =
-      (ways_there : List Way) × ArePassedOn s m cells depth v facts scope formals passed ways_there outs × ((k : Way) → Has ways_there k → IsNamedBy s depth v facts formals actuals k)
+      (ways_there : List Way) × ArePassedOn s sees m cells depth v facts scope formals passed ways_there outs × ((k : Way) → Has ways_there k → IsNamedBy s sees depth v facts formals actuals k)
 
-  more_named : (x : ℕ) (e : TypedTree) (formals : List ℕ) (actuals : TypedTree) (k : Way) → IsNamedBy s depth v facts formals actuals k
-      → IsNamedBy s depth v facts (x ∷ formals) (More e actuals) k
+  more_named : (x : ℕ) (e : TypedTree) (formals : List ℕ) (actuals : TypedTree) (k : Way) → IsNamedBy s sees depth v facts formals actuals k
+      → IsNamedBy s sees depth v facts (x ∷ formals) (More e actuals) k
   more_named x e formals actuals k one = record {
     by = one.by;
     among = Has-append_right (alias.passed_as x (written e)) (alias.passed formals actuals) one.by one.among;
@@ -302,17 +302,17 @@ module _ (s : Typing) (own_law : OwnsByShape s.table) (settled : IsSettled s.tab
 
   -- what a name stands for is apart from all later ones
   apart_from : (x : ℕ) (e : TypedTree) (m : Written) (formals : List ℕ) (actuals : TypedTree) (name : Way) (ways_left : List Way) → IsCopiedBack s x
-      → written e ≡ Some m → Named (home s depth) name → sees_only s (ways.number_of name) ≡ false → Unlent facts name → m.name ≡ ways.name_of name
+      → written e ≡ Some m → Named (home s depth) name → sees (ways.number_of name) ≡ false → Unlent facts name → m.name ≡ ways.name_of name
       → ((r : Report) → Has (overlap_reports s (alias.passed (x ∷ formals) (More e actuals))) r → ⊥)
-      → ((k : Way) → Has ways_left k → IsNamedBy s depth v facts formals actuals k) → IsApartFrom (expand v name) ways_left
+      → ((k : Way) → Has ways_left k → IsNamedBy s sees depth v facts formals actuals k) → IsApartFrom (expand v name) ways_left
   apart_from x e m formals actuals name ways_left in_out is named plain unlent called none names k has =
       let b = names k has in
       let apart : overlaps (ways.name_of name) (ways.name_of b.name) ≡ true → ⊥ =
       (λ over. first_apart s x e m formals actuals in_out is none b.by b.among b.back
       (subst (λ z. overlaps z b.by.actual.name ≡ true) (sym called) (subst (λ z. overlaps (ways.name_of name) z ≡ true) (sym b.called) over))) in (
-        λ under. names_off (home s depth) (sees_only s) other v stilled facts viewed name b.name (named, plain) (b.named, b.plain) unlent b.unlent apart
+        λ under. names_off (home s depth) sees other v stilled facts viewed name b.name (named, plain) (b.named, b.plain) unlent b.unlent apart
             (subst (Under (expand v name)) (sym b.means) under),
-        λ under. names_off (home s depth) (sees_only s) other v stilled facts viewed b.name name (b.named, b.plain) (named, plain) b.unlent unlent
+        λ under. names_off (home s depth) sees other v stilled facts viewed b.name name (b.named, b.plain) (named, plain) b.unlent unlent
             (λ over. apart (overlaps-sym (ways.name_of name) (ways.name_of b.name) ∙ over)) (subst (λ z. Under z (expand v name)) (sym b.means) under),
       )
 
@@ -352,7 +352,7 @@ module _ (s : Typing) (own_law : OwnsByShape s.table) (settled : IsSettled s.tab
     inside : IsInside s depth k to
     name : Way
     named : Named (home s depth) name
-    plain : sees_only s (ways.number_of name) ≡ false
+    plain : sees (ways.number_of name) ≡ false
     means : expand v name ≡ to
     called : ways.name_of name ≡ name_of y path
     fits : Matches s.table k.of (object_at s x).of
@@ -365,9 +365,9 @@ module _ (s : Typing) (own_law : OwnsByShape s.table) (settled : IsSettled s.tab
     inside = inside;
     name = to;
     named = own_named s settled depth k to inside own;
-    plain = ap (sees_only s) (own_number s settled depth k to inside own) ∙ owner_sees s inside.object (no_left (is_anonymous (view_of s inside.object)) (is_view_formal s inside.object)
+    plain = ap sees (own_number s settled depth k to inside own) ∙ owner_sees s sees seeing inside.object (no_left (is_anonymous (view_of s inside.object)) (is_view_formal s inside.object)
         (own_plain s settled depth k to inside own)) own.4;
-    means = own_itself s settled depth k to inside own v only;
+    means = own_itself s settled depth k to inside own v only (λ z q w has. sees_view s sees seeing z (viewed.views.1 z q w has).sees);
     called = called;
     fits = fits;
     among = λ n is. absurd (no_cell n (sym own.1 ∙ is));
@@ -381,17 +381,17 @@ module _ (s : Typing) (own_law : OwnsByShape s.table) (settled : IsSettled s.tab
       no_left true b e = e
       no_left false b e = refl
 
-  in_cell : (x y : ℕ) (path : TypedTree) (k : Place) → (h : IsHoused s depth v view x y path k) → Has cells (house_of s depth v view x y path k h) → OwnPlace x y path k
+  in_cell : (x y : ℕ) (path : TypedTree) (k : Place) → (h : IsHoused s sees depth v view x y path k) → Has cells (house_of s sees depth v view x y path k h) → OwnPlace x y path k
   in_cell x y path k h has = record {
     to = h.to;
     inside = h.inside;
     name = h.name;
     named = h.named;
-    plain = ap (sees_only s) (ap (λ (z : PlaceName). z.root) h.called) ∙ h.plain;
+    plain = ap sees (ap (λ (z : PlaceName). z.root) h.called) ∙ h.plain;
     means = h.means;
     called = h.called;
     fits = h.fits;
-    among = λ n is. (house_of s depth v view x y path k h, has, refl, same_cell (sym h.start ∙ is));
+    among = λ n is. (house_of s sees depth v view x y path k h, has, refl, same_cell (sym h.start ∙ is));
     own = λ at. absurd (no_cell (sym at.1 ∙ h.start));
   }
     where
@@ -496,7 +496,7 @@ module _ (s : Typing) (own_law : OwnsByShape s.table) (settled : IsSettled s.tab
       (λ by_name free. (
         inl (
           refl,
-          (λ w under moved. clean_below (home s depth) (sees_only s) other v stilled facts viewed own.name w (own.named, own.plain) (λ h n has over. free Borrowed h n has over)
+          (λ w under moved. clean_below (home s depth) sees other v stilled facts viewed own.name w (own.named, own.plain) (λ h n has over. free Borrowed h n has over)
               (λ n has over. passed_unmoved known own.name owning access by_name n (less (Moved n) has) over) (subst (λ z. Under z w) (sym own.means) under) moved),
           refl,
         ),
@@ -542,13 +542,13 @@ module _ (s : Typing) (own_law : OwnsByShape s.table) (settled : IsSettled s.tab
   out_own x e k formals actuals passed known later is many never local differ within none less less_after allowed rest = absurd never
 
   out_housed : (x : ℕ) (e : TypedTree) (k : Place) (formals : List ℕ) (actuals : TypedTree) (passed : List Passed) (known : List Fact) (later : List Out)
-      → (object_at s x).mode ≡ mode.Out → (many : is_scalar (full s.table (object_at s x).of) ≡ false) → (housed : IsHousedPut s depth v view x e k) → is_package_object s x ≡ false
+      → (object_at s x).mode ≡ mode.Out → (many : is_scalar (full s.table (object_at s x).of) ≡ false) → (housed : IsHousedPut s sees depth v view x e k) → is_package_object s x ≡ false
       → DiffersFrom x formals → IsWithin e → NoOverlap (x ∷ formals) (More e actuals) → ((f : Fact) → Has facts f → Has known f) → LessAfter known x e → AllowsOne known x e
-      → ((c : Lodge) → Has (back_cell s depth v view x e k (inr (many, housed))) c → Has cells c)
-      → Passes formals actuals passed later → Passes (x ∷ formals) (More e actuals) (To k ∷ passed) (housed_out s depth v view x e k housed ++ later)
+      → ((c : Lodge) → Has (back_cell s sees depth v view x e k (inr (many, housed))) c → Has cells c)
+      → Passes formals actuals passed later → Passes (x ∷ formals) (More e actuals) (To k ∷ passed) (housed_out s sees depth v view x e k housed ++ later)
   unfolding in_cell
   out_housed x (Name p y path u) k formals actuals passed known later is many h local differ within none less less_after allowed lodged rest =
-      out_first x p y u path k formals actuals passed known later is many (in_cell x y path k h (lodged (house_of s depth v view x y path k h) (inl refl))) local differ within none less
+      out_first x p y u path k formals actuals passed known later is many (in_cell x y path k h (lodged (house_of s sees depth v view x y path k h) (inl refl))) local differ within none less
       less_after allowed rest
   out_housed x e k formals actuals passed known later is many never local differ within none less less_after allowed lodged rest = absurd never
 
@@ -557,22 +557,24 @@ module _ (s : Typing) (own_law : OwnsByShape s.table) (settled : IsSettled s.tab
   value_first x ws is (inl plain) laid =
       inl (plain, (laid.0 (both_no (is_owning s.table (object_at s x).of) (is_anonymous (view_of s x)) (plain_type s own_law (object_at s x).of plain) (scalar_unseen s x plain))).0 ∙ plain_word s settled (object_at s x).of plain)
   value_first x ws is (inr (inl (back, own))) laid = absurd (back is)
-  value_first x ws is (inr (inr (inr (by_mode, plain, named)))) laid = inr (inr (plain, named, ws, refl, laid.0 (both_no (is_owning s.table (object_at s x).of) (is_anonymous (view_of s x)) plain (named_plain s.table (object_at s x).of named))))
-  value_first x ws is (inr (inr (inl shown))) laid =
-      let value = laid.1 (given_type s x shown.0) in
-      inr (inl (shown.0, value.0, ap Value value.1, value.2))
+  value_first x ws is (inr (inr (inr (by_mode, plain, named)))) laid = inr (inr (inl (plain, named), ws, refl, laid.0 (both_no (is_owning s.table (object_at s x).of) (is_anonymous (view_of s x)) plain (named_plain s.table (object_at s x).of named))))
+  value_first x ws is (inr (inr (inl shown))) laid = by_bundle (is_bundle s x) refl
+    where
+      by_bundle : (b : Bool) → is_bundle s x ≡ b → IsPlainOne s m cells x (Value ws)
+      by_bundle true bundle = inr (inr (inr bundle, ws, refl, laid.2 bundle))
+      by_bundle false bare = (let value = laid.1 (given_type s x shown) bare in inr (inl ((shown, bare), value.0, ap Value value.1, value.2)))
 
   -- a scalar place
-  plain_place_of : (e : TypedTree) (k : Place) → (there : IsPlainAt s depth v view e k) → ((c : Lodge) → Has (plain_cell s depth v view e k there) c → Has cells c) → IsPlainPlace s cells k
+  plain_place_of : (e : TypedTree) (k : Place) → (there : IsPlainAt s sees depth v view e k) → ((c : Lodge) → Has (plain_cell s sees depth v view e k there) c → Has cells c) → IsPlainPlace s cells k
   plain_place_of (Name p y path u) k (inl fixed) lodged = inl fixed
   plain_place_of (Name p y path u) k (inr (c, there, plain)) lodged = inr (c, lodged c (inl refl), there.lodged, plain)
   plain_place_of e k never lodged = absurd never
 
   first_passed : (x : ℕ) (how : Mode) (e : TypedTree) (a : Passed) (formals : List ℕ) (actuals : TypedTree) (passed : List Passed) (known : List Fact) (later : List Out)
-      → (object_at s x).mode ≡ how → (laid : IsLaidOne s m depth v view x how e a) → IsKindOfFormal s x → is_package_object s x ≡ false → DiffersFrom x formals → IsWithin e
+      → (object_at s x).mode ≡ how → (laid : IsLaidOne s sees m depth v view x how e a) → IsKindOfFormal s x → is_package_object s x ≡ false → DiffersFrom x formals → IsWithin e
       → NoOverlap (x ∷ formals) (More e actuals) ⊎ ((y : ℕ) → Has (x ∷ formals) y → IsCopiedBack s y → IsScalarObject s y)
-      → ((f : Fact) → Has facts f → Has known f) → LessAfter known x e → AllowsOne known x e → ((c : Lodge) → Has (cell_of s m depth v view x how e a laid) c → Has cells c)
-      → Passes formals actuals passed later → Passes (x ∷ formals) (More e actuals) (a ∷ passed) (out_of s m depth v view x how e a laid ++ later)
+      → ((f : Fact) → Has facts f → Has known f) → LessAfter known x e → AllowsOne known x e → ((c : Lodge) → Has (cell_of s sees m depth v view x how e a laid) c → Has cells c)
+      → Passes formals actuals passed later → Passes (x ∷ formals) (More e actuals) (a ∷ passed) (out_of s sees m depth v view x how e a laid ++ later)
   first_passed x mode.In e (Value ws) formals actuals passed known later is laid kind local differ within none less less_after allowed lodged rest =
       plain_first x e (Value ws) formals actuals passed later (value_first x ws is kind laid) rest
   first_passed x mode.Out e (To k) formals actuals passed known later is (inl (inl (plain, there))) kind local differ within none less less_after allowed lodged rest =
@@ -586,7 +588,7 @@ module _ (s : Typing) (own_law : OwnsByShape s.table) (settled : IsSettled s.tab
   first_passed x mode.InOut e (From k) formals actuals passed known later is (inl (inr (many, own))) kind local differ within (inl none) less less_after allowed lodged rest =
       in_out_own x e k formals actuals passed known later is many own local differ within none less allowed rest
   first_passed x mode.InOut (Name p y path u) (From k) formals actuals passed known later is (inr (many, h)) kind local differ within (inl none) less less_after allowed lodged rest =
-      in_out_first x p y u path k formals actuals passed known later is many (in_cell x y path k h (lodged (house_of s depth v view x y path k h) (inl refl))) local differ within none less
+      in_out_first x p y u path k formals actuals passed known later is many (in_cell x y path k h (lodged (house_of s sees depth v view x y path k h) (inl refl))) local differ within none less
       allowed rest
   first_passed x mode.Out e (To k) formals actuals passed known later is (inr (many, housed)) kind local differ within (inr plain) less less_after allowed lodged rest =
       absurd (true_false (is_scalar (full s.table (object_at s x).of)) (plain x (inl refl) (back_of x mode.Out is no_out)) many)
@@ -599,13 +601,13 @@ module _ (s : Typing) (own_law : OwnsByShape s.table) (settled : IsSettled s.tab
   first_passed x mode.InOut e (From k) formals actuals passed known later is (inr (many, never)) kind local differ within none less less_after allowed lodged rest = absurd never
   first_passed x how e a formals actuals passed known later is laid kind local differ within none less less_after allowed lodged rest = absurd laid
 
-  pub all_passed_on : (formals : List ℕ) (actuals : TypedTree) (passed : List Passed) (known : List Fact) → (laid : AreLaidOut s m depth v view formals actuals passed)
+  pub all_passed_on : (formals : List ℕ) (actuals : TypedTree) (passed : List Passed) (known : List Fact) → (laid : AreLaidOut s sees m depth v view formals actuals passed)
       → ((x : ℕ) → Has formals x → IsKindOfFormal s x) → ((x : ℕ) → Has formals x → is_package_object s x ≡ false) → AreDifferent formals
       → ((y : ℕ) → Has (roots_passed actuals) y → is_package_object s y ≡ false → is_owning s.table (object_at s y).of ≡ true → is_within y scope ≡ true)
       → NoOverlap formals actuals ⊎ ((x : ℕ) → Has formals x → IsCopiedBack s x → IsScalarObject s x)
       → facts ≡ after (acts (actual_acts (map (passing s procedure) formals) actuals)) known
-      → AllowsAll known (acts (actual_acts (map (passing s procedure) formals) actuals)) → ((c : Lodge) → Has (cells_of s m depth v view formals actuals passed laid) c → Has cells c)
-      → Passes formals actuals passed (outs_of s m depth v view formals actuals passed laid)
+      → AllowsAll known (acts (actual_acts (map (passing s procedure) formals) actuals)) → ((c : Lodge) → Has (cells_of s sees m depth v view formals actuals passed laid) c → Has cells c)
+      → Passes formals actuals passed (outs_of s sees m depth v view formals actuals passed laid)
   unfolding roots_passed
   all_passed_on [] actuals passed known laid kinds local differ within none same allowed lodged = ([], (refl, refl), λ k has. absurd has)
   all_passed_on (x ∷ formals) (More e rest) (a ∷ passed) known laid kinds local differ within none same allowed lodged =
@@ -613,7 +615,7 @@ module _ (s : Typing) (own_law : OwnsByShape s.table) (settled : IsSettled s.tab
       let others : List Act = acts (copies_of formals rest) in
       let both : acts (copies_of (x ∷ formals) (More e rest)) ≡ first ++ others = acts_append (actual_act (passing s procedure x) e) (copies_of formals rest) in
       let each = allows_both known first others (subst (AllowsAll known) both allowed) in
-      first_passed x (object_at s x).mode e a formals rest passed known (outs_of s m depth v view formals rest passed laid.1) refl laid.0 (kinds x (inl refl)) (local x (inl refl)) differ.0
+      first_passed x (object_at s x).mode e a formals rest passed known (outs_of s sees m depth v view formals rest passed laid.1) refl laid.0 (kinds x (inl refl)) (local x (inl refl)) differ.0
       (λ y has. within y (Has-append_left (root_of e) (roots_passed rest) y has)) none
       (λ f has. after_less (acts (copies_of (x ∷ formals) (More e rest)))
       (λ b there. (let from = Has-map_from (λ (z : Placed). z.act) (copies_of (x ∷ formals) (More e rest)) b there in
@@ -622,18 +624,18 @@ module _ (s : Typing) (own_law : OwnsByShape s.table) (settled : IsSettled s.tab
       (λ b there. (let from = Has-map_from (λ (z : Placed). z.act) (copies_of formals rest) b there in
       λ g new. copies_add s own_law procedure formals rest from.0 from.1 g (subst (λ z. Has (adds z) g) (sym from.2) new)))
       (after first known) f (subst (λ z. Has z f) (same ∙ ap (λ z. after z known) both ∙ after_append first others known) has))
-      each.0 (λ c has. lodged c (Has-append_left (cell_of s m depth v view x (object_at s x).mode e a laid.0) (cells_of s m depth v view formals rest passed laid.1) c has))
+      each.0 (λ c has. lodged c (Has-append_left (cell_of s sees m depth v view x (object_at s x).mode e a laid.0) (cells_of s sees m depth v view formals rest passed laid.1) c has))
       (all_passed_on formals rest passed (after first known) laid.1 (λ y has. kinds y (inr has)) (λ y has. local y (inr has)) differ.1
       (λ y has. within y (Has-append_right (root_of e) (roots_passed rest) y has)) (elim none [ inl no_reports ↦ inl (later_none s x e formals rest no_reports) | inr plain ↦ inr (λ y has. plain y (inr has)) ])
       (same ∙ ap (λ z. after z known) both ∙ after_append first others known) each.1
-      (λ c has. lodged c (Has-append_right (cell_of s m depth v view x (object_at s x).mode e a laid.0) (cells_of s m depth v view formals rest passed laid.1) c has)))
+      (λ c has. lodged c (Has-append_right (cell_of s sees m depth v view x (object_at s x).mode e a laid.0) (cells_of s sees m depth v view formals rest passed laid.1) c has)))
   all_passed_on (x ∷ formals) (More e rest) [] known laid kinds local differ within none same allowed lodged = absurd laid
   all_passed_on (x ∷ formals) actuals passed known laid kinds local differ within none same allowed lodged =
-      ([], subst (λ z. ArePassedOn s m cells depth v facts scope (x ∷ formals) z [] []) (sym laid) (refl, refl), λ k has. absurd has)
+      ([], subst (λ z. ArePassedOn s sees m cells depth v facts scope (x ∷ formals) z [] []) (sym laid) (refl, refl), λ k has. absurd has)
 
 -- ---- what is checked, and what is to be copied back
 
-module _ (s : Typing) (settled : IsSettled s.table) (depth : ℕ) (v : Views) (view : ways.View) where
+module _ (s : Typing) (sees : ℕ → Bool) (settled : IsSettled s.table) (depth : ℕ) (v : Views) (view : ways.View) where
   -- a scalar place has no leak checks
   no_checks : (p : Pos) (m : Memory) (k : Place) → is_scalar (full s.table k.of) ≡ true → checks_at s p m k ≡ []
   no_checks p m k plain =
@@ -643,9 +645,9 @@ module _ (s : Typing) (settled : IsSettled s.table) (depth : ℕ) (v : Views) (v
   abbrev all_leaks : List (List Leak) → List Leak
   all_leaks checks = flat_map (λ (leaks : List Leak). leaks) checks
 
-  out_found : (p : Pos) (m : Memory) (x : ℕ) (e : TypedTree) (k : Place) → (laid : IsPlaceLaid s depth v view x e k)
-      → all_leaks (checks_at s (written_pos p (written e)) m k) ≡ found_in s m (place_out s depth v view x e k laid)
-  out_found p m x (Name q y path u) k (inl (plain, inl fixed)) = ap all_leaks (no_checks q m k fixed.scalar)
+  out_found : (p : Pos) (m : Memory) (x : ℕ) (e : TypedTree) (k : Place) → (laid : IsPlaceLaid s sees depth v view x e k)
+      → all_leaks (checks_at s (written_pos p (written e)) m k) ≡ found_in s m (place_out s sees depth v view x e k laid)
+  out_found p m x (Name q y path u) k (inl (plain, inl (fixed, bare))) = ap all_leaks (no_checks q m k fixed.scalar)
   out_found p m x (Name q y path u) k (inl (plain, inr (c, there, scalar))) = ap all_leaks (no_checks q m k scalar)
   out_found p m x e k (inl (plain, never)) = absurd never
   out_found p m x (Name q y path u) k (inr (many, own)) = all_checks s q m k ∙ sym (append-nil (leaks_at s q m k))
@@ -656,29 +658,29 @@ module _ (s : Typing) (settled : IsSettled s.table) (depth : ℕ) (v : Views) (v
   found_both m (o ∷ a) b =
       ap (λ z. leaks_at s o.pos m o.place ++ z) (found_both m a b) ∙ sym (append_assoc (leaks_at s o.pos m o.place) (found_in s m a) (found_in s m b))
 
-  back_found : (p : Pos) (m : Memory) (x : ℕ) (e : TypedTree) (k : Place) → (laid : IsBackLaid s depth v view x e k)
-      → all_leaks (checks_at s (written_pos p (written e)) m k) ≡ found_in s m (back_out s depth v view x e k laid)
+  back_found : (p : Pos) (m : Memory) (x : ℕ) (e : TypedTree) (k : Place) → (laid : IsBackLaid s sees depth v view x e k)
+      → all_leaks (checks_at s (written_pos p (written e)) m k) ≡ found_in s m (back_out s sees depth v view x e k laid)
   back_found p m x e k (inl laid) = out_found p m x e k laid
   back_found p m x (Name q y path u) k (inr (many, housed)) = all_checks s q m k ∙ sym (append-nil (leaks_at s q m k))
   back_found p m x e k (inr (many, never)) = absurd never
 
   first_checks : (p : Pos) (m : Memory) (x : ℕ) (how : Mode) (e : TypedTree) (a : Passed) (passed : List Passed) (rest : TypedTree) (outs : List Out)
-      → (laid : IsLaidOne s m depth v view x how e a) → all_leaks (out_checks s p m passed rest) ≡ found_in s m outs
-      → all_leaks (out_checks s p m (a ∷ passed) (More e rest)) ≡ found_in s m (out_of s m depth v view x how e a laid ++ outs)
+      → (laid : IsLaidOne s sees m depth v view x how e a) → all_leaks (out_checks s p m passed rest) ≡ found_in s m outs
+      → all_leaks (out_checks s p m (a ∷ passed) (More e rest)) ≡ found_in s m (out_of s sees m depth v view x how e a laid ++ outs)
   first_checks p m x mode.In e (Value ws) passed rest outs laid others = others
   first_checks p m x mode.InOut e (From k) passed rest outs laid others = others
   first_checks p m x mode.Out e (To k) passed rest outs laid others =
       flat_map-append (λ (leaks : List Leak). leaks) (checks_at s (written_pos p (written e)) m k) (out_checks s p m passed rest)
       ∙ (λ j. back_found p m x e k laid j ++ others j)
-      ∙ sym (found_both m (back_out s depth v view x e k laid) outs)
+      ∙ sym (found_both m (back_out s sees depth v view x e k laid) outs)
   first_checks p m x how e a passed rest outs laid others = absurd laid
 
   -- the leak checks of a call are those of the places that are emptied
-  pub found_there : (p : Pos) (m : Memory) (formals : List ℕ) (actuals : TypedTree) (passed : List Passed) → (laid : AreLaidOut s m depth v view formals actuals passed)
-      → all_leaks (out_checks s p m passed actuals) ≡ found_in s m (outs_of s m depth v view formals actuals passed laid)
+  pub found_there : (p : Pos) (m : Memory) (formals : List ℕ) (actuals : TypedTree) (passed : List Passed) → (laid : AreLaidOut s sees m depth v view formals actuals passed)
+      → all_leaks (out_checks s p m passed actuals) ≡ found_in s m (outs_of s sees m depth v view formals actuals passed laid)
   found_there p m [] actuals passed laid = ap (λ z. all_leaks (out_checks s p m z actuals)) laid
   found_there p m (x ∷ formals) (More e rest) (a ∷ passed) laid =
-      first_checks p m x (object_at s x).mode e a passed rest (outs_of s m depth v view formals rest passed laid.1) laid.0 (found_there p m formals rest passed laid.1)
+      first_checks p m x (object_at s x).mode e a passed rest (outs_of s sees m depth v view formals rest passed laid.1) laid.0 (found_there p m formals rest passed laid.1)
   found_there p m (x ∷ formals) (More e rest) [] laid = absurd laid
   found_there p m (x ∷ formals) actuals passed laid = ap (λ z. all_leaks (out_checks s p m z actuals)) laid
 
@@ -691,17 +693,17 @@ module _ (s : Typing) (settled : IsSettled s.table) (depth : ℕ) (v : Views) (v
   more_return x y a formals passed (inr (inl (r, has, is))) = inr (inl (r, Has-append_right (return_of x a) (returns_of formals passed) r has, is))
   more_return x y a formals passed (inr (inr shown)) = inr (inr shown)
 
-  first_return : OwnsByShape s.table → (m : Memory) (x : ℕ) (how : Mode) (e : TypedTree) (a : Passed) (formals : List ℕ) (passed : List Passed) → (object_at s x).mode ≡ how → IsLaidOne s m depth v view x how e a
+  first_return : OwnsByShape s.table → (m : Memory) (x : ℕ) (how : Mode) (e : TypedTree) (a : Passed) (formals : List ℕ) (passed : List Passed) → (object_at s x).mode ≡ how → IsLaidOne s sees m depth v view x how e a
       → IsKindOfFormal s x → IsReturned x (returns_of (x ∷ formals) (a ∷ passed))
   first_return own_law m x mode.InOut e (From k) formals passed is laid kind = inr (inl (record { formal = x; to = k }, inl refl, refl))
   first_return own_law m x mode.In e (Value ws) formals passed is laid (inl plain) = inl plain
   first_return own_law m x mode.In e (Value ws) formals passed is laid (inr (inl (back, own))) = absurd (back is)
-  first_return own_law m x mode.In e (Value ws) formals passed is laid (inr (inr (inl shown))) = inr (inr (elim (given_cases s x shown.0) [ inl formal ↦ inl formal | inr anonymous ↦ inr (unowned_view s own_law x anonymous) ]))
+  first_return own_law m x mode.In e (Value ws) formals passed is laid (inr (inr (inl shown))) = inr (inr (elim (given_cases s x shown) [ inl formal ↦ inl formal | inr anonymous ↦ inr (unowned_view s own_law x anonymous) ]))
   first_return own_law m x mode.In e (Value ws) formals passed is laid (inr (inr (inr plain))) = inr (inr (inr plain.1))
   first_return own_law m x mode.Out e (To k) formals passed is laid kind = inr (inl (record { formal = x; to = k }, inl refl, refl))
   first_return own_law m x how e a formals passed is laid kind = absurd laid
 
-  pub all_returned : OwnsByShape s.table → (m : Memory) (formals : List ℕ) (actuals : TypedTree) (passed : List Passed) → AreLaidOut s m depth v view formals actuals passed → AreActualsTo s formals actuals
+  pub all_returned : OwnsByShape s.table → (m : Memory) (formals : List ℕ) (actuals : TypedTree) (passed : List Passed) → AreLaidOut s sees m depth v view formals actuals passed → AreActualsTo s formals actuals
       → ((x : ℕ) → Has formals x → IsKindOfFormal s x) → (x : ℕ) → Has formals x → IsReturned x (returns_of formals passed)
   all_returned own_law m [] actuals passed laid stay kinds x has = absurd has
   all_returned own_law m (y ∷ formals) (More e rest) (a ∷ passed) laid stay kinds x (inl same) =

@@ -24,12 +24,12 @@ use Rattle.soundness.specs.Sound.{InScope}
 use Rattle.soundness.proofs.Contents.{word_no}
 use Rattle.soundness.proofs.Lasting.{ownerless}
 use Rattle.owned_loans.specs.Views.{Around, Views}
-use Rattle.viewed_soundness.specs.Holds.{PartsAreNamed, is_view}
-use Rattle.viewed_soundness.proofs.Names.{true_false}
+use Rattle.viewed_soundness.specs.Holds.{PartsAreNamed, is_view, Seeing}
+use Rattle.viewed_soundness.proofs.ViewKinds.{true_false}
 use Rattle.viewed_soundness.proofs.Outcomes.{Turned}
 use Rattle.viewed_steps.specs.Awaited.{is_held, lasting_of}
 use Rattle.viewed_steps.proofs.Waited.{lasting_within, within_lasting}
-use Rattle.viewed_steps.specs.Sound.{Lasts, Lies, ArePlaced}
+use Rattle.viewed_steps.specs.Sound.{Lasts, Lies, ArePartsLow, ArePlaced, ArePlacedWith}
 use Rattle.viewed_steps.proofs.Views.{base_named, same_named, same_lies, anonymous_view, view_ends}
 use Rattle.owned_ways.proofs.Dropped.{named_base}
 use Rattle.owned_loans.proofs.Ended.{number_base}
@@ -141,7 +141,7 @@ module _ (program : FlowProgram) where
         plain = old.plain;
         up = λ named. lasts_on a b (number_of (v.up x)) x leads (old.up named);
         root = λ named. lasts_on a b (number_of w) x leads (old.root named);
-        holder = λ named sees. (let h = old.holder named sees in (h.0, h.1, lasts_on a b h.0 x leads h.2, h.3));
+        holder = λ named sight. (let h = old.holder named sight in (h.0, h.1, lasts_on a b h.0 x leads h.2, h.3));
       }
 
   -- An object may be the source of a view.
@@ -151,7 +151,7 @@ module _ (program : FlowProgram) where
     pub view : is_anonymous (view_of s x) ≡ true
     pub plain : is_held s x ≡ false
 
-module _ (t : Turn) (settled : IsSettled (typing t).table) (own_law : OwnsByShape (typing t).table) (other : Around (home (typing t) (length t.outer)))
+module _ (t : Turn) (sees : ℕ → Bool) (seeing : Seeing (typing t) sees) (settled : IsSettled (typing t).table) (own_law : OwnsByShape (typing t).table) (other : Around (home (typing t) (length t.outer)))
     (alone : (w : Way) → IsNear (length t.outer) w → other.gone w → ⊥)
     (v : Views) (parts_named : PartsAreNamed (typing t).table) (a b : List ℕ)
     (frames : t.state.frames ≡ t.frame ∷ t.outer) (none : taken t.point.instr ≡ 0)
@@ -159,7 +159,7 @@ module _ (t : Turn) (settled : IsSettled (typing t).table) (own_law : OwnsByShap
     (itself : (a : ℕ) → encloses t.program.scopes a a ≡ true)
     (local : (x : ℕ) → is_view (typing t) x ≡ true → is_package_object (typing t) x ≡ false)
     (only : (x : ℕ) (w : Way) → v.way x ≡ Some w → is_view (typing t) x ≡ true)
-    (lies : (x : ℕ) (w : Way) → v.way x ≡ Some w → Lies (typing t) (length t.outer) w)
+    (lies : ((x : ℕ) (w : Way) → v.way x ≡ Some w → Lies (typing t) (length t.outer) w) × ArePartsLow (typing t) (length t.outer) v)
     (more : (y : ℕ) → is_within y a ≡ true → is_within y b ≡ true) where
   abbrev may : ℕ → ℕ → Type 0
   may x y = MayBe t.program b x y
@@ -171,21 +171,22 @@ module _ (t : Turn) (settled : IsSettled (typing t).table) (own_law : OwnsByShap
   same_number w k named is = number_base w (Home (number_of k)) (number_of k) (is ∙ named_base Home k named)
 
   -- their ways lie as before
-  pub turned_lies : (views : Views) (facts : List Fact) → Turned t settled own_law other alone v parts_named may frames none views facts
+  pub turned_lies : (views : Views) (facts : List Fact) → Turned t sees seeing settled own_law other alone v parts_named may frames none views facts
       → (x : ℕ) (w : Way) → views.way x ≡ Some w → Lies (typing t) (length t.outer) w
-  turned_lies views facts turned x w has = elim (turned x w has) [
-    | inl same ↦ lies x w (sym same.way ∙ has)
+  turned_lies views facts turned x w has = elim (turned.0 x w has) [
+    | inl same ↦ lies.0 x w (sym same.way ∙ has)
     | inr (y, from, comes) ↦ elim comes.root [
       | inl is ↦ inl (base_named Home w y is.0)
-      | inr (k, has_y, is) ↦ same_lies (typing t) (length t.outer) w k is (lies y k has_y)
+      | inr (inl (k, has_y, is)) ↦ same_lies (typing t) (length t.outer) w k is (lies.0 y k has_y)
+      | inr (inr (p, k, has_y, is)) ↦ same_lies (typing t) (length t.outer) w k is (lies.1 y p k has_y).0
     ]
   ]
 
   -- views that turned as they may are placed after the instruction
   pub turned_placed : (views : Views) (facts facts' : List Fact) → ((h : ℕ) (n : PlaceName) → Has facts (Lent Observed h n) → Has facts' (Lent Observed h n))
-      → ArePlaced t.program (length t.outer) facts v a → Turned t settled own_law other alone v parts_named may frames none views facts'
-      → ArePlaced t.program (length t.outer) facts' views b
-  turned_placed views facts facts' lent placed turned x w has = elim (turned x w has) [
+      → ArePlacedWith t.program sees (length t.outer) facts v a → Turned t sees seeing settled own_law other alone v parts_named may frames none views facts'
+      → ArePlacedWith t.program sees (length t.outer) facts' views b
+  turned_placed views facts facts' lent placed turned x w has = elim (turned.0 x w has) [
     | inl same ↦ (
         let old = placed x w (sym same.way ∙ has) in
         record {
@@ -194,24 +195,27 @@ module _ (t : Turn) (settled : IsSettled (typing t).table) (own_law : OwnsByShap
           up = λ named. subst (λ z. Lasts t.program b (number_of z) x) (sym same.up)
               (lasts_more t.program a b (number_of (v.up x)) x more (old.up (subst (Named Home) same.up named)));
           root = λ named. lasts_more t.program a b (number_of w) x more (old.root named);
-          holder = λ named sees. (let h = old.holder (subst (Named Home) same.up named) sees in
+          holder = λ named sight. (let h = old.holder (subst (Named Home) same.up named) sight in
               (h.0, subst (λ z. Has facts' (Lent Observed h.0 (name_of z))) (sym same.loan) (lent h.0 (name_of (v.loan x)) h.1), lasts_more t.program a b h.0 x more h.2, h.3));
         })
     | inr (y, from, comes) ↦ record {
       within = from.within;
       plain = from.plain;
-      up = λ named. elim comes.up [
+      up = λ named. elim (comes.up named) [
         | inl is ↦ subst (λ z. Lasts t.program b z x) (sym is) from.lasts
         | inr (k, has_y, is, back) ↦ subst (λ z. Lasts t.program b z x) (sym is) (through y k has_y from (number_of (v.up y)) ((placed y k has_y).up (back named)))
       ];
       root = λ named. elim comes.root [
         | inl is ↦ subst (λ z. Lasts t.program b z x) (sym (number_base w (Home y) y is.0)) from.lasts
-        | inr (k, has_y, is) ↦ (
+        | inr (inr (p, k, has_y, is)) ↦ (
+            let named_k : Named Home k = same_named Home k w (sym is) named in
+            inl (ap (is_package_object (typing t)) (same_number w k named_k is) ∙ (lies.1 y p k has_y).1 named_k))
+        | inr (inl (k, has_y, is)) ↦ (
             let named_k : Named Home k = same_named Home k w (sym is) named in
             subst (λ z. Lasts t.program b z x) (sym (same_number w k named_k is)) (through y k has_y from (number_of k) ((placed y k has_y).root named_k)))
       ];
-      holder = λ named sees. elim (comes.loan sees) [
-        | inl own ↦ (x, own, inr (from.within, view_ends (typing t) x (anonymous_view (typing t) x from.view), itself (scope_of (typing t) x), from.plain), sees)
+      holder = λ named sight. elim (comes.loan named sight) [
+        | inl own ↦ (x, own, inr (from.within, view_ends (typing t) x (anonymous_view (typing t) x from.view), itself (scope_of (typing t) x), from.plain), sight)
         | inr (k, has_y, sees_y, is, back) ↦ (
             let h = (placed y k has_y).holder (back named) sees_y in
             (h.0, subst (λ z. Has facts' (Lent Observed h.0 (name_of z))) (sym is) (lent h.0 (name_of (v.loan y)) h.1), through y k has_y from h.0 h.2, h.3))

@@ -1,8 +1,8 @@
 -- What an actual comes to: a value, or a place, in a variable or in a cell.
-use Rattle.std.proofs.Common.{◌≡◌, refl, sym, ap, ◌∙◌, subst, ◌⊎◌, inl, inr, ℕ, append-nil, Bool, true, false, List, [], ◌∷◌, Some, if◌then◌else◌, arith, ◌++◌}
+use Rattle.std.proofs.Common.{◌≡◌, refl, sym, ap, ◌∙◌, subst, ◌⊎◌, inl, inr, ℕ, append-nil, Bool, true, false, not, List, [], ◌∷◌, if◌then◌else◌, ◌++◌}
 use Rattle.spark_base.specs.declared.position.Pos.{Pos}
 use Rattle.place_names.specs.declared.fact.Fact.{Fact}
-use Rattle.type_definitions.specs.Types.{shape_of, full, is_scalar, is_owning}
+use Rattle.type_definitions.specs.Types.{full, is_scalar, is_owning}
 use Rattle.typed_tree.specs.Trees.{TypedTree, Name}
 use Rattle.typed_tree.specs.Trees as typed
 use Rattle.flow_paths.specs.Objects.{object_at, is_anonymous, view_of, ByValue, Typing}
@@ -21,7 +21,7 @@ use Rattle.owned_ways.specs.Ways as ways
 use Rattle.owned_ways.proofs.Locations.{under_along, under_itself, reaches_along}
 use Rattle.owned_ways.proofs.Unique.{one_location}
 use Rattle.owned_ways.proofs.Dropped.{named_base}
-use Rattle.owned_loans.proofs.Ways.{lifts, lifted_way}
+use Rattle.owned_loans.proofs.Ways.{in_part_way, lifts, lifted_way}
 use Rattle.part_offsets.specs.Parts.{type_in, offset_in, has_part, IsSettled}
 use Rattle.soundness.specs.Seen.{IsNear, content, trunk, steps_in, seen, home, is_view_formal}
 use Rattle.soundness.specs.Typed.{Matches, OwnsByShape, Kept, Spot, IsFixed, loc_of}
@@ -38,18 +38,19 @@ use Rattle.soundness.proofs.Passing.{IsValue}
 use Rattle.owned_loans.specs.Views.{Around, Views, expand, ExcusedBy, Viewed, Go, Part, Down, on}
 use Rattle.owned_loans.proofs.Moves.{IsPlace, expand_along, reached}
 use Rattle.owned_loans.proofs.Meeting.{stands_base, stands}
-use Rattle.viewed_soundness.specs.Holds.{IsNamed, PartsAreNamed, Holds, sees_only, IsOwners}
-use Rattle.viewed_soundness.proofs.Names.{Starts, true_false, no_parts_in, is_place}
+use Rattle.viewed_soundness.specs.Holds.{IsNamed, PartsAreNamed, Holds, is_bundle, IsOwners, Seeing}
+use Rattle.viewed_soundness.proofs.Names.{Starts, is_place, changed_owners}
+use Rattle.viewed_soundness.proofs.ViewKinds.{own_bundle, true_false}
 use Rattle.viewed_soundness.proofs.Stays.{Goes as GoesAlong, taking, steps_taking, name_quiet}
 use Rattle.viewed_steps.specs.Taken.{Lodge}
 use Rattle.viewed_steps.specs.Sound.{IsKindOfFormal}
 use Rattle.viewed_steps.specs.Ready.{IsOwnPlace}
-use Rattle.viewed_steps.proofs.Views.{AreAccess, formal_view, scalar_no_view}
+use Rattle.viewed_steps.proofs.Views.{AreLowFormals, AreAccess, formal_view, scalar_no_view}
 use Rattle.viewed_steps.proofs.Read.{scalar_named}
 use Rattle.viewed_steps.proofs.Between.{base_along, IsBegun}
 use Rattle.viewed_steps.proofs.Lodged.{spot_lodged}
 use Rattle.viewed_steps.proofs.Aside.{cell_name}
-use Rattle.viewed_steps.proofs.Direct.{IsDirect, steps_direct, past_none, direct_leads, direct_itself, IsIn, walked_in, both_quiet, direct_part, part_reached}
+use Rattle.viewed_steps.proofs.Direct.{IsDirect, steps_direct, past_none, direct_leads, IsIn, walked_in, both_quiet, direct_part, part_reached}
 use Rattle.viewed_steps.proofs.LaidOut.{IsOwnPut, IsPlainAt, IsOpenActual, IsHousedPut}
 use Rattle.viewed_steps.proofs.Entered.{IsFit}
 use Rattle.soundness.proofs.Keeping.{top_points, scalar}
@@ -59,8 +60,6 @@ use Rattle.place_names.specs.Names.{Name as PlaceName}
 use Rattle.owned_ways.proofs.Named.{longer}
 use Rattle.viewed_steps.proofs.Copies.{copy_quiet}
 use Rattle.viewed_soundness.proofs.Outcomes.{named_plain}
-use Rattle.soundness.proofs.Keeping.{top_points, scalar}
-use Rattle.viewed_soundness.proofs.Given.{IsLow}
 use Rattle.viewed_soundness.specs.Taken.{types_taken, TakesFit}
 use Rattle.viewed_steps.proofs.Supplied.{Supplies}
 
@@ -91,18 +90,18 @@ path_derefs s t u (typed.Element index low high rest) leads some = path_derefs s
 path_derefs s t u (typed.Designated rest) leads some = refl
 path_derefs s t u path never some = absurd never
 
-module _ (h : Here) (settled : IsSettled h.typing.table) (hands : List Waiting) (leaks : List Leak) (m : Memory) (waits : List (List machine.Word))
+module _ (h : Here) (sees : ℕ → Bool) (seeing : Seeing h.typing sees) (settled : IsSettled h.typing.table) (hands : List Waiting) (leaks : List Leak) (m : Memory) (waits : List (List machine.Word))
     (other : Around (home h.typing h.frame)) (facts : List Fact) (v : Views)
     (kept : Kept h.typing m hands)
-    (well : Viewed (home h.typing h.frame) (sees_only h.typing) other v (seen h.typing m hands leaks) facts)
-    (holds : Holds h.typing h.frame v m)
+    (well : Viewed (home h.typing h.frame) sees other v (seen h.typing m hands leaks) facts)
+    (holds : Holds h.typing sees h.frame v m)
     (alone : (w : Way) → IsNear h.frame w → other.gone w → ⊥)
     (live : (w : Way) (l : Loc) → IsOwners h.typing w → Reaches (seen h.typing m hands leaks) w l → (content h.typing m hands (trunk l)).owns ≡ true)
     (in_formals : AreAccess h.typing)
     (index_law : IndexLaw)
     (own_law : OwnsByShape h.typing.table)
     (parts_named : PartsAreNamed h.typing.table)
-    (formals_low : (x : ℕ) (w : Way) → v.way x ≡ Some w → IsLow h.typing h.frame w)
+    (formals_low : AreLowFormals h.typing h.frame v)
     (procedure : Bool) where
   abbrev pub at : List (List machine.Word) → Now
   at ws = record { memory = m; waits = ws }
@@ -126,8 +125,8 @@ module _ (h : Here) (settled : IsSettled h.typing.table) (hands : List Waiting) 
   pub value_given : (before on : List (List machine.Word)) (x : ℕ) (e : TypedTree) → Stays h.typing e → Takes (waits_in e) before on → AllowsAll facts (acts (acts_in h.typing e))
       → Quiet (at on) (λ a. IsValue a) (passed h ByValue x e (at before))
   value_given before on x e stays takes allowed =
-      let by_name = taking h settled hands leaks m waits other facts v kept well holds alone live index_law own_law parts_named AsValue e stays before on takes allowed in
-      let as_view = taking h settled hands leaks m waits other facts v kept well holds alone live index_law own_law parts_named AsView e stays before on takes allowed in
+      let by_name = taking h sees seeing settled hands leaks m waits other facts v kept well holds alone live index_law own_law parts_named AsValue e stays before on takes allowed in
+      let as_view = taking h sees seeing settled hands leaks m waits other facts v kept well holds alone live index_law own_law parts_named AsView e stays before on takes allowed in
       quiet_then (at on) One (λ a. IsValue a) (if is_anonymous (view_of h.typing x) then viewed h e (at before) else value h e (at before))
       (λ ws now. followed_by (checked h (type_of h x) ws now) value_passed)
       (if_quiet on (is_anonymous (view_of h.typing x)) (viewed h e (at before)) (value h e (at before)) as_view.0 by_name.0)
@@ -163,7 +162,7 @@ module _ (h : Here) (settled : IsSettled h.typing.table) (hands : List Waiting) 
       by_kind : (b : Bool) → b ≡ false → Quiet (at on) Fits (if b then viewed h e (at before) else value h e (at before))
       by_kind true e = cc
       by_kind false same =
-          (copy_quiet h settled hands leaks m waits other facts v kept well holds alone live index_law own_law parts_named e (object_at h.typing x).of gives plain named fit
+          (copy_quiet h sees seeing settled hands leaks m waits other facts v kept well holds alone live index_law own_law parts_named e (object_at h.typing x).of gives plain named fit
           before on takes allowed).0
 
   -- ---- places
@@ -172,53 +171,66 @@ module _ (h : Here) (settled : IsSettled h.typing.table) (hands : List Waiting) 
   abbrev Reached : TypedTree → Place → Type 0
   Reached (Name p x path u) k =
       (w : Way) × (l : Loc) × Named (home h.typing h.frame) w × (ways.name_of w ≡ name_of x path) × IsPlace v w
-      × Reaches (seen h.typing m hands leaks) (expand v w) l × Spot h.typing m hands k l
+      × Reaches (seen h.typing m hands leaks) (expand v w) l × Spot h.typing m hands k l × (sees x ≡ false)
   Reached e k = ⊥
 
   abbrev pub IsPut : TypedTree → Place → Type 0
-  IsPut e k = IsPlainAt h.typing h.frame v (seen h.typing m hands leaks) e k × Reached e k
+  IsPut e k = IsPlainAt h.typing sees h.frame v (seen h.typing m hands leaks) e k × Reached e k
 
-  pub plain_type_at : (e : TypedTree) (k : Place) → IsPlainAt h.typing h.frame v (seen h.typing m hands leaks) e k → is_scalar (full h.typing.table k.of) ≡ true
-  plain_type_at (Name p y path u) k (inl fixed) = fixed.scalar
+  pub plain_type_at : (e : TypedTree) (k : Place) → IsPlainAt h.typing sees h.frame v (seen h.typing m hands leaks) e k → is_scalar (full h.typing.table k.of) ≡ true
+  plain_type_at (Name p y path u) k (inl (fixed, bare)) = fixed.scalar
   plain_type_at (Name p y path u) k (inr (c, there, plain)) = plain
   plain_type_at e k never = absurd never
 
   -- a scalar place in a variable
-  fixed_there : (k : Place) (l : Loc) (f x : ℕ) → Spot h.typing m hands k l → k.base ≡ memory.OfVariable f x → is_scalar (full h.typing.table k.of) ≡ true → IsFixed h.typing k
-  fixed_there k l f x spot base plain =
-      let b : trunk l ≡ OfRoot (OfVariable f x) = spot.base ∙ ap loc_of base in
-      record {
-        frame = f;
-        object = x;
-        steps = steps_in l;
-        base = base;
-        there = ap (λ z. has_part h.typing.table (content h.typing m hands z).of (steps_in l)) (sym b) ∙ spot.there;
-        at = spot.at ∙ ap (λ z. offset_in h.typing.table (content h.typing m hands z).of (steps_in l)) b;
-        of = subst (λ z. Matches h.typing.table k.of (type_in h.typing.table (content h.typing m hands z).of (steps_in l))) b spot.of;
-        scalar = plain;
-      }
+  fixed_there : (k : Place) (l : Loc) (f x : ℕ) → Spot h.typing m hands k l → k.base ≡ memory.OfVariable f x → is_scalar (full h.typing.table k.of) ≡ true
+      → is_bundle h.typing x ≡ false → (fixed : IsFixed h.typing k) × (is_bundle h.typing fixed.object ≡ false)
+  fixed_there k l f x spot base plain bare =
+      let b : trunk l ≡ OfRoot (OfVariable f x) = spot.base ∙ ap loc_of base in (
+        record {
+          frame = f;
+          object = x;
+          steps = steps_in l;
+          base = base;
+          there = ap (λ z. has_part h.typing.table (content h.typing m hands z).of (steps_in l)) (sym b) ∙ spot.there;
+          at = spot.at ∙ ap (λ z. offset_in h.typing.table (content h.typing m hands z).of (steps_in l)) b;
+          of = subst (λ z. Matches h.typing.table k.of (type_in h.typing.table (content h.typing m hands z).of (steps_in l))) b spot.of;
+          scalar = plain;
+        },
+        bare,
+      )
 
   -- a name that may go through access values
   through_walked : (on : List (List machine.Word)) (p : Pos) (x u : ℕ) (path : TypedTree) (w : Way) → is_scalar (full h.typing.table u) ≡ true → Named (home h.typing h.frame) w
-      → ways.number_of w ≡ x → ways.name_of w ≡ name_of x path → IsPlace v w → sees_only h.typing x ≡ false
+      → ways.number_of w ≡ x → ways.name_of w ≡ name_of x path → IsPlace v w → sees x ≡ false
+      → ((l : Loc) → Reaches (seen h.typing m hands leaks) (expand v w) l → IsOwners h.typing (expand v w))
       → (y : Evaluated Place) → Walked h.typing settled hands leaks m on (expand v w) u y → Quiet (at on) (λ k. IsPut (Name p x path u) k) y
-  through_walked on p x u path w plain named root called place sees (Raises e n) is = is
-  through_walked on p x u path w plain named root called place sees (Traps t n) never = absurd never
-  through_walked on p x u path w plain named root called place sees (Done k n) (l, same, spot, reaches, of) =
-      (same, (by_base k.base refl, (w, l, named, called, place, reaches, spot)))
+  through_walked on p x u path w plain named root called place sight owners (Raises e n) is = is
+  through_walked on p x u path w plain named root called place sight owners (Traps t n) never = absurd never
+  through_walked on p x u path w plain named root called place sight owners (Done k n) (l, same, spot, reaches, of) =
+      (same, (by_base k.base refl, (w, l, named, called, place, reaches, spot, sight)))
     where
       scalar_there : is_scalar (full h.typing.table k.of) ≡ true
       scalar_there = ap (λ z. is_scalar (full h.typing.table z)) of ∙ plain
 
+      in_owner : (y f : ℕ) → trunk l ≡ OfRoot (OfVariable f y) → (content h.typing m hands (trunk l)).owns ≡ true → is_view_formal h.typing y ≡ false
+      in_owner y f at owns = by_owner (is_view_formal h.typing y) (sym (ap (λ z. (content h.typing m hands z).owns) at) ∙ owns)
+        where
+          by_owner : (b : Bool) → not b ≡ true → b ≡ false
+          by_owner true e = cc
+          by_owner false e = refl
+
       home_base : (f : ℕ) × (y : ℕ) × (ways.base_of (expand v w) ≡ OfRoot (OfVariable f y))
       home_base =
-          stands_base (home h.typing h.frame) (sees_only h.typing) v (seen h.typing m hands leaks) facts well.views w (named, ap (sees_only h.typing) root ∙ sees)
+          stands_base (home h.typing h.frame) sees v (seen h.typing m hands leaks) facts well.views w (named, ap sees root ∙ sight)
 
-      by_base : (b : Base) → k.base ≡ b → IsPlainAt h.typing h.frame v (seen h.typing m hands leaks) (Name p x path u) k
-      by_base (memory.OfVariable f y) base = inl (fixed_there k l f y spot base scalar_there)
+      by_base : (b : Base) → k.base ≡ b → IsPlainAt h.typing sees h.frame v (seen h.typing m hands leaks) (Name p x path u) k
+      by_base (memory.OfVariable f y) base =
+          inl (fixed_there k l f y spot base scalar_there (own_bundle h.typing y (in_owner y f (spot.base ∙ ap loc_of base) (live (expand v w) l (owners l reaches) reaches))))
       by_base (memory.OfCell c) base =
           let found = cell_name v (seen h.typing m hands leaks)
-          (λ y z has. reached (home h.typing h.frame) (sees_only h.typing) other v (seen h.typing m hands leaks) facts y z (well.views y z has)) w l c reaches (spot.base ∙ ap loc_of base) in
+          (λ y z has. reached (home h.typing h.frame) sees other v (seen h.typing m hands leaks) facts y z (well.views.0 y z has))
+          (λ y p z has. (well.views.1 y p z has).reaches) w l c reaches (spot.base ∙ ap loc_of base) in
           let cell : Lodge = record { name = found.name; way = expand v found.name; cell = c } in
           let stands : expand v w ≡ along (expand v found.name) found.rest = ap (expand v) found.is ∙ expand_along v found.name found.rest in
           inr (
@@ -231,93 +243,32 @@ module _ (h : Here) (settled : IsSettled h.typing.table) (hands : List Waiting) 
               called = called;
               begins = subst (ways.Under found.name) (sym found.is) (under_along found.name found.name found.rest (under_itself found.name));
               deep = found.deep;
-              plain = sees;
+              plain = sight;
               leads = refl;
               reaches = found.reaches;
             },
             scalar_there,
           )
 
-  from_walked : (on : List (List machine.Word)) (p : Pos) (x u : ℕ) (path : TypedTree) (w : Way) → is_scalar (full h.typing.table u) ≡ true → Named (home h.typing h.frame) w
-      → ways.name_of w ≡ name_of x path → IsPlace v w → expand v w ≡ w → (y : Evaluated Place) → Walked h.typing settled hands leaks m on w u y
-      → IsIn (memory.OfVariable (home h.typing h.frame x) x) y → Quiet (at on) (λ k. IsPut (Name p x path u) k) y
-  from_walked on p x u path w plain named called place itself (Done k n) (l, same, spot, reaches, of) base = (
-    same,
-    (
-      inl (fixed_there k l (home h.typing h.frame x) x spot base (ap (λ z. is_scalar (full h.typing.table z)) of ∙ plain)),
-      (w, l, named, called, place, subst (λ z. Reaches (seen h.typing m hands leaks) z l) (sym itself) reaches, spot),
-    ),
-  )
-  from_walked on p x u path w plain named called place itself (Raises e n) is base = is
-  from_walked on p x u path w plain named called place itself (Traps t n) never base = absurd never
-
-  -- a name of a scalar place that goes through no access value isn't that of a formal of an access type
-  direct_owner : (x u : ℕ) (way : List run.Step) → is_scalar (full h.typing.table u) ≡ true → Starts h.typing.table (object_at h.typing x).of way u → IsDirect way
-      → is_view_formal h.typing x ≡ false
-  direct_owner x u way plain starts direct = by_kind (is_view_formal h.typing x) refl
-    where
-      by_steps : (way : List run.Step) → Starts h.typing.table (object_at h.typing x).of way u → IsDirect way → is_view_formal h.typing x ≡ true → ⊥
-      by_steps [] starts direct formal =
-          scalar_no_view h.typing in_formals x (subst (λ z. is_scalar (full h.typing.table z) ≡ true) (sym starts) plain) (formal_view h.typing x formal)
-      by_steps (run.ToComponent i ∷ way) (less, lead) direct formal =
-          let none = no_parts_in (shape_of h.typing.table (object_at h.typing x).of) (in_formals x formal).0 in absurd (omega (arith, none.0, less))
-      by_steps (run.ToElement n ∷ way) (less, lead) direct formal =
-          let none = no_parts_in (shape_of h.typing.table (object_at h.typing x).of) (in_formals x formal).0 in absurd (omega (arith, none.1, less))
-      by_steps (run.ToDesignated ∷ way) starts direct formal = direct
-
-      by_kind : (b : Bool) → is_view_formal h.typing x ≡ b → b ≡ false
-      by_kind false e = refl
-      by_kind true e = absurd (by_steps way starts direct e)
-
-  walk_given : (on : List (List machine.Word)) (p : Pos) (x u : ℕ) (path : TypedTree) (way : List run.Step) → is_scalar (full h.typing.table u) ≡ true
-      → GoesAlong h.typing.table (object_at h.typing x).of u path way → IsDirect way
-      → Quiet (at on) (λ k. IsPut (Name p x path u) k) (walked h.typing way (variable_place h x) (at on))
-  walk_given on p x u path way plain goes direct =
-      let root : Way = Object (OfVariable (home h.typing h.frame x) x) in
-      let owner = direct_owner x u way plain goes.lead direct in
-      let named : Named (home h.typing h.frame) (way_along way root) = named_along (home h.typing h.frame) way root refl in
-      from_walked on p x u path (way_along way root) plain named
-      (λ j. record { root = number_along way root j; sels = goes.sels root j })
-      (is_place h.typing v (home h.typing h.frame x) x u way goes.lead (scalar_named h.typing.table u plain)
-      (λ formal none. true_false (is_view_formal h.typing x) formal owner) holds.only)
-      (direct_itself v way direct root refl)
-      (walked h.typing way (variable_place h x) (at on))
-      (walk h.typing settled hands leaks m on (ExcusedBy (home h.typing h.frame) v other facts) kept well.owned well.known live way (variable_place h x)
-      (OfRoot (OfVariable (home h.typing h.frame x) x)) root u
-      (record { base = refl; made = tt; at = refl; there = refl; of = inl refl }) owner refl (direct_leads h.typing.table (object_at h.typing x).of u way direct goes.lead)
-      (λ z past moved. past_none way direct root (λ y never. never) z past))
-      (walked_in h.typing way direct (variable_place h x) (at on))
-
-  pub place_given : (before on : List (List machine.Word)) (e : TypedTree) (t : ℕ) → IsPlaceOf h.typing e t → is_scalar (full h.typing.table t) ≡ true → Takes (waits_in e) before on → goes_through_none e ≡ true
-      → AllowsAll facts (acts (index_acts h.typing e)) → Quiet (at on) (λ k. IsPut e k) (place_of h e (at before))
-  unfolding waits_in goes_through_none
-  place_given before on (Name p x path u) t (leads, type) plain takes direct allowed =
-      let inner = steps_taking h settled hands leaks m waits other facts v kept well holds alone live index_law own_law parts_named (object_at h.typing x).of u path leads before on takes allowed in
-      quiet_then (at on) (λ way. GoesAlong h.typing.table (object_at h.typing x).of u path way × IsDirect way) (λ k. IsPut (Name p x path u) k) (steps_of h path (at before))
-      (λ way now. walked h.typing way (variable_place h x) now)
-      (both_quiet (at on) (λ way. GoesAlong h.typing.table (object_at h.typing x).of u path way) (steps_of h path (at before)) inner.0 (steps_direct h path direct (at before)))
-      (λ way both. walk_given on p x u path way (subst (λ z. is_scalar (full h.typing.table z) ≡ true) (sym type) plain) both.0 both.1)
-  place_given before on e t place plain takes direct allowed = absurd place
-
   pub through_given : (before on : List (List machine.Word)) (e : TypedTree) (t : ℕ) → IsPlaceOf h.typing e t → is_scalar (full h.typing.table t) ≡ true → Takes (waits_in e) before on
-      → IsOpenActual h.typing h.frame facts e → AllowsAll facts (acts (index_acts h.typing e)) → Quiet (at on) (λ k. IsPut e k) (place_of h e (at before))
+      → IsOpenActual h.typing sees h.frame facts e → AllowsAll facts (acts (index_acts h.typing e)) → Quiet (at on) (λ k. IsPut e k) (place_of h e (at before))
   unfolding waits_in goes_through_none
-  through_given before on (Name p x path u) t (leads, type) plain takes (inl direct) allowed = place_given before on (Name p x path u) t (leads, type) plain takes direct allowed
-  through_given before on (Name p x path u) t (leads, type) plain takes (inr (sees, opens)) allowed =
-      let inner = steps_taking h settled hands leaks m waits other facts v kept well holds alone live index_law own_law parts_named (object_at h.typing x).of u path leads before on takes allowed in
+  through_given before on (Name p x path u) t (leads, type) plain takes (sight, opens) allowed =
+      let inner = steps_taking h sees seeing settled hands leaks m waits other facts v kept well holds alone live index_law own_law parts_named (object_at h.typing x).of u path leads before on takes allowed in
       let plain_there : is_scalar (full h.typing.table u) ≡ true = subst (λ z. is_scalar (full h.typing.table z) ≡ true) (sym type) plain in
       quiet_then (at on) (λ way. GoesAlong h.typing.table (object_at h.typing x).of u path way) (λ k. IsPut (Name p x path u) k) (steps_of h path (at before))
       (λ way now. walked h.typing way (variable_place h x) now) inner.0
       (λ way goes.
       let root : Way = Object (OfVariable (home h.typing h.frame x) x) in
+      let whole : is_view_formal h.typing x ≡ true → way ≡ [] → ⊥ = (λ formal none. scalar_no_view h.typing sees in_formals x
+      (subst (λ z. is_scalar (full h.typing.table z) ≡ true) (sym (subst (λ z. Starts h.typing.table (object_at h.typing x).of z u) none goes.lead)) plain_there)
+      (formal_view h.typing x formal)) in
       through_walked on p x u path (way_along way root) plain_there (named_along (home h.typing h.frame) way root refl) (number_along way root)
       (λ j. record { root = number_along way root j; sels = goes.sels root j })
-      (is_place h.typing v (home h.typing h.frame x) x u way goes.lead (scalar_named h.typing.table u plain_there)
-      (λ formal none. scalar_no_view h.typing in_formals x
-      (subst (λ z. is_scalar (full h.typing.table z) ≡ true) (sym (subst (λ z. Starts h.typing.table (object_at h.typing x).of z u) none goes.lead)) plain_there)
-      (formal_view h.typing x formal)) holds.only) sees
+      (is_place h.typing v (home h.typing h.frame x) x u way goes.lead (scalar_named h.typing.table u plain_there) whole holds.only) sight
+      (changed_owners h sees seeing settled hands leaks m on other facts v kept well holds alone live x u way sight whole goes.lead)
       (walked h.typing way (variable_place h x) (at on))
-      (name_quiet h settled hands leaks m on other facts v kept well holds alone live index_law own_law parts_named x path u way goes opens))
+      (name_quiet h sees seeing settled hands leaks m on other facts v kept well holds alone live index_law own_law parts_named x path u way goes opens))
   through_given before on e t place plain takes opens allowed = absurd place
 
   own_walked : (on : List (List machine.Word)) (p : Pos) (x y u : ℕ) (path : TypedTree) (q : List Step) (w : Way) → IsNamed h.typing.table u → Matches h.typing.table u (object_at h.typing x).of
@@ -376,7 +327,7 @@ module _ (h : Here) (settled : IsSettled h.typing.table) (hands : List Waiting) 
       → AllowsAll facts (acts (index_acts h.typing e)) → Quiet (at on) (λ k. IsOwnPut h.typing h.frame x e k) (place_of h e (at before))
   unfolding waits_in goes_through_none
   own_place_given before on x (Name p y path u) t (leads, type) own fits owner takes direct allowed =
-      let inner = steps_taking h settled hands leaks m waits other facts v kept well holds alone live index_law own_law parts_named (object_at h.typing y).of u path leads before on takes allowed in
+      let inner = steps_taking h sees seeing settled hands leaks m waits other facts v kept well holds alone live index_law own_law parts_named (object_at h.typing y).of u path leads before on takes allowed in
       quiet_then (at on) (λ way. GoesAlong h.typing.table (object_at h.typing y).of u path way × IsDirect way) (λ k. IsOwnPut h.typing h.frame x (Name p y path u) k) (steps_of h path (at before))
       (λ way now. walked h.typing way (variable_place h y) now)
       (both_quiet (at on) (λ way. GoesAlong h.typing.table (object_at h.typing y).of u path way) (steps_of h path (at before)) inner.0 (steps_direct h path direct (at before)))
@@ -391,7 +342,7 @@ module _ (h : Here) (settled : IsSettled h.typing.table) (hands : List Waiting) 
 
   -- A place in a variable, or in a cell that an owner leads to.
   abbrev pub IsKeptPut : ℕ → TypedTree → Place → Type 0
-  IsKeptPut x e k = IsOwnPut h.typing h.frame x e k ⊎ IsHousedPut h.typing h.frame v (seen h.typing m hands leaks) x e k
+  IsKeptPut x e k = IsOwnPut h.typing h.frame x e k ⊎ IsHousedPut h.typing sees h.frame v (seen h.typing m hands leaks) x e k
 
   -- a way to a part of a variable
   root_part : (w : Way) (l : Loc) (r : Root) → Reaches (seen h.typing m hands leaks) w l → trunk l ≡ OfRoot r → w ≡ along (Object r) (steps_in l)
@@ -414,22 +365,27 @@ module _ (h : Here) (settled : IsSettled h.typing.table) (hands : List Waiting) 
   deref_in_cell w l f z derefs reach base = elim (lifts v w) [
     | inl itself ↦ true_false (has_deref (ways.sels_of w)) derefs
         (ap (λ q. has_deref (ways.sels_of q)) (sym itself ∙ root_part (expand v w) l (OfVariable f z) reach base) ∙ along_derefs (OfVariable f z) (steps_in l))
-    | inr lift ↦ (
+    | inr (inr part) ↦ (
+        let view = seen h.typing m hands leaks in
+        let found = on_cell part.way (v.part_cell part.object part.steps) (well.views.1 part.object part.steps part.way part.has).reaches part.rest l
+        (subst (λ q. Reaches view q l) (in_part_way v w part) reach) in
+        let never : OfCell found.0 ≡ OfRoot (OfVariable f z) = sym found.1 ∙ base in cc)
+    | inr (inl lift) ↦ (
         let view = seen h.typing m hands leaks in
         let found = on_cell lift.way (v.cell lift.object)
-        (reached (home h.typing h.frame) (sees_only h.typing) other v view facts lift.object lift.way (well.views lift.object lift.way lift.has)) lift.rest l
+        (reached (home h.typing h.frame) sees other v view facts lift.object lift.way (well.views.0 lift.object lift.way lift.has)) lift.rest l
         (subst (λ q. Reaches view q l) (lifted_way v w lift) reach) in
         let never : OfCell found.0 ≡ OfRoot (OfVariable f z) = sym found.1 ∙ base in cc)
   ]
 
   -- where what a name stands for begins
-  begun_there : (w : Way) → Named (home h.typing h.frame) w → sees_only h.typing (ways.number_of w) ≡ false
+  begun_there : (w : Way) → Named (home h.typing h.frame) w → sees (ways.number_of w) ≡ false
       → (f : ℕ) × (y : ℕ) × (ways.base_of (expand v w) ≡ OfRoot (OfVariable f y)) × IsBegun h.typing h.frame f y
-  begun_there w named plain = elim (stands (home h.typing h.frame) (sees_only h.typing) v (seen h.typing m hands leaks) facts well.views w (named, plain)) [
+  begun_there w named plain = elim (stands (home h.typing h.frame) sees v (seen h.typing m hands leaks) facts well.views w (named, plain)) [
     | inl own ↦ (home h.typing h.frame (ways.number_of (expand v w)), ways.number_of (expand v w), named_base (home h.typing h.frame) (expand v w) own.named, inl refl)
     | inr held ↦ (
         let front = (longer held.way (expand v w) held.under).base in
-        elim (formals_low held.object held.way held.has) [
+        elim (formals_low.0 held.object held.way held.has) [
           | inl named_there ↦ (
             home h.typing h.frame (ways.number_of held.way),
             ways.number_of held.way,
@@ -442,11 +398,11 @@ module _ (h : Here) (settled : IsSettled h.typing.table) (hands : List Waiting) 
 
   -- a name that goes through access values
   housed_walked : (on : List (List machine.Word)) (p : Pos) (x y u : ℕ) (path : TypedTree) (w : Way) → IsNamed h.typing.table u → Matches h.typing.table u (object_at h.typing x).of
-      → has_deref (selectors path) ≡ true → Named (home h.typing h.frame) w → ways.number_of w ≡ y → ways.name_of w ≡ name_of y path → sees_only h.typing y ≡ false
+      → has_deref (selectors path) ≡ true → Named (home h.typing h.frame) w → ways.number_of w ≡ y → ways.name_of w ≡ name_of y path → sees y ≡ false
       → (z : Evaluated Place) → Walked h.typing settled hands leaks m on (expand v w) u z → Quiet (at on) (λ k. IsKeptPut x (Name p y path u) k) z
-  housed_walked on p x y u path w own fits derefs named root called sees (Raises e n) is = is
-  housed_walked on p x y u path w own fits derefs named root called sees (Traps t n) never = absurd never
-  housed_walked on p x y u path w own fits derefs named root called sees (Done k n) (l, same, spot, reaches, of) = (same, by_base k.base refl)
+  housed_walked on p x y u path w own fits derefs named root called sight (Raises e n) is = is
+  housed_walked on p x y u path w own fits derefs named root called sight (Traps t n) never = absurd never
+  housed_walked on p x y u path w own fits derefs named root called sight (Done k n) (l, same, spot, reaches, of) = (same, by_base k.base refl)
     where
       by_base : (b : Base) → k.base ≡ b → IsKeptPut x (Name p y path u) k
       by_base (memory.OfVariable f z) base =
@@ -454,8 +410,9 @@ module _ (h : Here) (settled : IsSettled h.typing.table) (hands : List Waiting) 
       by_base (memory.OfCell c) base =
           let view = seen h.typing m hands leaks in
           let found = cell_name v view
-          (λ b z has. reached (home h.typing h.frame) (sees_only h.typing) other v view facts b z (well.views b z has)) w l c reaches (spot.base ∙ ap loc_of base) in
-          let begun = begun_there w named (ap (sees_only h.typing) root ∙ sees) in
+          (λ b z has. reached (home h.typing h.frame) sees other v view facts b z (well.views.0 b z has))
+          (λ b p z has. (well.views.1 b p z has).reaches) w l c reaches (spot.base ∙ ap loc_of base) in
+          let begun = begun_there w named (ap sees root ∙ sight) in
           let goes : expand v w ≡ along (expand v found.name) found.rest = ap (expand v) found.is ∙ expand_along v found.name found.rest in
           let base_name : ways.base_of (expand v found.name) ≡ OfRoot (OfVariable begun.0 begun.1) =
           sym (base_along (expand v found.name) found.rest) ∙ ap ways.base_of (sym goes) ∙ begun.2 in
@@ -492,14 +449,14 @@ module _ (h : Here) (settled : IsSettled h.typing.table) (hands : List Waiting) 
             begins = subst (ways.Under found.name) (sym found.is) (under_along found.name found.name found.rest (under_itself found.name));
             cell = c;
             start = refl;
-            plain = sees;
+            plain = sight;
             deep = found.deep;
             leads = refl;
             reaches = found.reaches;
           })
 
   pub housed_given : (before on : List (List machine.Word)) (x : ℕ) (e : TypedTree) (t : ℕ) → IsPlaceOf h.typing e t → IsNamed h.typing.table t → Matches h.typing.table t (object_at h.typing x).of
-      → (goes_through_none e ≡ true → IsOwnPlace h.typing e) → Takes (waits_in e) before on → IsOpenActual h.typing h.frame facts e
+      → (goes_through_none e ≡ true → IsOwnPlace h.typing e) → Takes (waits_in e) before on → IsOpenActual h.typing sees h.frame facts e
       → AllowsAll facts (acts (index_acts h.typing e)) → Quiet (at on) (λ k. IsKeptPut x e k) (place_of h e (at before))
   unfolding waits_in goes_through_none
   housed_given before on x (Name p y path u) t (leads, type) own fits owner takes opens allowed = by_path (goes_through_none path) refl opens
@@ -509,20 +466,19 @@ module _ (h : Here) (settled : IsSettled h.typing.table) (hands : List Waiting) 
           quiet_on on (λ k. IsOwnPut h.typing h.frame x (Name p y path u) k) (λ k. IsKeptPut x (Name p y path u) k) (λ k put. inl put) (place_of h (Name p y path u) (at before))
           (own_place_given before on x (Name p y path u) t (leads, type) own fits (owner none) takes none allowed)
 
-      by_path : (b : Bool) → goes_through_none path ≡ b → IsOpenActual h.typing h.frame facts (Name p y path u)
+      by_path : (b : Bool) → goes_through_none path ≡ b → IsOpenActual h.typing sees h.frame facts (Name p y path u)
           → Quiet (at on) (λ k. IsKeptPut x (Name p y path u) k) (place_of h (Name p y path u) (at before))
       by_path true none opens = direct_there none
-      by_path false some (inl none) = absurd (true_false (goes_through_none path) none some)
-      by_path false some (inr (sees, open_names)) =
-          let inner = steps_taking h settled hands leaks m waits other facts v kept well holds alone live index_law own_law parts_named (object_at h.typing y).of u path leads before on takes allowed in
+      by_path false some (sight, open_names) =
+          let inner = steps_taking h sees seeing settled hands leaks m waits other facts v kept well holds alone live index_law own_law parts_named (object_at h.typing y).of u path leads before on takes allowed in
           quiet_then (at on) (λ way. GoesAlong h.typing.table (object_at h.typing y).of u path way) (λ k. IsKeptPut x (Name p y path u) k) (steps_of h path (at before))
           (λ way now. walked h.typing way (variable_place h y) now) inner.0
           (λ way goes.
           let root : Way = Object (OfVariable (home h.typing h.frame y) y) in
           housed_walked on p x y u path (way_along way root) (subst (IsNamed h.typing.table) (sym type) own) (subst (λ z. Matches h.typing.table z (object_at h.typing x).of) (sym type) fits)
           (path_derefs h.typing (object_at h.typing y).of u path leads some) (named_along (home h.typing h.frame) way root refl) (number_along way root)
-          (λ j. record { root = number_along way root j; sels = goes.sels root j }) sees
+          (λ j. record { root = number_along way root j; sels = goes.sels root j }) sight
           (walked h.typing way (variable_place h y) (at on))
-          (name_quiet h settled hands leaks m on other facts v kept well holds alone live index_law own_law parts_named y path u way goes open_names))
+          (name_quiet h sees seeing settled hands leaks m on other facts v kept well holds alone live index_law own_law parts_named y path u way goes open_names))
   housed_given before on x e t place own fits owner takes opens allowed = absurd place
   -- ---- all of them

@@ -48,7 +48,7 @@ use Rattle.soundness.proofs.Lasting.{keeps, put_away}
 use Rattle.soundness.proofs.Freeing.{plain_parts, switched}
 use Rattle.owned_loans.specs.Views.{Around, Views, expand, Viewed}
 use Rattle.owned_loans.proofs.Allowed.{write_open}
-use Rattle.viewed_soundness.specs.Holds.{IsNamed, PartsAreNamed, sees_only, IsOwners}
+use Rattle.viewed_soundness.specs.Holds.{IsNamed, PartsAreNamed, IsOwners, Seeing}
 use Rattle.viewed_soundness.proofs.Names.{Starts, is_place, changed_owners}
 use Rattle.viewed_soundness.proofs.Stays.{Goes as GoesAlong, steps_taking, name_quiet}
 use Rattle.viewed_soundness.proofs.Moments.{stored_viewed}
@@ -64,7 +64,7 @@ scalar_named table u scalar d c n is = absurd (not_scalar d c n (sym (ap (λ z. 
     not_scalar : (d : ℕ) (c n : Bool) → is_scalar (view_of_shape (shape.Access d c n)) ≡ true → ⊥
     not_scalar d c n e = cc
 
-module _ (t : Turn) (settled : IsSettled (typing t).table) (own_law : OwnsByShape (typing t).table) (other : Around (home (typing t) (length t.outer)))
+module _ (t : Turn) (sees : ℕ → Bool) (seeing : Seeing (typing t) sees) (settled : IsSettled (typing t).table) (own_law : OwnsByShape (typing t).table) (other : Around (home (typing t) (length t.outer)))
     (alone : (w : Way) → IsNear (length t.outer) w → other.gone w → ⊥) (in_formals : AreAccess (typing t))
     (v : Views) (parts_named : PartsAreNamed (typing t).table) (may : ℕ → ℕ → Type 0)
     (frames : t.state.frames ≡ t.frame ∷ t.outer) (none : taken t.point.instr ≡ 0) where
@@ -88,10 +88,10 @@ module _ (t : Turn) (settled : IsSettled (typing t).table) (own_law : OwnsByShap
   at ws = record { memory = m; waits = ws }
 
   abbrev Good : List Fact → Type 0
-  Good facts = IsGood t settled own_law other alone v parts_named may frames none v facts t.state
+  Good facts = IsGood t sees seeing settled own_law other alone v parts_named may frames none v facts t.state
 
   abbrev LeadsHere : List Fact → Outcome → Type 0
-  LeadsHere facts outcome = Leads_on t settled own_law other alone v parts_named may frames none facts outcome
+  LeadsHere facts outcome = Leads_on t sees seeing settled own_law other alone v parts_named may frames none facts outcome
 
   -- what an input does at the place, by the next item
   pub record Gets (f : Place → Memory → Outcome) : Type 0 where
@@ -104,7 +104,7 @@ module _ (t : Turn) (settled : IsSettled (typing t).table) (own_law : OwnsByShap
         → fits_type s.table k.of (machine.Int i ∷ []) ≡ false → f k m ≡ steps.raised t run.ConstraintError m
 
   raised_here : (facts : List Fact) → Good facts → (e : run.Exception) (m : Memory) → LeadsHere facts (steps.raised t e m)
-  raised_here facts good e m = (λ trap. trap, raises t settled own_law other alone v parts_named may frames none facts good m)
+  raised_here facts good e m = (λ trap. trap, raises t sees seeing settled own_law other alone v parts_named may frames none facts good m)
 
   module _ (f : Place → Memory → Outcome) (gets : Gets f) (facts : List Fact) (good : Good facts) (u : ℕ)
       (scalar : is_scalar (full s.table u) ≡ true) (i : ℤ) where
@@ -112,15 +112,15 @@ module _ (t : Turn) (settled : IsSettled (typing t).table) (own_law : OwnsByShap
     value_in = record { of = u; words = machine.Int i ∷ [] }
 
     abbrev ReadyIn : Type 0
-    ReadyIn = Ready (here t) settled t.state.leaks [] other alone (keeps s settled own_law) index_law own_law v parts_named m (value_in ∷ hands) facts
+    ReadyIn = Ready (here t) sees seeing settled t.state.leaks [] other alone (keeps s settled own_law) index_law own_law v parts_named m (value_in ∷ hands) facts
 
     ready_in : ReadyIn
-    ready_in = blank_ready (here t) settled t.state.leaks [] other alone (keeps s settled own_law) index_law own_law v parts_named
+    ready_in = blank_ready (here t) sees seeing settled t.state.leaks [] other alone (keeps s settled own_law) index_law own_law v parts_named
         m hands facts u (machine.Int i ∷ []) (λ k has. elim has [ inl e ↦ cc | inr e ↦ e ])
         (record { viewed = good.viewed; kept = good.kept; holds = good.holds })
 
     alive_trunk : (w : Way) (l : Loc) → IsOwners s w → Reaches (seen s m (value_in ∷ hands) t.state.leaks) w l → (content s m (value_in ∷ hands) (trunk l)).owns ≡ true
-    alive_trunk = live_trunk (here t) settled t.state.leaks [] other alone (keeps s settled own_law) index_law own_law v parts_named m (value_in ∷ hands)
+    alive_trunk = live_trunk (here t) sees seeing settled t.state.leaks [] other alone (keeps s settled own_law) index_law own_law v parts_named m (value_in ∷ hands)
         ready_in.viewed.owned
 
     -- a scalar place has no leak checks
@@ -129,7 +129,7 @@ module _ (t : Turn) (settled : IsSettled (typing t).table) (own_law : OwnsByShap
         let none : parts s.table k.of ≡ [] = ap (parts s.table) of ∙ settled.part_law u ∙ plain_parts (parts s.table) (shape_of s.table u) scalar in
         ap (λ z. checked_at pos k.at (slots_at s m k.base) (flat_map (machine.offsets s.table k.of) z)) none
 
-    module _ (x : ℕ) (path : TypedTree) (way : List run.Step) (along : GoesAlong s.table (object_at s x).of u path way) (plain : sees_only s x ≡ false)
+    module _ (x : ℕ) (path : TypedTree) (way : List run.Step) (along : GoesAlong s.table (object_at s x).of u path way) (plain : sees x ≡ false)
         (allowed : Allows facts (act.Write (name_of x path))) where
       abbrev w : Way
       w = way_along way (Object (OfVariable (home s depth x) x))
@@ -149,31 +149,31 @@ module _ (t : Turn) (settled : IsSettled (typing t).table) (own_law : OwnsByShap
       -- a formal that owns nothing isn't of a scalar type
       whole : is_view_formal s x ≡ true → way ≡ [] → ⊥
       whole formal none =
-          scalar_no_view s in_formals x
+          scalar_no_view s sees in_formals x
           (subst (λ z. is_scalar (full s.table z) ≡ true) (sym (subst (λ z. Starts s.table (object_at s x).of z u) none along.lead)) scalar) (formal_view s x formal)
 
-      seen_not : sees_only s (number_of w) ≡ false
-      seen_not = ap (sees_only s) (number_along way (Object (OfVariable (home s depth x) x))) ∙ plain
+      seen_not : sees (number_of w) ≡ false
+      seen_not = ap sees (number_along way (Object (OfVariable (home s depth x) x))) ∙ plain
 
       stores : (k : Place) (l : Loc) → Spot s m (value_in ∷ hands) k l → Reaches (seen s m (value_in ∷ hands) t.state.leaks) (expand v w) l → k.of ≡ u
           → LeadsHere fs (goes t (stored s k (machine.Int i ∷ []) m) 0)
       stores k l spot reaches of =
           let long : 1 ≡ words s.table k.of = sym (ap (words s.table) of ∙ settled.word_law u ∙ (plain_shape (shape_of s.table u) scalar).3 (words s.table)) in
           let like : Matches s.table u k.of = inl (ap (shape_of s.table) (sym of)) in
-          let rooted = changed_owners (here t) settled (value_in ∷ hands) t.state.leaks m [] other facts v ready_in.kept ready_in.viewed ready_in.holds alone alive_trunk
-          x u way whole along.lead l reaches in
-          let viewed = stored_viewed s settled (home s depth) (sees_only s) other v m value_in hands t.state.leaks facts k l w t.point.pos ready_in.viewed
+          let rooted = changed_owners (here t) sees seeing settled (value_in ∷ hands) t.state.leaks m [] other facts v ready_in.kept ready_in.viewed ready_in.holds alone alive_trunk
+          x u way plain whole along.lead l reaches in
+          let viewed = stored_viewed s settled (home s depth) sees other v m value_in hands t.state.leaks facts k l w t.point.pos ready_in.viewed
           (λ z b q o. alone b (near_under depth (Object (OfHand z)) b q tt) o) ready_in.kept spot named seen_not
           (is_place s v (home s depth x) x u way along.lead (scalar_named s.table u scalar) whole good.holds.only) reaches (alive_trunk (expand v w) l rooted reaches)
           (subst (λ z. Allows facts (act.Write z)) (sym called) allowed) long like in
-          goes_to t settled own_law other alone v parts_named may frames none (stored s k (machine.Int i ∷ []) m) 0 v fs
-          (unturned t settled own_law other alone v parts_named may frames none fs)
-          (subst (λ z. Viewed (home s depth) (sees_only s) other v (seen s (stored s k (machine.Int i ∷ []) m) hands t.state.leaks) (effect (act.Write z) facts)) called
-          (subst (λ z. Viewed (home s depth) (sees_only s) other v (seen s (stored s k (machine.Int i ∷ []) m) hands z) (effect (act.Write (ways.name_of w)) facts))
+          goes_to t sees seeing settled own_law other alone v parts_named may frames none (stored s k (machine.Int i ∷ []) m) 0 v fs
+          (unturned t sees seeing settled own_law other alone v parts_named may frames none fs)
+          (subst (λ z. Viewed (home s depth) sees other v (seen s (stored s k (machine.Int i ∷ []) m) hands t.state.leaks) (effect (act.Write z) facts)) called
+          (subst (λ z. Viewed (home s depth) sees other v (seen s (stored s k (machine.Int i ∷ []) m) hands z) (effect (act.Write (ways.name_of w)) facts))
           (ap (λ z. t.state.leaks ++ z) (no_leaks t.point.pos k of) ∙ append-nil t.state.leaks) viewed))
           (put_away s settled m value_in hands k l ready_in.kept spot long like)
-          (holds_stored (here t) settled t.state.leaks [] other alone (keeps s settled own_law) index_law own_law v parts_named m k (machine.Int i ∷ [])
-          (no_view_place (here t) settled t.state.leaks [] other alone (keeps s settled own_law) index_law own_law v parts_named m (value_in ∷ hands) u k l
+          (holds_stored (here t) sees seeing settled t.state.leaks [] other alone (keeps s settled own_law) index_law own_law v parts_named m k (machine.Int i ∷ [])
+          (no_view_place (here t) sees seeing settled t.state.leaks [] other alone (keeps s settled own_law) index_law own_law v parts_named m (value_in ∷ hands) u k l
           (scalar_named s.table u scalar) of spot (alive_trunk (expand v w) l rooted reaches)) good.holds)
 
       got_at : (y : Evaluated Place) → Walked s settled (value_in ∷ hands) t.state.leaks m [] (expand v w) u y
@@ -187,7 +187,7 @@ module _ (t : Turn) (settled : IsSettled (typing t).table) (own_law : OwnsByShap
             | inl fits ↦ (
                 let on = stores k l spot reaches of in
                 subst (LeadsHere fs) (sym (gets.at_number k m i end next fits))
-                (on.0, on.1, record { viewed = on.2.viewed; kept = on.2.kept; holds = record { held = on.2.holds.held; only = on.2.holds.only; owners = on.2.holds.owners; access = on.2.holds.access; own = on.2.holds.own } }))
+                (on.0, on.1, record { viewed = on.2.viewed; kept = on.2.kept; holds = record { held = on.2.holds.held; only = on.2.holds.only; owners = on.2.holds.owners; access = on.2.holds.access; own = on.2.holds.own; taken = on.2.holds.taken; parts = record { held = on.2.holds.parts.held; only = on.2.holds.parts.only; owners = on.2.holds.parts.owners; looks = on.2.holds.parts.looks } } }))
           ])
 
       -- where there is no number
@@ -207,13 +207,13 @@ module _ (t : Turn) (settled : IsSettled (typing t).table) (own_law : OwnsByShap
       by_item (item.Number j end) e y is mine = got_at y is end (e ∙ ap (λ z. item.Number z end) (mine j end refl))
 
     -- the steps of the name are evaluated
-    then_got : (x : ℕ) (path : TypedTree) → sees_only s x ≡ false → Allows facts (act.Write (name_of x path)) → (it : Item) → next_item t.input t.state.at ≡ it
+    then_got : (x : ℕ) (path : TypedTree) → sees x ≡ false → Allows facts (act.Write (name_of x path)) → (it : Item) → next_item t.input t.state.at ≡ it
         → ((j : ℤ) (end : ℕ) → it ≡ item.Number j end → j ≡ i) → (y : Evaluated (List run.Step)) → Quiet now (λ way. GoesAlong s.table (object_at s x).of u path way) y
         → LeadsHere (effect (act.Write (name_of x path)) facts) (steps.evaluated t (followed_by y (λ way now. walked s way (variable_place (here t) x) now)) f)
     then_got x path plain allowed it next mine (Done way n) (same, goes) =
         subst (λ (z : Now). LeadsHere (effect (act.Write (name_of x path)) facts) (steps.evaluated t (walked s way (variable_place (here t) x) z) f)) (sym same)
         (by_item x path way goes plain allowed it next (walked s way (variable_place (here t) x) now)
-        (name_quiet (here t) settled (value_in ∷ hands) t.state.leaks m [] other facts v ready_in.kept ready_in.viewed ready_in.holds alone alive_trunk index_law own_law parts_named
+        (name_quiet (here t) sees seeing settled (value_in ∷ hands) t.state.leaks m [] other facts v ready_in.kept ready_in.viewed ready_in.holds alone alive_trunk index_law own_law parts_named
         x path u way goes (λ q q_named q_called. write_open facts q (subst (λ z. Allows facts (act.Write z)) (sym q_called) allowed))) mine)
     then_got x path plain allowed it next mine (Raises e n) is = raised_here facts good e n.memory
     then_got x path plain allowed it next mine (Traps e n) never = absurd never
@@ -222,7 +222,7 @@ module _ (t : Turn) (settled : IsSettled (typing t).table) (own_law : OwnsByShap
   out_act name = act.Actual name mode.Out false false
 
   pub got_on : (ws : List (List machine.Word)) (f : Place → Memory → Outcome) (p : Pos) (x u : ℕ) (path : TypedTree) → Gets f → is_scalar (full s.table u) ≡ true
-      → Leads s (object_at s x).of path u → Takes (waits_in path) ws [] → sees_only s x ≡ false → (facts : List Fact) (good : Good facts)
+      → Leads s (object_at s x).of path u → Takes (waits_in path) ws [] → sees x ≡ false → (facts : List Fact) (good : Good facts)
       → AllowsAll facts (acts (source_acts s (Name p x path u) out_act))
       → LeadsHere (after (acts (source_acts s (Name p x path u) out_act)) facts) (steps.evaluated t (place_of (here t) (Name p x path u) (at ws)) f)
   got_on ws f p x u path gets scalar lead takes plain facts good allowed =
@@ -230,8 +230,8 @@ module _ (t : Turn) (settled : IsSettled (typing t).table) (own_law : OwnsByShap
       let whole_acts : acts (source_acts s (Name p x path u) out_act) ≡ b ++ (out_act (name_of x path) ∷ []) =
       acts_append (acts_in s path) (record { pos = p; act = out_act (name_of x path) } ∷ []) in
       let each = allows_both facts b (out_act (name_of x path) ∷ []) (subst (AllowsAll facts) whole_acts allowed) in
-      let inner = steps_taking (here t) settled hands t.state.leaks m [] other facts v good.kept good.viewed good.holds alone
-      (live t settled own_law other alone v parts_named may frames none facts good) index_law own_law parts_named (object_at s x).of u path lead ws [] takes each.0 in
+      let inner = steps_taking (here t) sees seeing settled hands t.state.leaks m [] other facts v good.kept good.viewed good.holds alone
+      (live t sees seeing settled own_law other alone v parts_named may frames none facts good) index_law own_law parts_named (object_at s x).of u path lead ws [] takes each.0 in
       let actual : Allows facts (out_act (name_of x path)) = subst (λ z. Allows z (out_act (name_of x path))) inner.1 each.1.0 in
       let writes : Allows facts (act.Write (name_of x path)) = (λ g has. switched (breaks_O3 (name_of x path) g) _ _ (actual g has)) in
       let behind_acts : after (acts (source_acts s (Name p x path u) out_act)) facts ≡ effect (act.Write (name_of x path)) facts =

@@ -1,5 +1,5 @@
 -- Releases: a cell is freed, or null is.
-use Rattle.std.proofs.Common.{◌≡◌, refl, sym, ap, ◌∙◌, subst, inl, inr, ℕ, suc, Bool, true, false, not, List, [], ◌∷◌, ◌++◌, map, length, arith, ℤ}
+use Rattle.std.proofs.Common.{None, ◌≡◌, refl, sym, ap, ◌∙◌, subst, inl, inr, ℕ, suc, Bool, true, false, not, List, [], ◌∷◌, ◌++◌, map, length, arith, ℤ}
 use Rattle.spark_base.specs.Lists.{Has}
 use Rattle.spark_base.specs.declared.position.Pos.{Pos}
 use Rattle.place_names.specs.declared.act.Act.{Act}
@@ -53,10 +53,11 @@ use Rattle.owned_loans.specs.Views.{Around, Views, expand, ExcusedBy, IsAway, Vi
 use Rattle.owned_loans.proofs.Clear.{clear_same}
 use Rattle.owned_loans.proofs.Allowed.{loan_kept, free_open, free_whole}
 use Rattle.owned_loans.proofs.Others.{itself_away}
-use Rattle.owned_loans.proofs.Moves.{IsPlace, view_on, own_loan, lends_on, expand_under, reached}
+use Rattle.owned_loans.proofs.Moves.{IsPlace, view_on, own_loan, lends_on, expand_under, reached, moved_parts}
 use Rattle.owned_loans.proofs.Freed as view
-use Rattle.viewed_soundness.specs.Holds.{IsNamed, PartsAreNamed, Holds, sees_only, is_fixed, IsOwners}
-use Rattle.viewed_soundness.proofs.Names.{is_place, free_sees, free_formal, changed_owners}
+use Rattle.viewed_soundness.specs.Holds.{IsNamed, PartsAreNamed, Holds, is_fixed, IsOwners, Seeing}
+use Rattle.viewed_soundness.proofs.Names.{is_place, changed_owners}
+use Rattle.viewed_soundness.proofs.ViewKinds.{free_sees, free_formal}
 use Rattle.viewed_soundness.proofs.Spared.{gone_off}
 use Rattle.viewed_soundness.proofs.Stays.{Goes, no_selectors, steps_taking, name_quiet}
 use Rattle.viewed_soundness.proofs.Stored.{holds_stored, no_view_place}
@@ -88,6 +89,9 @@ module _ (home : ℕ → ℕ) (observer : ℕ → Bool) (other : Around home) (v
   free_clean k named plain allowed away = itself_away home observer other v s facts viewed k (named, plain) (free_whole facts k allowed) away
 
   -- a release of null frees nothing
+  moved_bare : (u : Way) → Has facts (Moved (ways.name_of u)) → (p : List ways.Step) → v.part_way (ways.number_of u) p ≡ None
+  moved_bare u moved = moved_parts home observer other v s facts viewed u moved
+
   pub nothing_freed : (k : Way) (at : Loc) → Named home k → IsPlace v k → Reaches s (expand v k) at → ((p : List ways.Step) → s.word (part at p) ≡ Empty)
       → Viewed home observer other v s (effect (act.Free (ways.name_of k)) facts)
   nothing_freed k at named place target empty =
@@ -104,7 +108,7 @@ module _ (home : ℕ → ℕ) (observer : ℕ → Bool) (other : Around home) (v
               moved.0,
               kept_fact a facts (Moved (ways.name_of u)) moved.1
                   (is_false (covers (ways.name_of k) (ways.name_of u)) (λ e. (
-                  let under = subst (Under (expand v k)) leads (expand_under v k u place (covered_under home k u named moved.0 e)) in
+                  let under = subst (Under (expand v k)) leads (expand_under v k u place (moved_bare u moved.1) (covered_under home k u named moved.0 e)) in
                   let b = ends_there s (expand v k) at target empty w l r under in
                   let gone : Gone ≡ Empty = sym h ∙ ap s.word b.1 ∙ empty b.0 in cc))),
             ),
@@ -112,11 +116,16 @@ module _ (home : ℕ → ℕ) (observer : ℕ → Bool) (other : Around home) (v
           ))
         ];
         clear = clear_same observer facts viewed.clear a refl;
-        views = λ x w has. (let own = viewed.views x w has in
-            view_on home observer other v s s facts (effect a facts) x w own (λ seen n. own_loan observer facts (effect a facts) (loan_kept a facts (λ l h z. refl)) seen x n) (reached home observer other v s facts x w own));
+        views = (
+          λ x w has. (let own = viewed.views.0 x w has in
+              view_on home observer other v s s facts (effect a facts) x w own (λ seen n. own_loan observer facts (effect a facts) (loan_kept a facts (λ l h z. refl)) seen x n) (reached home observer other v s facts x w own)),
+          viewed.views.1,
+        );
         whole = viewed.whole;
         whole_away = viewed.whole_away;
         shown = viewed.shown;
+        whole_parts = viewed.whole_parts;
+        parts_away = viewed.parts_away;
         past = viewed.past;
         lends = λ l n lent. lends_on observer v facts (effect a facts) (loan_kept a facts (λ l h z. refl)) l n (viewed.lends l n lent);
         far = viewed.far;
@@ -125,7 +134,7 @@ module _ (home : ℕ → ℕ) (observer : ℕ → Bool) (other : Around home) (v
 
 -- ---- the outcome
 
-module _ (t : Turn) (settled : IsSettled (typing t).table) (own_law : OwnsByShape (typing t).table) (other : Around (home (typing t) (length t.outer)))
+module _ (t : Turn) (sees : ℕ → Bool) (seeing : Seeing (typing t) sees) (settled : IsSettled (typing t).table) (own_law : OwnsByShape (typing t).table) (other : Around (home (typing t) (length t.outer)))
     (alone : (w : Way) → IsNear (length t.outer) w → other.gone w → ⊥) (in_formals : AreAccess (typing t))
     (v : Views) (parts_named : PartsAreNamed (typing t).table) (may : ℕ → ℕ → Type 0)
     (frames : t.state.frames ≡ t.frame ∷ t.outer) (none : taken t.point.instr ≡ 0) where
@@ -149,10 +158,10 @@ module _ (t : Turn) (settled : IsSettled (typing t).table) (own_law : OwnsByShap
   at ws = record { memory = m; waits = ws }
 
   abbrev Good : List Fact → Type 0
-  Good facts = IsGood t settled own_law other alone v parts_named may frames none v facts t.state
+  Good facts = IsGood t sees seeing settled own_law other alone v parts_named may frames none v facts t.state
 
   abbrev LeadsHere : List Fact → Outcome → Type 0
-  LeadsHere facts outcome = Leads_on t settled own_law other alone v parts_named may frames none facts outcome
+  LeadsHere facts outcome = Leads_on t sees seeing settled own_law other alone v parts_named may frames none facts outcome
 
   -- what a release does at the place, by the word there
   pub record Releases (f : Place → Memory → Outcome) (pos : Pos) : Type 0 where
@@ -174,7 +183,7 @@ module _ (t : Turn) (settled : IsSettled (typing t).table) (own_law : OwnsByShap
     seen_here = seen s m hands t.state.leaks
 
     alive_trunk : (w : Way) (l : Loc) → IsOwners s w → Reaches seen_here w l → (content s m hands (trunk l)).owns ≡ true
-    alive_trunk = live t settled own_law other alone v parts_named may frames none facts good
+    alive_trunk = live t sees seeing settled own_law other alone v parts_named may frames none facts good
 
     abbrev excused : Way → Type 0
     excused = ExcusedBy (home s depth) v other facts
@@ -243,28 +252,28 @@ module _ (t : Turn) (settled : IsSettled (typing t).table) (own_law : OwnsByShap
     no_null k (inr e) = e
 
     -- the variables of views stay
-    holds_freed : (n : ℕ) (k : Place) (l : Loc) → Spot s m hands k l → (content s m hands (trunk l)).owns ≡ true → k.of ≡ u → Holds s depth v (stored s k (machine.Null ∷ []) (freed n m))
+    holds_freed : (n : ℕ) (k : Place) (l : Loc) → Spot s m hands k l → (content s m hands (trunk l)).owns ≡ true → k.of ≡ u → Holds s sees depth v (stored s k (machine.Null ∷ []) (freed n m))
     holds_freed n k l spot owned of =
-        holds_stored (here t) settled t.state.leaks [] other alone (keeps s settled own_law) index_law own_law v parts_named (freed n m) k (machine.Null ∷ [])
-        (no_view_place (here t) settled t.state.leaks [] other alone (keeps s settled own_law) index_law own_law v parts_named m hands u k l
-        (named_type s.table u d access) of spot owned) (record { held = good.holds.held; only = good.holds.only; owners = good.holds.owners; access = good.holds.access; own = good.holds.own })
+        holds_stored (here t) sees seeing settled t.state.leaks [] other alone (keeps s settled own_law) index_law own_law v parts_named (freed n m) k (machine.Null ∷ [])
+        (no_view_place (here t) sees seeing settled t.state.leaks [] other alone (keeps s settled own_law) index_law own_law v parts_named m hands u k l
+        (named_type s.table u d access) of spot owned) (record { held = good.holds.held; only = good.holds.only; owners = good.holds.owners; access = good.holds.access; own = good.holds.own; taken = good.holds.taken; parts = record { held = good.holds.parts.held; only = good.holds.parts.only; owners = good.holds.parts.owners; looks = good.holds.parts.looks } })
 
     -- the place is found
-    module _ (w : Way) (named : Named (home s depth) w) (plain : sees_only s (number_of w) ≡ false) (place : IsPlace v w) (allowed : Allows facts (act.Free (ways.name_of w)))
+    module _ (w : Way) (named : Named (home s depth) w) (plain : sees (number_of w) ≡ false) (place : IsPlace v w) (allowed : Allows facts (act.Free (ways.name_of w)))
         (owners : (l : Loc) → Reaches seen_here (expand v w) l → IsOwners s (expand v w)) where
       abbrev fs : List Fact
       fs = effect (act.Free (ways.name_of w)) facts
 
       clean : excused (expand v w) → ⊥
-      clean (inl moved) = free_clean (home s depth) (sees_only s) other v seen_here facts good.viewed w named plain allowed moved
-      clean (inr o) = gone_off s depth other v seen_here facts good.viewed alone w (expand v w) named plain (inl (under_itself (expand v w))) o
+      clean (inl moved) = free_clean (home s depth) sees other v seen_here facts good.viewed w named plain allowed moved
+      clean (inr o) = gone_off s sees depth other v seen_here facts good.viewed alone w (expand v w) named plain (inl (under_itself (expand v w))) o
 
       nothing : (k : Place) (l : Loc) → Spot s m hands k l → Reaches seen_here (expand v w) l → k.of ≡ u
           → ((n : ℕ) → (slot_here k).word ≡ machine.Cell n → ⊥) → LeadsHere fs (goes t m 0)
       nothing k l spot reaches of no_cell =
-          goes_to t settled own_law other alone v parts_named may frames none m 0 v fs
-          (unturned t settled own_law other alone v parts_named may frames none fs)
-          (nothing_freed (home s depth) (sees_only s) other v seen_here facts good.viewed w l named place reaches
+          goes_to t sees seeing settled own_law other alone v parts_named may frames none m 0 v fs
+          (unturned t sees seeing settled own_law other alone v parts_named may frames none fs)
+          (nothing_freed (home s depth) sees other v seen_here facts good.viewed w l named place reaches
           (empties k l (expand v w) spot of (owners l reaches) reaches clean no_cell)) good.kept good.holds
 
       by_word : (k : Place) (l : Loc) → Spot s m hands k l → Reaches seen_here (expand v w) l → k.of ≡ u → shape_of s.table k.of ≡ shape.Access d false true
@@ -292,9 +301,9 @@ module _ (t : Turn) (settled : IsSettled (typing t).table) (own_law : OwnsByShap
           let one : 1 ≡ words s.table k.of = sym (settled.word_law k.of ∙ ap (words_of_shape (words s.table)) is) in
           let next : Memory = stored s k (machine.Null ∷ []) (freed n m) in
           subst (LeadsHere fs) (sym (does.at_cell k m n (word ∙ ap (λ z. z ∷ []) e) alive))
-          (goes_on t settled own_law other alone v parts_named may frames none next (checks_at s pos m (cell_place t' n)) leaks (all_checks s pos m (cell_place t' n)) v fs
-          (unturned t settled own_law other alone v parts_named may frames none fs)
-          (view.freed (home s depth) (sees_only s) other v seen_here (seen s next hands (t.state.leaks ++ leaks)) w l n facts good.viewed
+          (goes_on t sees seeing settled own_law other alone v parts_named may frames none next (checks_at s pos m (cell_place t' n)) leaks (all_checks s pos m (cell_place t' n)) v fs
+          (unturned t sees seeing settled own_law other alone v parts_named may frames none fs)
+          (view.freed (home s depth) sees other v seen_here (seen s next hands (t.state.leaks ++ leaks)) w l n facts good.viewed
           (releases s settled m hands t.state.leaks (t.state.leaks ++ leaks) n k l good.kept spot there.made.0 there.made.1 (leaf_at k l spot of)
           (alive_trunk (expand v w) l (owners l reaches) reaches) off checks)
           named plain place reaches held allowed)
@@ -308,16 +317,16 @@ module _ (t : Turn) (settled : IsSettled (typing t).table) (own_law : OwnsByShap
           let word : words_of s m k ≡ (slot_here k).word ∷ [] =
           ap (map (λ (x : Slot). x.word)) (one_slot s settled hands t.state.leaks m [] excused good.kept good.viewed.owned good.viewed.known alive_trunk k l d false spot is) in
           subst (λ (z : Now). LeadsHere fs (f k z.memory)) (sym same) (by_word k l spot reaches of is word (slot_here k).word refl)
-      released_at (Raises e n) is = (λ trap. trap, raises t settled own_law other alone v parts_named may frames none facts good n.memory)
+      released_at (Raises e n) is = (λ trap. trap, raises t sees seeing settled own_law other alone v parts_named may frames none facts good n.memory)
       released_at (Traps e n) never = absurd never
 
     -- what is freed isn't a formal itself
-    whole : (x : ℕ) (path : TypedTree) (way : List run.Step) → is_fixed s (name_of x path) ≡ false → Goes s.table (object_at s x).of u path way
+    whole : (x : ℕ) (path : TypedTree) (way : List run.Step) → is_fixed s sees (name_of x path) ≡ false → Goes s.table (object_at s x).of u path way
         → is_view_formal s x ≡ true → way ≡ [] → ⊥
-    whole x path way free goes formal none = free_formal s (name_of x path) free formal (no_selectors s.table (object_at s x).of u path way goes none)
+    whole x path way free goes formal none = free_formal s sees (name_of x path) free formal (no_selectors s.table (object_at s x).of u path way goes none)
 
     -- the steps of the name are evaluated
-    then_released : (x : ℕ) (path : TypedTree) → is_fixed s (name_of x path) ≡ false → Allows facts (act.Free (name_of x path)) → (y : Evaluated (List run.Step))
+    then_released : (x : ℕ) (path : TypedTree) → is_fixed s sees (name_of x path) ≡ false → Allows facts (act.Free (name_of x path)) → (y : Evaluated (List run.Step))
         → Quiet now (λ way. Goes s.table (object_at s x).of u path way) y
         → LeadsHere (effect (act.Free (name_of x path)) facts) (steps.evaluated t (followed_by y (λ way now. walked s way (variable_place (here t) x) now)) f)
     then_released x path free allowed (Done way n) (same, goes) =
@@ -330,17 +339,17 @@ module _ (t : Turn) (settled : IsSettled (typing t).table) (own_law : OwnsByShap
         let frees : Allows facts (act.Free (ways.name_of w)) = subst (λ z. Allows facts (act.Free z)) (sym called) allowed in
         subst (λ (z : Now). LeadsHere (effect (act.Free (name_of x path)) facts) (steps.evaluated t (walked s way (variable_place (here t) x) z) f)) (sym same)
         (subst (λ z. LeadsHere (effect (act.Free z) facts) (steps.evaluated t (walked s way (variable_place (here t) x) now) f)) called
-        (released_at w named (ap (sees_only s) (number_along way (Object (OfVariable (home s depth x) x))) ∙ free_sees s (name_of x path) free)
+        (released_at w named (ap sees (number_along way (Object (OfVariable (home s depth x) x))) ∙ free_sees s sees (name_of x path) free)
         (is_place s v (home s depth x) x u way goes.lead (named_type s.table u d access) (whole x path way free goes) good.holds.only) frees
-        (λ l reaches. changed_owners (here t) settled hands t.state.leaks m [] other facts v good.kept good.viewed good.holds alone alive_trunk x u way (whole x path way free goes) goes.lead l reaches)
+        (λ l reaches. changed_owners (here t) sees seeing settled hands t.state.leaks m [] other facts v good.kept good.viewed good.holds alone alive_trunk x u way (free_sees s sees (name_of x path) free) (whole x path way free goes) goes.lead l reaches)
         (walked s way (variable_place (here t) x) now)
-        (name_quiet (here t) settled hands t.state.leaks m [] other facts v good.kept good.viewed good.holds alone alive_trunk index_law own_law parts_named x path u way goes
+        (name_quiet (here t) sees seeing settled hands t.state.leaks m [] other facts v good.kept good.viewed good.holds alone alive_trunk index_law own_law parts_named x path u way goes
         (λ q q_named q_called. free_open facts q (subst (λ z. Allows facts (act.Free z)) (sym q_called) allowed)))))
-    then_released x path free allowed (Raises e n) is = (λ trap. trap, raises t settled own_law other alone v parts_named may frames none facts good n.memory)
+    then_released x path free allowed (Raises e n) is = (λ trap. trap, raises t sees seeing settled own_law other alone v parts_named may frames none facts good n.memory)
     then_released x path free allowed (Traps e n) never = absurd never
 
   pub released_on : (ws : List (List machine.Word)) (f : Place → Memory → Outcome) (pos p : Pos) (x u d : ℕ) (path : TypedTree) → Releases f pos
-      → shape_of s.table u ≡ shape.Access d false true → Leads s (object_at s x).of path u → Takes (waits_in path) ws [] → is_fixed s (name_of x path) ≡ false
+      → shape_of s.table u ≡ shape.Access d false true → Leads s (object_at s x).of path u → Takes (waits_in path) ws [] → is_fixed s sees (name_of x path) ≡ false
       → (facts : List Fact) (good : Good facts)
       → AllowsAll facts (acts (source_acts s (Name p x path u) act.Free))
       → LeadsHere (after (acts (source_acts s (Name p x path u) act.Free)) facts) (steps.evaluated t (place_of (here t) (Name p x path u) (at ws)) f)
@@ -349,8 +358,8 @@ module _ (t : Turn) (settled : IsSettled (typing t).table) (own_law : OwnsByShap
       let whole_acts : acts (source_acts s (Name p x path u) act.Free) ≡ b ++ (act.Free (name_of x path) ∷ []) =
       acts_append (acts_in s path) (record { pos = p; act = act.Free (name_of x path) } ∷ []) in
       let each = allows_both facts b (act.Free (name_of x path) ∷ []) (subst (AllowsAll facts) whole_acts allowed) in
-      let inner = steps_taking (here t) settled hands t.state.leaks m [] other facts v good.kept good.viewed good.holds alone
-      (live t settled own_law other alone v parts_named may frames none facts good) index_law own_law parts_named (object_at s x).of u path lead ws [] takes each.0 in
+      let inner = steps_taking (here t) sees seeing settled hands t.state.leaks m [] other facts v good.kept good.viewed good.holds alone
+      (live t sees seeing settled own_law other alone v parts_named may frames none facts good) index_law own_law parts_named (object_at s x).of u path lead ws [] takes each.0 in
       let frees : Allows facts (act.Free (name_of x path)) = subst (λ z. Allows z (act.Free (name_of x path))) inner.1 each.1.0 in
       let behind_acts : after (acts (source_acts s (Name p x path u) act.Free)) facts ≡ effect (act.Free (name_of x path)) facts =
       ap (λ z. after z facts) whole_acts ∙ after_append b (act.Free (name_of x path) ∷ []) facts ∙ ap (effect (act.Free (name_of x path))) inner.1 in

@@ -3,7 +3,7 @@
 use Rattle.viewed_steps.proofs.Traversed.{none_given, empty_given}
 use Rattle.flow_paths.specs.Views.{sub_acts}
 use Rattle.viewed_steps.specs.Traversals.{IsSourceIn}
-use Rattle.viewed_soundness.proofs.Names.{plain_named, true_false}
+use Rattle.viewed_soundness.proofs.ViewKinds.{plain_named, true_false}
 use Rattle.viewed_soundness.specs.Taken.{GivesPlainly, types_taken, AreOfTypes}
 use Rattle.std.proofs.Common.{◌≡◌, refl, sym, ap, ◌∙◌, subst, ◌⊎◌, inl, inr, ℕ, suc, ◌+◌, ◌<◌, Bool, true, false, ◌||◌, ◌==◌, List, [], ◌∷◌, ◌++◌, drop, length, get_or, arith, append-nil, Option, Some, None, if◌then◌else◌, take}
 use Rattle.spark_base.specs.Lists.{Has}
@@ -13,7 +13,7 @@ use Rattle.place_names.specs.declared.fact.Fact.{Fact}
 use Rattle.place_names.specs.declared.fact.Fact.TheVariants.{Moved, Lent}
 use Rattle.place_names.specs.declared.rule.Loan.TheVariants.{Observed}
 use Rattle.place_names.specs.Names.{Name as PlaceName}
-use Rattle.type_definitions.specs.Types.{Table, is_scalar, full}
+use Rattle.type_definitions.specs.Types.{Table, is_scalar, full, words}
 use Rattle.typed_tree.specs.Trees.{TypedTree, NoMore, More, Name, Call as CallIn}
 use Rattle.typed_tree.specs.Programs.{TypedProgram}
 use Rattle.flow_paths.specs.declared.report.Effects.{Effects}
@@ -23,37 +23,37 @@ use Rattle.flow_paths.specs.Names.{waiting as waits_in}
 use Rattle.flow_paths.specs.Acts as flow
 use Rattle.flow_paths.specs.Acts.{acts_in}
 use Rattle.flow_paths.specs.Points.{NamedPoint}
-use Rattle.flow_paths.specs.Laid.{FlowProgram, NamedSub, typing_of, flow_typing, flow_program, flow_named}
-use Rattle.flow_paths.specs.Paths.{ControlPath}
+use Rattle.flow_paths.specs.Laid.{FlowProgram, NamedSub, typing_of, flow_typing, flow_program, flow_named, FlowSub}
+use Rattle.flow_paths.specs.Paths.{ControlPath, PathPoint, path_point, goes_on, facts_before}
 use Rattle.flow_paths.specs.Effects.{path_points}
 use Rattle.flow_paths.specs.Scopes.{taken, brought, scope_behind, is_within}
 use Rattle.machine.specs.Words.{fits_type}
 use Rattle.machine.specs.Words as machine
 use Rattle.machine.specs.Memory.{Memory, given_up}
-use Rattle.machine.specs.Evaluate.{Exception, ConstraintError, ProgramError, Evaluated, Done, followed_by, value, place_of, text_of}
+use Rattle.machine.specs.Evaluate.{Exception, ConstraintError, ProgramError, Evaluated, Done, followed_by, value, place_of, text_of, Raises, Traps}
 use Rattle.machine.specs.Evaluate as run
 use Rattle.machine.specs.States.{Waiting, Frame, State, Outcome, Goes, sub_of}
-use Rattle.machine.specs.Step.{Turn, turn, start, successor}
+use Rattle.machine.specs.Step.{Turn, turn, start, successor, led}
 use Rattle.machine.specs.Step as steps
 use Rattle.machine.specs.Typed.{successors}
 use Rattle.machine.specs.Owners.{WellOwned, waiting_in}
 use Rattle.owned_ways.specs.Ways.{Step, OfVariable, OfRoot, Way, Held, after, AllowsAll, along, number_of}
 use Rattle.owned_ways.specs.Ways as ways
-use Rattle.soundness.specs.Seen.{IsNear, content, word_in, home}
+use Rattle.soundness.specs.Seen.{IsNear, content, word_in, home, seen}
 use Rattle.soundness.specs.Typed.{Kept}
 use Rattle.typed_laws.specs.Needed.{IsFine, Stays, Source}
-use Rattle.soundness.specs.Sound.{IsNoCall, Stage, facts_of, AreStages, IsRunnable, returns_value, InScope, IsNamedSub, IsAtPoint, view_of as view_here}
+use Rattle.soundness.specs.Sound.{IsNoCall, Stage, facts_of, AreStages, IsRunnable, returns_value, InScope, IsNamedSub, IsAtPoint, view_of as view_here, is_temporary_object, has_returned}
 use Rattle.soundness.proofs.Scalars.{acts}
 use Rattle.soundness.proofs.Scoped.{Inside}
 use Rattle.soundness.proofs.Around.{IsFar}
-use Rattle.soundness.proofs.Waits.{drop_none}
+use Rattle.soundness.proofs.Waits.{drop_none, waits_of}
 use Rattle.soundness.proofs.Taking.{Takes, takes_as, nothing_more}
 use Rattle.soundness.proofs.Waited.{FillsNone}
 use Rattle.soundness.proofs.Eased.{eased, waits_same}
 use Rattle.soundness.proofs.Successors.{below_one}
-use Rattle.owned_loans.specs.Views.{Around, known_gone, Views, Viewed, ViewedAlone, IsShared}
-use Rattle.viewed_soundness.specs.Holds.{IsNamed, AllKeep, is_view, sees_only, is_fixed}
-use Rattle.viewed_soundness.proofs.Outcomes.{IsGood, Leads_on}
+use Rattle.owned_loans.specs.Views.{Around, known_gone, Views, Viewed, ViewedAlone, IsShared, IsMovedBy}
+use Rattle.viewed_soundness.specs.Holds.{IsNamed, AllKeep, is_view, is_fixed, Holds, Seeing}
+use Rattle.viewed_soundness.proofs.Outcomes.{IsGood, Leads_on, unturned, scalar_taken}
 use Rattle.viewed_steps.specs.Awaited.{AreFor, AreValues, AreValuesBut, temporaries_of, lasting_of, awaited, AreAwaited, AreScalar, FillsTyped, TakesScalars, StoresNone, TakesAlone, TakesTogether}
 use Rattle.viewed_steps.proofs.Waited.{temporary_first, lasting_more, Shares}
 use Rattle.viewed_steps.specs.Sound.{IsWayOf, IsBeyond, HoldsAt, ArePlaced, NoneAbove, ViewStage, stages_of, GoneElsewhere, AreWaiting, IsStoredAt, returns_one, LeadsAlong, IsResting, HasTraversals, NoneGiven, IsGivenBelow, LentBy, KeptBy, withheld, loan_by}
@@ -61,7 +61,7 @@ use Rattle.viewed_steps.specs.Taken.{TakenBy}
 use Rattle.viewed_steps.specs.Ready.{IsReady}
 use Rattle.viewed_steps.proofs.Lent.{Spare, loans_stay}
 use Rattle.viewed_steps.proofs.Placed.{scope_on, placed_on, MayBe, turned_placed}
-use Rattle.viewed_steps.proofs.Beside.{OthersKept}
+use Rattle.viewed_steps.proofs.Beside.{OthersKept, value_stays, source_stays}
 use Rattle.viewed_steps.proofs.Waiting.{StandsBetween, AreTheirs, beside_them, handed}
 use Rattle.viewed_steps.proofs.Standing.{or_right}
 use Rattle.viewed_steps.proofs.Standing as standing
@@ -71,41 +71,37 @@ use Rattle.viewed_steps.proofs.Alone as alone_value
 use Rattle.viewed_steps.proofs.Within as holding
 use Rattle.std.specs.Prelude.{is_some, flat_map}
 use Rattle.type_definitions.specs.Entries.{boolean}
-use Rattle.type_definitions.specs.Types.{words}
 use Rattle.typed_tree.specs.declared.node.ShortCircuit.{ShortCircuit}
-use Rattle.flow_paths.specs.Laid.{FlowSub}
-use Rattle.flow_paths.specs.Paths.{PathPoint, path_point, goes_on, facts_before}
-use Rattle.machine.specs.Step.{led}
-use Rattle.machine.specs.Evaluate.{Raises, Traps}
 use Rattle.machine.specs.Run.{no_point}
-use Rattle.soundness.specs.Seen.{seen}
-use Rattle.soundness.specs.Sound.{is_temporary_object, has_returned}
 use Rattle.soundness.specs.Ready.{IsSupplied, Fills}
 use Rattle.soundness.proofs.Onward.{Gets, value_inside, source_inside}
 use Rattle.soundness.proofs.Operands.{handed_over, hold_is}
 use Rattle.soundness.proofs.Points.{path_there}
 use Rattle.soundness.proofs.Stays.{Quiet, One}
-use Rattle.soundness.proofs.Waits.{waits_of}
 use Rattle.soundness.proofs.Numbers.{index_law}
 use Rattle.soundness.proofs.Lasting.{keeps}
 use Rattle.soundness.proofs.Fixed.{plain_word}
-use Rattle.owned_loans.specs.Views.{IsMovedBy}
-use Rattle.viewed_soundness.specs.Holds.{Holds}
 use Rattle.viewed_soundness.proofs.Evaluated.{Given}
-use Rattle.viewed_soundness.proofs.Outcomes.{unturned, scalar_taken}
 use Rattle.viewed_steps.proofs.Declared.{source_given}
-use Rattle.viewed_steps.proofs.Beside.{value_stays, source_stays}
 use Rattle.viewed_steps.proofs.Operands.{left_operand_on, right_operand_on}
 use Rattle.viewed_steps.proofs.EachInstruction as each
 use Rattle.viewed_steps.proofs.Turned as turned
 use Rattle.viewed_steps.proofs.Views.{AreAccess}
 use Rattle.place_names.specs.Facts.{place}
 use Rattle.place_names.specs.declared.rule.Loan.{Loan}
+use Rattle.viewed_steps.specs.Seeing.{sees_in}
+use Rattle.viewed_steps.proofs.Sees.{sees_seeing}
 
 none_some : (n : ℕ) → None ≡ Some n → ⊥
 none_some n e = cc
 
 module _ (table : Table) (typed : TypedProgram) (effects : Effects) (input : List ℕ) (ready : IsReady table typed effects) where
+  abbrev sees : ℕ → Bool
+  sees = sees_in (flow_program table typed)
+
+  abbrev seeing : Seeing (flow_typing (flow_program table typed)) sees
+  seeing = sees_seeing (flow_program table typed)
+
   abbrev program : FlowProgram
   program = flow_program table typed
 
@@ -131,9 +127,9 @@ module _ (table : Table) (typed : TypedProgram) (effects : Effects) (input : Lis
       (awaiting : AreAwaited table typed None (top ∷ stages_of (below ∷ more_frames)))
       (of_sub : IsNamedSub (flow_named table typed) top.frame.sub named) (at_point : IsAtPoint named.points top.frame.next p)
       (path : ControlPath (path_points program effects (sub_of program top.frame.sub)) top.before top.frame.next) (views : Views)
-      (viewed_before : ViewedAlone (home s (suc (length rest))) (sees_only s) (known_gone (home s (suc (length rest))) (GoneElsewhere program effects (below ∷ more_frames))) views
+      (viewed_before : ViewedAlone (home s (suc (length rest))) sees (known_gone (home s (suc (length rest))) (GoneElsewhere program effects (below ∷ more_frames))) views
       (view_here s state) (facts_of program effects top))
-      (kept : Kept s state.memory (waiting_in state)) (scope : InScope s state.memory (suc (length rest)) (lasting_of s p.scope)) (holds : HoldsAt s (suc (length rest)) views state.memory p)
+      (kept : Kept s state.memory (waiting_in state)) (scope : InScope s state.memory (suc (length rest)) (lasting_of s p.scope)) (holds : HoldsAt s sees (suc (length rest)) views state.memory p)
       (placed_before : ArePlaced program (suc (length rest)) (facts_of program effects top) views p.scope × IsBeyond program effects (suc (length rest)) views (below ∷ more_frames)) (above : NoneAbove s (suc (length rest)) state.memory
       × HasTraversals table typed (view_here s state) (record { stage = top; views = views; cells = [] } ∷ (below ∷ more_frames))) where
     abbrev outer : List Frame
@@ -173,22 +169,22 @@ module _ (table : Table) (typed : TypedProgram) (effects : Effects) (input : Lis
         → AllowsAll facts_now (acts_of_main p.instr)
     allowed_now = innermost.allowed_now table typed effects input ready state top below more_frames rest named p frames deep stages running awaiting of_sub at_point path views viewed_before kept scope holds placed_before above
 
-    abbrev viewed : Viewed (home s depth) (sees_only s) other views (view_here s state) facts_now
+    abbrev viewed : Viewed (home s depth) sees other views (view_here s state) facts_now
     viewed = innermost.viewed table typed effects input ready state top below more_frames rest named p frames deep stages running awaiting of_sub at_point path views viewed_before kept scope holds placed_before above
 
     abbrev apart_from_them : (done : List Act) (v : Views) (view : ways.View) → ((x : ℕ) (w : Way) → v.way x ≡ Some w → is_view s x ≡ true)
-        → Viewed (home s depth) (sees_only s) other v view (after done facts_now)
-        → ViewedAlone (home s depth) (sees_only s) (known_gone (home s depth) (GoneElsewhere program effects older)) v view (after done own_facts)
+        → Viewed (home s depth) sees other v view (after done facts_now)
+        → ViewedAlone (home s depth) sees (known_gone (home s depth) (GoneElsewhere program effects older)) v view (after done own_facts)
     apart_from_them = innermost.apart_from_them table typed effects input ready state top below more_frames rest named p frames deep stages running awaiting of_sub at_point path views viewed_before kept scope holds placed_before above
 
-    abbrev placed_by : (some all : List Fact) (v : Views) (scope_there : List ℕ) → ((h : ℕ) (m : PlaceName) → sees_only s h ≡ true → Has some (Lent Observed h m) → Has all (Lent Observed h m))
+    abbrev placed_by : (some all : List Fact) (v : Views) (scope_there : List ℕ) → ((h : ℕ) (m : PlaceName) → sees h ≡ true → Has some (Lent Observed h m) → Has all (Lent Observed h m))
         → ArePlaced program (suc (length rest)) some v scope_there → ArePlaced program (suc (length rest)) all v scope_there
     placed_by = innermost.placed_by table typed effects input ready state top below more_frames rest named p frames deep stages running awaiting of_sub at_point path views viewed_before kept scope holds placed_before above
 
     abbrev placed : ArePlaced program (suc (length rest)) facts_now views p.scope
     placed = innermost.placed table typed effects input ready state top below more_frames rest named p frames deep stages running awaiting of_sub at_point path views viewed_before kept scope holds placed_before above
 
-    abbrev own_loans : (done : List Act) (h : ℕ) (m : PlaceName) → sees_only s h ≡ true → Has (after done facts_now) (Lent Observed h m)
+    abbrev own_loans : (done : List Act) (h : ℕ) (m : PlaceName) → sees h ≡ true → Has (after done facts_now) (Lent Observed h m)
         → Has (after done own_facts) (Lent Observed h m)
     own_loans = innermost.own_loans table typed effects input ready state top below more_frames rest named p frames deep stages running awaiting of_sub at_point path views viewed_before kept scope holds placed_before above
 
@@ -270,7 +266,7 @@ module _ (table : Table) (typed : TypedProgram) (effects : Effects) (input : Lis
     may x y = MayBe program (scope_behind p) x y × IsStoredAt p.instr x × IsSourceIn (sub_acts (sub_of program top.frame.sub)) x y
 
     abbrev LeadsFrom : Instruction → Outcome → Type 0
-    LeadsFrom i outcome = Leads_on easy ready.accepted.settled ready.owns other alone views ready.class.parts_named may refl refl (after (acts_of_main i) facts_now) outcome
+    LeadsFrom i outcome = Leads_on easy sees seeing ready.accepted.settled ready.owns other alone views ready.class.parts_named may refl refl (after (acts_of_main i) facts_now) outcome
 
     abbrev AnyLeft : List Waiting → Type 0
     AnyLeft waits = Unit {0}
@@ -303,7 +299,7 @@ module _ (table : Table) (typed : TypedProgram) (effects : Effects) (input : Lis
       no_finish : p.instr ≡ Finish → ⊥
       no_finish same = (let never : Evaluate temporary e op ≡ Finish = sym is ∙ same in cc)
 
-      abbrev good_there : IsGood easy ready.accepted.settled ready.owns other alone views ready.class.parts_named may refl refl views facts_now easy.state
+      abbrev good_there : IsGood easy sees seeing ready.accepted.settled ready.owns other alone views ready.class.parts_named may refl refl views facts_now easy.state
       good_there = each.good table typed effects input ready state top below more_frames rest named p frames deep stages running awaiting of_sub at_point path views viewed_before kept scope holds placed_before above going_here no_call_here plain_operand
 
       allowed_operand : AllowsAll facts_now (acts (acts_in s e))
@@ -313,7 +309,7 @@ module _ (table : Table) (typed : TypedProgram) (effects : Effects) (input : Lis
 
       one_there : Quiet (record { memory = state.memory; waits = [] }) One (value (steps.here main_turn) e (start main_turn))
       one_there =
-          (scalar_taken easy ready.accepted.settled ready.owns other alone views ready.class.parts_named may refl refl given_words e evaluates
+          (scalar_taken easy sees seeing ready.accepted.settled ready.owns other alone views ready.class.parts_named may refl refl given_words e evaluates
           (takes_of plain_operand (Evaluate temporary e op) is) facts_now good_there allowed_operand).0
 
       -- its value waits
@@ -346,7 +342,7 @@ module _ (table : Table) (typed : TypedProgram) (effects : Effects) (input : Lis
 
       leads_here : (waits : List machine.Word → List Waiting) (easy_waits : List machine.Word → List Waiting) (k : List machine.Word → ℕ)
           → ((ws : List machine.Word) → easy_waits ws ≡ waits ws)
-          → Leads_on easy ready.accepted.settled ready.owns other alone views ready.class.parts_named may refl refl (after (acts (acts_in s e)) facts_now)
+          → Leads_on easy sees seeing ready.accepted.settled ready.owns other alone views ready.class.parts_named may refl refl (after (acts (acts_in s e)) facts_now)
           (steps.evaluated easy (value (steps.here easy) e (start main_turn)) (λ ws m. Goes (steps.behind easy (easy_waits ws) m (k ws))))
           → LeadsFrom p.instr (steps.evaluated main_turn (value (steps.here main_turn) e (start main_turn)) (λ ws m. Goes (steps.behind main_turn (waits ws) m (k ws))))
       leads_here waits easy_waits k same leads =
@@ -354,7 +350,7 @@ module _ (table : Table) (typed : TypedProgram) (effects : Effects) (input : Lis
           p.instr (value (steps.here main_turn) e (start main_turn)) (λ ws m. Goes (steps.behind easy (easy_waits ws) m (k ws)))
           (λ ws m. Goes (steps.behind main_turn (waits ws) m (k ws)))
           (λ ws m on. subst (λ z. LeadsFrom p.instr (Goes (steps.behind main_turn z m (k ws)))) (same ws) on)
-          (subst (λ i. Leads_on easy ready.accepted.settled ready.owns other alone views ready.class.parts_named may refl refl (after (acts_of_main i) facts_now)
+          (subst (λ i. Leads_on easy sees seeing ready.accepted.settled ready.owns other alone views ready.class.parts_named may refl refl (after (acts_of_main i) facts_now)
           (steps.evaluated easy (value (steps.here easy) e (start main_turn)) (λ ws m. Goes (steps.behind easy (easy_waits ws) m (k ws))))) (sym is) leads)
 
     left_step : (temporary : ℕ) (e : TypedTree) (o : ShortCircuit) → p.instr ≡ Evaluate temporary e (Some o) → Along (steps.operand main_turn e (Some o))
@@ -373,7 +369,7 @@ module _ (table : Table) (typed : TypedProgram) (effects : Effects) (input : Lis
         (leads_here temporary e (Some o) is (λ ws. steps.truth_waiting ws ∷ steps.waiting main_turn) (λ ws. steps.truth_waiting ws ∷ steps.waiting easy)
         (λ ws. if run.decides o ws then 1 else 0)
         (λ ws. ap (λ z. steps.truth_waiting ws ∷ z) (waits_same main_turn))
-        (left_operand_on easy ready.accepted.settled ready.owns other alone in_formals views ready.class.parts_named may refl refl (truth_there temporary e (Some o) is)
+        (left_operand_on easy sees seeing ready.accepted.settled ready.owns other alone in_formals views ready.class.parts_named may refl refl (truth_there temporary e (Some o) is)
         given_words e o (evaluates temporary e (Some o) is) (takes_of (plain_operand temporary e (Some o) is) (Evaluate temporary e (Some o)) is) facts_now (good_there temporary e (Some o) is)
         (allowed_operand temporary e (Some o) is)))
       where
@@ -414,7 +410,7 @@ module _ (table : Table) (typed : TypedProgram) (effects : Effects) (input : Lis
             (value (steps.here main_turn) e (start main_turn)) (one_there temporary e None is) (inside_operand temporary e None is) (value_stays main_turn e)
             (leads_here temporary e None is (λ ws. steps.truth_waiting ws ∷ drop 1 (steps.waiting main_turn)) (λ ws. steps.truth_waiting ws ∷ drop 1 (steps.waiting easy)) (λ ws. 0)
             (λ ws. ap (λ z. steps.truth_waiting ws ∷ drop 1 z) (waits_same main_turn))
-            (right_operand_on easy ready.accepted.settled ready.owns other alone in_formals views ready.class.parts_named may refl refl (truth_there temporary e None is)
+            (right_operand_on easy sees seeing ready.accepted.settled ready.owns other alone in_formals views ready.class.parts_named may refl refl (truth_there temporary e None is)
             given_words e v vs some scalar_value (evaluates temporary e None is)
             (takes_of (plain_operand temporary e None is) (Evaluate temporary e None) is) facts_now (good_there temporary e None is) (allowed_operand temporary e None is)))
 
@@ -464,8 +460,8 @@ module _ (table : Table) (typed : TypedProgram) (effects : Effects) (input : Lis
       allowed_value : is_anonymous (full s.table of) ≡ false → AllowsAll facts_now (acts (acts_in s e))
       allowed_value plain_result = subst (AllowsAll facts_now) (acts_then plain_result) (allowed_now spare_value (standing.allowed table typed effects input ready state top older outer named p frames of_sub at_point path no_call_then))
 
-      keeps_value : is_anonymous (full s.table of) ≡ false → AllKeep (is_fixed s) (acts (acts_in s e))
-      keeps_value plain_result = subst (AllKeep (is_fixed s)) (acts_then plain_result) (standing.keeps_there table typed effects input ready state top older outer named p frames of_sub at_point)
+      keeps_value : is_anonymous (full s.table of) ≡ false → AllKeep (is_fixed s sees) (acts (acts_in s e))
+      keeps_value plain_result = subst (AllKeep (is_fixed s sees)) (acts_then plain_result) (standing.keeps_there table typed effects input ready state top older outer named p frames of_sub at_point)
 
       left_values : Left (steps.waiting main_turn)
       left_values = left_after (subst (FillsNone s) (sym is) tt)
@@ -547,6 +543,7 @@ module _ (table : Table) (typed : TypedProgram) (effects : Effects) (input : Lis
                 written = n.written;
               });
               off = was.off;
+              off_parts = was.off_parts;
               uses = was.uses;
               clear = was.clear;
               views = was.views;
@@ -567,15 +564,15 @@ module _ (table : Table) (typed : TypedProgram) (effects : Effects) (input : Lis
           )
 
       past_with : (v : Waiting) → IsBeyond program effects depth views (below ∷ more_frames) → IsBeyond program effects depth views (below_with v ∷ more_frames)
-      past_with v past = (λ x w has given sees k n kept goes. past_one x w has given sees k n kept goes, λ x w has given named_there. shared_one (sees_only s x) w (past.1 x w has given named_there))
+      past_with v past = (λ x w has given sight k n kept goes. past_one x w has given sight k n kept goes, (λ x w has given named_there. shared_one (sees x) w (past.1.0 x w has given named_there), λ x q w has named_there. shared_one true w (past.1.1 x q w has named_there)))
         where
           way_from : (g : ViewStage) (k : Way) (n : ℕ) → below_with v ≡ g → IsWayOf g k n → IsWayOf below k n
           way_from g k n same way = subst (λ (z : ViewStage). IsWayOf z k n → IsWayOf below k n) same (λ there. there) way
 
-          past_one : (x : ℕ) (w : Way) → views.way x ≡ Some w → (ways.Named (home s depth) (views.up x) → ⊥) → sees_only s x ≡ false → (k : Way) (n : ℕ)
+          past_one : (x : ℕ) (w : Way) → views.way x ≡ Some w → (ways.Named (home s depth) (views.up x) → ⊥) → sees x ≡ false → (k : Way) (n : ℕ)
               → KeptBy (below_with v ∷ more_frames) k n → ways.Past w k → ⊥
-          past_one x w has given sees k n (g, inr there, way) goes = past.0 x w has given sees k n (g, inr there, way) goes
-          past_one x w has given sees k n (g, inl same, way) goes = past.0 x w has given sees k n (below, inl refl, way_from g k n same way) goes
+          past_one x w has given sight k n (g, inr there, way) goes = past.0 x w has given sight k n (g, inr there, way) goes
+          past_one x w has given sight k n (g, inl same, way) goes = past.0 x w has given sight k n (below, inl refl, way_from g k n same way) goes
 
           lent_with : (l : Loan) (name : PlaceName) → LentBy program effects (below ∷ more_frames) l name → LentBy program effects (below_with v ∷ more_frames) l name
           lent_with l name lent = elim lent.1 [
@@ -588,9 +585,9 @@ module _ (table : Table) (typed : TypedProgram) (effects : Effects) (input : Lis
                 )
           ]
 
-          shared_one : (sees : Bool) (w : Way) → IsShared (home s depth) (LentBy program effects (below ∷ more_frames)) sees w
-              → IsShared (home s depth) (LentBy program effects (below_with v ∷ more_frames)) sees w
-          shared_one sees w (l, through, changed) = (l, (through.0, through.1, through.2, lent_with l (ways.name_of through.0) through.3), changed)
+          shared_one : (sight : Bool) (w : Way) → IsShared (home s depth) (LentBy program effects (below ∷ more_frames)) sight w
+              → IsShared (home s depth) (LentBy program effects (below_with v ∷ more_frames)) sight w
+          shared_one sight w (l, through, changed) = (l, (through.0, through.1, through.2, lent_with l (ways.name_of through.0) through.3), changed)
 
       elsewhere_from : (v : Waiting) (w : Way) → GoneElsewhere program effects (below_with v ∷ more_frames) w → GoneElsewhere program effects (below ∷ more_frames) w
       elsewhere_from v w (g, inr has, what) = (g, inr has, what)
@@ -632,15 +629,15 @@ module _ (table : Table) (typed : TypedProgram) (effects : Effects) (input : Lis
       top_stage_then = record { stage = top_then; views = views; cells = [] }
 
       pub returned_to : (ws : List machine.Word) (m : Memory)
-          → Viewed (home s depth) (sees_only s) other views (seen s m (value_of ws ∷ waiting_in easy.state) state.leaks) (after (acts_of_main p.instr) facts_now)
-          → Kept s m (value_of ws ∷ waiting_in easy.state) → Holds s depth views m → length ws ≡ words s.table of → Inside s IsOld m depth (lasting_of s left_scope)
+          → Viewed (home s depth) sees other views (seen s m (value_of ws ∷ waiting_in easy.state) state.leaks) (after (acts_of_main p.instr) facts_now)
+          → Kept s m (value_of ws ∷ waiting_in easy.state) → Holds s sees depth views m → length ws ≡ words s.table of → Inside s IsOld m depth (lasting_of s left_scope)
           → OthersKept s depth state.memory m → IsGivenBelow table typed (seen s m (value_of ws ∷ waiting_in easy.state) state.leaks) top_stage_then (below_with (value_of ws))
           → Along (Goes (state_then ws m))
       returned_to ws m viewed_then kept_then holds_then long inside_then stay given_then =
           let v : Waiting = value_of ws in
           let view = seen s m (v ∷ waiting_in easy.state) state.leaks in
           let view_same : view ≡ view_here s (state_then ws m) = ap (λ z. seen s m z state.leaks) (sym (hands_then ws m)) in
-          let well_all : Viewed (home s depth) (sees_only s) other views view (after (acts_of_main p.instr) facts_now) =
+          let well_all : Viewed (home s depth) sees other views view (after (acts_of_main p.instr) facts_now) =
           viewed_then in
           let well = apart_from_them (acts_of_main p.instr) views view holds.only well_all in
           let found = standing.next_at table typed effects input ready state top older outer named p frames of_sub at_point path next_number next_has in
@@ -652,10 +649,10 @@ module _ (table : Table) (typed : TypedProgram) (effects : Effects) (input : Lis
           let inside_behind : Inside s IsOld m depth (lasting_of s (scope_behind p)) = subst (λ i. Inside s IsOld m depth (lasting_of s (brought i left_scope))) (sym is) inside_then in
           let more_behind : (x : ℕ) → is_within x left_scope ≡ true → is_within x (scope_behind p) ≡ true =
           (λ x within. subst (λ i. is_within x (brought i left_scope) ≡ true) (sym is) within) in
-          let there = turned_placed easy ready.accepted.settled ready.owns other alone views ready.class.parts_named left_scope (scope_behind p) refl refl
-          ready.orderly.transitive ready.orderly.itself local holds.only holds.lies more_behind views facts_now (after (acts_of_main p.instr) facts_now)
+          let there = turned_placed easy sees seeing ready.accepted.settled ready.owns other alone views ready.class.parts_named left_scope (scope_behind p) refl refl
+          ready.orderly.transitive ready.orderly.itself local holds.only (holds.lies, holds.low) more_behind views facts_now (after (acts_of_main p.instr) facts_now)
           (λ h n has. loans_stay s (standing.acts_by table typed effects input ready state top older outer named p frames of_sub at_point s p.instr) spare_value facts_now Observed h n has)
-          (placed_left facts_now placed) (unturned easy ready.accepted.settled ready.owns other alone views ready.class.parts_named (λ x y. MayBe program (scope_behind p) x y) refl refl (after (acts_of_main p.instr) facts_now)) in
+          (placed_left facts_now placed) (unturned easy sees seeing ready.accepted.settled ready.owns other alone views ready.class.parts_named (λ x y. MayBe program (scope_behind p) x y) refl refl (after (acts_of_main p.instr) facts_now)) in
           let placed_next = placed_on program depth (after (acts_of_main p.instr) facts_now) views (scope_behind p) (found.0).scope holds.only found.2 there in (
             record {
               top = top_then;
@@ -679,9 +676,9 @@ module _ (table : Table) (typed : TypedProgram) (effects : Effects) (input : Lis
               path = subst (λ (z : FlowSub). ControlPath (path_points program effects z) (top.frame.next ∷ top.before) next_number)
                   (sym (standing.sub_is table typed effects input ready state top older outer named p frames of_sub at_point))
                   (goes_on top.before top.frame.next next_number (standing.path_here table typed effects input ready state top older outer named p frames of_sub at_point path) step_on);
-              viewed = subst (λ z. ViewedAlone (home s top.depth) (sees_only s) (known_gone (home s top.depth) (GoneElsewhere program effects (below_with v ∷ more_frames))) views z (facts_of program effects top_then)) view_same
-                  (subst (λ d. ViewedAlone (home s d) (sees_only s) (known_gone (home s d) (GoneElsewhere program effects (below_with v ∷ more_frames))) views view (facts_of program effects top_then)) (sym deep)
-                  (subst (ViewedAlone (home s depth) (sees_only s) (known_gone (home s depth) (GoneElsewhere program effects (below_with v ∷ more_frames))) views view) (sym facts_there)
+              viewed = subst (λ z. ViewedAlone (home s top.depth) sees (known_gone (home s top.depth) (GoneElsewhere program effects (below_with v ∷ more_frames))) views z (facts_of program effects top_then)) view_same
+                  (subst (λ d. ViewedAlone (home s d) sees (known_gone (home s d) (GoneElsewhere program effects (below_with v ∷ more_frames))) views view (facts_of program effects top_then)) (sym deep)
+                  (subst (ViewedAlone (home s depth) sees (known_gone (home s depth) (GoneElsewhere program effects (below_with v ∷ more_frames))) views view) (sym facts_there)
                   (record {
                     owned = well.owned;
                     covered = well.covered;
@@ -689,6 +686,7 @@ module _ (table : Table) (typed : TypedProgram) (effects : Effects) (input : Lis
                     clear = well.clear;
                     views = well.views;
                     whole = λ x w z has foreign gone meets. well.whole x w z has foreign (elsewhere_from v z gone) meets;
+                    whole_parts = λ x p w z has gone meets. well.whole_parts x p w z has (elsewhere_from v z gone) meets;
                   })));
               kept = subst (Kept s m) (sym (hands_then ws m)) kept_then;
               named = named;
@@ -697,14 +695,17 @@ module _ (table : Table) (typed : TypedProgram) (effects : Effects) (input : Lis
               at_point = found.1;
               scope = subst (λ d. InScope s m d (lasting_of s (found.0).scope)) (sym deep)
                   (scope_on s ready.owns m depth (scope_behind p) (found.0).scope (in_scope m (lasting_of s (scope_behind p)) inside_behind) found.2);
-              holds = subst (λ d. HoldsAt s d views m found.0) (sym deep) (record {
-                held = λ x n lasts view_is at. holds_then.held x n view_is at;
-                within = λ x n view_is at. (let own_way = holds_then.held x n view_is at in (placed_next x own_way.0 own_way.1).within);
+              holds = subst (λ d. HoldsAt s sees d views m found.0) (sym deep) (record {
+                held = λ x n lasts view_is bare at. holds_then.held x n view_is bare at;
+                within = λ x n view_is bare at. (let own_way = holds_then.held x n view_is bare at in (placed_next x own_way.0 own_way.1).within);
                 only = holds.only;
                 lies = holds.lies;
                 owners = holds.owners;
                 passed = holds.passed;
                 own = holds.own;
+                taken = holds.taken;
+                parts = holds_then.parts;
+                low = holds.low;
               });
               placed = subst (λ d. ArePlaced program d (facts_of program effects top_then) views (found.0).scope) (sym deep) (subst (λ z. ArePlaced program depth z views (found.0).scope) (sym facts_there)
                   (placed_by (after (acts_of_main p.instr) facts_now) facts_then views (found.0).scope (own_loans (acts_of_main p.instr)) placed_next));
@@ -734,12 +735,12 @@ module _ (table : Table) (typed : TypedProgram) (effects : Effects) (input : Lis
             first = cc
 
         then_returned : (y : Evaluated (List machine.Word))
-            → Given (steps.here main_turn) ready.accepted.settled state.leaks [] other alone (keeps s ready.accepted.settled ready.owns) index_law ready.owns views
+            → Given (steps.here main_turn) sees seeing ready.accepted.settled state.leaks [] other alone (keeps s ready.accepted.settled ready.owns) index_law ready.owns views
             ready.class.parts_named of (waiting_in easy.state) (after (acts (acts_in s e)) facts_now) y
             → Gets (λ ws m. Inside s IsOld m depth (lasting_of s left_scope)) y → Gets (λ ws m. OthersKept s depth state.memory m) y
             → Along (steps.evaluated main_turn y (λ ws m. Goes (state_then ws m)))
         then_returned (Done ws n) (good, long, same) inside_then stay =
-            returned_to ws n.memory (subst (λ z. Viewed (home s depth) (sees_only s) other views (seen s n.memory (value_of ws ∷ waiting_in easy.state) state.leaks) (after z facts_now))
+            returned_to ws n.memory (subst (λ z. Viewed (home s depth) sees other views (seen s n.memory (value_of ws ∷ waiting_in easy.state) state.leaks) (after z facts_now))
             (sym (acts_then plain_result)) good.viewed) good.kept good.holds long inside_then stay (inl (named_value ws))
         then_returned (Raises x n) given inside_then stay = ((λ trap. trap), raised_well n.memory)
         then_returned (Traps x n) never inside_then stay = absurd never
@@ -747,7 +748,7 @@ module _ (table : Table) (typed : TypedProgram) (effects : Effects) (input : Lis
         -- what the value comes to
         abbrev IsGivenValue : Type 0
         IsGivenValue =
-            Given (steps.here main_turn) ready.accepted.settled state.leaks [] other alone (keeps s ready.accepted.settled ready.owns) index_law ready.owns views
+            Given (steps.here main_turn) sees seeing ready.accepted.settled state.leaks [] other alone (keeps s ready.accepted.settled ready.owns) index_law ready.owns views
             ready.class.parts_named of (waiting_in easy.state) (after (acts (acts_in s e)) facts_now) (steps.taken_by main_turn of e (start main_turn))
 
         pub value_step : IsGivenValue → Along (steps.hold main_turn (More e last))
@@ -759,7 +760,7 @@ module _ (table : Table) (typed : TypedProgram) (effects : Effects) (input : Lis
 
         pub plain_given : Plain × TakesScalars s p.instr → IsGivenValue
         plain_given plain =
-            source_given easy ready.accepted.settled ready.owns other alone in_formals views ready.class.parts_named may refl refl given_words of e named_result source
+            source_given easy sees seeing ready.accepted.settled ready.owns other alone in_formals views ready.class.parts_named may refl refl given_words of e named_result source
             (plainly_value plain.1) (takes_value plain.0) facts_now
             (each.good table typed effects input ready state top below more_frames rest named p frames deep stages running awaiting of_sub at_point path views viewed_before kept scope holds placed_before above going_then no_call_then plain.0) (allowed_value plain_result) (keeps_value plain_result)
 
@@ -773,8 +774,8 @@ module _ (table : Table) (typed : TypedProgram) (effects : Effects) (input : Lis
               let both : Hold (More e last) ≡ Hold (More within.0 NoMore) = sym is ∙ same_instr in
               let same_tree : e ≡ within.0 = cc in
               let fit : AreOfTypes s (types_taken s within.0) (take (taken p.instr) top.frame.waits) = holding.values_fit table typed effects input ready state top below more_frames rest named p frames deep stages running awaiting of_sub at_point path views viewed_before kept scope holds placed_before above going_then within (Hold (More within.0 NoMore)) same_instr in
-              subst (λ z. Source s of z → AllowsAll facts_now (acts (acts_in s z)) → AllKeep (is_fixed s) (acts (acts_in s z))
-              → Given (steps.here main_turn) ready.accepted.settled state.leaks [] other alone (keeps s ready.accepted.settled ready.owns)
+              subst (λ z. Source s of z → AllowsAll facts_now (acts (acts_in s z)) → AllKeep (is_fixed s sees) (acts (acts_in s z))
+              → Given (steps.here main_turn) sees seeing ready.accepted.settled state.leaks [] other alone (keeps s ready.accepted.settled ready.owns)
               index_law ready.owns views ready.class.parts_named of (waiting_in easy.state) (after (acts (acts_in s z)) facts_now) (steps.taken_by main_turn of z (start main_turn)))
               (sym same_tree)
               (λ source_tree allows keeps_it. holding.alone_within table typed effects input ready state top below more_frames rest named p frames deep stages running awaiting of_sub at_point path views viewed_before kept scope holds placed_before above going_then within of named_result source_tree fit allows keeps_it) source (allowed_value plain_result) (keeps_value plain_result))
@@ -791,7 +792,7 @@ module _ (table : Table) (typed : TypedProgram) (effects : Effects) (input : Lis
               let call : TypedTree = CallIn alone_taken.3 alone_taken.4 alone_taken.5 in
               let both : Hold (More e last) ≡ Hold (More call NoMore) = sym is ∙ same_instr in
               let is_call : e ≡ call = cc in
-              subst (λ z. Source s of z → Given (steps.here main_turn) ready.accepted.settled state.leaks [] other alone (keeps s ready.accepted.settled ready.owns)
+              subst (λ z. Source s of z → Given (steps.here main_turn) sees seeing ready.accepted.settled state.leaks [] other alone (keeps s ready.accepted.settled ready.owns)
               index_law ready.owns views ready.class.parts_named of (waiting_in easy.state) (after (acts (acts_in s z)) facts_now) (steps.taken_by main_turn of z (start main_turn)))
               (sym is_call)
               (λ source_call. alone_value.source_alone table typed effects input ready state top below more_frames rest named p frames deep stages running awaiting of_sub at_point path views viewed_before kept scope holds placed_before above going_then alone_taken of named_result source_call) source)

@@ -1,5 +1,5 @@
 -- What a traversal function returns: null, or what goes on from what its first formal sees.
-use Rattle.std.proofs.Common.{◌≡◌, refl, sym, ap, ◌∙◌, subst, ◌⊎◌, inl, inr, ℕ, Bool, true, List, [], ◌∷◌, ◌++◌, length, Option, Some, None, if◌then◌else◌}
+use Rattle.std.proofs.Common.{false, ◌≡◌, refl, sym, ap, ◌∙◌, subst, ◌⊎◌, inl, inr, ℕ, Bool, true, List, [], ◌∷◌, ◌++◌, length, Option, Some, None, if◌then◌else◌}
 use Rattle.spark_base.specs.declared.position.Pos.{Pos}
 use Rattle.place_names.specs.declared.act.Act.{Act}
 use Rattle.place_names.specs.declared.act.Act.TheVariants as act
@@ -33,11 +33,11 @@ use Rattle.soundness.proofs.Stays.{Quiet}
 use Rattle.soundness.proofs.Taking.{Takes}
 use Rattle.owned_loans.specs.Views.{Go, Part, Down, on, expand, Around, Views}
 use Rattle.owned_loans.proofs.Allowed.{give_clears}
-use Rattle.viewed_soundness.specs.Holds.{PartsAreNamed, is_view}
+use Rattle.viewed_soundness.specs.Holds.{PartsAreNamed, is_view, is_bundle, Seeing}
 use Rattle.viewed_soundness.proofs.Stays.{steps_taking}
 use Rattle.viewed_soundness.proofs.Sources.{Shows, source_on}
 use Rattle.viewed_soundness.proofs.Outcomes.{IsGood, live}
-use Rattle.viewed_soundness.proofs.Coming.{IsComing, lifted_on}
+use Rattle.viewed_soundness.proofs.Coming.{IsComing, goes_further}
 use Rattle.viewed_steps.specs.Traversals.{AreRooted}
 use Rattle.viewed_steps.proofs.Rooted.{goes_on_from}
 use Rattle.viewed_steps.proofs.Sources.{view_shape, view_scalar}
@@ -113,7 +113,7 @@ under_on a (All w) u = elim u [
   | inr u ↦ (let more = under_on a w u in (Down ∷ more.0, ap All more.1))
 ]
 
-module _ (t : Turn) (settled : IsSettled (typing t).table) (own_law : OwnsByShape (typing t).table) (other : Around (home (typing t) (length t.outer)))
+module _ (t : Turn) (sees : ℕ → Bool) (seeing : Seeing (typing t) sees) (settled : IsSettled (typing t).table) (own_law : OwnsByShape (typing t).table) (other : Around (home (typing t) (length t.outer)))
     (alone : (w : Way) → IsNear (length t.outer) w → other.gone w → ⊥)
     (v : Views) (parts_named : PartsAreNamed (typing t).table) (may : ℕ → ℕ → Type 0)
     (frames : t.state.frames ≡ t.frame ∷ t.outer) (none : taken t.point.instr ≡ 0) where
@@ -133,10 +133,10 @@ module _ (t : Turn) (settled : IsSettled (typing t).table) (own_law : OwnsByShap
   at ws = record { memory = m; waits = ws }
 
   abbrev Good : List Fact → Type 0
-  Good facts = IsGood t settled own_law other alone v parts_named may frames none v facts t.state
+  Good facts = IsGood t sees seeing settled own_law other alone v parts_named may frames none v facts t.state
 
   abbrev Comes : ℕ → ℕ → PlaceName → machine.Word → Type 0
-  Comes y d name z = IsComing t settled own_law other alone v parts_named may frames none y d name z
+  Comes y d name z = IsComing t sees seeing settled own_law other alone v parts_named may frames none y d name z
 
   -- A name that is looked at for a result of an anonymous access type.
   pub record NamesView (of y u : ℕ) (path : TypedTree) : Type 0 where
@@ -185,10 +185,10 @@ module _ (t : Turn) (settled : IsSettled (typing t).table) (own_law : OwnsByShap
   abbrev pub Given : ℕ → ℕ → TypedTree → List machine.Word → Type 0
   Given y d path ws = (z : machine.Word) × (ws ≡ z ∷ []) × Comes y d (name_of y path) z
 
-  shown_given : (y d : ℕ) (path : TypedTree) (facts : List Fact) (good : Good facts) (e : Evaluated (List machine.Word))
+  shown_given : (y d : ℕ) (path : TypedTree) (facts : List Fact) (good : Good facts) → (e : Evaluated (List machine.Word))
       → Quiet (at []) (λ ws. (w : Way) × Named (home s depth) w × (ways.name_of w ≡ name_of y path)
-      × Shows (here t) settled hands t.state.leaks m [] other facts v good.kept good.viewed good.holds alone
-      (live t settled own_law other alone v parts_named may frames none facts good) index_law own_law parts_named y d w ws) e
+      × Shows (here t) sees seeing settled hands t.state.leaks m [] other facts v good.kept good.viewed good.holds alone
+      (live t sees seeing settled own_law other alone v parts_named may frames none facts good) index_law own_law parts_named y d w ws) e
       → Quiet (at []) (Given y d path) e
   shown_given y d path facts good (Done ws n) (same, (w, named, called, shows)) = (
     same,
@@ -202,7 +202,7 @@ module _ (t : Turn) (settled : IsSettled (typing t).table) (own_law : OwnsByShap
         called = called;
         reached = shows.designated;
         typed = shows.typed;
-        lifted = shows.lifted;
+        goes = shows.goes;
       },
     ),
   )
@@ -226,8 +226,8 @@ module _ (t : Turn) (settled : IsSettled (typing t).table) (own_law : OwnsByShap
 
     indexes_change_nothing : after (acts (acts_in s path)) facts ≡ facts
     indexes_change_nothing =
-        (steps_taking (here t) settled hands t.state.leaks m [] other facts v good.kept good.viewed good.holds alone
-        (live t settled own_law other alone v parts_named may frames none facts good) index_law own_law parts_named (object_at s y).of u path looks.lead ws [] takes both.0).1
+        (steps_taking (here t) sees seeing settled hands t.state.leaks m [] other facts v good.kept good.viewed good.holds alone
+        (live t sees seeing settled own_law other alone v parts_named may frames none facts good) index_law own_law parts_named (object_at s y).of u path looks.lead ws [] takes both.0).1
 
     pub changes_nothing : after (acts (returned_acts s (Some of) (More (Name q y path u) NoMore))) facts ≡ effect (act.Give (name_of y path) borrows) facts
     changes_nothing =
@@ -239,18 +239,18 @@ module _ (t : Turn) (settled : IsSettled (typing t).table) (own_law : OwnsByShap
         subst (λ b. Quiet (at []) (Given y looks.d path)
         (if b then viewed (here t) (Name q y path u) (at ws) else followed_by (value (here t) (Name q y path u) (at ws)) (checked (here t) of))) (sym view)
         (shown_given y looks.d path facts good (evaluate (here t) AsView (Name q y path u) (at ws))
-        (source_on (here t) settled hands t.state.leaks m [] other facts v good.kept good.viewed good.holds alone
-        (live t settled own_law other alone v parts_named may frames none facts good) index_law own_law parts_named ws [] q y u looks.d looks.c looks.n path looks.lead looks.source takes
+        (source_on (here t) sees seeing settled hands t.state.leaks m [] other facts v good.kept good.viewed good.holds alone
+        (live t sees seeing settled own_law other alone v parts_named may frames none facts good) index_law own_law parts_named ws [] q y u looks.d looks.c looks.n path looks.lead looks.source takes
         both.0 (λ w called plain. give_clears facts borrows w
         (subst (λ n. Allows facts (act.Give n borrows)) (sym called) (subst (λ z. Allows z (act.Give (name_of y path) borrows)) indexes_change_nothing both.1.0)))))
 
   -- What is given goes on from what the first formal sees. It is enough that no other root isn't refuted.
-  pub goes_on : (acts_there : List Act) (f : ℕ) (seen_first : Option Way) → is_view s f ≡ true → AreRooted s acts_there f seen_first v → (y d : ℕ) (name : PlaceName) (z : machine.Word)
+  pub goes_on : (acts_there : List Act) (f : ℕ) (seen_first : Option Way) → (is_view s f ≡ true) × (is_bundle s f ≡ false) → AreRooted s acts_there f seen_first v → (y d : ℕ) (name : PlaceName) (z : machine.Word)
       → ((IsOnlyRoot s acts_there y f → ⊥) → ⊥) → Comes y d name z → (k : ℕ) → z ≡ machine.Cell k
       → (w : Way) × (seen_first ≡ Some w) × (r : List Go) × Reaches (seen s m hands t.state.leaks) (on w r) (OfCell k)
   goes_on acts_there f seen_first view rooted y d name z only coming k e =
       let there : Way = on (All coming.place) coming.rest in
       let first = certain seen_first (expand v there) (λ none. only (λ one. none (goes_on_from s acts_there f seen_first view v rooted y one there
-      (λ is. (let l = coming.lifted is k e in let more = lifted_on v (All coming.place) coming.rest l.0 in (more.0, more.1 ∙ l.1)))))) in
+      (goes_further s v y (All coming.place) coming.rest (coming.goes k e))))) in
       let rest = under_on first.0 (expand v there) first.2 in
       (first.0, first.1, rest.0, subst (λ x. Reaches (seen s m hands t.state.leaks) x (OfCell k)) rest.1 (coming.reached k e))

@@ -2,14 +2,16 @@
 -- that sees, or goes on from there.
 use Rattle.std.proofs.Common.{◌≡◌, refl, sym, ap, ◌∙◌, subst, ◌⊎◌, inl, inr, ℕ, Bool, true, false, not, ◌&&◌, ◌||◌, List, Some, IsTrue, Option}
 use Rattle.place_names.specs.declared.act.Act.{Act}
-use Rattle.flow_paths.specs.Objects.{Typing, object_at, is_variable, is_borrowing, is_observing, view_of}
+use Rattle.typed_tree.specs.declared.object.ObjectKind.{ObjectKind}
+use Rattle.typed_tree.specs.declared.object.ObjectKind.TheVariants as object_kind
+use Rattle.flow_paths.specs.Objects.{Typing, object_at, is_formal_kind, is_variable, is_borrowing, is_observing, view_of}
 use Rattle.flow_paths.specs.Views.{Roots, itself, borrows, observes, IsOnlyRoot, holds_loans}
 use Rattle.owned_ways.specs.Ways.{Way, Under}
 use Rattle.owned_loans.specs.Views.{Views, expand}
-use Rattle.owned_loans.proofs.Ways.{Lifted, under_on, on_under, lifted_way}
+use Rattle.owned_loans.proofs.Ways.{under_on, on_under, lifted_way}
 use Rattle.soundness.specs.Seen.{is_view_formal}
 use Rattle.soundness.proofs.Contents.{bool_cases}
-use Rattle.viewed_soundness.specs.Holds.{is_view}
+use Rattle.viewed_soundness.specs.Holds.{is_view, is_bundle, GoesBy}
 use Rattle.viewed_steps.specs.Traversals.{IsSourceIn, IsRootedIn, AreRooted}
 
 -- what is no view holds no loans
@@ -39,26 +41,44 @@ module _ (s : Typing) (acts : List Act) (f : ℕ) (first : Option Way) where
       unheld true b o e = cc
       unheld false b o e = refl
 
-  module _ (view : is_view s f ≡ true) where
+  module _ (view : (is_view s f ≡ true) × (is_bundle s f ≡ false)) where
     plain_apart : (r : ℕ) → is_view s r ≡ false → r ≡ f → ⊥
-    plain_apart r plain same = (let no : false ≡ true = sym plain ∙ ap (is_view s) same ∙ view in cc)
+    plain_apart r plain same = (let no : false ≡ true = sym plain ∙ ap (is_view s) same ∙ view.0 in cc)
+
+    bundle_apart : (r : ℕ) → is_bundle s r ≡ true → r ≡ f → ⊥
+    bundle_apart r bundle same = (let no : true ≡ false = sym bundle ∙ ap (is_bundle s) same ∙ view.1 in cc)
+
+    -- a formal with parts is its own root
+    bundle_root : (x : ℕ) → is_bundle s x ≡ true → Roots s acts x x
+    bundle_root x bundle = formal_root x (by_kind (object_at s x).kind (first_true _ _ (first_true _ _ (first_true _ _ bundle))))
+      where
+        first_true : (a b : Bool) → a && b ≡ true → a ≡ true
+        first_true true b e = refl
+        first_true false b e = cc
+
+        by_kind : (k : ObjectKind) → is_formal_kind k ≡ true → is_variable k ≡ false
+        by_kind object_kind.Formal is = refl
+        by_kind k is = cc
 
     module _ (before later : Views) where
       -- from what its source has
       from_source : (x y : ℕ) (w : Way) → ((r : ℕ) → Roots s acts y r → Roots s acts x r)
-          → (is_view s y ≡ true → (k : Way) × (before.way y ≡ Some k) × Under k w) → AreRooted s acts f first before → IsRootedIn s acts f first x w
+          → (is_bundle s y ≡ false → is_view s y ≡ true → (k : Way) × (before.way y ≡ Some k) × Under k w) → AreRooted s acts f first before → IsRootedIn s acts f first x w
       from_source x y w roots under rooted = elim (bool_cases (is_view s y)) [
         | inr plain ↦ (y, roots y (own_root y plain), λ same. absurd (plain_apart y plain same))
-        | inl is ↦ (
-            let from = under is in
-            let old = rooted y from.0 from.1 in (
-              old.0,
-              roots old.0 old.1,
-              λ same. (let it = old.2 same in (it.0, it.1, under_on it.0 from.0 w it.2 from.2)),
-            ))
+        | inl is ↦ elim (bool_cases (is_bundle s y)) [
+          | inl bundle ↦ (y, roots y (bundle_root y bundle), λ same. absurd (bundle_apart y bundle same))
+          | inr bare ↦ (
+              let from = under bare is in
+              let old = rooted y from.0 from.1 in (
+                old.0,
+                roots old.0 old.1,
+                λ same. (let it = old.2 same in (it.0, it.1, under_on it.0 from.0 w it.2 from.2)),
+              ))
+        ]
       ]
 
-      by_source : (x y : ℕ) (w : Way) → IsSourceIn acts x y → (is_view s y ≡ true → (k : Way) × (before.way y ≡ Some k) × Under k w) → AreRooted s acts f first before
+      by_source : (x y : ℕ) (w : Way) → IsSourceIn acts x y → (is_bundle s y ≡ false → is_view s y ≡ true → (k : Way) × (before.way y ≡ Some k) × Under k w) → AreRooted s acts f first before
           → IsRootedIn s acts f first x w
       by_source x y w (inl same) under rooted = from_source x y w (λ r root. subst (λ z. Roots s acts z r) same root) under rooted
       by_source x y w (inr (m, root, inl has)) under rooted =
@@ -68,7 +88,7 @@ module _ (s : Typing) (acts : List Act) (f : ℕ) (first : Option Way) where
 
       -- Views that have their ways, or got them from sources in the text, are rooted.
       pub rooted_on : ((x : ℕ) (w : Way) → later.way x ≡ Some w → (before.way x ≡ Some w)
-          ⊎ ((y : ℕ) × IsSourceIn acts x y × (is_view s y ≡ true → (k : Way) × (before.way y ≡ Some k) × Under k w)))
+          ⊎ ((y : ℕ) × IsSourceIn acts x y × (is_bundle s y ≡ false → is_view s y ≡ true → (k : Way) × (before.way y ≡ Some k) × Under k w)))
           → AreRooted s acts f first before → AreRooted s acts f first later
       rooted_on turned rooted x w has = elim (turned x w has) [
         | inl same ↦ rooted x w same
@@ -76,14 +96,17 @@ module _ (s : Typing) (acts : List Act) (f : ℕ) (first : Option Way) where
       ]
 
     -- What has the first formal for its one root goes on from what that sees.
-    pub goes_on_from : (v : Views) → AreRooted s acts f first v → (y : ℕ) → IsOnlyRoot s acts y f → (k : Way) → (is_view s y ≡ true → (l : Lifted v k) × (l.object ≡ y))
+    pub goes_on_from : (v : Views) → AreRooted s acts f first v → (y : ℕ) → IsOnlyRoot s acts y f → (k : Way) → GoesBy s v y k
         → (w : Way) × (first ≡ Some w) × Under w (expand v k)
-    goes_on_from v rooted y only k lifted = elim (bool_cases (is_view s y)) [
+    goes_on_from v rooted y only k goes = elim (bool_cases (is_view s y)) [
       | inr plain ↦ absurd (plain_apart y plain (only.1 y (own_root y plain)))
-      | inl is ↦ (
-          let l = lifted is in
-          let old = rooted l.0.object l.0.way l.0.has in
-          let same : old.0 ≡ f = only.1 old.0 (subst (λ z. Roots s acts z old.0) l.1 old.1) in
-          let it = old.2 same in
-          (it.0, it.1, under_on it.0 l.0.way (expand v k) it.2 (subst (Under l.0.way) (sym (lifted_way v k l.0)) (on_under l.0.way l.0.rest))))
+      | inl is ↦ elim (bool_cases (is_bundle s y)) [
+        | inl bundle ↦ absurd (bundle_apart y bundle (only.1 y (bundle_root y bundle)))
+        | inr bare ↦ (
+            let l = goes.0 bare is in
+            let old = rooted l.0.object l.0.way l.0.has in
+            let same : old.0 ≡ f = only.1 old.0 (subst (λ z. Roots s acts z old.0) l.1 old.1) in
+            let it = old.2 same in
+            (it.0, it.1, under_on it.0 l.0.way (expand v k) it.2 (subst (Under l.0.way) (sym (lifted_way v k l.0)) (on_under l.0.way l.0.rest))))
+      ]
     ]

@@ -8,8 +8,9 @@ use Rattle.place_names.specs.declared.rule.Loan.{Loan}
 use Rattle.place_names.specs.declared.rule.Loan.TheVariants.{Borrowed, Observed}
 use Rattle.owned_ways.specs.Ways.{Way, Object, Lost, Into, All, View, Under, Named, name_of}
 use Rattle.owned_loans.specs.Views.{on, Views, expand, IsThrough, HasLoan, AreShared, AreViews, IsView}
-use Rattle.owned_loans.proofs.Ways.{under_on, on_under, on_named, Lifted, lifts, lifted_root, lifted_way}
+use Rattle.owned_loans.proofs.Ways.{under_on, on_under, on_named, Lifted, lifted_root, lifted_way}
 use Rattle.owned_ways.proofs.Locations.{under_itself}
+use Rattle.owned_loans.proofs.Meeting.{plain_lifts}
 
 named_front : (at_home : ℕ → ℕ) (k w : Way) → Under k w → Named at_home w → Named at_home k
 named_front at_home k (Object r) u named = subst (Named at_home) (sym u) named
@@ -46,20 +47,20 @@ module _ (at_home : ℕ → ℕ) (observer : ℕ → Bool) (v : Views) (s : View
   further_from : (x : ℕ) (w : Way) → IsView at_home observer v s facts x w → (z : Lifted v (v.up x)) → GoesOn Borrowed z.way ⊎ FromGiven z.way
       → GoesOn Borrowed w ⊎ FromGiven w
   further_from x w view z (inl own) = inl (further Borrowed x w view z own)
-  further_from x w view z (inr (y, u, has, given, sees, under)) = inr (
+  further_from x w view z (inr (y, u, has, given, sight, under)) = inr (
     y,
     u,
     has,
     given,
-    sees,
+    sight,
     subst (Under u) (sym (lifted_way v (v.up x) z) ∙ view.leads) (under_on u z.way (on z.way z.rest) under (on_under z.way z.rest)),
   )
 
   from_given : (n x : ℕ) (w : Way) → x < n → observer x ≡ false → v.way x ≡ Some w → GoesOn Borrowed w ⊎ FromGiven w
   from_given zero x w less borrows has = absurd (omega (arith, less))
-  from_given (suc n) x w less borrows has = elim (views x w has) [
+  from_given (suc n) x w less borrows has = elim (views.0 x w has) [
     | inr passed ↦ inr (x, w, has, passed.given, borrows, under_itself w)
-    | inl view ↦ elim (lifts v (v.up x)) [
+    | inl view ↦ elim (plain_lifts at_home observer v s facts views (v.up x) (view.named, view.plain)) [
       | inl e ↦ (
           let place = own_place x w view e in
           inl (x, v.loan x, subst (λ b. HasLoan observer b x facts (name_of (v.loan x))) borrows view.lent, place.0, place.1))
@@ -89,10 +90,10 @@ module _ (at_home : ℕ → ℕ) (observer : ℕ → Bool) (v : Views) (s : View
 
     borrower_on : (n x : ℕ) (w : Way) → x < n → observer x ≡ false → v.way x ≡ Some w → Named at_home w → Goes Borrowed w
     borrower_on zero x w less borrows has named = absurd (omega (arith, less))
-    borrower_on (suc n) x w less borrows has named = elim (views x w has) [
-      | inr passed ↦ inr (let (l, (k, at, under, is), changed) = shown x w has passed.given named in
+    borrower_on (suc n) x w less borrows has named = elim (views.0 x w has) [
+      | inr passed ↦ inr (let (l, (k, at, under, is), changed) = shown.0 x w has passed.given named in
           (k, at, under, subst (λ z. lent z (name_of k)) (changed borrows) is))
-      | inl view ↦ elim (lifts v (v.up x)) [
+      | inl view ↦ elim (plain_lifts at_home observer v s facts views (v.up x) (view.named, view.plain)) [
         | inl e ↦ (
             let place = own_place x w view e in
             inl (x, v.loan x, subst (λ b. HasLoan observer b x facts (name_of (v.loan x))) borrows view.lent, place.0, place.1))
@@ -111,9 +112,9 @@ module _ (at_home : ℕ → ℕ) (observer : ℕ → Bool) (v : Views) (s : View
       where
         by_kind : (b : Bool) → observer x ≡ b → (l : Loan) × Goes l w × (b ≡ false → l ≡ Borrowed)
         by_kind false e = (Borrowed, borrower_goes x w e has named, λ plain. refl)
-        by_kind true e = elim (views x w has) [
-          | inr passed ↦ (let (l, through, changed) = shown x w has passed.given named in (l, inr through, λ plain. (let no : true ≡ false = plain in cc)))
-          | inl view ↦ elim (lifts v (v.up x)) [
+        by_kind true e = elim (views.0 x w has) [
+          | inr passed ↦ (let (l, through, changed) = shown.0 x w has passed.given named in (l, inr through, λ plain. (let no : true ≡ false = plain in cc)))
+          | inl view ↦ elim (plain_lifts at_home observer v s facts views (v.up x) (view.named, view.plain)) [
             | inl own ↦ (
                 let place = own_place x w view own in
                 let held = subst (λ b. HasLoan observer b x facts (name_of (v.loan x))) e view.lent in

@@ -35,7 +35,9 @@ use Rattle.soundness.proofs.Taking.{Takes, takes_as, takes_both, takes_zero, not
 use Rattle.soundness.proofs.Waits.{waits_of, led_waits}
 use Rattle.owned_loans.specs.Views.{Around, Views, Viewed}
 use Rattle.owned_loans.proofs.Moves.{same_viewed}
-use Rattle.viewed_soundness.specs.Holds.{PartsAreNamed, Holds, sees_only, IsOwners, is_view}
+use Rattle.viewed_soundness.proofs.Names.{parts_same}
+use Rattle.viewed_soundness.proofs.ViewKinds.{bundle_view}
+use Rattle.viewed_soundness.specs.Holds.{PartsAreNamed, Holds, IsOwners, is_view, Seeing}
 use Rattle.viewed_soundness.proofs.Stays.{taking}
 use Rattle.viewed_soundness.proofs.Evaluated.{scalar_given}
 use Rattle.viewed_soundness.proofs.Outcomes.{IsGood, Leads_on, raises, start_is, hands_behind, unturned, goes_to, live}
@@ -50,7 +52,7 @@ value_long (machine.Int n ∷ ws) v = refl
 value_long (machine.Null ∷ ws) v = refl
 value_long (machine.Cell n ∷ ws) v = refl
 
-module _ (t : Turn) (settled : IsSettled (typing t).table) (own_law : OwnsByShape (typing t).table) (other : Around (home (typing t) (length t.outer)))
+module _ (t : Turn) (sees : ℕ → Bool) (seeing : Seeing (typing t) sees) (settled : IsSettled (typing t).table) (own_law : OwnsByShape (typing t).table) (other : Around (home (typing t) (length t.outer)))
     (alone : (w : Way) → IsNear (length t.outer) w → other.gone w → ⊥) (in_formals : AreAccess (typing t))
     (v : Views) (parts_named : PartsAreNamed (typing t).table) (may : ℕ → ℕ → Type 0)
     (frames : t.state.frames ≡ t.frame ∷ t.outer) (none : taken t.point.instr ≡ 0) where
@@ -74,27 +76,27 @@ module _ (t : Turn) (settled : IsSettled (typing t).table) (own_law : OwnsByShap
   at ws = record { memory = m; waits = ws }
 
   abbrev GoodState : List Fact → State → Type 0
-  GoodState facts state = IsGood t settled own_law other alone v parts_named may frames none v facts state
+  GoodState facts state = IsGood t sees seeing settled own_law other alone v parts_named may frames none v facts state
 
   abbrev Good : List Fact → Type 0
   Good facts = GoodState facts t.state
 
   abbrev LeadsHere : List Fact → Outcome → Type 0
-  LeadsHere facts outcome = Leads_on t settled own_law other alone v parts_named may frames none facts outcome
+  LeadsHere facts outcome = Leads_on t sees seeing settled own_law other alone v parts_named may frames none facts outcome
 
   raised_here : (facts : List Fact) → Good facts → (e : run.Exception) (m : Memory) → LeadsHere facts (steps.raised t e m)
-  raised_here facts good e m = (λ trap. trap, raises t settled own_law other alone v parts_named may frames none facts good m)
+  raised_here facts good e m = (λ trap. trap, raises t sees seeing settled own_law other alone v parts_named may frames none facts good m)
 
   stays_here : (facts : List Fact) → Good facts → (k : ℕ) → LeadsHere facts (steps.goes t m k)
   stays_here facts good k =
-      goes_to t settled own_law other alone v parts_named may frames none m k v facts
-      (unturned t settled own_law other alone v parts_named may frames none facts) good.viewed good.kept good.holds
+      goes_to t sees seeing settled own_law other alone v parts_named may frames none m k v facts
+      (unturned t sees seeing settled own_law other alone v parts_named may frames none facts) good.viewed good.kept good.holds
 
   started_is : start t ≡ now
-  started_is = start_is t settled own_law other alone v parts_named may frames none
+  started_is = start_is t sees seeing settled own_law other alone v parts_named may frames none
 
   alive_trunk : (facts : List Fact) → Good facts → (w : Way) (l : Loc) → IsOwners s w → Reaches (seen s m hands t.state.leaks) w l → (content s m hands (trunk l)).owns ≡ true
-  alive_trunk facts good = live t settled own_law other alone v parts_named may frames none facts good
+  alive_trunk facts good = live t sees seeing settled own_law other alone v parts_named may frames none facts good
 
   pub skip_leads : (facts : List Fact) → Good facts → LeadsHere facts (steps.turn t Skip)
   skip_leads facts good = stays_here facts good 0
@@ -107,7 +109,7 @@ module _ (t : Turn) (settled : IsSettled (typing t).table) (own_law : OwnsByShap
   unfolding Writes text_of acts_in waits_in
   text_quiet before on (Text b) writes takes facts good allowed = ((ap at (takes_zero before on takes), tt), refl)
   text_quiet before on (Image u e) stays takes facts good allowed =
-      let q = taking (here t) settled hands t.state.leaks m [] other facts v good.kept good.viewed good.holds alone (alive_trunk facts good)
+      let q = taking (here t) sees seeing settled hands t.state.leaks m [] other facts v good.kept good.viewed good.holds alone (alive_trunk facts good)
       index_law own_law parts_named AsValue e stays before on takes allowed in
       (quiet_then (at on) One (Any {A = List ℕ}) (value (here t) e (at before)) (λ ws n. Done (run.image_of s.table u ws) n) q.0 (λ ws one. (refl, tt)), q.1)
   text_quiet before on (Parens e) writes takes facts good allowed = text_quiet before on e writes takes facts good allowed
@@ -131,7 +133,7 @@ module _ (t : Turn) (settled : IsSettled (typing t).table) (own_law : OwnsByShap
       let on = stays_here facts good 0 in
       subst (λ (z : Now). LeadsHere facts (Goes (record (behind t (waiting t) z.memory 0) {
         output = t.state.output ++ a ++ (if line then 10 ∷ [] else []);
-      }))) (sym same) (on.0, on.1, record { viewed = on.2.viewed; kept = on.2.kept; holds = record { held = on.2.holds.held; only = on.2.holds.only; owners = on.2.holds.owners; access = on.2.holds.access; own = on.2.holds.own } })
+      }))) (sym same) (on.0, on.1, record { viewed = on.2.viewed; kept = on.2.kept; holds = record { held = on.2.holds.held; only = on.2.holds.only; owners = on.2.holds.owners; access = on.2.holds.access; own = on.2.holds.own; taken = on.2.holds.taken; parts = record { held = on.2.holds.parts.held; only = on.2.holds.parts.only; owners = on.2.holds.parts.owners; looks = on.2.holds.parts.looks } } })
   then_written facts good line (Raises e n) is = raised_here facts good e n.memory
   then_written facts good line (Traps e n) never = absurd never
 
@@ -162,15 +164,23 @@ module _ (t : Turn) (settled : IsSettled (typing t).table) (own_law : OwnsByShap
   turn_waits loops k = led_waits t (record t.frame { loops = loops }) (successor t k) ∙ sym (ap (flat_map waits_of) frames)
 
   turned_there : (loops : List Loop) (n : Memory) (k : ℕ) (facts : List Fact)
-      → Viewed (home s depth) (sees_only s) other v (seen s n hands t.state.leaks) facts
-      → Kept s n hands → Holds s depth v n → LeadsHere facts (steps.with_turn t loops n k)
+      → Viewed (home s depth) sees other v (seen s n hands t.state.leaks) facts
+      → Kept s n hands → Holds s sees depth v n → LeadsHere facts (steps.with_turn t loops n k)
   turned_there loops n k facts viewed kept holds = (
     v,
-    unturned t settled own_law other alone v parts_named may frames none facts,
+    unturned t sees seeing settled own_law other alone v parts_named may frames none facts,
     record {
-      viewed = subst (λ z. Viewed (home s depth) (sees_only s) other v (seen s n z t.state.leaks) facts) (sym (turn_waits loops k)) viewed;
+      viewed = subst (λ z. Viewed (home s depth) sees other v (seen s n z t.state.leaks) facts) (sym (turn_waits loops k)) viewed;
       kept = subst (Kept s n) (sym (turn_waits loops k)) kept;
-      holds = record { held = holds.held; only = holds.only; owners = holds.owners; access = holds.access; own = holds.own };
+      holds = record {
+        held = holds.held;
+        only = holds.only;
+        owners = holds.owners;
+        access = holds.access;
+        own = holds.own;
+        taken = holds.taken;
+        parts = record { held = holds.parts.held; only = holds.parts.only; owners = holds.parts.owners; looks = holds.parts.looks };
+      };
     },
   )
 
@@ -178,7 +188,7 @@ module _ (t : Turn) (settled : IsSettled (typing t).table) (own_law : OwnsByShap
   apart : (f x : ℕ) → is_scalar (full s.table (object_at s x).of) ≡ true → (y : ℕ) → is_view s y ≡ true → OfVariable f x ≡ OfVariable (home s depth y) y → ⊥
   apart f x scalar y view e =
       let same = same_root f x (home s depth y) y e in
-      scalar_no_view s in_formals x scalar (subst (λ z. is_view s z ≡ true) (sym same.1) view)
+      scalar_no_view s sees in_formals x scalar (subst (λ z. is_view s z ≡ true) (sym same.1) view)
 
   next_by : (x : ℕ) → is_scalar (full s.table (object_at s x).of) ≡ true → (facts : List Fact) → Good facts
       → (ws : List machine.Word) (i : Option ℤ) → LeadsHere facts (steps.turned_to t x (variable_place (here t) x) ws i)
@@ -194,31 +204,39 @@ module _ (t : Turn) (settled : IsSettled (typing t).table) (own_law : OwnsByShap
       let slots : List Slot = take 0 all ++ fresh value ++ drop (0 + length (fresh value)) all in
       let next : Memory = stored s k value m in
       turned_there (steps.turned x t.frame.loops) next 0 facts
-      (same_viewed (home s depth) (sees_only s) other v (seen s m hands t.state.leaks) (seen s next hands t.state.leaks) facts
+      (same_viewed (home s depth) sees other v (seen s m hands t.state.leaks) (seen s next hands t.state.leaks) facts
       (scalar_same s settled m hands t.state.leaks f x scalar next.variables (λ g y ne. put_other s f x g y ne slots m.variables)) good.viewed)
       (stored_kept s settled m hands k (OfRoot (OfVariable f x)) u value good.kept spot long (inl refl)
       (λ p d c n j has is at. absurd (value_plain ws i j (cell_has value (offset_in s.table u p) j at))))
       (record {
-        held = λ y n view e. good.holds.held y n view
+        held = λ y n view bare e. good.holds.held y n view bare
             (sym (ap (λ z. (get_or z 0 no_slot).word) (put_other s f x (home s depth y) y (apart f x scalar y view) slots m.variables)) ∙ e);
         only = good.holds.only;
         owners = good.holds.owners;
         access = good.holds.access;
         own = good.holds.own;
+        taken = good.holds.taken;
+        parts = parts_same s sees depth v m next
+            (λ y p bundle. ap (λ z. (get_or z (offset_in s.table (object_at s y).of p) no_slot).word)
+            (put_other s f x (home s depth y) y (apart f x scalar y (bundle_view s y bundle)) slots m.variables)) good.holds.parts;
       })
   next_by x scalar facts good ws None =
       let next : Memory = undeclared depth x m in
       turned_there (steps.without_loop x t.frame.loops) next 1 facts
-      (same_viewed (home s depth) (sees_only s) other v (seen s m hands t.state.leaks) (seen s next hands t.state.leaks) facts
+      (same_viewed (home s depth) sees other v (seen s m hands t.state.leaks) (seen s next hands t.state.leaks) facts
       (scalar_same s settled m hands t.state.leaks depth x scalar next.variables (λ g y ne. removed_other s depth x g y ne m.variables)) good.viewed)
       (removed_kept s settled m depth x hands good.kept)
       (record {
-        held = λ y n view e. good.holds.held y n view
+        held = λ y n view bare e. good.holds.held y n view bare
             (sym (ap (λ z. (get_or z 0 no_slot).word) (removed_other s depth x (home s depth y) y (apart depth x scalar y view) m.variables)) ∙ e);
         only = good.holds.only;
         owners = good.holds.owners;
         access = good.holds.access;
         own = good.holds.own;
+        taken = good.holds.taken;
+        parts = parts_same s sees depth v m next
+            (λ y p bundle. ap (λ z. (get_or z (offset_in s.table (object_at s y).of p) no_slot).word)
+            (removed_other s depth x (home s depth y) y (apart depth x scalar y (bundle_view s y bundle)) m.variables)) good.holds.parts;
       })
 
   -- the parameter of a loop gets its next value, or leaves scope
@@ -257,24 +275,28 @@ module _ (t : Turn) (settled : IsSettled (typing t).table) (own_law : OwnsByShap
     begun_there b both =
         let u : ℕ = (object_at s x).of in
         let value_of : Waiting = record { of = u; words = b.low } in
-        let given = scalar_given (here t) settled t.state.leaks [] other alone (keeps s settled own_law) index_law own_law v parts_named
+        let given = scalar_given (here t) sees seeing settled t.state.leaks [] other alone (keeps s settled own_law) index_law own_law v parts_named
         m hands facts facts u (record { viewed = good.viewed; kept = good.kept; holds = good.holds }) refl scalar (Done b.low now) (refl, both.0) in
         let next : Memory = declared depth x b.low m in
-        let waits = loop_waits (starts.loop b) (behind t (waiting t) next 0) ∙ hands_behind t settled own_law other alone v parts_named may frames none next 0 in (
+        let waits = loop_waits (starts.loop b) (behind t (waiting t) next 0) ∙ hands_behind t sees seeing settled own_law other alone v parts_named may frames none next 0 in (
           v,
-          unturned t settled own_law other alone v parts_named may frames none facts,
+          unturned t sees seeing settled own_law other alone v parts_named may frames none facts,
           record {
-            viewed = subst (λ z. Viewed (home s depth) (sees_only s) other v (seen s next z t.state.leaks) facts) (sym waits)
-                (same_viewed (home s depth) (sees_only s) other v (seen s m hands t.state.leaks) (seen s next hands t.state.leaks) facts
+            viewed = subst (λ z. Viewed (home s depth) sees other v (seen s next z t.state.leaks) facts) (sym waits)
+                (same_viewed (home s depth) sees other v (seen s m hands t.state.leaks) (seen s next hands t.state.leaks) facts
                 (scalar_same s settled m hands t.state.leaks depth x scalar next.variables (λ g y ne. put_other s depth x g y ne (fresh b.low) m.variables)) good.viewed);
             kept = subst (Kept s next) (sym waits) (declared_kept s settled m depth x value_of hands given.0.kept given.1 (inl refl));
             holds = record {
-              held = λ y n view e. good.holds.held y n view
+              held = λ y n view bare e. good.holds.held y n view bare
                   (sym (ap (λ z. (get_or z 0 no_slot).word) (put_other s depth x (home s depth y) y (apart depth x scalar y view) (fresh b.low) m.variables)) ∙ e);
               only = good.holds.only;
               owners = good.holds.owners;
               access = good.holds.access;
               own = good.holds.own;
+              taken = good.holds.taken;
+              parts = parts_same s sees depth v m next
+                  (λ y p bundle. ap (λ z. (get_or z (offset_in s.table (object_at s y).of p) no_slot).word)
+                  (put_other s depth x (home s depth y) y (apart depth x scalar y (bundle_view s y bundle)) (fresh b.low) m.variables)) good.holds.parts;
             };
           },
         )
@@ -294,8 +316,8 @@ module _ (t : Turn) (settled : IsSettled (typing t).table) (own_law : OwnsByShap
       → LeadsHere (after (acts (acts_in s low ++ acts_in s high)) facts) (steps.evaluated t (steps.bounds t low high (at ws)) f)
   started_on ws mid x f low high starts scalar stays stays' takes takes' facts good allowed =
       let each = allows_both facts (acts (acts_in s low)) (acts (acts_in s high)) (subst (AllowsAll facts) (acts_append (acts_in s low) (acts_in s high)) allowed) in
-      let first_bound = taking (here t) settled hands t.state.leaks m [] other facts v good.kept good.viewed good.holds alone (alive_trunk facts good) index_law own_law parts_named AsValue low stays ws mid takes each.0 in
-      let second_bound = taking (here t) settled hands t.state.leaks m [] other facts v good.kept good.viewed good.holds alone (alive_trunk facts good) index_law own_law parts_named AsValue high stays' mid [] takes'
+      let first_bound = taking (here t) sees seeing settled hands t.state.leaks m [] other facts v good.kept good.viewed good.holds alone (alive_trunk facts good) index_law own_law parts_named AsValue low stays ws mid takes each.0 in
+      let second_bound = taking (here t) sees seeing settled hands t.state.leaks m [] other facts v good.kept good.viewed good.holds alone (alive_trunk facts good) index_law own_law parts_named AsValue high stays' mid [] takes'
       (subst (λ z. AllowsAll z (acts (acts_in s high))) first_bound.1 each.1) in
       let all : after (acts (acts_in s low ++ acts_in s high)) facts ≡ facts =
       ap (λ z. after z facts) (acts_append (acts_in s low) (acts_in s high)) ∙ after_append (acts (acts_in s low)) (acts (acts_in s high)) facts

@@ -1,13 +1,13 @@
 -- The end of a scope leads on.
-use Rattle.std.specs.Prelude.{get_or}
+use Rattle.std.specs.Prelude.{get_or, Bool}
 use Rattle.machine.specs.Run.{no_point}
 use Rattle.viewed_steps.proofs.Standing.{or_right}
 use Rattle.flow_paths.specs.Views.{sub_acts}
-use Rattle.viewed_soundness.proofs.Names.{given_view}
+use Rattle.viewed_soundness.proofs.ViewKinds.{given_view, access_bundle}
 use Rattle.viewed_steps.proofs.Rooted.{rooted_on}
 use Rattle.viewed_steps.proofs.Low.{BeginsLow, given_still, reaches_low, undeclared_words}
 use Rattle.viewed_steps.proofs.Traversed.{none_given, named_given}
-use Rattle.viewed_soundness.specs.Holds.{is_view, sees_only}
+use Rattle.viewed_soundness.specs.Holds.{is_view, is_bundle, Seeing}
 use Rattle.soundness.specs.Ready.{Fills, IsSupplied}
 use Rattle.std.proofs.Common.{◌≡◌, refl, sym, ap, ◌∙◌, subst, ◌⊎◌, inl, inr, ℕ, zero, suc, ◌<◌, true, false, List, [], ◌∷◌, ◌++◌, map, drop, length, arith, Some, None}
 use Rattle.spark_base.specs.Lists.{Has}
@@ -62,12 +62,20 @@ use Rattle.viewed_steps.proofs.Waiting.{StandsBetween, AreTheirs, beside_them, h
 use Rattle.viewed_steps.proofs.Standing as standing
 use Rattle.viewed_steps.proofs.Packages as packages
 use Rattle.viewed_steps.proofs.Innermost as innermost
+use Rattle.viewed_steps.specs.Seeing.{sees_in}
+use Rattle.viewed_steps.proofs.Sees.{sees_seeing}
 
 only_first : (k : ℕ) → k < 1 → k ≡ 0
 only_first zero less = refl
 only_first (suc k) less = absurd (omega (arith, less))
 
 module _ (table : Table) (typed : TypedProgram) (effects : Effects) (input : List ℕ) (ready : IsReady table typed effects) where
+  abbrev sees : ℕ → Bool
+  sees = sees_in (flow_program table typed)
+
+  abbrev seeing : Seeing (flow_typing (flow_program table typed)) sees
+  seeing = sees_seeing (flow_program table typed)
+
   abbrev program : FlowProgram
   program = flow_program table typed
 
@@ -87,9 +95,9 @@ module _ (table : Table) (typed : TypedProgram) (effects : Effects) (input : Lis
       (awaiting : AreAwaited table typed None (top ∷ stages_of (below ∷ more_frames)))
       (of_sub : IsNamedSub (flow_named table typed) top.frame.sub named) (at_point : IsAtPoint named.points top.frame.next p)
       (path : ControlPath (path_points program effects (sub_of program top.frame.sub)) top.before top.frame.next) (views : Views)
-      (viewed_before : ViewedAlone (home s (suc (length rest))) (sees_only s) (known_gone (home s (suc (length rest))) (GoneElsewhere program effects (below ∷ more_frames))) views
+      (viewed_before : ViewedAlone (home s (suc (length rest))) sees (known_gone (home s (suc (length rest))) (GoneElsewhere program effects (below ∷ more_frames))) views
       (view_here s state) (facts_of program effects top))
-      (kept : Kept s state.memory (waiting_in state)) (scope : InScope s state.memory (suc (length rest)) (lasting_of s p.scope)) (holds : HoldsAt s (suc (length rest)) views state.memory p)
+      (kept : Kept s state.memory (waiting_in state)) (scope : InScope s state.memory (suc (length rest)) (lasting_of s p.scope)) (holds : HoldsAt s sees (suc (length rest)) views state.memory p)
       (placed_before : ArePlaced program (suc (length rest)) (facts_of program effects top) views p.scope × IsBeyond program effects (suc (length rest)) views (below ∷ more_frames)) (above : NoneAbove s (suc (length rest)) state.memory
       × HasTraversals table typed (view_here s state) (record { stage = top; views = views; cells = [] } ∷ (below ∷ more_frames))) where
     abbrev outer : List Frame
@@ -143,22 +151,22 @@ module _ (table : Table) (typed : TypedProgram) (effects : Effects) (input : Lis
     abbrev borrower_local : (x : ℕ) → is_borrower s x ≡ true → is_package_object s x ≡ false
     borrower_local = innermost.borrower_local table typed effects input ready state top below more_frames rest named p frames deep stages running awaiting of_sub at_point path views viewed_before kept scope holds placed_before above
 
-    abbrev viewed : Viewed (home s depth) (sees_only s) other views (view_here s state) facts_now
+    abbrev viewed : Viewed (home s depth) sees other views (view_here s state) facts_now
     viewed = innermost.viewed table typed effects input ready state top below more_frames rest named p frames deep stages running awaiting of_sub at_point path views viewed_before kept scope holds placed_before above
 
     abbrev apart_from_them : (done : List Act) (v : Views) (view : ways.View) → ((x : ℕ) (w : Way) → v.way x ≡ Some w → is_view s x ≡ true)
-        → Viewed (home s depth) (sees_only s) other v view (after done facts_now)
-        → ViewedAlone (home s depth) (sees_only s) (known_gone (home s depth) (GoneElsewhere program effects older)) v view (after done own_facts)
+        → Viewed (home s depth) sees other v view (after done facts_now)
+        → ViewedAlone (home s depth) sees (known_gone (home s depth) (GoneElsewhere program effects older)) v view (after done own_facts)
     apart_from_them = innermost.apart_from_them table typed effects input ready state top below more_frames rest named p frames deep stages running awaiting of_sub at_point path views viewed_before kept scope holds placed_before above
 
-    abbrev placed_by : (some all : List Fact) (v : Views) (scope_there : List ℕ) → ((h : ℕ) (m : PlaceName) → sees_only s h ≡ true → Has some (Lent Observed h m) → Has all (Lent Observed h m))
+    abbrev placed_by : (some all : List Fact) (v : Views) (scope_there : List ℕ) → ((h : ℕ) (m : PlaceName) → sees h ≡ true → Has some (Lent Observed h m) → Has all (Lent Observed h m))
         → ArePlaced program (suc (length rest)) some v scope_there → ArePlaced program (suc (length rest)) all v scope_there
     placed_by = innermost.placed_by table typed effects input ready state top below more_frames rest named p frames deep stages running awaiting of_sub at_point path views viewed_before kept scope holds placed_before above
 
     abbrev placed : ArePlaced program (suc (length rest)) facts_now views p.scope
     placed = innermost.placed table typed effects input ready state top below more_frames rest named p frames deep stages running awaiting of_sub at_point path views viewed_before kept scope holds placed_before above
 
-    abbrev own_loans : (done : List Act) (h : ℕ) (m : PlaceName) → sees_only s h ≡ true → Has (after done facts_now) (Lent Observed h m)
+    abbrev own_loans : (done : List Act) (h : ℕ) (m : PlaceName) → sees h ≡ true → Has (after done facts_now) (Lent Observed h m)
         → Has (after done own_facts) (Lent Observed h m)
     own_loans = innermost.own_loans table typed effects input ready state top below more_frames rest named p frames deep stages running awaiting of_sub at_point path views viewed_before kept scope holds placed_before above
 
@@ -265,21 +273,21 @@ module _ (table : Table) (typed : TypedProgram) (effects : Effects) (input : Lis
 
       abbrev left_views : Views
       left_views =
-          views_left main_turn ready.accepted.settled ready.owns other alone views ready.class.parts_named no_source frames nothing_taken
+          views_left main_turn sees seeing ready.accepted.settled ready.owns other alone views ready.class.parts_named no_source frames nothing_taken
           p at_next_point.0 y is (home_frame y not_shared) not_shared (orderly.over y is) (ready_there (EndScope y) is) (orderly.variables y (inr is)) (λ x within off. orderly.ended y x is within off)
-          (λ x within sees region. orderly.followed y x is at_next_point.0 (next_point.0, next_point.2, at_next_point.1) within sees region)
+          (λ x within sight region. orderly.followed y x is at_next_point.0 (next_point.0, next_point.2, at_next_point.1) within sight region)
           lead facts_now end_allowed.0 viewed kept holds placed (not_lent y not_shared)
 
       -- they had their ways before, and none begins at the object
       were_left : AreLeft (home s top.depth) y views left_views
       were_left x w has = (
-        ((leaves main_turn ready.accepted.settled ready.owns other alone views ready.class.parts_named no_source frames nothing_taken
+        ((leaves main_turn sees seeing ready.accepted.settled ready.owns other alone views ready.class.parts_named no_source frames nothing_taken
             p at_next_point.0 y is (home_frame y not_shared) not_shared (orderly.over y is) (ready_there (EndScope y) is) (orderly.variables y (inr is)) (λ x within off. orderly.ended y x is within off)
-            (λ x within sees region. orderly.followed y x is at_next_point.0 (next_point.0, next_point.2, at_next_point.1) within sees region)
+            (λ x within sight region. orderly.followed y x is at_next_point.0 (next_point.0, next_point.2, at_next_point.1) within sight region)
             lead facts_now end_allowed.0 viewed kept holds placed (not_lent y not_shared)).1.was x w has).2,
-        λ at_home. (leaves_others main_turn ready.accepted.settled ready.owns other alone views ready.class.parts_named no_source frames nothing_taken
+        λ at_home. (leaves_others main_turn sees seeing ready.accepted.settled ready.owns other alone views ready.class.parts_named no_source frames nothing_taken
             p at_next_point.0 y is (home_frame y not_shared) not_shared (orderly.over y is) (ready_there (EndScope y) is) (orderly.variables y (inr is)) (λ x within off. orderly.ended y x is within off)
-            (λ x within sees region. orderly.followed y x is at_next_point.0 (next_point.0, next_point.2, at_next_point.1) within sees region)
+            (λ x within sight region. orderly.followed y x is at_next_point.0 (next_point.0, next_point.2, at_next_point.1) within sight region)
             lead facts_now end_allowed.0 viewed kept holds placed (not_lent y not_shared)).roots x w has
             (subst (λ d. ways.Named (home s d) w) deep at_home),
       )
@@ -287,6 +295,10 @@ module _ (table : Table) (typed : TypedProgram) (effects : Effects) (input : Lis
       -- what was given to the frame below is given still
       low_views : (x : ℕ) (w : Way) → below.views.way x ≡ Some w → BeginsLow depth w
       low_views x w has = kept_low table typed effects unmoved_stage local state depth older between w (below.views.cell x) (below, inl refl, inl (x, has, refl))
+
+      low_parts : (x : ℕ) (q : List Step) (w : Way) → below.views.part_way x q ≡ Some w → BeginsLow depth w
+      low_parts x q w has =
+          kept_low table typed effects unmoved_stage local state depth older between w (below.views.part_cell x q) (below, inl refl, inr (inr (x, q, has, refl)))
 
       below_less : below.stage.depth < depth
       below_less = (let is_deep = stages.0 in omega (arith, is_deep))
@@ -306,7 +318,7 @@ module _ (table : Table) (typed : TypedProgram) (effects : Effects) (input : Lis
                   or_right (returns_value (get_or (sub_of program top.frame.sub).points top.frame.next no_point).instr) (has_returned (sub_of program top.frame.sub) top.before) returned,
                   none_back,
                   λ other_named other_of q at_q.
-                      given_still s depth below.stage.depth below_less (omega arith) below.views low_views q.instr (view_here s state) (view_here s after_step) below.stage.frame.waits
+                      given_still s depth below.stage.depth below_less (omega arith) below.views low_views low_parts q.instr (view_here s state) (view_here s after_step) below.stage.frame.waits
                       (λ w low k reach. reaches_low depth (view_here s state) (view_here s after_step)
                       (λ l is_low. undeclared_words s depth y state.memory (waiting_in state) (waiting_in after_step) state.leaks after_step.leaks l is_low
                       ∙ ap (λ z. (seen s z (waiting_in after_step) after_step.leaks).word l) (sym memory)) w low.0 low.1 low.2 low.3 (ways.OfCell k) reach)
@@ -318,7 +330,8 @@ module _ (table : Table) (typed : TypedProgram) (effects : Effects) (input : Lis
             (
               λ f traversed. (
                   let old = (above.1).1.0 f traversed in
-                  let view = given_view s f (ready.traversing.first top.frame.sub f (running.0).entered traversed).1 in (
+                  let is_first = ready.traversing.first top.frame.sub f (running.0).entered traversed in
+                  let view : (is_view s f ≡ true) × (is_bundle s f ≡ false) = (given_view s f is_first.1, access_bundle s f is_first.2) in (
                     old.0,
                     rooted_on s (sub_acts (sub_of program top.frame.sub)) f old.0 view views left_views (λ x w has. inl (were_left x w has).0) old.1,
                     old.2,
@@ -329,32 +342,32 @@ module _ (table : Table) (typed : TypedProgram) (effects : Effects) (input : Lis
           )
 
       then_left : (outcome : Outcome)
-          → Is_left main_turn ready.accepted.settled ready.owns other alone views ready.class.parts_named no_source frames nothing_taken
+          → Is_left main_turn sees seeing ready.accepted.settled ready.owns other alone views ready.class.parts_named no_source frames nothing_taken
           left_views y (after (acts_of_main (EndScope y)) facts_now) outcome
           → Each (GoesOn main_turn Left left_values IsOld (lasting_of s p.scope) (drop 1 (lasting_of s p.scope)) inside) outcome
           → Each (λ (next : State). OthersKept s depth state.memory next.memory) outcome → Along outcome
       then_left (Ends how after_step) leads on stay = absurd leads
       then_left (Goes after_step) (still_viewed, still_kept, memory) on stay =
           let facts_are_there : after (acts_of_main (EndScope y)) facts_now ≡ after (acts_of_main p.instr) facts_now = ap (λ i. after (acts_of_main i) facts_now) (sym is) in
-          let still_holds : HoldsAt s depth left_views after_step.memory at_next_point.0 =
-          (subst (λ z. HoldsAt s depth left_views z at_next_point.0) (sym memory)
-          (holds_left main_turn ready.accepted.settled ready.owns other alone views ready.class.parts_named no_source frames nothing_taken
+          let still_holds : HoldsAt s sees depth left_views after_step.memory at_next_point.0 =
+          (subst (λ z. HoldsAt s sees depth left_views z at_next_point.0) (sym memory)
+          (holds_left main_turn sees seeing ready.accepted.settled ready.owns other alone views ready.class.parts_named no_source frames nothing_taken
           p at_next_point.0 y is (home_frame y not_shared) not_shared (orderly.over y is) (ready_there (EndScope y) is) (orderly.variables y (inr is)) (λ x within off. orderly.ended y x is within off)
-          (λ x within sees region. orderly.followed y x is at_next_point.0 (next_point.0, next_point.2, at_next_point.1) within sees region)
+          (λ x within sight region. orderly.followed y x is at_next_point.0 (next_point.0, next_point.2, at_next_point.1) within sight region)
           lead facts_now end_allowed.0 viewed kept holds placed (not_lent y not_shared))) in
           let frames_there = on.frames next_point.0 (ap (successor main_turn) (only_first on.k (subst (λ z. on.k < z) (ap successors is) on.less)) ∙ next_point.1) in
           standing.goes_to_next table typed effects input ready state top older outer named p frames of_sub at_point path no_call_here after_step on.waits on.loops next_point.0 next_point.2 at_next_point.0 at_next_point.1
           frames_there deep stages left_views (running.0, running.1, wait_still after_step (drop 1 (lasting_of s p.scope)) on.inside stay (record { far = still_viewed.far; bare = still_viewed.bare }))
           (standing.waits_next table typed effects input ready state top older outer named p frames of_sub at_point path on.waits on.loops next_point.0 next_point.2 on.are, others_await (ap returns_value is))
           (apart_from_them (acts_of_main p.instr) left_views (view_here s after_step) still_holds.only
-          (subst (Viewed (home s depth) (sees_only s) other left_views (view_here s after_step)) facts_are_there still_viewed)) still_kept
+          (subst (Viewed (home s depth) sees other left_views (view_here s after_step)) facts_are_there still_viewed)) still_kept
           (scope_on s ready.owns after_step.memory depth (drop 1 p.scope) (at_next_point.0).scope (subst (InScope s after_step.memory depth) (sym lasting_left) (in_scope after_step.memory (drop 1 (lasting_of s p.scope)) on.inside)) lead)
           still_holds (
             (placed_by (after (acts_of_main p.instr) facts_now) (after (acts_of_main p.instr) own_facts) left_views (at_next_point.0).scope (own_loans (acts_of_main p.instr))
                 (subst (λ z. ArePlaced program depth z left_views (at_next_point.0).scope) facts_are_there
-                (placed_left main_turn ready.accepted.settled ready.owns other alone views ready.class.parts_named no_source frames nothing_taken
+                (placed_left main_turn sees seeing ready.accepted.settled ready.owns other alone views ready.class.parts_named no_source frames nothing_taken
                 p at_next_point.0 y is (home_frame y not_shared) not_shared (orderly.over y is) (ready_there (EndScope y) is) (orderly.variables y (inr is)) (λ x within off. orderly.ended y x is within off)
-                (λ x within sees region. orderly.followed y x is at_next_point.0 (next_point.0, next_point.2, at_next_point.1) within sees region)
+                (λ x within sight region. orderly.followed y x is at_next_point.0 (next_point.0, next_point.2, at_next_point.1) within sight region)
                 lead facts_now end_allowed.0 viewed kept holds placed (not_lent y not_shared)))),
             (still_viewed.past, still_viewed.shown),
           ) (still_above after_step.memory stay, traversals_left after_step memory on.waits on.loops on.are) views
@@ -363,9 +376,9 @@ module _ (table : Table) (typed : TypedProgram) (effects : Effects) (input : Lis
       pub ends_scope : Along (turn main_turn (EndScope y))
       ends_scope =
           then_left (turn main_turn (EndScope y))
-          (ends_well main_turn ready.accepted.settled ready.owns other alone views ready.class.parts_named no_source frames nothing_taken
+          (ends_well main_turn sees seeing ready.accepted.settled ready.owns other alone views ready.class.parts_named no_source frames nothing_taken
           p at_next_point.0 y is (home_frame y not_shared) not_shared (orderly.over y is) (ready_there (EndScope y) is) (orderly.variables y (inr is)) (λ x within off. orderly.ended y x is within off)
-          (λ x within sees region. orderly.followed y x is at_next_point.0 (next_point.0, next_point.2, at_next_point.1) within sees region)
+          (λ x within sight region. orderly.followed y x is at_next_point.0 (next_point.0, next_point.2, at_next_point.1) within sight region)
           lead facts_now end_allowed.0 viewed kept holds placed (not_lent y not_shared))
           (end_scope_follows main_turn Left left_values IsOld (lasting_of s p.scope) (drop 1 (lasting_of s p.scope)) inside y still_last refl (with_successors (EndScope y) 0 is below_one))
           (end_scope_keeps main_turn y)

@@ -1,8 +1,8 @@
 -- A formal that owns nothing gets its value: owners see what they saw, and the variables of other views
 -- stay.
-use Rattle.std.proofs.Common.{◌≡◌, refl, sym, ap, ◌∙◌, subst, ◌⊎◌, inl, inr, ℕ, zero, suc, arith, ◌+◌, ◌&&◌, Bool, true, false, not, List, [], ◌∷◌, ◌++◌, take, drop, length, get_or}
-use Rattle.type_definitions.specs.Types.{shape_of, components_of, is_owning, words, words_of as shape_words}
-use Rattle.flow_paths.specs.Objects.{Typing, object_at, is_anonymous, view_of}
+use Rattle.std.proofs.Common.{◌≡◌, refl, sym, ap, ◌∙◌, subst, ◌⊎◌, inl, inr, ℕ, zero, suc, arith, ◌+◌, true, false, not, List, [], ◌∷◌, ◌++◌, take, drop, length, get_or, Bool}
+use Rattle.type_definitions.specs.Types.{shape_of, components_of, words, words_of as shape_words}
+use Rattle.flow_paths.specs.Objects.{Typing, object_at}
 use Rattle.machine.specs.Words.{access_offsets}
 use Rattle.machine.specs.Words as machine
 use Rattle.machine.specs.Memory.{Slot, Memory, Base, Place, HeapCell, fresh, cell, no_cell, no_slot, variable_slots, slots_at, slots_of, at_number, gone_at, put, with_slots, words_of, moved_out, declared}
@@ -11,7 +11,6 @@ use Rattle.machine.specs.Calls.{Passed, Value, From, To, with_formal}
 use Rattle.machine.specs.States.{Waiting, Leak}
 use Rattle.owned_ways.specs.Ways.{Step, OfVariable, OfHand, Loc, OfRoot, OfCell, Inside, IsSame}
 use Rattle.owned_ways.proofs.Locations.{same_loc}
-use Rattle.machine.specs.Owners.{is_in_formal}
 use Rattle.part_offsets.specs.Parts.{type_in, offset_in, is_leaf, IsSettled}
 use Rattle.soundness.specs.Seen.{content, trunk, steps_in, word_in, seen, is_view_formal}
 use Rattle.soundness.specs.Typed.{Matches, IsCell, Points, OwnsByShape, Kept}
@@ -20,13 +19,12 @@ use Rattle.soundness.proofs.Keeping.{kept_with}
 use Rattle.soundness.proofs.Lasting.{declared_kept, keeps}
 use Rattle.soundness.proofs.Memories.{put_other, put_same, at_length}
 use Rattle.soundness.proofs.Steps.{plain_end}
-use Rattle.viewed_soundness.specs.Holds.{is_view, is_given, IsAccess, IsNamed}
-use Rattle.viewed_soundness.proofs.Names.{true_false, given_view}
-use Rattle.viewed_soundness.proofs.Outcomes.{named_plain}
+use Rattle.viewed_soundness.specs.Holds.{is_bundle, is_view, is_given, IsAccess}
+use Rattle.viewed_soundness.proofs.ViewKinds.{bundle_formal, given_view}
 use Rattle.viewed_steps.specs.Taken.{Lodge}
 use Rattle.viewed_steps.proofs.Alike.{IsLaidIn, with_one}
-use Rattle.viewed_steps.proofs.Entered.{IsPlainPassed, IsPlainOne, IsTyped, IsFit}
-use Rattle.viewed_steps.proofs.Views.{AreAccess, view_cases, view_access, given_cases, unowned_view}
+use Rattle.viewed_steps.proofs.Entered.{IsKindOfCopy, IsPlainPassed, IsPlainOne, IsTyped, IsFit, HasWords}
+use Rattle.viewed_steps.proofs.Views.{AreAccess, view_access, given_cases, unowned_view}
 
 -- A memory has the cells of another one, with their types.
 pub record HasCells (m n : Memory) : Type 0 where
@@ -70,7 +68,7 @@ cell_then s m n had d k (some, low, fits) = (some, (let count = had.count in ome
 same_variable : (f x g y : ℕ) → OfVariable f x ≡ OfVariable g y → (f ≡ g) × (x ≡ y)
 same_variable f x g y e = (cc, cc)
 
-module _ (s : Typing) (settled : IsSettled s.table) (own_law : OwnsByShape s.table) (in_formals : AreAccess s) (hands : List Waiting) (leaks : List Leak) where
+module _ (s : Typing) (sees : ℕ → Bool) (settled : IsSettled s.table) (own_law : OwnsByShape s.table) (in_formals : AreAccess s) (hands : List Waiting) (leaks : List Leak) where
   -- What one formal that places are taken for changes in no variable but its own: owners see the same, and views
   -- have what they had, but for the formal itself.
   pub record Stands (f x : ℕ) (a : Passed) (m n : Memory) : Type 0 where
@@ -78,11 +76,11 @@ module _ (s : Typing) (settled : IsSettled s.table) (own_law : OwnsByShape s.tab
     pub typed : Kept s n hands
     pub hold : (g y : ℕ) (p : List Step) → word_in s.table (content s n [] (OfRoot (OfVariable g y))) p ≡ word_in s.table (content s m [] (OfRoot (OfVariable g y))) p
     pub views : (g y : ℕ) → is_view s y ≡ true
-        → ((get_or (variable_slots s g y n.variables) 0 no_slot).word ≡ (get_or (variable_slots s g y m.variables) 0 no_slot).word)
-        ⊎ ((g ≡ f) × (x ≡ y) × (a ≡ Value ((get_or (variable_slots s g y n.variables) 0 no_slot).word ∷ [])))
+        → ((i : ℕ) → (get_or (variable_slots s g y n.variables) i no_slot).word ≡ (get_or (variable_slots s g y m.variables) i no_slot).word)
+        ⊎ ((g ≡ f) × (x ≡ y) × (ws : List machine.Word) × (a ≡ Value ws) × HasWords s g y n ws)
     pub cells : HasCells m n
 
-  module _ (f x : ℕ) (z : machine.Word) (m : Memory) (shown : is_given s x ≡ true) (typed : IsTyped s m x z) (kept : Kept s m hands) where
+  module _ (f x : ℕ) (z : machine.Word) (m : Memory) (shown : (is_given s x ≡ true) × (is_bundle s x ≡ false)) (typed : IsTyped s m x z) (kept : Kept s m hands) where
     abbrev next : Memory
     next = declared f x (z ∷ []) m
 
@@ -95,7 +93,7 @@ module _ (s : Typing) (settled : IsSettled s.table) (own_law : OwnsByShape s.tab
       | inr ne ↦ ap (λ q. word_in s.table (record { of = (object_at s y).of; slots = q; owns = not (is_view_formal s y) }) p) (others g y (λ e. ne (ap OfRoot e)))
       | inl e ↦ (
           let same : x ≡ y = cc in
-          elim (given_cases s x shown) [
+          elim (given_cases s x shown.0) [
             | inl formal ↦ (
                 let dead : not (is_view_formal s y) ≡ false = ap not (ap (is_view_formal s) (sym same) ∙ formal) in
                 word_dead s.table (content s next rest (OfRoot (OfVariable g y))) p dead ∙ sym (word_dead s.table (content s m rest (OfRoot (OfVariable g y))) p dead))
@@ -107,7 +105,7 @@ module _ (s : Typing) (settled : IsSettled s.table) (own_law : OwnsByShape s.tab
     ]
 
     access : IsAccess s x
-    access = view_access s in_formals x (given_view s x shown)
+    access = view_access s sees in_formals x (given_view s x shown.0) shown.1
 
     by_place : (l : Loc) (p : List Step) → word_in s.table (content s next hands l) p ≡ word_in s.table (content s m hands l) p
     by_place (OfRoot (OfVariable g y)) p = by_variable hands g y p
@@ -131,29 +129,26 @@ module _ (s : Typing) (settled : IsSettled s.table) (own_law : OwnsByShape s.tab
           (kept_with s settled m (record { of = (object_at s x).of; words = z ∷ [] }) hands value_points kept) (sym one_word) (inl refl);
       hold = λ g y p. by_variable [] g y p;
       views = λ g y view. elim (same_loc (OfRoot (OfVariable f x)) (OfRoot (OfVariable g y))) [
-        | inr ne ↦ inl (ap (λ q. (get_or q 0 no_slot).word) (others g y (λ e. ne (ap OfRoot e))))
+        | inr ne ↦ inl (λ i. ap (λ q. (get_or q i no_slot).word) (others g y (λ e. ne (ap OfRoot e))))
         | inl e ↦ (
             let here : f ≡ g = cc in let same : x ≡ y = cc in
             inr (
               sym here,
               same,
-              ap (λ w. Value (w ∷ []))
-                  (sym (ap (λ q. (get_or q 0 no_slot).word) ((λ j. variable_slots s (sym here j) (sym same j) next.variables) ∙ put_same s f x (fresh (z ∷ [])) m.variables))),
+              z ∷ [],
+              refl,
+              λ i. ap (λ q. (get_or q i no_slot).word) ((λ j. variable_slots s (sym here j) (sym same j) next.variables) ∙ put_same s f x (fresh (z ∷ [])) m.variables),
             ))
       ];
       cells = record { count = refl; same = λ k. refl };
     }
 
-  module _ (f x : ℕ) (ws : List machine.Word) (m : Memory) (plain : is_owning s.table (object_at s x).of ≡ false) (named : IsNamed s.table (object_at s x).of)
-      (fit : IsFit s m (object_at s x).of ws) (kept : Kept s m hands) where
+  module _ (f x : ℕ) (ws : List machine.Word) (m : Memory) (kind : IsKindOfCopy s x) (fit : IsFit s m (object_at s x).of ws) (kept : Kept s m hands) where
     abbrev copied : Memory
     copied = declared f x ws m
 
     copied_others : (g y : ℕ) → (OfVariable f x ≡ OfVariable g y → ⊥) → variable_slots s g y copied.variables ≡ variable_slots s g y m.variables
     copied_others g y ne = put_other s f x g y ne (fresh ws) m.variables
-
-    leafless : (p : List Step) → is_leaf s.table (object_at s x).of p ≡ false
-    leafless = (keeps s settled own_law).ownerless (object_at s x).of plain
 
     copied_word : (rest : List Waiting) (g y : ℕ) (p : List Step)
         → word_in s.table (content s copied rest (OfRoot (OfVariable g y))) p ≡ word_in s.table (content s m rest (OfRoot (OfVariable g y))) p
@@ -161,8 +156,15 @@ module _ (s : Typing) (settled : IsSettled s.table) (own_law : OwnsByShape s.tab
       | inr ne ↦ ap (λ q. word_in s.table (record { of = (object_at s y).of; slots = q; owns = not (is_view_formal s y) }) p) (copied_others g y (λ e. ne (ap OfRoot e)))
       | inl e ↦ (
           let same : x ≡ y = cc in
-          let none : is_leaf s.table (object_at s y).of p ≡ false = subst (λ z. is_leaf s.table (object_at s z).of p ≡ false) same (leafless p) in
-          word_no s.table (content s copied rest (OfRoot (OfVariable g y))) p none ∙ sym (word_no s.table (content s m rest (OfRoot (OfVariable g y))) p none))
+          elim kind [
+            | inl plain ↦ (
+                let none : is_leaf s.table (object_at s y).of p ≡ false =
+                subst (λ z. is_leaf s.table (object_at s z).of p ≡ false) same ((keeps s settled own_law).ownerless (object_at s x).of plain.0 p) in
+                word_no s.table (content s copied rest (OfRoot (OfVariable g y))) p none ∙ sym (word_no s.table (content s m rest (OfRoot (OfVariable g y))) p none))
+            | inr bundle ↦ (
+                let dead : not (is_view_formal s y) ≡ false = ap not (ap (is_view_formal s) (sym same) ∙ bundle_formal s x bundle) in
+                word_dead s.table (content s copied rest (OfRoot (OfVariable g y))) p dead ∙ sym (word_dead s.table (content s m rest (OfRoot (OfVariable g y))) p dead))
+          ])
     ]
 
     copied_place : (l : Loc) (p : List Step) → word_in s.table (content s copied hands l) p ≡ word_in s.table (content s m hands l) p
@@ -171,16 +173,6 @@ module _ (s : Typing) (settled : IsSettled s.table) (own_law : OwnsByShape s.tab
     copied_place (OfCell n) p = refl
     copied_place (Inside l i) p = copied_place l p
 
-    no_view : is_view s x ≡ true → ⊥
-    no_view view = elim (view_cases s x view) [
-      | inl anonymous ↦ true_false (is_anonymous (view_of s x)) anonymous (named_plain s.table (object_at s x).of named)
-      | inr formal ↦ true_false (is_owning s.table (object_at s x).of) (second_true (is_in_formal s x) (is_owning s.table (object_at s x).of) formal) plain
-    ]
-      where
-        second_true : (a b : Bool) → a && b ≡ true → b ≡ true
-        second_true true b e = e
-        second_true false b e = cc
-
     pub copied_stands : Stands f x (Value ws) m copied
     copied_stands = record {
       same = record { word = λ l. copied_place (trunk l) (steps_in l); made = refl; freed = λ n. refl; leaked = λ n. refl };
@@ -188,8 +180,16 @@ module _ (s : Typing) (settled : IsSettled s.table) (own_law : OwnsByShape s.tab
           (kept_with s settled m (record { of = (object_at s x).of; words = ws }) hands fit.1 kept) fit.0 (inl refl);
       hold = λ g y p. copied_word [] g y p;
       views = λ g y view. elim (same_loc (OfRoot (OfVariable f x)) (OfRoot (OfVariable g y))) [
-        | inr ne ↦ inl (ap (λ q. (get_or q 0 no_slot).word) (copied_others g y (λ e. ne (ap OfRoot e))))
-        | inl e ↦ (let same : x ≡ y = cc in absurd (no_view (subst (λ z. is_view s z ≡ true) (sym same) view)))
+        | inr ne ↦ inl (λ i. ap (λ q. (get_or q i no_slot).word) (copied_others g y (λ e. ne (ap OfRoot e))))
+        | inl e ↦ (
+            let here : f ≡ g = cc in let same : x ≡ y = cc in
+            inr (
+              sym here,
+              same,
+              ws,
+              refl,
+              λ i. ap (λ q. (get_or q i no_slot).word) ((λ j. variable_slots s (sym here j) (sym same j) copied.variables) ∙ put_same s f x (fresh ws) m.variables),
+            ))
       ];
       cells = record { count = refl; same = λ k. refl };
     }
@@ -201,13 +201,13 @@ module _ (s : Typing) (settled : IsSettled s.table) (own_law : OwnsByShape s.tab
 
   -- one for which no place is taken that owns
   pub one_stands : (f x : ℕ) (a : Passed) (before m : Memory) (cells : List Lodge) → IsPlainOne s before cells x a
-      → (IsPlainPassed s cells a → IsLaidIn s settled own_law in_formals hands leaks m a) → HasCells before m → Kept s m hands → Stands f x a m (with_formal s f x a m)
+      → (IsPlainPassed s cells a → IsLaidIn s sees settled own_law in_formals hands leaks m a) → HasCells before m → Kept s m hands → Stands f x a m (with_formal s f x a m)
   one_stands f x a before m cells (inl (scalar, plain)) laid had kept =
-      let on = with_one s settled own_law in_formals hands leaks f x a m scalar (laid plain) kept in
-      record { same = on.same; typed = on.typed; hold = on.hold; views = λ g y view. inl (on.views g y view); cells = plain_cells f x a m }
+      let on = with_one s sees settled own_law in_formals hands leaks f x a m scalar (laid plain) kept in
+      record { same = on.same; typed = on.typed; hold = on.hold; views = λ g y view. inl (λ i. on.views g y i view); cells = plain_cells f x a m }
   one_stands f x a before m cells (inr (inl (shown, z, is, typed))) laid had kept =
       subst (λ q. Stands f x q m (with_formal s f x q m)) (sym is)
       (shown_stands f x z m shown (λ d c n k shape_is e. cell_then s before m had d k (typed d c n k shape_is e)) kept)
-  one_stands f x a before m cells (inr (inr (plain, named, ws, is, fit))) laid had kept =
+  one_stands f x a before m cells (inr (inr (kind, ws, is, fit))) laid had kept =
       subst (λ q. Stands f x q m (with_formal s f x q m)) (sym is)
-      (copied_stands f x ws m plain named (fit.0, λ p d c n k has shape_is e. cell_then s before m had d k (fit.1 p d c n k has shape_is e)) kept)
+      (copied_stands f x ws m kind (fit.0, λ p d c n k has shape_is e. cell_then s before m had d k (fit.1 p d c n k has shape_is e)) kept)

@@ -16,8 +16,7 @@ use Rattle.soundness.specs.Seen.{IsNear, home}
 use Rattle.soundness.specs.Typed.{OwnsByShape}
 use Rattle.soundness.proofs.Scalars.{acts}
 use Rattle.owned_loans.specs.Views.{Around, Views, Unused}
-use Rattle.viewed_soundness.specs.Holds.{PartsAreNamed, is_given, sees_only}
-use Rattle.viewed_soundness.proofs.Names.{borrower_sees}
+use Rattle.viewed_soundness.specs.Holds.{PartsAreNamed, is_given, Seeing}
 use Rattle.viewed_soundness.proofs.Outcomes.{IsGood, Leads_on}
 use Rattle.viewed_soundness.proofs.Lends.{Sees, Declares, Puts}
 use Rattle.viewed_soundness.proofs.Coming.{IsComing, borrower_given, observer_given, assign_observer_given, assign_borrower_given}
@@ -25,7 +24,7 @@ use Rattle.viewed_steps.specs.Traversals.{TraversalCall, call_in, traversed_name
 use Rattle.viewed_steps.proofs.Ended.{view_kinds}
 use Rattle.viewed_steps.proofs.Sources.{observer_only}
 
-module _ (t : Turn) (settled : IsSettled (typing t).table) (own_law : OwnsByShape (typing t).table) (other : Around (home (typing t) (length t.outer)))
+module _ (t : Turn) (sees : ℕ → Bool) (seeing : Seeing (typing t) sees) (settled : IsSettled (typing t).table) (own_law : OwnsByShape (typing t).table) (other : Around (home (typing t) (length t.outer)))
     (alone : (w : Way) → IsNear (length t.outer) w → other.gone w → ⊥)
     (v : Views) (parts_named : PartsAreNamed (typing t).table) (may : ℕ → ℕ → Type 0)
     (frames : t.state.frames ≡ t.frame ∷ t.outer) (none : taken t.point.instr ≡ 0) where
@@ -36,28 +35,28 @@ module _ (t : Turn) (settled : IsSettled (typing t).table) (own_law : OwnsByShap
   depth = length t.outer
 
   abbrev Good : List Fact → Type 0
-  Good facts = IsGood t settled own_law other alone v parts_named may frames none v facts t.state
+  Good facts = IsGood t sees seeing settled own_law other alone v parts_named may frames none v facts t.state
 
   abbrev LeadsHere : List Fact → Outcome → Type 0
-  LeadsHere facts outcome = Leads_on t settled own_law other alone v parts_named may frames none facts outcome
+  LeadsHere facts outcome = Leads_on t sees seeing settled own_law other alone v parts_named may frames none facts outcome
 
   -- the instructions, with the value that they take
   abbrev DeclaresHere : machine.Word → ℕ → TypedTree → Outcome
-  DeclaresHere z x e = Declares t settled own_law other alone v parts_named may frames none ((z ∷ []) ∷ []) x e
+  DeclaresHere z x e = Declares t sees seeing settled own_law other alone v parts_named may frames none ((z ∷ []) ∷ []) x e
 
   abbrev PutsHere : machine.Word → Pos → ℕ → TypedTree → Outcome
   PutsHere z r x e =
-      Puts t settled own_law other alone v parts_named may frames none (target_pos t (Name r x NoMore (object_at s x).of)) r x (object_at s x).of
+      Puts t sees seeing settled own_law other alone v parts_named may frames none (target_pos t (Name r x NoMore (object_at s x).of)) r x (object_at s x).of
       (taken_by t (object_at s x).of e (record { memory = t.state.memory; waits = (z ∷ []) ∷ [] }))
 
-  module _ (n : ℕ) (c : TraversalCall) (x d : ℕ) (z : machine.Word) (facts : List Fact) (looks : Sees t settled own_law other alone v parts_named may frames none x d)
+  module _ (n : ℕ) (c : TraversalCall) (x d : ℕ) (z : machine.Word) (facts : List Fact) (looks : Sees t sees seeing settled own_law other alone v parts_named may frames none x d)
       (variable : is_variable (object_at s x).kind ≡ true) (own : is_given s x ≡ false) (good : Good facts)
-      (coming : IsComing t settled own_law other alone v parts_named may frames none c.root d (traversed_name c) z) (mine : may x c.root) where
+      (coming : IsComing t sees seeing settled own_law other alone v parts_named may frames none c.root d (traversed_name c) z) (mine : may x c.root) where
     borrows_only : is_observer s x ≡ false → is_borrower s x ≡ true
     borrows_only e = view_kinds (is_variable (object_at s x).kind) (is_borrowing (view_of s x)) (is_observing (view_of s x)) looks.anonymous variable e
 
     -- a view is declared
-    pub view_declared : (is_observer s x ≡ false → (sees_only s c.root ≡ false) × (c.root < x) × Unused (home s depth) other.lent v facts x)
+    pub view_declared : (is_observer s x ≡ false → (is_observer s c.root ≡ false) × (sees x ≡ sees c.root) × (c.root < x) × Unused (home s depth) other.lent v facts x)
         → AllowsAll facts (acts (declared_acts s x (More (call_in n c) NoMore)))
         → LeadsHere (after (acts (declared_acts s x (More (call_in n c) NoMore))) facts) (DeclaresHere z x (More (call_in n c) NoMore))
     view_declared older allowed = by_kind (is_observer s x) refl
@@ -65,11 +64,11 @@ module _ (t : Turn) (settled : IsSettled (typing t).table) (own_law : OwnsByShap
         by_kind : (b : Bool) → is_observer s x ≡ b
             → LeadsHere (after (acts (declared_acts s x (More (call_in n c) NoMore))) facts) (DeclaresHere z x (More (call_in n c) NoMore))
         by_kind true e =
-            observer_given t settled own_law other alone v parts_named may frames none c.pos n c.name_pos c.root c.path c.of c.others x d z facts looks good coming mine
+            observer_given t sees seeing settled own_law other alone v parts_named may frames none c.pos n c.name_pos c.root c.path c.of c.others x d z facts looks good coming mine
             NoMore (observer_only s x e) e own allowed
         by_kind false e =
-            borrower_given t settled own_law other alone v parts_named may frames none c.pos n c.name_pos c.root c.path c.of c.others x d z facts looks good coming mine
-            NoMore (borrows_only e) (borrower_sees s x e own) (older e).0 (older e).1 (older e).2 allowed
+            borrower_given t sees seeing settled own_law other alone v parts_named may frames none c.pos n c.name_pos c.root c.path c.of c.others x d z facts looks good coming mine
+            NoMore (borrows_only e) (older e).0 (older e).1 (older e).2 (older e).3 allowed
 
     -- a view is assigned
     pub view_assigned : (pos r : Pos) → (is_observer s x ≡ false → c.root ≡ x)
@@ -80,18 +79,18 @@ module _ (t : Turn) (settled : IsSettled (typing t).table) (own_law : OwnsByShap
         by_kind : (b : Bool) → is_observer s x ≡ b
             → LeadsHere (after (acts (assigned_to s pos (Some x) (Name r x NoMore (object_at s x).of) (call_in n c))) facts) (PutsHere z r x (call_in n c))
         by_kind true e =
-            assign_observer_given t settled own_law other alone v parts_named may frames none c.pos n c.name_pos c.root c.path c.of c.others x d z facts looks good coming mine
+            assign_observer_given t sees seeing settled own_law other alone v parts_named may frames none c.pos n c.name_pos c.root c.path c.of c.others x d z facts looks good coming mine
             pos r (observer_only s x e) e own allowed
         by_kind false e = at_itself c.root (itself e) coming mine allowed
           where
-            at_itself : (y : ℕ) → y ≡ x → IsComing t settled own_law other alone v parts_named may frames none y d (name_of y c.path) z → may x y
+            at_itself : (y : ℕ) → y ≡ x → IsComing t sees seeing settled own_law other alone v parts_named may frames none y d (name_of y c.path) z → may x y
                 → AllowsAll facts (acts (assigned_to s pos (Some x) (Name r x NoMore (object_at s x).of) (call_in n (record c { root = y }))))
                 → LeadsHere (after (acts (assigned_to s pos (Some x) (Name r x NoMore (object_at s x).of) (call_in n (record c { root = y })))) facts)
                 (PutsHere z r x (call_in n (record c { root = y })))
             at_itself y same coming mine allowed =
                 subst (λ y. LeadsHere (after (acts (assigned_to s pos (Some x) (Name r x NoMore (object_at s x).of) (call_in n (record c { root = y })))) facts)
                 (PutsHere z r x (call_in n (record c { root = y })))) (sym same)
-                (assign_borrower_given t settled own_law other alone v parts_named may frames none c.pos n c.name_pos c.path c.of c.others x d z facts looks good
-                (subst (λ y. IsComing t settled own_law other alone v parts_named may frames none y d (name_of y c.path) z) same coming) (subst (may x) same mine)
-                pos r (borrows_only e) (borrower_sees s x e own) own
+                (assign_borrower_given t sees seeing settled own_law other alone v parts_named may frames none c.pos n c.name_pos c.path c.of c.others x d z facts looks good
+                (subst (λ y. IsComing t sees seeing settled own_law other alone v parts_named may frames none y d (name_of y c.path) z) same coming) (subst (may x) same mine)
+                pos r (borrows_only e) own
                 (subst (λ y. AllowsAll facts (acts (assigned_to s pos (Some x) (Name r x NoMore (object_at s x).of) (call_in n (record c { root = y }))))) same allowed))

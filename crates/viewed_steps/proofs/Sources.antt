@@ -1,6 +1,6 @@
 -- Declarations of borrowers and observers and assignments to them, by what typing says of their
 -- sources.
-use Rattle.viewed_soundness.proofs.Names.{variable_given}
+use Rattle.viewed_soundness.proofs.ViewKinds.{variable_given}
 use Rattle.std.proofs.Common.{◌≡◌, refl, sym, ap, ◌∙◌, subst, ◌⊎◌, inl, inr, ℕ, ◌<◌, Bool, true, false, not, ◌&&◌, List, [], ◌∷◌, length, Some}
 use Rattle.spark_base.specs.declared.position.Pos.{Pos}
 use Rattle.place_names.specs.declared.fact.Fact.{Fact}
@@ -25,7 +25,7 @@ use Rattle.typed_laws.specs.Needed.{Leads, Gives, Source}
 use Rattle.soundness.proofs.Scalars.{acts}
 use Rattle.soundness.proofs.Taking.{Takes}
 use Rattle.owned_loans.specs.Views.{Around, Views, Unused}
-use Rattle.viewed_soundness.specs.Holds.{IsNamed, PartsAreNamed, sees_only, is_given}
+use Rattle.viewed_soundness.specs.Holds.{IsNamed, PartsAreNamed, is_given, Seeing}
 use Rattle.viewed_soundness.proofs.Outcomes.{IsGood, Leads_on}
 use Rattle.viewed_soundness.proofs.Lends.{Observes, Declares, Puts, borrower_on, observer_on, observer_again_on, assign_borrower_on, assign_observer_on}
 use Rattle.viewed_steps.proofs.Ended.{view_kinds}
@@ -48,18 +48,18 @@ view_scalar sh view scalar = by_shape (view_shape sh view)
     by_shape (k, e, o, is) = (let no : false ≡ true = sym (ap (λ z. is_scalar (view_of_shape z)) is) ∙ scalar in cc)
 
 exclusive : (sh : Shape) → is_observing (view_of_shape sh) ≡ true → is_borrowing (view_of_shape sh) ≡ false
-exclusive (shape.Access k true o) sees = constant o
+exclusive (shape.Access k true o) sight = constant o
   where
     constant : (o : Bool) → not o && false ≡ false
     constant true = refl
     constant false = refl
-exclusive (shape.Access k false true) sees = refl
-exclusive (shape.Access k false false) sees = cc
-exclusive (shape.Whole a b) sees = cc
-exclusive (shape.Listed l a b) sees = cc
-exclusive (shape.Fields cs) sees = cc
-exclusive (shape.Elements a b el) sees = cc
-exclusive (shape.Same of) sees = cc
+exclusive (shape.Access k false true) sight = refl
+exclusive (shape.Access k false false) sight = cc
+exclusive (shape.Whole a b) sight = cc
+exclusive (shape.Listed l a b) sight = cc
+exclusive (shape.Fields cs) sight = cc
+exclusive (shape.Elements a b el) sight = cc
+exclusive (shape.Same of) sight = cc
 
 right_part : (a b : Bool) → a && b ≡ true → b ≡ true
 right_part true b e = e
@@ -70,9 +70,9 @@ no_and true b e = e
 no_and false b e = refl
 
 pub observer_only : (s : Typing) (x : ℕ) → is_observer s x ≡ true → is_borrower s x ≡ false
-observer_only s x sees =
+observer_only s x sight =
     no_and (is_variable (object_at s x).kind) (is_borrowing (view_of s x))
-    (exclusive (shape_of s.table (object_at s x).of) (right_part (is_variable (object_at s x).kind) (is_observing (view_of s x)) sees))
+    (exclusive (shape_of s.table (object_at s x).of) (right_part (is_variable (object_at s x).kind) (is_observing (view_of s x)) sight))
 
 -- names lead from named types to named ones
 pub leads_named : (s : Typing) → PartsAreNamed s.table → (path : TypedTree) (t u : ℕ) → IsNamed s.table t → Leads s t path u → IsNamed s.table u
@@ -106,7 +106,7 @@ own_there s x variable = variable_given s x (no_formal (object_at s x).kind vari
     no_formal object_kind.Temporary e = refl
     no_formal object_kind.Formal e = cc
 
-module _ (t : Turn) (settled : IsSettled (typing t).table) (own_law : OwnsByShape (typing t).table) (other : Around (home (typing t) (length t.outer)))
+module _ (t : Turn) (sees : ℕ → Bool) (seeing : Seeing (typing t) sees) (settled : IsSettled (typing t).table) (own_law : OwnsByShape (typing t).table) (other : Around (home (typing t) (length t.outer)))
     (alone : (w : Way) → IsNear (length t.outer) w → other.gone w → ⊥) (in_formals : AreAccess (typing t))
     (v : Views) (parts_named : PartsAreNamed (typing t).table) (may : ℕ → ℕ → Type 0)
     (frames : t.state.frames ≡ t.frame ∷ t.outer) (none : taken t.point.instr ≡ 0) where
@@ -117,22 +117,22 @@ module _ (t : Turn) (settled : IsSettled (typing t).table) (own_law : OwnsByShap
   depth = length t.outer
 
   abbrev Good : List Fact → Type 0
-  Good facts = IsGood t settled own_law other alone v parts_named may frames none v facts t.state
+  Good facts = IsGood t sees seeing settled own_law other alone v parts_named may frames none v facts t.state
 
   abbrev LeadsHere : List Fact → Outcome → Type 0
-  LeadsHere facts outcome = Leads_on t settled own_law other alone v parts_named may frames none facts outcome
+  LeadsHere facts outcome = Leads_on t sees seeing settled own_law other alone v parts_named may frames none facts outcome
 
   -- the instructions, with the values that they take
   abbrev Declares_here : List (List machine.Word) → ℕ → TypedTree → Outcome
-  Declares_here ws x e = Declares t settled own_law other alone v parts_named may frames none ws x e
+  Declares_here ws x e = Declares t sees seeing settled own_law other alone v parts_named may frames none ws x e
 
   abbrev Puts_here : List (List machine.Word) → Pos → ℕ → TypedTree → Outcome
   Puts_here ws r x e =
-      Puts t settled own_law other alone v parts_named may frames none (target_pos t (Name r x NoMore (object_at s x).of)) r x (object_at s x).of
+      Puts t sees seeing settled own_law other alone v parts_named may frames none (target_pos t (Name r x NoMore (object_at s x).of)) r x (object_at s x).of
       (taken_by t (object_at s x).of e (record { memory = t.state.memory; waits = ws }))
 
   abbrev Observes_here : ℕ → ℕ → ℕ → ℕ → TypedTree → Type 0
-  Observes_here x y u d path = Observes t settled own_law other alone v parts_named may frames none x y u d path
+  Observes_here x y u d path = Observes t sees seeing settled own_law other alone v parts_named may frames none x y u d path
 
   abbrev own_here : (x : ℕ) → is_variable (object_at s x).kind ≡ true → is_given s x ≡ false
   own_here = own_there s
@@ -154,7 +154,7 @@ module _ (t : Turn) (settled : IsSettled (typing t).table) (own_law : OwnsByShap
   -- a view is declared
   pub view_declared : (ws : List (List machine.Word)) (q : Pos) (x y u : ℕ) (path : TypedTree) → is_anonymous (view_of s x) ≡ true → is_variable (object_at s x).kind ≡ true
       → home s depth x ≡ depth → Source s (object_at s x).of (Name q y path u) → Takes (waits_in path) ws []
-      → (is_observer s x ≡ false → (sees_only s y ≡ false) × (y < x)) → may x y → (facts : List Fact) → Good facts → Unused (home s depth) other.lent v facts x
+      → (is_observer s x ≡ false → (is_observer s y ≡ false) × (sees x ≡ sees y) × (y < x)) → may x y → (facts : List Fact) → Good facts → Unused (home s depth) other.lent v facts x
       → AllowsAll facts (acts (declared_acts s x (More (Name q y path u) NoMore)))
       → LeadsHere (after (acts (declared_acts s x (More (Name q y path u) NoMore))) facts) (Declares_here ws x (More (Name q y path u) NoMore))
   view_declared ws q x y u path view variable mine source takes older from facts good unused allowed =
@@ -164,13 +164,13 @@ module _ (t : Turn) (settled : IsSettled (typing t).table) (own_law : OwnsByShap
       by_kind : (d : ℕ) → Observes_here x y u d path → (b : Bool) → is_observer s x ≡ b → (c : Bool) → is_observer s y ≡ c
           → LeadsHere (after (acts (declared_acts s x (More (Name q y path u) NoMore))) facts) (Declares_here ws x (More (Name q y path u) NoMore))
       by_kind d found true e true f =
-          observer_again_on t settled own_law other alone v parts_named may frames none ws x y u d q path NoMore found (observer_only s x e) e f from takes facts good allowed
+          observer_again_on t sees seeing settled own_law other alone v parts_named may frames none ws x y u d q path NoMore found (observer_only s x e) e f from takes facts good allowed
       by_kind d found true e false f =
-          observer_on t settled own_law other alone v parts_named may frames none ws x y u d q path NoMore found (observer_only s x e) e f from takes facts good allowed
+          observer_on t sees seeing settled own_law other alone v parts_named may frames none ws x y u d q path NoMore found (observer_only s x e) e f from takes facts good allowed
       by_kind d found false e c f =
-          borrower_on t settled own_law other alone v parts_named may frames none ws x y u d q path NoMore found
-          (view_kinds (is_variable (object_at s x).kind) (is_borrowing (view_of s x)) (is_observing (view_of s x)) view variable e) e
-          (older e).0 (older e).1 from takes facts good unused allowed
+          borrower_on t sees seeing settled own_law other alone v parts_named may frames none ws x y u d q path NoMore found
+          (view_kinds (is_variable (object_at s x).kind) (is_borrowing (view_of s x)) (is_observing (view_of s x)) view variable e)
+          (older e).0 (older e).1 (older e).2 from takes facts good unused allowed
 
   -- a view is assigned
   pub view_assigned : (ws : List (List machine.Word)) (pos r q : Pos) (x y u : ℕ) (path : TypedTree) → is_anonymous (view_of s x) ≡ true → is_variable (object_at s x).kind ≡ true
@@ -187,7 +187,7 @@ module _ (t : Turn) (settled : IsSettled (typing t).table) (own_law : OwnsByShap
           → LeadsHere (after (acts (assigned_to s pos (Some x) (Name r x NoMore (object_at s x).of) (Name q y path u))) facts)
           (Puts_here ws r x (Name q y path u))
       by_kind d found true e =
-          assign_observer_on t settled own_law other alone v parts_named may frames none ws pos r q x y u d path found (observer_only s x e) e from takes facts good allowed
+          assign_observer_on t sees seeing settled own_law other alone v parts_named may frames none ws pos r q x y u d path found (observer_only s x e) e from takes facts good allowed
       by_kind d found false e = at_itself y (itself e) found from allowed
         where
           at_itself : (y : ℕ) → y ≡ x → Observes_here x y u d path → may x y
@@ -197,8 +197,8 @@ module _ (t : Turn) (settled : IsSettled (typing t).table) (own_law : OwnsByShap
           at_itself y same found from allowed =
               subst (λ z. LeadsHere (after (acts (assigned_to s pos (Some x) (Name r x NoMore (object_at s x).of) (Name q z path u))) facts)
               (Puts_here ws r x (Name q z path u))) (sym same)
-              (assign_borrower_on t settled own_law other alone v parts_named may frames none ws pos r q x u d path
+              (assign_borrower_on t sees seeing settled own_law other alone v parts_named may frames none ws pos r q x u d path
               (subst (λ z. Observes_here x z u d path) same found)
-              (view_kinds (is_variable (object_at s x).kind) (is_borrowing (view_of s x)) (is_observing (view_of s x)) view variable e) e
+              (view_kinds (is_variable (object_at s x).kind) (is_borrowing (view_of s x)) (is_observing (view_of s x)) view variable e)
               (subst (may x) same from) takes facts good
               (subst (λ z. AllowsAll facts (acts (assigned_to s pos (Some x) (Name r x NoMore (object_at s x).of) (Name q z path u)))) same allowed))

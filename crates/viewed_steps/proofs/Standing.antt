@@ -4,19 +4,17 @@ use Rattle.place_names.specs.Names.{Name as PlaceName}
 use Rattle.flow_paths.specs.Views.{sub_acts, traversed_formal, IsOnlyRoot}
 use Rattle.spark_base.proofs.Lists.{Has-append_left, Has-append_right}
 use Rattle.std.specs.Prelude.{flat_map}
-use Rattle.std.proofs.Common.{◌≡◌, refl, sym, ap, ◌∙◌, subst, inl, inr, ℕ, Bool, true, false, ◌&&◌, ◌||◌, List, [], ◌∷◌, ◌++◌, length, get_or, append-nil, Option, None, not, Some}
+use Rattle.std.proofs.Common.{◌≡◌, refl, sym, ap, ◌∙◌, subst, inl, inr, ℕ, Bool, true, false, ◌||◌, List, [], ◌∷◌, ◌++◌, length, get_or, append-nil, Option, None, Some}
 use Rattle.spark_base.specs.Lists.{Has}
-use Rattle.place_names.specs.declared.act.Mode.{Mode}
-use Rattle.place_names.specs.declared.act.Mode.TheVariants as mode
 use Rattle.place_names.specs.declared.act.Act.{Act}
 use Rattle.place_names.specs.declared.act.Placed.{Placed}
 use Rattle.place_names.specs.declared.fact.Fact.{Fact}
-use Rattle.type_definitions.specs.Types.{Table, is_owning, owns_of, view_of as view_of_shape}
+use Rattle.type_definitions.specs.Types.{Table}
 use Rattle.typed_tree.specs.Trees.{TypedTree}
 use Rattle.typed_tree.specs.Programs.{TypedProgram}
 use Rattle.flow_paths.specs.declared.report.Effects.{Effects}
 use Rattle.flow_paths.specs.Instructions.{Instruction, Skip, Declare, Assign, Call, Output, Input, Release, Test, Choose, Start, Next, Evaluate, LeaveLoop, Hold, EndScope, Finish, Fall}
-use Rattle.flow_paths.specs.Objects.{Typing, Signature, object_at, sub_at, is_anonymous, is_formal, is_package_object, view_of}
+use Rattle.flow_paths.specs.Objects.{Typing, Signature, sub_at, is_formal, is_package_object}
 use Rattle.flow_paths.specs.Acts.{acts_of}
 use Rattle.flow_paths.specs.Points.{NamedPoint, FlowPoint}
 use Rattle.flow_paths.specs.Laid.{FlowSub, FlowProgram, NamedSub, flow_sub, kept_roots, sub_facts, typing_of, flow_typing, flow_program, flow_named}
@@ -25,45 +23,38 @@ use Rattle.flow_paths.specs.Effects.{path_points, called_acts}
 use Rattle.flow_paths.specs.Scopes.{scope_behind, is_ready, Leads}
 use Rattle.machine.specs.States.{Waiting, Loop, Frame, State, sub_of, Goes}
 use Rattle.machine.specs.Step.{Turn, turn}
-use Rattle.machine.specs.Owners.{is_in, is_in_formal, waiting_in}
+use Rattle.machine.specs.Owners.{waiting_in}
 use Rattle.machine.specs.Run.{no_point, stepped, step}
 use Rattle.owned_ways.specs.Ways.{after, AllowsAll}
-use Rattle.soundness.specs.Seen.{is_view_formal, home}
+use Rattle.soundness.specs.Seen.{home}
 use Rattle.soundness.specs.Typed.{Kept}
 use Rattle.typed_laws.specs.Needed.{IsFine}
 use Rattle.soundness.specs.Sound.{IsNoCall, Stage, facts_of, AreStages, InScope, IsNamedSub, IsAtPoint, view_of as view_here}
 use Rattle.soundness.specs.Ready.{IsSupplied}
-use Rattle.soundness.proofs.Passing.{plain_type, signature_is}
+use Rattle.soundness.proofs.Passing.{signature_is}
 use Rattle.soundness.proofs.Typings.{Agree, flow_agrees, instruction_same}
 use Rattle.soundness.proofs.Scalars.{acts}
 use Rattle.soundness.proofs.Paths.{accepted_point, facts_next}
 use Rattle.soundness.proofs.Points.{flow_at, named_has, point_has, sub_there, sub_has, point_there, point_in, path_there, IsLaid, next_there, one_named, one_point}
 use Rattle.owned_loans.specs.Views.{known_gone, Views, ViewedAlone}
-use Rattle.viewed_soundness.specs.Holds.{is_view, IsAccess, AllKeep, sees_only, is_fixed}
+use Rattle.viewed_soundness.specs.Holds.{is_bundle, is_view, AllKeep, is_fixed}
+use Rattle.viewed_soundness.proofs.ViewKinds.{bundle_sees as parts_see}
 use Rattle.viewed_steps.specs.Awaited.{AreFor, AreValues, temporaries_of, lasting_of, WaitsAt, AreAwaited}
 use Rattle.viewed_steps.proofs.Waited.{leads_temporaries}
 use Rattle.viewed_steps.specs.Sound.{IsBeyond, HoldsAt, ArePlaced, NoneAbove, ViewStage, stages_of, GoneElsewhere, IsRunning, Follows, LeadsAlong, HasTraversals}
 use Rattle.viewed_steps.specs.Ready.{IsReady}
-use Rattle.viewed_steps.proofs.Views.{AreAccess, view_cases}
-
-no_second : (a b : Bool) → b ≡ false → a && b ≡ false
-no_second true b e = e
-no_second false b e = refl
+use Rattle.viewed_steps.proofs.Views.{AreAccess, formal_access, view_cases}
+use Rattle.viewed_steps.specs.Seeing.{sees_in}
+use Rattle.viewed_steps.proofs.Sees.{sees_seeing}
 
 pub or_right : (a b : Bool) → b ≡ true → a || b ≡ true
 or_right true b e = refl
 or_right false b e = e
 
-no_middle : (a b : Bool) → (a && false) && b ≡ false
-no_middle true b = refl
-no_middle false b = refl
-
-not_in : (m : Mode) → (m ≡ mode.In → ⊥) → is_in m ≡ false
-not_in mode.In back = absurd (back refl)
-not_in mode.Out back = refl
-not_in mode.InOut back = refl
-
 module _ (table : Table) (typed : TypedProgram) (effects : Effects) (input : List ℕ) (ready : IsReady table typed effects) where
+  abbrev sees : ℕ → Bool
+  sees = sees_in (flow_program table typed)
+
   abbrev pub program : FlowProgram
   program = flow_program table typed
 
@@ -76,47 +67,13 @@ module _ (table : Table) (typed : TypedProgram) (effects : Effects) (input : Lis
   pub agree : Agree s own
   agree = flow_agrees table typed
 
-  -- formals that own nothing are of named access types
+  -- formals that own nothing are of no anonymous type and of no scalar one
   pub in_formals : AreAccess s
-  in_formals x formal = elim (ready.class.formals x (first_true (is_formal s x) (is_in (object_at s x).mode) (is_owning s.table (object_at s x).of) formal)) [
-    | inl plain ↦ absurd (no_both (is_view_formal s x) formal (no_second (is_in_formal s x) (is_owning s.table (object_at s x).of) (plain_type s ready.owns (object_at s x).of plain)))
-    | inr other_kind ↦ elim other_kind [
-      | inl back ↦ absurd (back.0 (in_mode (object_at s x).mode (middle_true (is_formal s x) (is_in (object_at s x).mode) (is_owning s.table (object_at s x).of) formal)))
-      | inr (inl shown) ↦ (shown.1, λ anonymous. unnamed shown.1 anonymous)
-      | inr (inr plain) ↦ absurd (no_both (is_view_formal s x) formal (no_second (is_in_formal s x) (is_owning s.table (object_at s x).of) plain.1))
-    ]
-  ]
-    where
-      no_both : (b : Bool) → b ≡ true → b ≡ false → ⊥
-      no_both b e f = (let no : true ≡ false = sym e ∙ f in cc)
+  in_formals = formal_access s ready.owns
 
-      first_true : (a b c : Bool) → (a && b) && c ≡ true → a ≡ true
-      first_true true b c e = refl
-      first_true false b c e = cc
-
-      middle_true : (a b c : Bool) → (a && b) && c ≡ true → b ≡ true
-      middle_true true true c e = refl
-      middle_true true false c e = cc
-      middle_true false b c e = cc
-
-      last_true : (a b : Bool) → a && b ≡ true → b ≡ true
-      last_true true b e = e
-      last_true false b e = cc
-
-      in_mode : (m : Mode) → is_in m ≡ true → m ≡ mode.In
-      in_mode mode.In e = refl
-      in_mode mode.Out e = cc
-      in_mode mode.InOut e = cc
-
-      not_anonymous : (c n : Bool) → n ≡ true → (not n && not c) || (not n && c) ≡ true → ⊥
-      not_anonymous c true e f = cc
-      not_anonymous c false e f = cc
-
-      unnamed : IsAccess s x → is_anonymous (view_of s x) ≡ true → ⊥
-      unnamed (d, c, n, is) anonymous =
-          not_anonymous c n
-          (sym (ap (owns_of (is_owning s.table)) is) ∙ sym (ready.owns (object_at s x).of) ∙ last_true (is_in_formal s x) (is_owning s.table (object_at s x).of) formal)
-          (sym (ap (λ z. is_anonymous (view_of_shape z)) is) ∙ anonymous)
+  -- formals with parts that see only see
+  pub bundle_sees : (x : ℕ) → is_bundle s x ≡ true → sees x ≡ true
+  bundle_sees = parts_see s sees (sees_seeing program)
 
   pub laid : (named : NamedSub) → Has (flow_named table typed) named → IsLaid s named
   laid named has = ready.scoped.goes named has
@@ -221,8 +178,8 @@ module _ (table : Table) (typed : TypedProgram) (effects : Effects) (input : Lis
     pub acts_plain : IsNoCall p.instr → whole_acts p.instr ≡ acts_here p.instr
     acts_plain plain = ap (λ z. acts (acts_by s p.instr ++ z)) (no_callee p.instr plain) ∙ ap acts (append-nil (acts_by s p.instr))
 
-    pub keeps_there : AllKeep (is_fixed s) (acts_here p.instr)
-    keeps_there = subst (λ z. AllKeep (is_fixed s) (acts z)) (sym acts_agree) (ready.orderly.kept sub in_program here in_sub)
+    pub keeps_there : AllKeep (is_fixed s sees) (acts_here p.instr)
+    keeps_there = subst (λ z. AllKeep (is_fixed s sees) (acts z)) (sym acts_agree) (ready.orderly.kept sub in_program here in_sub)
 
     -- its acts are some of its subprogram
     pub acts_in_sub : (a : Act) → Has (acts_here p.instr) a → Has (sub_acts (sub_of program top.frame.sub)) a
@@ -293,9 +250,9 @@ module _ (table : Table) (typed : TypedProgram) (effects : Effects) (input : Lis
           → top.depth ≡ length outer → AreStages (stages_of older) outer → (views : Views)
           → IsRunning table typed effects after_step (record { stage = at_next waits loops n; views = views; cells = [] }) older
           → AreAwaited table typed None (at_next waits loops n ∷ stages_of older)
-          → ViewedAlone (home s (length outer)) (sees_only s) (known_gone (home s (length outer)) (GoneElsewhere program effects older)) views (view_here s after_step) (after (acts_here p.instr) facts)
+          → ViewedAlone (home s (length outer)) sees (known_gone (home s (length outer)) (GoneElsewhere program effects older)) views (view_here s after_step) (after (acts_here p.instr) facts)
           → Kept s after_step.memory (waiting_in after_step) → InScope s after_step.memory (length outer) (lasting_of s q.scope)
-          → HoldsAt s (length outer) views after_step.memory q
+          → HoldsAt s sees (length outer) views after_step.memory q
           → ArePlaced program (length outer) (after (acts_here p.instr) facts) views q.scope × IsBeyond program effects (length outer) views older
           → NoneAbove s (length outer) after_step.memory × HasTraversals table typed (view_here s after_step) (record { stage = at_next waits loops n; views = views; cells = [] } ∷ older) → (before : Views)
           → Follows program effects p.instr state.memory (record { stage = top; views = before; cells = [] }) older after_step.memory (record { stage = at_next waits loops n; views = views; cells = [] }) older
@@ -314,15 +271,15 @@ module _ (table : Table) (typed : TypedProgram) (effects : Effects) (input : Lis
               awaited = awaited;
               path = subst (λ (z : FlowSub). ControlPath (path_points program effects z) (top.frame.next ∷ top.before) n) (sym sub_is)
                   (goes_on top.before top.frame.next n path_here step_on);
-              viewed = subst (λ d. ViewedAlone (home s d) (sees_only s) (known_gone (home s d) (GoneElsewhere program effects older)) views (view_here s after_step) (facts_of program effects (at_next waits loops n))) (sym deep)
-                  (subst (ViewedAlone (home s (length outer)) (sees_only s) (known_gone (home s (length outer)) (GoneElsewhere program effects older)) views (view_here s after_step)) (sym facts_there) viewed);
+              viewed = subst (λ d. ViewedAlone (home s d) sees (known_gone (home s d) (GoneElsewhere program effects older)) views (view_here s after_step) (facts_of program effects (at_next waits loops n))) (sym deep)
+                  (subst (ViewedAlone (home s (length outer)) sees (known_gone (home s (length outer)) (GoneElsewhere program effects older)) views (view_here s after_step)) (sym facts_there) viewed);
               kept = kept;
               named = named;
               of_sub = of_sub;
               point = q;
               at_point = at;
               scope = subst (λ d. InScope s after_step.memory d (lasting_of s q.scope)) (sym deep) scope;
-              holds = subst (λ d. HoldsAt s d views after_step.memory q) (sym deep) holds;
+              holds = subst (λ d. HoldsAt s sees d views after_step.memory q) (sym deep) holds;
               placed = subst (λ d. ArePlaced program d (facts_of program effects (at_next waits loops n)) views q.scope) (sym deep)
                   (subst (λ z. ArePlaced program (length outer) z views q.scope) (sym facts_there) placed.0);
               past = subst (λ d. IsBeyond program effects d views older) (sym deep) placed.1;

@@ -1,7 +1,6 @@
 -- Each step of a sound state leads on, in a program with borrowers and observers that is ready.
 use Rattle.viewed_steps.specs.Traversals.{AreGiven}
-use Rattle.viewed_soundness.specs.Holds.{sees_only}
-use Rattle.std.proofs.Common.{◌≡◌, refl, sym, ap, ◌∙◌, subst, ℕ, suc, List, [], ◌∷◌, length, None, inl, inr}
+use Rattle.std.proofs.Common.{◌≡◌, refl, sym, ap, ◌∙◌, subst, ℕ, suc, List, [], ◌∷◌, length, None, inl, inr, Bool}
 use Rattle.type_definitions.specs.Types.{Table}
 use Rattle.typed_tree.specs.Trees.{More}
 use Rattle.typed_tree.specs.Programs.{TypedProgram}
@@ -36,8 +35,12 @@ use Rattle.viewed_steps.proofs.Giving as giving
 use Rattle.viewed_steps.proofs.ScopeEnds as scopes
 use Rattle.viewed_steps.proofs.CallEnds as ends
 use Rattle.viewed_steps.proofs.CallEnters as call_enters
+use Rattle.viewed_steps.specs.Seeing.{sees_in}
 
 module _ (table : Table) (typed : TypedProgram) (effects : Effects) (input : List ℕ) (ready : IsReady table typed effects) where
+  abbrev sees : ℕ → Bool
+  sees = sees_in (flow_program table typed)
+
   abbrev program : FlowProgram
   program = flow_program table typed
 
@@ -51,9 +54,9 @@ module _ (table : Table) (typed : TypedProgram) (effects : Effects) (input : Lis
       (awaiting : AreAwaited table typed None (top ∷ stages_of (below ∷ more_frames)))
       (of_sub : IsNamedSub (flow_named table typed) top.frame.sub named) (at_point : IsAtPoint named.points top.frame.next p)
       (path : ControlPath (path_points program effects (sub_of program top.frame.sub)) top.before top.frame.next) (views : Views)
-      (viewed_before : ViewedAlone (home s (suc (length rest))) (sees_only s) (known_gone (home s (suc (length rest))) (GoneElsewhere program effects (below ∷ more_frames))) views
+      (viewed_before : ViewedAlone (home s (suc (length rest))) sees (known_gone (home s (suc (length rest))) (GoneElsewhere program effects (below ∷ more_frames))) views
       (view_here s state) (facts_of program effects top))
-      (kept : Kept s state.memory (waiting_in state)) (scope : InScope s state.memory (suc (length rest)) (lasting_of s p.scope)) (holds : HoldsAt s (suc (length rest)) views state.memory p)
+      (kept : Kept s state.memory (waiting_in state)) (scope : InScope s state.memory (suc (length rest)) (lasting_of s p.scope)) (holds : HoldsAt s sees (suc (length rest)) views state.memory p)
       (placed_before : ArePlaced program (suc (length rest)) (facts_of program effects top) views p.scope × IsBeyond program effects (suc (length rest)) views (below ∷ more_frames)) (above : NoneAbove s (suc (length rest)) state.memory
       × HasTraversals table typed (view_here s state) (record { stage = top; views = views; cells = [] } ∷ (below ∷ more_frames))) where
     abbrev outer : List Frame
@@ -106,21 +109,21 @@ module _ (table : Table) (typed : TypedProgram) (effects : Effects) (input : Lis
   by_stages : (state : State) (top : Stage) (views : Views) (older : List ViewStage) (fs : List Frame) → state.frames ≡ fs → AreStages (top ∷ stages_of older) fs
       → IsRunning table typed effects state (record { stage = top; views = views; cells = [] }) older → AreAwaited table typed None (top ∷ stages_of older)
       → ControlPath (path_points program effects (sub_of program top.frame.sub)) top.before top.frame.next
-      → ViewedAlone (home s top.depth) (sees_only s) (known_gone (home s top.depth) (GoneElsewhere program effects older)) views (view_here s state) (facts_of program effects top)
+      → ViewedAlone (home s top.depth) sees (known_gone (home s top.depth) (GoneElsewhere program effects older)) views (view_here s state) (facts_of program effects top)
       → Kept s state.memory (waiting_in state)
       → (named : NamedSub) → IsNamedSub (flow_named table typed) top.frame.sub named → (p : NamedPoint) → IsAtPoint named.points top.frame.next p
-      → InScope s state.memory top.depth (lasting_of s p.scope) → HoldsAt s top.depth views state.memory p
+      → InScope s state.memory top.depth (lasting_of s p.scope) → HoldsAt s sees top.depth views state.memory p
       → ArePlaced program top.depth (facts_of program effects top) views p.scope × IsBeyond program effects top.depth views older
       → NoneAbove s top.depth state.memory × HasTraversals table typed (view_here s state) (record { stage = top; views = views; cells = [] } ∷ older)
       → LeadsAlong table typed effects p.instr state.memory (record { stage = top; views = views; cells = [] }) older (step program input state)
   by_stages state top views [] (f ∷ []) is (frame, deep, none) running awaiting path seen_well kept named of_sub p at_point scope holds there above =
-      packages.package_step table typed effects input ready state top named p (is ∙ ap (λ z. z ∷ []) (sym frame)) deep views (running.0, running.1, running.2, running.3) (subst (λ d. NoneAbove s d state.memory) deep above.0) of_sub at_point path
-      (subst (λ d. ViewedAlone (home s d) (sees_only s) (known_gone (home s d) (GoneElsewhere program effects [])) views (view_here s state) (facts_of program effects top)) deep seen_well) kept
-      (subst (λ d. InScope s state.memory d (lasting_of s p.scope)) deep scope) (subst (λ d. HoldsAt s d views state.memory p) deep holds)
+      packages.package_step table typed effects input ready state top named p (is ∙ ap (λ z. z ∷ []) (sym frame)) deep views (running.0, running.1, running.2, running.3, running.5) (subst (λ d. NoneAbove s d state.memory) deep above.0) of_sub at_point path
+      (subst (λ d. ViewedAlone (home s d) sees (known_gone (home s d) (GoneElsewhere program effects [])) views (view_here s state) (facts_of program effects top)) deep seen_well) kept
+      (subst (λ d. InScope s state.memory d (lasting_of s p.scope)) deep scope) (subst (λ d. HoldsAt s sees d views state.memory p) deep holds)
   by_stages state top views (below ∷ more) (f ∷ (g ∷ rest)) is (frame, deep, (around_frame, deeper, others)) running awaiting path seen_well kept named of_sub p at_point scope holds there above =
       main_step state top below more rest named p (is ∙ (λ j. sym frame j ∷ (sym around_frame j ∷ rest))) deep (refl, deeper, others) running awaiting of_sub at_point path views
-      (subst (λ d. ViewedAlone (home s d) (sees_only s) (known_gone (home s d) (GoneElsewhere program effects (below ∷ more))) views (view_here s state) (facts_of program effects top)) deep seen_well) kept
-      (subst (λ d. InScope s state.memory d (lasting_of s p.scope)) deep scope) (subst (λ d. HoldsAt s d views state.memory p) deep holds)
+      (subst (λ d. ViewedAlone (home s d) sees (known_gone (home s d) (GoneElsewhere program effects (below ∷ more))) views (view_here s state) (facts_of program effects top)) deep seen_well) kept
+      (subst (λ d. InScope s state.memory d (lasting_of s p.scope)) deep scope) (subst (λ d. HoldsAt s sees d views state.memory p) deep holds)
       (subst (λ d. ArePlaced program d (facts_of program effects top) views p.scope × IsBeyond program effects d views (below ∷ more)) deep there)
       (subst (λ d. NoneAbove s d state.memory) deep above.0, above.1)
   by_stages state top views [] [] is stages running awaiting path seen_well kept named of_sub p at_point scope holds there above = absurd stages

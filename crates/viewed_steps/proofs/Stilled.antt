@@ -6,7 +6,7 @@ use Rattle.place_names.specs.declared.rule.Loan.{Loan}
 use Rattle.place_names.specs.Names.{Name}
 use Rattle.owned_ways.specs.Ways.{Word, Empty, Gone, Held, View, Way, Object, Lost, Into, All, Loc, OfCell, Reaches, Owned, Covered}
 use Rattle.owned_loans.specs.Views.{Around, Views, AreClear, AreViews, AreShared, IsLentToOthers, Viewed}
-use Rattle.owned_loans.proofs.Moves.{view_on, reached}
+use Rattle.owned_loans.proofs.Moves.{parts_on, view_on, reached}
 
 abbrev pub still_word : Word → Word
 still_word Empty = Empty
@@ -62,11 +62,16 @@ still_viewed home observer lent v s facts owned covered clear views shown lends 
   covered = λ n less live. (let there = covered n less live in (there.0, reaches_still s there.0 (OfCell n) there.1));
   known = λ w l rooted reach gone. absurd (none_gone (s.word l) gone);
   clear = clear;
-  views = λ x w has.
-      view_on home observer (lent_only home lent) v s (still s) facts facts x w (views x w has) (λ b n loan. loan)
-      (reaches_still s w (OfCell (v.cell x)) (reached home observer (lent_only home lent) v s facts x w (views x w has)));
+  views = (
+    λ x w has.
+        view_on home observer (lent_only home lent) v s (still s) facts facts x w (views.0 x w has) (λ b n loan. loan)
+        (reaches_still s w (OfCell (v.cell x)) (reached home observer (lent_only home lent) v s facts x w (views.0 x w has))),
+    parts_on home observer (lent_only home lent) v s (still s) views.1 (λ x p w has reach. reaches_still s w (OfCell (v.part_cell x p)) reach),
+  );
   whole = λ x w z has outer none. absurd none;
   whole_away = λ x w z has given none. absurd none;
+  whole_parts = λ x p w z has none. absurd none;
+  parts_away = λ x p w z has none. absurd none;
   shown = shown;
   past = λ x w has given plain k n none. absurd none;
   lends = lends;

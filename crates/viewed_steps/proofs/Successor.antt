@@ -1,16 +1,15 @@
 -- Where a call of a traversal function leads, its result is taken. So nothing of what the first actual names is moved or
 -- borrowed there; and if the call changes no fact, nothing of it is where the call stands.
 use Rattle.viewed_steps.proofs.Standing as standing
-use Rattle.viewed_steps.proofs.Taker.{taker_clears, taker_unlent}
-use Rattle.viewed_steps.proofs.TakerActs.{taker_names, taker_writes}
+use Rattle.viewed_steps.proofs.Taker.{taker_clears}
+use Rattle.viewed_steps.proofs.TakerActs.{taker_names}
 use Rattle.viewed_steps.specs.Ready.{IsReady}
 use Rattle.viewed_steps.specs.Sound.{ViewStage}
-use Rattle.viewed_steps.specs.Traversals.{IsViewTaker, IsBorrowTaker, TraversalCall, call_in, traversed_name}
+use Rattle.viewed_steps.specs.Traversals.{IsViewTaker, TraversalCall, call_in, traversed_name}
 use Rattle.soundness.proofs.Points.{flow_at, path_there}
 use Rattle.soundness.specs.Sound.{IsNoCall, Stage, IsNamedSub, IsAtPoint}
 use Rattle.std.proofs.Common.{◌≡◌, refl, sym, ◌∙◌, subst, ◌⊎◌, inl, inr, ℕ, true, false, Option, List, ◌∷◌}
 use Rattle.spark_base.specs.Lists.{Has}
-use Rattle.place_names.specs.declared.act.Act.TheVariants as act
 use Rattle.place_names.specs.declared.act.Placed.{Placed}
 use Rattle.place_names.specs.declared.fact.Fact.{Fact}
 use Rattle.typed_tree.specs.Trees.{NoMore, More, Name}
@@ -28,13 +27,12 @@ use Rattle.machine.specs.States.{State, Frame, sub_of}
 use Rattle.owned_ways.specs.Ways.{Way, AllowsAll}
 use Rattle.owned_ways.specs.Ways as ways
 use Rattle.owned_loans.proofs.Allowed.{Cleared}
-use Rattle.owned_loans.proofs.Safe.{Unlent}
 
 -- what takes it isn't a call
 pub takes_no_call : (table : Table) (typed : TypedProgram) (n : ℕ) (c : TraversalCall) (result : Option ℕ) (i : Instruction)
     → IsViewTaker (flow_typing (flow_program table typed)) n c result i → IsNoCall i
-takes_no_call table typed n c result i (inl (x, is, sees)) k actuals t call = (let never : Declare x (More (call_in n c) NoMore) ≡ Call k actuals t = sym is ∙ call in cc)
-takes_no_call table typed n c result i (inr (inl (p, x, u, is, sees, itself))) k actuals t call =
+takes_no_call table typed n c result i (inl (x, is, sight)) k actuals t call = (let never : Declare x (More (call_in n c) NoMore) ≡ Call k actuals t = sym is ∙ call in cc)
+takes_no_call table typed n c result i (inr (inl (p, x, u, is, sight, itself))) k actuals t call =
     (let never : Assign (Name p x NoMore u) (call_in n c) ≡ Call k actuals t = sym is ∙ call in cc)
 takes_no_call table typed n c result i (inr (inr (is, gives))) k actuals t call = (let never : Hold (More (call_in n c) NoMore) ≡ Call k actuals t = sym is ∙ call in cc)
 
@@ -88,14 +86,6 @@ module _ (table : Table) (typed : TypedProgram) (effects : Effects) (input : Lis
         let found = taker_names (flow_typing (flow_program table typed)) n c named.sub.result roots_there q.pos local shared q.instr taker in
         (found.0, act_next found.0 found.1, found.2)
 
-    pub writes_next : IsBorrowTaker (flow_typing (flow_program table typed)) n c named.sub.result q.instr
-        → ((a : Placed) × Has (flow_at (typing_of table typed) named q).acts a × (act_writes c.root a.act ≡ true))
-        ⊎ ((a : Placed) × Has (flow_at (typing_of table typed) named q).acts a × (a.act ≡ act.Give (traversed_name c) true))
-    writes_next taker = elim (taker_writes (flow_typing (flow_program table typed)) n c named.sub.result roots_there q.pos local shared q.instr taker) [
-      | inl found ↦ inl (found.0, act_next found.0 found.1, found.2)
-      | inr found ↦ inr (found.0, act_next found.0 found.1, found.2)
-    ]
-
   -- nothing of the name is moved or borrowed
   pub clear_next : (n : ℕ) (c : TraversalCall) → IsViewTaker (flow_typing (flow_program table typed)) n c named.sub.result q.instr
       → (u : Way) → ways.name_of u ≡ traversed_name c → Cleared facts_there u
@@ -108,13 +98,3 @@ module _ (table : Table) (typed : TypedProgram) (effects : Effects) (input : Lis
   pub clear_here : (facts : List Fact) → facts_there ≡ facts → (n : ℕ) (c : TraversalCall) → IsViewTaker (flow_typing (flow_program table typed)) n c named.sub.result q.instr
       → (u : Way) → ways.name_of u ≡ traversed_name c → Cleared facts u
   clear_here facts same n c taker u called = subst (λ z. Cleared z u) same (clear_next n c taker u called)
-
-  -- nor is it lent where that is borrowed
-  pub unlent_here : (facts : List Fact) → facts_there ≡ facts → (n : ℕ) (c : TraversalCall) → IsViewTaker (flow_typing (flow_program table typed)) n c named.sub.result q.instr
-      → IsBorrowTaker (flow_typing (flow_program table typed)) n c named.sub.result q.instr → (u : Way) → ways.name_of u ≡ traversed_name c → Unlent facts u
-  unlent_here facts same n c taker borrows u called =
-      subst (λ z. Unlent z u) same
-      (taker_unlent (flow_typing (flow_program table typed)) n c
-      (record { typing = flow_typing (flow_program table typed); result = named.sub.result; roots = standing.roots table typed effects input ready state_there there older outer named q refl of_sub at_q })
-      refl q.pos facts_there u called q.instr borrows
-      (allowed_next (takes_no_call table typed n c named.sub.result q.instr taker)))

@@ -15,10 +15,8 @@ use Rattle.flow_paths.specs.Names.{written, source}
 use Rattle.flow_paths.specs.Objects.{Typing, view_of, is_borrowing, is_observing, is_borrower, is_observer}
 use Rattle.place_names.specs.declared.fact.Fact.{Fact}
 use Rattle.owned_ways.specs.Ways.{Way, AllowsAll, Allows, name_of, number_of}
-use Rattle.owned_loans.proofs.Safe.{Unlent}
-use Rattle.viewed_steps.proofs.Unlent.{borrow_unlent, reborrow_unlent, give_unlent}
 use Rattle.owned_loans.proofs.Allowed.{Cleared, borrow_clears, observe_clears, reborrow_clears, give_clears}
-use Rattle.viewed_steps.specs.Traversals.{IsSeer, IsViewTaker, IsBorrowTaker, TraversalCall, call_in, traversed_name}
+use Rattle.viewed_steps.specs.Traversals.{IsSeer, IsViewTaker, TraversalCall, call_in, traversed_name}
 
 module _ (s : Typing) (n : ℕ) (c : TraversalCall) where
   abbrev Sees : ℕ → Type 0
@@ -29,14 +27,14 @@ module _ (s : Typing) (n : ℕ) (c : TraversalCall) where
     | inl borrows ↦ inl borrows
     | inr none ↦ inr (
       none,
-      ap (λ b. b && is_observing (view_of s x)) variable ∙ sees (is_borrowing (view_of s x)) (is_observing (view_of s x)) view
+      ap (λ b. b && is_observing (view_of s x)) variable ∙ sight (is_borrowing (view_of s x)) (is_observing (view_of s x)) view
           (sym (ap (λ b. b && is_borrowing (view_of s x)) variable) ∙ none),
     )
   ]
     where
-      sees : (a b : Bool) → a || b ≡ true → a ≡ false → b ≡ true
-      sees true b is none = cc
-      sees false b is none = is
+      sight : (a b : Bool) → a || b ≡ true → a ≡ false → b ≡ true
+      sight true b is none = cc
+      sight false b is none = is
 
   module _ (f : Frame) (of_frame : f.typing ≡ s) (p : Pos) (facts : List Fact) (u : Way) (called : name_of u ≡ traversed_name c) where
     root_there : number_of u ≡ c.root
@@ -94,37 +92,3 @@ module _ (s : Typing) (n : ℕ) (c : TraversalCall) where
         (subst (λ b. AllowsAll facts (acts (if b then source_acts s (call_in n c) (λ m. act.Give m (gives_variable s f.result)) else acts_in s (More (call_in n c) NoMore)))) gives
         (subst (λ (z : Typing). AllowsAll facts (acts (returned_acts z f.result (More (call_in n c) NoMore)))) of_frame
         (subst (λ z. AllowsAll facts (acts (acts_of f p z))) is allowed))).0)
-
-    -- ---- what borrows
-
-    unlent_declared : (x : ℕ) → is_borrower s x ≡ true
-        → AllowsAll facts (acts (if is_borrower s x then source_acts s (call_in n c) (act.Borrow x)
-        else (if is_observer s x then source_acts s (call_in n c) (observe s x) else acts_in s (More (call_in n c) NoMore))))
-        → Unlent facts u
-    unlent_declared x borrows allowed = borrow_unlent facts x u (by_name (act.Borrow x)
-        (subst (λ b. AllowsAll facts (acts (if b then source_acts s (call_in n c) (act.Borrow x)
-        else (if is_observer s x then source_acts s (call_in n c) (observe s x) else acts_in s (More (call_in n c) NoMore))))) borrows allowed).0)
-
-    unlent_assigned : (q : Pos) (x t : ℕ) → is_borrower s x ≡ true → c.root ≡ x
-        → AllowsAll facts (acts (if is_borrower s x then index_acts s (call_in n c) ++ reborrow (target_pos p (written (Name q x NoMore t))) x (source (call_in n c))
-        else (if is_observer s x then source_acts s (call_in n c) (observe s x) else stored_acts s (Name q x NoMore t) (call_in n c))))
-        → Unlent facts u
-    unlent_assigned q x t borrows itself allowed = reborrow_unlent facts x u (root_there ∙ itself) (by_name (act.Reborrow x)
-        (subst (λ b. AllowsAll facts (acts (if b then index_acts s (call_in n c) ++ reborrow (target_pos p (written (Name q x NoMore t))) x (source (call_in n c))
-        else (if is_observer s x then source_acts s (call_in n c) (observe s x) else stored_acts s (Name q x NoMore t) (call_in n c))))) borrows allowed).0)
-
-    -- A borrower takes it, or a function returns it whose result borrows. So nothing of the name is lent at all.
-    pub taker_unlent : (i : Instruction) → IsBorrowTaker s n c f.result i → AllowsAll facts (acts (acts_of f p i)) → Unlent facts u
-    taker_unlent i (inl (x, is, borrows)) allowed =
-        unlent_declared x borrows (subst (λ (t : Typing). AllowsAll facts (acts (if is_borrower t x then source_acts t (call_in n c) (act.Borrow x)
-        else (if is_observer t x then source_acts t (call_in n c) (observe t x) else acts_in t (More (call_in n c) NoMore))))) of_frame
-        (subst (λ z. AllowsAll facts (acts (acts_of f p z))) is allowed))
-    taker_unlent i (inr (inl (q, x, t, is, borrows, itself))) allowed =
-        unlent_assigned q x t borrows itself (subst (λ (z : Typing). AllowsAll facts (acts (if is_borrower z x then index_acts z (call_in n c) ++ reborrow (target_pos p (written (Name q x NoMore t))) x (source (call_in n c))
-        else (if is_observer z x then source_acts z (call_in n c) (observe z x) else stored_acts z (Name q x NoMore t) (call_in n c))))) of_frame
-        (subst (λ z. AllowsAll facts (acts (acts_of f p z))) is allowed))
-    taker_unlent i (inr (inr (is, gives, borrows))) allowed =
-        give_unlent facts u (subst (λ b. Allows facts (act.Give (name_of u) b)) borrows (by_name (λ m. act.Give m (gives_variable s f.result))
-        (subst (λ b. AllowsAll facts (acts (if b then source_acts s (call_in n c) (λ m. act.Give m (gives_variable s f.result)) else acts_in s (More (call_in n c) NoMore)))) gives
-        (subst (λ (z : Typing). AllowsAll facts (acts (returned_acts z f.result (More (call_in n c) NoMore)))) of_frame
-        (subst (λ z. AllowsAll facts (acts (acts_of f p z))) is allowed))).0))

@@ -12,10 +12,10 @@ use Rattle.flow_paths.specs.Acts.{Frame, placed, acts_of, acts_in, source_acts, 
 use Rattle.flow_paths.specs.Effects.{act_writes, act_reads}
 use Rattle.flow_paths.specs.Names.{written, source}
 use Rattle.flow_paths.specs.Objects.{Typing, is_borrower, is_observer, is_package_object}
-use Rattle.viewed_soundness.proofs.Names.{true_false}
+use Rattle.viewed_soundness.proofs.ViewKinds.{true_false}
 use Rattle.viewed_steps.proofs.Sources.{observer_only}
 use Rattle.viewed_steps.proofs.Taker.{kind_of}
-use Rattle.viewed_steps.specs.Traversals.{IsSeer, IsViewTaker, IsBorrowTaker, TraversalCall, call_in, traversed_name}
+use Rattle.viewed_steps.specs.Traversals.{IsSeer, IsViewTaker, TraversalCall, call_in, traversed_name}
 
 module _ (s : Typing) (n : ℕ) (c : TraversalCall) (result : Option ℕ) (roots : List ℕ) (p : Pos) (local : (x : ℕ) → is_borrower s x ≡ true → is_package_object s x ≡ false)
     (shared : is_package_object s c.root ≡ true) where
@@ -28,12 +28,6 @@ module _ (s : Typing) (n : ℕ) (c : TraversalCall) (result : Option ℕ) (roots
 
   abbrev Acts : (Act → Type 0) → List Placed → Type 0
   Acts is acts = (a : Placed) × Has acts a × is a.act
-
-  abbrev IsWriting : Act → Type 0
-  IsWriting a = act_writes c.root a ≡ true
-
-  abbrev IsGiving : Act → Type 0
-  IsGiving a = a ≡ act.Give (traversed_name c) true
 
   itself : (c.root == c.root) ≡ true
   itself = eq-eqb c.root c.root refl
@@ -77,16 +71,3 @@ module _ (s : Typing) (n : ℕ) (c : TraversalCall) (result : Option ℕ) (roots
       subst (λ z. Acts IsNaming (acts_of frame p z)) (sym is)
       (subst (λ b. Acts IsNaming (if b then source_acts s (call_in n c) (λ m. act.Give m (gives_variable s result)) else acts_in s (More (call_in n c) NoMore))) (sym gives)
       (placed c.name_pos (act.Give (traversed_name c) (gives_variable s result)), inl refl, inr itself))
-
-  -- what borrows writes it, or it is given
-  pub taker_writes : (i : Instruction) → IsBorrowTaker s n c result i → Acts IsWriting (acts_of frame p i) ⊎ Acts IsGiving (acts_of frame p i)
-  taker_writes i (inl (x, is, borrows)) =
-      inl (subst (λ z. Acts IsWriting (acts_of frame p z)) (sym is)
-      (subst (λ b. Acts IsWriting (if b then source_acts s (call_in n c) (act.Borrow x)
-      else (if is_observer s x then source_acts s (call_in n c) (observe s x) else acts_in s (More (call_in n c) NoMore)))) (sym borrows)
-      (placed c.name_pos (act.Borrow x (traversed_name c)), inl refl, itself)))
-  taker_writes i (inr (inl (q, x, t, is, borrows, own))) = absurd (not_itself x borrows own)
-  taker_writes i (inr (inr (is, gives, borrows))) =
-      inr (subst (λ z. Acts IsGiving (acts_of frame p z)) (sym is)
-      (subst (λ b. Acts IsGiving (if b then source_acts s (call_in n c) (λ m. act.Give m (gives_variable s result)) else acts_in s (More (call_in n c) NoMore))) (sym gives)
-      (placed c.name_pos (act.Give (traversed_name c) (gives_variable s result)), inl refl, ap (act.Give (traversed_name c)) borrows)))

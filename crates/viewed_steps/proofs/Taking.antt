@@ -6,7 +6,7 @@ use Rattle.viewed_steps.proofs.Sources.{leads_or}
 use Rattle.soundness.proofs.Following.{Each}
 use Rattle.machine.specs.Calls.{checks_at}
 use Rattle.spark_base.specs.declared.position.Pos.{Pos}
-use Rattle.viewed_soundness.proofs.Names.{true_false}
+use Rattle.viewed_soundness.proofs.ViewKinds.{true_false}
 use Rattle.std.proofs.Common.{◌≡◌, refl, sym, ap, ◌∙◌, subst, ◌⊎◌, inl, inr, ℕ, suc, ◌<◌, Bool, true, false, List, [], ◌∷◌, ◌++◌, drop, length, Some, None, map}
 use Rattle.spark_base.specs.Lists.{Has}
 use Rattle.place_names.specs.declared.act.Act.{Act}
@@ -44,7 +44,7 @@ use Rattle.soundness.proofs.Waited.{FillsNone}
 use Rattle.soundness.proofs.Eased.{eased}
 use Rattle.soundness.proofs.Successors.{below_one}
 use Rattle.owned_loans.specs.Views.{Around, known_gone, Views, Viewed, ViewedAlone}
-use Rattle.viewed_soundness.specs.Holds.{is_view, sees_only}
+use Rattle.viewed_soundness.specs.Holds.{is_view, Seeing}
 use Rattle.viewed_soundness.proofs.Outcomes.{named_plain, Leads_on}
 use Rattle.viewed_steps.specs.Awaited.{AreValues, lasting_of, AreAwaited, TakesAlone}
 use Rattle.viewed_steps.proofs.Waited.{Shares}
@@ -59,7 +59,6 @@ use Rattle.viewed_steps.proofs.Standing as standing
 use Rattle.viewed_steps.proofs.Packages as packages
 use Rattle.viewed_steps.proofs.Innermost as innermost
 use Rattle.machine.specs.Step.{led}
-use Rattle.soundness.specs.Seen.{seen}
 use Rattle.soundness.specs.Ready.{IsSupplied, Fills}
 use Rattle.soundness.proofs.Onward.{GoesOn, declare_follows, assign_follows}
 use Rattle.viewed_steps.proofs.EachInstruction as each
@@ -84,11 +83,19 @@ use Rattle.machine.specs.Memory.{stored as stored_in}
 use Rattle.viewed_steps.proofs.Views.{view_ends, anonymous_view}
 use Rattle.viewed_steps.proofs.Sources.{own_there}
 use Rattle.viewed_steps.proofs.Alone as alone_value
-use Rattle.viewed_steps.specs.Traversals.{GivesView, IsGivenTo, AreGiven, TraversalCall, call_in}
+use Rattle.viewed_steps.specs.Traversals.{IsGivenTo, AreGiven, TraversalCall, call_in}
 use Rattle.flow_paths.specs.Objects.{is_variable, sub_at}
 use Rattle.viewed_steps.proofs.Views.{AreAccess, all_held}
+use Rattle.viewed_steps.specs.Seeing.{sees_in}
+use Rattle.viewed_steps.proofs.Sees.{sees_seeing}
 
 module _ (table : Table) (typed : TypedProgram) (effects : Effects) (input : List ℕ) (ready : IsReady table typed effects) where
+  abbrev sees : ℕ → Bool
+  sees = sees_in (flow_program table typed)
+
+  abbrev seeing : Seeing (flow_typing (flow_program table typed)) sees
+  seeing = sees_seeing (flow_program table typed)
+
   abbrev program : FlowProgram
   program = flow_program table typed
 
@@ -114,9 +121,9 @@ module _ (table : Table) (typed : TypedProgram) (effects : Effects) (input : Lis
       (awaiting : AreAwaited table typed None (top ∷ stages_of (below ∷ more_frames)))
       (of_sub : IsNamedSub (flow_named table typed) top.frame.sub named) (at_point : IsAtPoint named.points top.frame.next p)
       (path : ControlPath (path_points program effects (sub_of program top.frame.sub)) top.before top.frame.next) (views : Views)
-      (viewed_before : ViewedAlone (home s (suc (length rest))) (sees_only s) (known_gone (home s (suc (length rest))) (GoneElsewhere program effects (below ∷ more_frames))) views
+      (viewed_before : ViewedAlone (home s (suc (length rest))) sees (known_gone (home s (suc (length rest))) (GoneElsewhere program effects (below ∷ more_frames))) views
       (view_here s state) (facts_of program effects top))
-      (kept : Kept s state.memory (waiting_in state)) (scope : InScope s state.memory (suc (length rest)) (lasting_of s p.scope)) (holds : HoldsAt s (suc (length rest)) views state.memory p)
+      (kept : Kept s state.memory (waiting_in state)) (scope : InScope s state.memory (suc (length rest)) (lasting_of s p.scope)) (holds : HoldsAt s sees (suc (length rest)) views state.memory p)
       (placed_before : ArePlaced program (suc (length rest)) (facts_of program effects top) views p.scope × IsBeyond program effects (suc (length rest)) views (below ∷ more_frames)) (above : NoneAbove s (suc (length rest)) state.memory
       × HasTraversals table typed (view_here s state) (record { stage = top; views = views; cells = [] } ∷ (below ∷ more_frames))) where
     abbrev outer : List Frame
@@ -156,7 +163,7 @@ module _ (table : Table) (typed : TypedProgram) (effects : Effects) (input : Lis
         → AllowsAll facts_now (acts_of_main p.instr)
     allowed_now = innermost.allowed_now table typed effects input ready state top below more_frames rest named p frames deep stages running awaiting of_sub at_point path views viewed_before kept scope holds placed_before above
 
-    abbrev viewed : Viewed (home s depth) (sees_only s) other views (view_here s state) facts_now
+    abbrev viewed : Viewed (home s depth) sees other views (view_here s state) facts_now
     viewed = innermost.viewed table typed effects input ready state top below more_frames rest named p frames deep stages running awaiting of_sub at_point path views viewed_before kept scope holds placed_before above
 
     abbrev left_scope : List ℕ
@@ -196,7 +203,7 @@ module _ (table : Table) (typed : TypedProgram) (effects : Effects) (input : Lis
     may x y = MayBe program (scope_behind p) x y × IsStoredAt p.instr x × IsSourceIn (sub_acts (sub_of program top.frame.sub)) x y
 
     abbrev LeadsFrom : Instruction → Outcome → Type 0
-    LeadsFrom i outcome = Leads_on easy ready.accepted.settled ready.owns other alone views ready.class.parts_named may refl refl (after (acts_of_main i) facts_now) outcome
+    LeadsFrom i outcome = Leads_on easy sees seeing ready.accepted.settled ready.owns other alone views ready.class.parts_named may refl refl (after (acts_of_main i) facts_now) outcome
 
     abbrev orderly : AreOrderly program p (λ q. (n : ℕ) × Has (map (number_in named.points) p.next) n × IsAtPoint named.points n q)
     orderly = innermost.orderly table typed effects input ready state top below more_frames rest named p frames deep stages running awaiting of_sub at_point path views viewed_before kept scope holds placed_before above
@@ -272,18 +279,18 @@ module _ (table : Table) (typed : TypedProgram) (effects : Effects) (input : Lis
         pub words_there : given_words ≡ (word_there ∷ []) ∷ []
         words_there = first_there.3 ∙ ap (λ z. z ∷ []) given_there.is
 
-        pub good_there : IsGood easy ready.accepted.settled ready.owns other alone views ready.class.parts_named may refl refl views facts_now easy.state
+        pub good_there : IsGood easy sees seeing ready.accepted.settled ready.owns other alone views ready.class.parts_named may refl refl views facts_now easy.state
         good_there = record {
-          viewed = without_view s ready.accepted.settled state.memory value_there others_in_hand value_anonymous (home s depth) (sees_only s) other views state.leaks facts_now
-              (subst (λ z. Viewed (home s depth) (sees_only s) other views (seen s state.memory z state.leaks) facts_now) hands_there viewed);
+          viewed = without_view s ready.accepted.settled state.memory value_there others_in_hand value_anonymous (home s depth) sees other views state.leaks facts_now
+              (subst (λ z. Viewed (home s depth) sees other views (seen s state.memory z state.leaks) facts_now) hands_there viewed);
           kept = less_kept s ready.accepted.settled state.memory value_there others_in_hand (subst (Kept s state.memory) hands_there kept);
-          holds = all_held s in_formals depth views state.memory (λ a k is_view_there e. holds.held a k (λ fading. going fading.0 fading.1) is_view_there e) holds.only holds.owners holds.own;
+          holds = all_held s sees in_formals depth views state.memory (λ a k is_view_there bare e. holds.held a k (λ fading. going fading.0 fading.1) is_view_there bare e) holds.only holds.owners holds.own holds.taken holds.parts;
         }
 
         abbrev way_there : Way
         way_there = on (ways.All (given_there.traverses).place) given_there.rest
 
-        pub coming : IsComing easy ready.accepted.settled ready.owns other alone views ready.class.parts_named may refl refl call_there.root gives.d (traversed_name call_there) word_there
+        pub coming : IsComing easy sees seeing ready.accepted.settled ready.owns other alone views ready.class.parts_named may refl refl call_there.root gives.d (traversed_name call_there) word_there
         coming = record {
           place = (given_there.traverses).place;
           rest = given_there.rest;
@@ -293,13 +300,13 @@ module _ (table : Table) (typed : TypedProgram) (effects : Effects) (input : Lis
               (subst (λ z. ways.Reaches (seen s state.memory z state.leaks) (expand views way_there) (ways.OfCell k)) hands_there (given_there.reached k e));
           typed = λ k e. view_typed s ready.accepted.settled state.memory value_there others_in_hand value_anonymous word_there given_there.is
               (subst (Kept s state.memory) hands_there kept) gives.d gives.c gives.m k (ap (shape_of s.table) value_of_view ∙ gives.gives) e;
-          lifted = given_there.lifted;
+          goes = given_there.goes;
         }
 
         -- an object that takes it
         module _ (x : ℕ) (of_same : of ≡ (object_at s x).of) (view : is_anonymous (view_of s x) ≡ true) (variable : is_variable (object_at s x).kind ≡ true)
             (stored : IsStoredAt p.instr x) where
-          looks : Sees easy ready.accepted.settled ready.owns other alone views ready.class.parts_named may refl refl x gives.d
+          looks : Sees easy sees seeing ready.accepted.settled ready.owns other alone views ready.class.parts_named may refl refl x gives.d
           looks = record {
             k = gives.k;
             e = gives.e;
@@ -380,7 +387,7 @@ module _ (table : Table) (typed : TypedProgram) (effects : Effects) (input : Lis
                 (subst (λ ws. LeadsFrom (Declare y (More (call_in sub c) NoMore)) (steps.evaluated easy
                 (steps.first_value main_turn (object_at s y).of (More (call_in sub c) NoMore) (record { memory = state.memory; waits = ws })) (λ vs m. steps.goes easy (declared depth y vs m) 0)))
                 (sym (words_there (object_at s y).of n found.0 r found.2 found.3 others found.1 call_is gives))
-                (view_declared easy ready.accepted.settled ready.owns other alone views ready.class.parts_named may refl refl sub c y gives.d word facts_now
+                (view_declared easy sees seeing ready.accepted.settled ready.owns other alone views ready.class.parts_named may refl refl sub c y gives.d word facts_now
                 (looks (object_at s y).of n found.0 r found.2 found.3 others found.1 call_is gives y refl view variable_there stored) variable_there
                 (own_object (object_at s y).of n found.0 r found.2 found.3 others found.1 call_is gives y refl view variable_there stored)
                 (good_there (object_at s y).of n found.0 r found.2 found.3 others found.1 call_is gives)
@@ -390,8 +397,9 @@ module _ (table : Table) (typed : TypedProgram) (effects : Effects) (input : Lis
                 (λ a has. in_sub a (subst (λ i. Has (acts_of_main i) a) (sym is) (subst (λ z. Has (acts_of_main (Declare y z)) a) (sym found.5) has)))))
                 (λ borrows. (
                 let older_there = found.8 borrows in (
-                  ap (sees_only s) root ∙ older_there.0,
-                  subst (λ z. z < y) (sym root) older_there.1,
+                  ap (is_observer s) root ∙ older_there.0,
+                  older_there.1 ∙ ap sees (sym root),
+                  subst (λ z. z < y) (sym root) older_there.2,
                   each.unused table typed effects input ready state top below more_frames rest named p frames deep stages running awaiting of_sub at_point path views viewed_before kept scope holds placed_before above going no_calls y declared_tree is (ready.orderly.local y view),
                 )))
                 (subst (λ z. AllowsAll facts_now (acts_of_main (Declare y (More z NoMore)))) (sym same_call)
@@ -446,7 +454,7 @@ module _ (table : Table) (typed : TypedProgram) (effects : Effects) (input : Lis
                 (λ vs now. followed_by (place_of (steps.here main_turn) whole now) (λ b now. Done (record { words = vs; place = b }) now)))
                 (λ (st : steps.Stored) m. steps.leaking_goes (checks_at s (steps.target_pos main_turn whole) m st.place) (steps.goes easy (stored_in s st.place st.words m) 0))))
                 (sym (words_there (object_at s y).of n found.0 r found.2 found.3 others found.1 call_is gives))
-                (view_assigned easy ready.accepted.settled ready.owns other alone views ready.class.parts_named may refl refl sub c y gives.d word facts_now
+                (view_assigned easy sees seeing ready.accepted.settled ready.owns other alone views ready.class.parts_named may refl refl sub c y gives.d word facts_now
                 (looks (object_at s y).of n found.0 r found.2 found.3 others found.1 call_is gives y refl view variable_there stored) variable_there
                 (own_object (object_at s y).of n found.0 r found.2 found.3 others found.1 call_is gives y refl view variable_there stored)
                 (good_there (object_at s y).of n found.0 r found.2 found.3 others found.1 call_is gives)
@@ -459,7 +467,7 @@ module _ (table : Table) (typed : TypedProgram) (effects : Effects) (input : Lis
                 (subst (λ i. AllowsAll facts_now (acts_of_main i)) is (allowed_all end))))))
               where
                 by_kind : (b : Bool) → is_observer s y ≡ b → Lasts program (scope_behind p) y y → Lasts program (scope_behind p) found.1 y
-                by_kind true sees itself = each.lasts_behind table typed effects input ready state top below more_frames rest named p frames deep stages running awaiting of_sub at_point path views viewed_before kept scope holds placed_before above going no_calls found.1 y (found.5 sees)
+                by_kind true sight itself = each.lasts_behind table typed effects input ready state top below more_frames rest named p frames deep stages running awaiting of_sub at_point path views viewed_before kept scope holds placed_before above going no_calls found.1 y (found.5 sight)
                 by_kind false borrows itself = subst (λ z. Lasts program (scope_behind p) z y) (sym (found.6 borrows)) itself
 
       -- ---- what follows

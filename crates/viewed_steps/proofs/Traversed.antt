@@ -137,14 +137,14 @@ module _ (s : Typing) (x : ℕ) (anonymous : is_anonymous (view_of s x) ≡ true
   declared_source within = by_kind (is_observer s x) refl
     where
       by_kind : (b : Bool) → is_observer s x ≡ b → IsSourceIn all x y
-      by_kind true sees = inr (
+      by_kind true sight = inr (
         name_of y path,
         refl,
         inr (
           is_observer s y,
           within (act.Observe x (name_of y path) (is_observer s y)) (subst (λ z. Has (acts z) (act.Observe x (name_of y path) (is_observer s y)))
-              (sym (ap (λ b. if b then source_acts s e (act.Borrow x) else (if is_observer s x then source_acts s e (observe s x) else acts_in s (More e NoMore))) (observer_only s x sees)
-              ∙ ap (λ b. if b then source_acts s e (observe s x) else acts_in s (More e NoMore)) sees))
+              (sym (ap (λ b. if b then source_acts s e (act.Borrow x) else (if is_observer s x then source_acts s e (observe s x) else acts_in s (More e NoMore))) (observer_only s x sight)
+              ∙ ap (λ b. if b then source_acts s e (observe s x) else acts_in s (More e NoMore)) sight))
               (source_named s (object_at s x).of e q y path u named (observe s x))),
         ),
       )
@@ -166,15 +166,15 @@ module _ (s : Typing) (x : ℕ) (anonymous : is_anonymous (view_of s x) ≡ true
 
       by_kind : (b : Bool) → is_observer s x ≡ b → IsSourceIn all x y
       by_kind false none = inl (itself none)
-      by_kind true sees = inr (
+      by_kind true sight = inr (
         name_of y path,
         refl,
         inr (
           is_observer s y,
           within (act.Observe x (name_of y path) (is_observer s y)) (subst (λ z. Has (acts z) (act.Observe x (name_of y path) (is_observer s y)))
               (sym (ap (λ b. if b then index_acts s e ++ reborrow (acts_target_pos pos (written target)) x (source e)
-              else (if is_observer s x then source_acts s e (observe s x) else stored_acts s target e)) (observer_only s x sees)
-              ∙ ap (λ b. if b then source_acts s e (observe s x) else stored_acts s target e) sees))
+              else (if is_observer s x then source_acts s e (observe s x) else stored_acts s target e)) (observer_only s x sight)
+              ∙ ap (λ b. if b then source_acts s e (observe s x) else stored_acts s target e) sight))
               (source_named s (object_at s x).of e q y path u named (observe s x))),
         ),
       )

@@ -1,5 +1,5 @@
 -- The call of a traversal function changes no fact; and its first formal is shown what the first actual designates.
-use Rattle.std.proofs.Common.{◌≡◌, refl, sym, ap, ◌∙◌, subst, inl, inr, ℕ, Bool, true, false, List, [], ◌∷◌, ◌++◌, map, Some, ◌&&◌}
+use Rattle.std.proofs.Common.{◌≡◌, refl, sym, ap, ◌∙◌, subst, inl, inr, ℕ, Bool, true, false, List, [], ◌∷◌, ◌++◌, map, ◌&&◌}
 use Rattle.spark_base.specs.Lists.{Has}
 use Rattle.place_names.specs.declared.act.Mode.{Mode}
 use Rattle.place_names.specs.declared.act.Mode.TheVariants as mode
@@ -23,7 +23,7 @@ use Rattle.soundness.proofs.Passing.{AreReads, reads_keep}
 use Rattle.soundness.proofs.Scalars.{acts, acts_append, after_append, allows_both}
 use Rattle.soundness.proofs.Stays.{Quiet, quiet_then, quiet_from}
 use Rattle.owned_loans.specs.Views.{Around, Views, Viewed}
-use Rattle.viewed_soundness.specs.Holds.{PartsAreNamed, sees_only, IsAccess, IsOwners, Holds}
+use Rattle.viewed_soundness.specs.Holds.{PartsAreNamed, IsAccess, IsOwners, Holds, Seeing}
 use Rattle.viewed_steps.specs.Ready.{is_shown_type, IsSeen, AreActualsTo}
 use Rattle.viewed_steps.specs.Sound.{IsKindOfFormal}
 use Rattle.viewed_steps.specs.Traversals.{TraversalCall}
@@ -32,11 +32,10 @@ use Rattle.viewed_steps.proofs.Clear.{head_keeps}
 use Rattle.viewed_steps.proofs.LaidOut.{AreOpenActuals}
 use Rattle.viewed_steps.proofs.Reading.{index_reads, both_reads}
 use Rattle.viewed_steps.proofs.Seeing.{IsClear, AreClear}
-use Rattle.viewed_steps.proofs.Views.{AreAccess, AreUnseen}
-use Rattle.viewed_soundness.proofs.Given.{IsLow}
+use Rattle.viewed_steps.proofs.Views.{AreAccess, AreUnseen, AreLowFormals}
 use Rattle.viewed_steps.proofs.Supplied.{SuppliesAll, takes_supplied, seen_types}
 
-module _ (s : Typing) (own_law : OwnsByShape s.table) where
+module _ (s : Typing) (sees : ℕ → Bool) (own_law : OwnsByShape s.table) where
   abbrev pub ways_to : List ℕ → List Passing
   ways_to formals = first_traversed (map (passing s false) formals)
 
@@ -53,7 +52,7 @@ module _ (s : Typing) (own_law : OwnsByShape s.table) where
       (λ how is. ap (λ z. acts (actual_act (passing_by z owning access) e)) is) in
       ap (λ z. after z facts) (acts_append (actual_act (passing s false x) e) (actual_acts (map (passing s false) formals) rest))
       ∙ after_append (acts (actual_act (passing s false x) e)) (acts (actual_acts (map (passing s false) formals) rest)) facts
-      ∙ ap (λ z. after (acts (actual_acts (map (passing s false) formals) rest)) z) (ap (λ z. after z facts) (by_mode mode.In (modes x (inl refl))) ∙ head_keeps s false owning access e facts)
+      ∙ ap (λ z. after (acts (actual_acts (map (passing s false) formals) rest)) z) (ap (λ z. after z facts) (by_mode mode.In (modes x (inl refl))) ∙ head_keeps s sees false owning access e facts)
       ∙ copies_keep formals rest (λ y has. modes y (inr has)) facts
   copies_keep (x ∷ formals) actuals modes facts = refl
 
@@ -76,52 +75,52 @@ module _ (s : Typing) (own_law : OwnsByShape s.table) where
 
 -- ---- what the formals are given
 
-module _ (h : Here) (settled : IsSettled h.typing.table) (hands : List Waiting) (leaks : List Leak) (m : Memory) (waits : List (List machine.Word))
+module _ (h : Here) (sees : ℕ → Bool) (seeing : Seeing h.typing sees) (settled : IsSettled h.typing.table) (hands : List Waiting) (leaks : List Leak) (m : Memory) (waits : List (List machine.Word))
     (other : Around (home h.typing h.frame)) (facts : List Fact) (v : Views)
     (kept : Kept h.typing m hands)
-    (well : Viewed (home h.typing h.frame) (sees_only h.typing) other v (seen h.typing m hands leaks) facts)
-    (holds : Holds h.typing h.frame v m)
+    (well : Viewed (home h.typing h.frame) sees other v (seen h.typing m hands leaks) facts)
+    (holds : Holds h.typing sees h.frame v m)
     (alone : (w : Way) → IsNear h.frame w → other.gone w → ⊥)
     (live : (w : Way) (l : Loc) → IsOwners h.typing w → Reaches (seen h.typing m hands leaks) w l → (content h.typing m hands (trunk l)).owns ≡ true)
     (in_formals : AreAccess h.typing)
     (index_law : IndexLaw)
     (own_law : OwnsByShape h.typing.table)
     (parts_named : PartsAreNamed h.typing.table)
-    (formals_low : (x : ℕ) (w : Way) → v.way x ≡ Some w → IsLow h.typing h.frame w)
+    (formals_low : AreLowFormals h.typing h.frame v)
     (f : ℕ) (formals : List ℕ) (c : TraversalCall) (in_mode : (object_at h.typing f).mode ≡ mode.In) (access : IsAccess h.typing f) (shown : is_shown_type h.typing f ≡ true) where
   abbrev AreAllGiven : List Passed → Type 0
   AreAllGiven passed =
-      AreGiven h settled hands leaks m waits other facts v kept well holds alone live in_formals index_law own_law parts_named formals_low false (f ∷ formals)
-      (More (first_actual h.typing own_law c) c.others) passed
+      AreGiven h sees seeing settled hands leaks m waits other facts v kept well holds alone live in_formals index_law own_law parts_named formals_low false (f ∷ formals)
+      (More (first_actual h.typing sees own_law c) c.others) passed
 
   abbrev IsOneGiven : Mode → Passed → Type 0
-  IsOneGiven how a = IsGiven h settled hands leaks m waits other facts v kept well holds alone live in_formals index_law own_law parts_named formals_low false f how (first_actual h.typing own_law c) a
+  IsOneGiven how a = IsGiven h sees seeing settled hands leaks m waits other facts v kept well holds alone live in_formals index_law own_law parts_named formals_low false f how (first_actual h.typing sees own_law c) a
 
   abbrev AreOthersGiven : List Passed → Type 0
-  AreOthersGiven passed = AreGiven h settled hands leaks m waits other facts v kept well holds alone live in_formals index_law own_law parts_named formals_low false formals c.others passed
+  AreOthersGiven passed = AreGiven h sees seeing settled hands leaks m waits other facts v kept well holds alone live in_formals index_law own_law parts_named formals_low false formals c.others passed
 
   abbrev others : List Passing
   others = map (passing h.typing false) formals
 
   -- the first one as what it sees, and the others as any function is given them
-  pub all_traversed : (before on : List (List machine.Word)) → SuppliesAll h.typing m (f ∷ formals) (More (first_actual h.typing own_law c) c.others) before on
-      → IsSeen h.typing f (first_actual h.typing own_law c) → ((x : ℕ) → Has formals x → IsKindOfFormal h.typing x) → AreUnseen h.typing formals → AreActualsTo h.typing formals c.others
-      → IsClear h.typing facts (first_actual h.typing own_law c) → AreClear h.typing facts formals c.others → AreOpenActuals h.typing h.frame facts formals c.others
-      → AllowsAll facts (acts (actual_values h.typing (Traversed ∷ others) (More (first_actual h.typing own_law c) c.others)))
+  pub all_traversed : (before on : List (List machine.Word)) → SuppliesAll h.typing m (f ∷ formals) (More (first_actual h.typing sees own_law c) c.others) before on
+      → IsSeen h.typing f (first_actual h.typing sees own_law c) → ((x : ℕ) → Has formals x → IsKindOfFormal h.typing x) → AreUnseen h.typing formals → AreActualsTo h.typing formals c.others
+      → IsClear h.typing sees facts (first_actual h.typing sees own_law c) → AreClear h.typing sees facts formals c.others → AreOpenActuals h.typing sees h.frame facts formals c.others
+      → AllowsAll facts (acts (actual_values h.typing (Traversed ∷ others) (More (first_actual h.typing sees own_law c) c.others)))
       → Quiet (record { memory = m; waits = on }) AreAllGiven
-      (all_passed h (Traversed ∷ others) (f ∷ formals) (More (first_actual h.typing own_law c) c.others) (record { memory = m; waits = before }))
+      (all_passed h (Traversed ∷ others) (f ∷ formals) (More (first_actual h.typing sees own_law c) c.others) (record { memory = m; waits = before }))
   all_traversed before on (mid, fit, takes, more) seen_first kinds unseen stay opens opens_others back allowed =
-      let first_acts : List Placed = index_acts h.typing (first_actual h.typing own_law c) in
+      let first_acts : List Placed = index_acts h.typing (first_actual h.typing sees own_law c) in
       let each = allows_both facts (acts first_acts) (acts (actual_values h.typing others c.others))
       (subst (AllowsAll facts) (acts_append first_acts (actual_values h.typing others c.others)) allowed) in
-      let same : after (acts first_acts) facts ≡ facts = reads_keep first_acts (index_reads h.typing own_law (first_actual h.typing own_law c) c.of (seen_first.0, refl)) facts in
+      let same : after (acts first_acts) facts ≡ facts = reads_keep first_acts (index_reads h.typing own_law (first_actual h.typing sees own_law c) c.of (seen_first.0, refl)) facts in
       quiet_from (record { memory = m; waits = mid }) (record { memory = m; waits = on }) (IsOneGiven mode.In) AreAllGiven refl
-      (passed h Traversed f (first_actual h.typing own_law c) (record { memory = m; waits = before }))
+      (passed h Traversed f (first_actual h.typing sees own_law c) (record { memory = m; waits = before }))
       (λ a now. followed_by (all_passed h others formals c.others now) (λ more now. Done (a ∷ more) now))
-      (shown_given h settled hands leaks m waits other facts v kept well holds alone live in_formals index_law own_law parts_named formals_low false before mid f (first_actual h.typing own_law c)
-      access shown seen_first (takes_supplied h.typing settled m (first_actual h.typing own_law c) before mid (seen_types h.typing f (first_actual h.typing own_law c) seen_first fit) takes) each.0 opens)
+      (shown_given h sees seeing settled hands leaks m waits other facts v kept well holds alone live in_formals index_law own_law parts_named formals_low false before mid f (first_actual h.typing sees own_law c)
+      access shown seen_first (takes_supplied h.typing settled m (first_actual h.typing sees own_law c) before mid (seen_types h.typing f (first_actual h.typing sees own_law c) seen_first fit) takes) each.0 opens)
       (λ a is. quiet_then (record { memory = m; waits = on }) AreOthersGiven AreAllGiven
       (all_passed h others formals c.others (record { memory = m; waits = mid })) (λ more now. Done (a ∷ more) now)
-      (all_given h settled hands leaks m waits other facts v kept well holds alone live in_formals index_law own_law parts_named formals_low false mid on formals c.others kinds unseen stay opens_others back more
+      (all_given h sees seeing settled hands leaks m waits other facts v kept well holds alone live in_formals index_law own_law parts_named formals_low false mid on formals c.others kinds unseen stay opens_others back more
       (subst (λ z. AllowsAll z (acts (actual_values h.typing others c.others))) same each.1))
       (λ more are. (refl, (subst (λ z. IsOneGiven z a) (sym in_mode) is, are))))

@@ -2,7 +2,7 @@
 use Rattle.viewed_steps.proofs.Rooted.{rooted_on}
 use Rattle.viewed_steps.proofs.Traversed.{given_on, none_given, named_given}
 use Rattle.flow_paths.specs.Views.{sub_acts}
-use Rattle.std.proofs.Common.{◌≡◌, refl, sym, ◌∙◌, subst, ◌⊎◌, inl, inr, ℕ, suc, ◌<◌, true, false, List, [], ◌∷◌, ◌++◌, map, drop, length, Some, None, take}
+use Rattle.std.proofs.Common.{◌≡◌, refl, sym, ◌∙◌, subst, ◌⊎◌, inl, inr, ℕ, suc, ◌<◌, true, false, List, [], ◌∷◌, ◌++◌, map, drop, length, Some, None, take, Bool}
 use Rattle.spark_base.specs.Lists.{Has}
 use Rattle.place_names.specs.declared.act.Act.{Act}
 use Rattle.place_names.specs.declared.fact.Fact.{Fact}
@@ -38,8 +38,8 @@ use Rattle.soundness.proofs.Waited.{FillsNone}
 use Rattle.soundness.proofs.Eased.{eased}
 use Rattle.soundness.proofs.Successors.{successor_there}
 use Rattle.owned_loans.specs.Views.{Around, known_gone, Views, ViewedAlone}
-use Rattle.viewed_soundness.specs.Holds.{AllKeep, is_view, sees_only, is_fixed, is_given}
-use Rattle.viewed_soundness.proofs.Names.{true_false, given_view}
+use Rattle.viewed_soundness.specs.Holds.{AllKeep, is_view, is_bundle, is_fixed, is_given, Seeing}
+use Rattle.viewed_soundness.proofs.ViewKinds.{true_false, given_view, access_bundle}
 use Rattle.viewed_soundness.proofs.Outcomes.{Turned}
 use Rattle.viewed_steps.specs.Awaited.{AreValues, temporaries_of, lasting_of, awaited, AreAwaited, AreScalar, TakesScalars}
 use Rattle.viewed_steps.specs.Sound.{IsBeyond, HoldsAt, ArePlaced, NoneAbove, ViewStage, stages_of, GoneElsewhere, AreWaiting, AreTurned, steps_on, LeadsAlong, IsResting, HasTraversals}
@@ -54,8 +54,16 @@ use Rattle.viewed_steps.proofs.Standing as standing
 use Rattle.viewed_steps.proofs.Packages as packages
 use Rattle.viewed_steps.proofs.Innermost as innermost
 use Rattle.viewed_steps.proofs.EachInstruction as each
+use Rattle.viewed_steps.specs.Seeing.{sees_in}
+use Rattle.viewed_steps.proofs.Sees.{sees_seeing}
 
 module _ (table : Table) (typed : TypedProgram) (effects : Effects) (input : List ℕ) (ready : IsReady table typed effects) where
+  abbrev sees : ℕ → Bool
+  sees = sees_in (flow_program table typed)
+
+  abbrev seeing : Seeing (flow_typing (flow_program table typed)) sees
+  seeing = sees_seeing (flow_program table typed)
+
   abbrev program : FlowProgram
   program = flow_program table typed
 
@@ -75,9 +83,9 @@ module _ (table : Table) (typed : TypedProgram) (effects : Effects) (input : Lis
       (awaiting : AreAwaited table typed None (top ∷ stages_of (below ∷ more_frames)))
       (of_sub : IsNamedSub (flow_named table typed) top.frame.sub named) (at_point : IsAtPoint named.points top.frame.next p)
       (path : ControlPath (path_points program effects (sub_of program top.frame.sub)) top.before top.frame.next) (views : Views)
-      (viewed_before : ViewedAlone (home s (suc (length rest))) (sees_only s) (known_gone (home s (suc (length rest))) (GoneElsewhere program effects (below ∷ more_frames))) views
+      (viewed_before : ViewedAlone (home s (suc (length rest))) sees (known_gone (home s (suc (length rest))) (GoneElsewhere program effects (below ∷ more_frames))) views
       (view_here s state) (facts_of program effects top))
-      (kept : Kept s state.memory (waiting_in state)) (scope : InScope s state.memory (suc (length rest)) (lasting_of s p.scope)) (holds : HoldsAt s (suc (length rest)) views state.memory p)
+      (kept : Kept s state.memory (waiting_in state)) (scope : InScope s state.memory (suc (length rest)) (lasting_of s p.scope)) (holds : HoldsAt s sees (suc (length rest)) views state.memory p)
       (placed_before : ArePlaced program (suc (length rest)) (facts_of program effects top) views p.scope × IsBeyond program effects (suc (length rest)) views (below ∷ more_frames)) (above : NoneAbove s (suc (length rest)) state.memory
       × HasTraversals table typed (view_here s state) (record { stage = top; views = views; cells = [] } ∷ (below ∷ more_frames))) where
     abbrev outer : List Frame
@@ -183,7 +191,7 @@ module _ (table : Table) (typed : TypedProgram) (effects : Effects) (input : Lis
       Both = each.Both table typed effects input ready state top below more_frames rest named p frames deep stages running awaiting of_sub at_point path views viewed_before kept scope holds placed_before above going no_calls
 
       abbrev each_instruction : Plainly → (left : Left (steps.waiting main_turn)) (i : Instruction) → p.instr ≡ i → IsOther i → IsFine s named.sub.result i → AllowsAll facts_now (acts_of_main i)
-          → AllKeep (is_fixed s) (acts_of_main i) → Both left i
+          → AllKeep (is_fixed s sees) (acts_of_main i) → Both left i
       each_instruction = each.each_instruction table typed effects input ready state top below more_frames rest named p frames deep stages running awaiting of_sub at_point path views viewed_before kept scope holds placed_before above going no_calls
 
       abbrev sparing : Type 0
@@ -197,27 +205,30 @@ module _ (table : Table) (typed : TypedProgram) (effects : Effects) (input : Lis
 
       -- which views turned
       turned_so : (turned_views : Views) → {facts : List Fact}
-          → Turned easy ready.accepted.settled ready.owns other alone views ready.class.parts_named may refl refl turned_views facts
+          → Turned easy sees seeing ready.accepted.settled ready.owns other alone views ready.class.parts_named may refl refl turned_views facts
           → AreTurned p.instr views turned_views
-      turned_so turned_views turned x w has = elim (turned x w has) [
+      turned_so turned_views turned x w has = elim (turned.0 x w has) [
         | inl old ↦ inl (sym old.way ∙ has)
         | inr (y, from, comes) ↦ inr from.1
       ]
 
       only_may : (turned_views : Views) (facts : List Fact)
-          → Turned easy ready.accepted.settled ready.owns other alone views ready.class.parts_named may refl refl turned_views facts
-          → Turned easy ready.accepted.settled ready.owns other alone views ready.class.parts_named (λ x y. MayBe program (scope_behind p) x y) refl refl
+          → Turned easy sees seeing ready.accepted.settled ready.owns other alone views ready.class.parts_named may refl refl turned_views facts
+          → Turned easy sees seeing ready.accepted.settled ready.owns other alone views ready.class.parts_named (λ x y. MayBe program (scope_behind p) x y) refl refl
           turned_views facts
-      only_may turned_views facts turned x w has = elim (turned x w has) [
-        | inl old ↦ inl (record { way = old.way; loan = old.loan; up = old.up })
-        | inr (y, from, comes) ↦ inr (y, from.0, record { up = comes.up; root = comes.root; loan = comes.loan; under = comes.under })
-      ]
+      only_may turned_views facts turned = (
+        λ x w has. elim (turned.0 x w has) [
+          | inl old ↦ inl (record { way = old.way; loan = old.loan; up = old.up })
+          | inr (y, from, comes) ↦ inr (y, from.0, record { up = comes.up; root = comes.root; loan = comes.loan; under = comes.under })
+        ],
+        turned.1,
+      )
 
       -- formals have what they had
       passed_then : (turned_views : Views) (facts : List Fact)
-          → Turned easy ready.accepted.settled ready.owns other alone views ready.class.parts_named may refl refl turned_views facts
+          → Turned easy sees seeing ready.accepted.settled ready.owns other alone views ready.class.parts_named may refl refl turned_views facts
           → (x : ℕ) (w : Way) → turned_views.way x ≡ Some w → is_given s x ≡ true → ways.Named (home s depth) (turned_views.up x) → ⊥
-      passed_then turned_views facts turned x w has formal taken_up = elim (turned x w has) [
+      passed_then turned_views facts turned x w has formal taken_up = elim (turned.0 x w has) [
         | inl old ↦ holds.passed x w (sym old.way ∙ has) formal (subst (ways.Named (home s depth)) old.up taken_up)
         | inr (y, from, comes) ↦ true_false (is_given s x) formal (own_there s x (orderly.variables x (inl from.1) (from.0).view))
       ]
@@ -225,7 +236,7 @@ module _ (table : Table) (typed : TypedProgram) (effects : Effects) (input : Lis
       -- no result waits that isn't taken, and what the first formal sees stays
       traversals_on : (after_step : State) (waits : List Waiting) (loops : List Loop) (n : ℕ) → returns_value p.instr ≡ false → (p.instr ≡ Finish → ⊥) → Left waits
           → (turned_views : Views) (facts : List Fact)
-          → Turned easy ready.accepted.settled ready.owns other alone views ready.class.parts_named may refl refl turned_views facts
+          → Turned easy sees seeing ready.accepted.settled ready.owns other alone views ready.class.parts_named may refl refl turned_views facts
           → HasTraversals table typed (view_here s after_step)
           (record { stage = standing.at_next table typed effects input ready state top older outer named p frames of_sub at_point path waits loops n; views = turned_views; cells = [] } ∷ older)
       traversals_on after_step waits loops n none end are turned_views facts turned = (
@@ -243,10 +254,11 @@ module _ (table : Table) (typed : TypedProgram) (effects : Effects) (input : Lis
         (
           (λ f traversed. (
               let old = (above.1).1.0 f traversed in
-              let view = given_view s f (ready.traversing.first top.frame.sub f (running.0).entered traversed).1 in (
+              let is_first = ready.traversing.first top.frame.sub f (running.0).entered traversed in
+              let view : (is_view s f ≡ true) × (is_bundle s f ≡ false) = (given_view s f is_first.1, access_bundle s f is_first.2) in (
                 old.0,
                 rooted_on s (sub_acts (sub_of program top.frame.sub)) f old.0 view views turned_views
-                    (λ x w has. elim (turned x w has) [ inl same ↦ inl (sym same.way ∙ has) | inr (y, from, comes) ↦ inr (y, from.2, comes.under) ]) old.1,
+                    (λ x w has. elim (turned.0 x w has) [ inl same ↦ inl (sym same.way ∙ has) | inr (y, from, comes) ↦ inr (y, from.2, comes.under) ]) old.1,
                 old.2,
                 old.3,
               ))),
@@ -261,12 +273,12 @@ module _ (table : Table) (typed : TypedProgram) (effects : Effects) (input : Lis
       goes_there spare end none after_step waits loops k less frames_then are inside_then (turned_views, turned, well) stay =
           let next = successor_there main_turn k (subst (λ z. k < z) (sym successors_there) less) in
           let q = standing.next_at table typed effects input ready state top older outer named p frames of_sub at_point path next.0 next.2 in
-          let there = turned_placed easy ready.accepted.settled ready.owns other alone views ready.class.parts_named left_scope (scope_behind p) refl refl
-          ready.orderly.transitive ready.orderly.itself local holds.only holds.lies more turned_views facts_now (after (acts_of_main p.instr) facts_now) (lent_on spare)
+          let there = turned_placed easy sees seeing ready.accepted.settled ready.owns other alone views ready.class.parts_named left_scope (scope_behind p) refl refl
+          ready.orderly.transitive ready.orderly.itself local holds.only (holds.lies, holds.low) more turned_views facts_now (after (acts_of_main p.instr) facts_now) (lent_on spare)
           (placed_left facts_now placed) (only_may turned_views (after (acts_of_main p.instr) facts_now) turned) in
           let only_then : (x : ℕ) (w : Way) → turned_views.way x ≡ Some w → is_view s x ≡ true = well.holds.only in
-          let lies_then = turned_lies easy ready.accepted.settled ready.owns other alone views ready.class.parts_named left_scope (scope_behind p) refl refl
-          ready.orderly.transitive ready.orderly.itself local holds.only holds.lies more turned_views (after (acts_of_main p.instr) facts_now)
+          let lies_then = turned_lies easy sees seeing ready.accepted.settled ready.owns other alone views ready.class.parts_named left_scope (scope_behind p) refl refl
+          ready.orderly.transitive ready.orderly.itself local holds.only (holds.lies, holds.low) more turned_views (after (acts_of_main p.instr) facts_now)
           (only_may turned_views (after (acts_of_main p.instr) facts_now) turned) in
           let placed_next = placed_on program depth (after (acts_of_main p.instr) facts_now) turned_views (scope_behind p) (q.0).scope only_then q.2 there in
           standing.goes_to_next table typed effects input ready state top older outer named p frames of_sub at_point path no_calls after_step waits loops next.0 next.2 q.0 q.1 (frames_then next.0 next.1) deep stages turned_views
@@ -275,13 +287,16 @@ module _ (table : Table) (typed : TypedProgram) (effects : Effects) (input : Lis
           ((innermost.apart_from_them table typed effects input ready state top below more_frames rest named p frames deep stages running awaiting of_sub at_point path views viewed_before kept scope holds placed_before above) (acts_of_main p.instr) turned_views (view_here s after_step) only_then well.viewed) well.kept
           (scope_on s ready.owns after_step.memory depth (scope_behind p) (q.0).scope (in_scope after_step.memory (lasting_of s (scope_behind p)) inside_then) q.2)
           (record {
-            held = λ x n lasts view e. well.holds.held x n view e;
-            within = λ x n view e. (let own_way = well.holds.held x n view e in (placed_next x own_way.0 own_way.1).within);
+            held = λ x n lasts view bare e. well.holds.held x n view bare e;
+            within = λ x n view bare e. (let own_way = well.holds.held x n view bare e in (placed_next x own_way.0 own_way.1).within);
             only = only_then;
             lies = lies_then;
             owners = well.holds.owners;
             passed = passed_then turned_views (after (acts_of_main p.instr) facts_now) turned;
             own = well.holds.own;
+            taken = well.holds.taken;
+            parts = well.holds.parts;
+            low = λ x q w has. holds.low x q w (sym ((turned.1 x q).0) ∙ has);
           })
           (((innermost.placed_by table typed effects input ready state top below more_frames rest named p frames deep stages running awaiting of_sub at_point path views viewed_before kept scope holds placed_before above) (after (acts_of_main p.instr) facts_now) (after (acts_of_main p.instr) own_facts) turned_views (q.0).scope ((innermost.own_loans table typed effects input ready state top below more_frames rest named p frames deep stages running awaiting of_sub at_point path views viewed_before kept scope holds placed_before above) (acts_of_main p.instr)) placed_next), (well.viewed.past, well.viewed.shown))
           (still_above after_step.memory stay, traversals_on after_step waits loops next.0 none end are turned_views (after (acts_of_main p.instr) facts_now) turned) views

@@ -1,6 +1,6 @@
 -- Frames that wait for a call to end, with views: what they keep concerns the innermost frame as ways
 -- of others, and they wait still after its steps.
-use Rattle.viewed_soundness.specs.Holds.{is_view, sees_only}
+use Rattle.viewed_soundness.specs.Holds.{is_view}
 use Rattle.std.proofs.Common.{◌≡◌, refl, sym, ap, ◌∙◌, subst, ◌⊎◌, inl, inr, ℕ, ◌<◌, ◌≤◌, Bool, true, false, ◌&&◌, nat_lt, ltb-true, lt-ltb, List, [], ◌∷◌, ◌++◌, length, arith, Some, None, if◌then◌else◌, append-nil}
 use Rattle.std.specs.Prelude.{flat_map}
 use Rattle.spark_base.specs.Lists.{Has}
@@ -25,12 +25,11 @@ use Rattle.soundness.specs.Seen.{IsNear, content, word_in, home}
 use Rattle.soundness.specs.Sound.{Stage, facts_of, AreStages, Uses, view_of as view_here}
 use Rattle.soundness.proofs.Around.{near_or_far, IsFar, near_package, package_named}
 use Rattle.soundness.proofs.Contents.{bool_cases, word_part, word_root}
-use Rattle.owned_loans.specs.Views.{on, Around, known_gone, Views, expand, IsThrough, IsForeign, Go, AreShared, AreViews}
-use Rattle.owned_loans.proofs.Ways.{under_on, on_under, on_named, lifts, lifted_root, lifted_way, base_on, root_on}
-use Rattle.owned_loans.proofs.Meeting.{stands}
+use Rattle.owned_loans.specs.Views.{on, Around, known_gone, Views, expand, IsThrough, IsForeign, Go, IsShared, AreShared, AreViews}
+use Rattle.owned_loans.proofs.Ways.{under_on, on_under, on_named, lifts, lifted_root, lifted_way, base_on, root_on, in_part_way}
+use Rattle.owned_loans.proofs.Meeting.{stands, plain_lifts}
 use Rattle.owned_loans.proofs.Moves.{reached}
 use Rattle.viewed_steps.specs.Taken.{TakenBy, Lodge}
-use Rattle.owned_loans.proofs.Meeting.{stands}
 use Rattle.viewed_steps.proofs.Between.{base_along as along_base, number_based, taken_from as words_taken, taken_base, near_base, begun_low}
 use Rattle.viewed_steps.proofs.Roots.{GoesOn, borrower_goes, view_goes}
 use Rattle.viewed_steps.proofs.Showing.{none_moved as shown_unmoved}
@@ -40,6 +39,7 @@ use Rattle.viewed_steps.specs.Sound.{loan_by, withheld, KeptBy, ViewStage, stage
 use Rattle.viewed_steps.proofs.Withheld.{kept_cases, kept_root, kept_fact, taken_passed, cell_passed, passed_from, flat_from}
 use Rattle.viewed_steps.proofs.Views.{base_named, same_lies}
 use Rattle.machine.specs.Owners.{waiting_in}
+use Rattle.viewed_steps.specs.Seeing.{sees_in}
 
 -- ---- near ways
 
@@ -100,6 +100,9 @@ module _ (table : Table) (typed : TypedProgram) (effects : Effects)
     (unmoved : (e : Stage) → e.frame.sub ≡ 0 → (name : Name) → Has (facts_of (flow_program table typed) effects e) (Moved name) → ⊥)
     (local : (x : ℕ) → is_view (flow_typing (flow_program table typed)) x ≡ true
     → is_package_object (flow_typing (flow_program table typed)) x ≡ false) where
+  abbrev sees : ℕ → Bool
+  sees = sees_in (flow_program table typed)
+
   abbrev program : FlowProgram
   program = flow_program table typed
 
@@ -110,15 +113,17 @@ module _ (table : Table) (typed : TypedProgram) (effects : Effects)
   abbrev pub StandsBetween : State → ℕ → List ViewStage → ViewStage → Type 0
   StandsBetween state depth all g =
       IsFirst g ⊎ ((0 < g.stage.depth) × (g.stage.depth < depth) × (callee : ℕ) × (backs : List Return) × IsWaiting table typed effects state callee backs g
-      × AreShared (home s g.stage.depth) (sees_only s) (LentBy program effects all) g.views)
+      × AreShared (home s g.stage.depth) sees (LentBy program effects all) g.views)
 
   -- what those around it keep, those around more frames do
   more_shared : (at_home : ℕ → ℕ) (v : Views) (older all : List ViewStage) → ((g : ViewStage) → Has older g → Has all g)
-      → AreShared at_home (sees_only s) (LentBy program effects older) v → AreShared at_home (sees_only s) (LentBy program effects all) v
-  more_shared at_home v older all more shared x w has given named =
-      let is = shared x w has given named in
-      let lent = is.1.3 in
-      (is.0, (is.1.0, is.1.1, is.1.2, (lent.0, more lent.0 lent.1, lent.2, lent.3, lent.4, lent.5, lent.6, lent.7)), is.2)
+      → AreShared at_home sees (LentBy program effects older) v → AreShared at_home sees (LentBy program effects all) v
+  more_shared at_home v older all more shared =
+      (λ x w has given named. one (sees x) w (shared.0 x w has given named), λ x p w has named. one true w (shared.1 x p w has named))
+    where
+      one : (sight : Bool) (w : Way) → IsShared at_home (LentBy program effects older) sight w → IsShared at_home (LentBy program effects all) sight w
+      one sight w is = (let lent = is.1.3 in
+          (is.0, (is.1.0, is.1.1, is.1.2, (lent.0, more lent.0 lent.1, lent.2, lent.3, lent.4, lent.5, lent.6, lent.7)), is.2))
 
   more_between : (state : State) (depth : ℕ) (older all : List ViewStage) → ((g : ViewStage) → Has older g → Has all g) → (g : ViewStage)
       → StandsBetween state depth older g → StandsBetween state depth all g
@@ -210,7 +215,8 @@ module _ (table : Table) (typed : TypedProgram) (effects : Effects)
   -- the frame of the package objects has none
   no_cells : (g : ViewStage) (w : Way) (n : ℕ) → IsFirst g → IsWayOf g w n → ⊥
   no_cells g w n first (inl (x, is, cell)) = (let no : None ≡ Some w = sym (first.2 x) ∙ is in cc)
-  no_cells g w n first (inr (c, has, is, cell)) = subst (λ z. Has z c) first.4 has
+  no_cells g w n first (inr (inl (c, has, is, cell))) = subst (λ z. Has z c) first.4 has
+  no_cells g w n first (inr (inr (x, p, is, cell))) = (let no : None ≡ Some w = sym (first.5 x p) ∙ is in cc)
 
   -- What a frame keeps of package objects, as loans that the objects hold themselves.
   loan_of : Fact → List Fact
@@ -272,8 +278,10 @@ module _ (table : Table) (typed : TypedProgram) (effects : Effects)
       → Reaches (view_here s state) w (OfCell n)
   way_reaches state callee backs g waits w n (inl (x, is, cell)) =
       subst (λ z. Reaches (view_here s state) w (OfCell z)) cell
-      (reached (home s g.stage.depth) (sees_only s) (known_gone (home s g.stage.depth) (λ z. ⊥)) g.views (view_here s state) (facts_of program effects g.stage) x w (waits.views x w is))
-  way_reaches state callee backs g waits w n (inr (c, has, is, cell)) =
+      (reached (home s g.stage.depth) sees (known_gone (home s g.stage.depth) (λ z. ⊥)) g.views (view_here s state) (facts_of program effects g.stage) x w (waits.views.0 x w is))
+  way_reaches state callee backs g waits w n (inr (inr (x, p, is, cell))) =
+      subst (λ z. Reaches (view_here s state) w (OfCell z)) cell (waits.views.1 x p w is).reaches
+  way_reaches state callee backs g waits w n (inr (inl (c, has, is, cell))) =
       subst (λ z. Reaches (view_here s state) z (OfCell n)) is (subst (λ z. Reaches (view_here s state) c.way (OfCell z)) cell (waits.kept c has).reaches)
 
   module _ (state : State) (depth : ℕ) (older : List ViewStage) (between : (g : ViewStage) → Has older g → StandsBetween state depth older g) where
@@ -317,7 +325,7 @@ module _ (table : Table) (typed : TypedProgram) (effects : Effects)
 
     -- What a view of a frame was given of package objects is kept by those around it.
     abbrev pub SharesHere : ViewStage → Type 0
-    SharesHere g = AreShared (home s g.stage.depth) (sees_only s) (LentBy program effects older) g.views
+    SharesHere g = AreShared (home s g.stage.depth) sees (LentBy program effects older) g.views
 
     -- it has the same names there
     through_for : (g : ViewStage) (l : Loan) (w : Way) → IsThrough (home s g.stage.depth) (LentBy program effects older) l w → IsLentFor l w
@@ -325,8 +333,8 @@ module _ (table : Table) (typed : TypedProgram) (effects : Effects)
 
     -- the way of a view goes on from such a place
     goes_for : (g : ViewStage) → Has older g → 0 < g.stage.depth
-        → (views : AreViews (home s g.stage.depth) (sees_only s) g.views (view_here s state) (facts_of program effects g.stage)) (l : Loan) (w : Way)
-        → GoesOn (home s g.stage.depth) (sees_only s) g.views (view_here s state) (facts_of program effects g.stage) views l w → is_package_object s (number_of w) ≡ true
+        → (views : AreViews (home s g.stage.depth) sees g.views (view_here s state) (facts_of program effects g.stage)) (l : Loan) (w : Way)
+        → GoesOn (home s g.stage.depth) sees g.views (view_here s state) (facts_of program effects g.stage) views l w → is_package_object s (number_of w) ≡ true
         → IsLentFor l w ⊎ IsLentFor Borrowed w
     goes_for g has some views l w (h, k, fact, named, under) shared = fact_for g has some (Lent l h (name_of k)) k w fact refl named under shared
 
@@ -337,7 +345,7 @@ module _ (table : Table) (typed : TypedProgram) (effects : Effects)
     way_cases callee backs g has some waits shares x w way named = elim (bool_cases (is_package_object s (number_of w))) [
       | inr own ↦ inl own
       | inl shared ↦ (
-          let goes = view_goes (home s g.stage.depth) (sees_only s) g.views (view_here s state) (facts_of program effects g.stage) waits.views
+          let goes = view_goes (home s g.stage.depth) sees g.views (view_here s state) (facts_of program effects g.stage) waits.views
           (LentBy program effects older) shares x w way named in
           elim goes.1 [
             | inr through ↦ inr (goes.0, through_for g goes.0 w through)
@@ -357,9 +365,9 @@ module _ (table : Table) (typed : TypedProgram) (effects : Effects)
     low_home true d less = omega (arith, less)
     low_home false d less = less
 
-    way_begins : (callee : ℕ) (backs : List Return) (g : ViewStage) → Has older g → 0 < g.stage.depth → g.stage.depth < depth
-        → IsWaiting table typed effects state callee backs g → SharesHere g → (x : ℕ) (w : Way) → g.views.way x ≡ Some w → Lies s g.stage.depth w → Begins w
-    way_begins callee backs g has some less waits shares x w is (inr (foreign, low, above)) = record {
+    -- one that begins at a frame below, or one whose variable is the frame's own or that goes on from such a place
+    foreign_begins : (g : ViewStage) → g.stage.depth < depth → (w : Way) (foreign : IsForeign (home s g.stage.depth) w) → foreign.0 < g.stage.depth → Begins w
+    foreign_begins g less w foreign low = record {
       frame = foreign.0;
       object = foreign.1;
       base = foreign.2;
@@ -372,17 +380,32 @@ module _ (table : Table) (typed : TypedProgram) (effects : Effects)
             foreign.3 (e ∙ ap (λ b. if b then 0 else depth) shared ∙ sym (ap (λ b. if b then 0 else g.stage.depth) shared))
         by_kind false own e =
             (let there : home s depth foreign.1 ≡ depth = ap (λ b. if b then 0 else depth) own in omega (arith, low, less, e, there))
+
+    named_begins : (g : ViewStage) → 0 < g.stage.depth → g.stage.depth < depth → (w : Way) → Named (home s g.stage.depth) w
+        → (is_package_object s (number_of w) ≡ false) ⊎ ((l : Loan) × IsLentFor l w) → Begins w
+    named_begins g some less w named way = record {
+      frame = home s g.stage.depth (number_of w);
+      object = number_of w;
+      base = named_base (home s g.stage.depth) w named;
+      low = low_home (is_package_object s (number_of w)) g.stage.depth less;
+      other = elim way [
+        | inr lent ↦ inr lent
+        | inl own ↦ inl (λ e. other_frame s g.stage.depth depth some less (number_of w) own (sym (ap (λ z. if z then 0 else g.stage.depth) own) ∙ e))
+      ];
+    }
+
+    way_begins : (callee : ℕ) (backs : List Return) (g : ViewStage) → Has older g → 0 < g.stage.depth → g.stage.depth < depth
+        → IsWaiting table typed effects state callee backs g → SharesHere g → (x : ℕ) (w : Way) → g.views.way x ≡ Some w → Lies s g.stage.depth w → Begins w
+    way_begins callee backs g has some less waits shares x w is (inr (foreign, low, above)) = foreign_begins g less w foreign low
     way_begins callee backs g has some less waits shares x w is (inl named) =
-        let way = way_cases callee backs g has some waits shares x w is named in record {
-          frame = home s g.stage.depth (number_of w);
-          object = number_of w;
-          base = named_base (home s g.stage.depth) w named;
-          low = low_home (is_package_object s (number_of w)) g.stage.depth less;
-          other = elim way [
-            | inr lent ↦ inr lent
-            | inl own ↦ inl (λ e. other_frame s g.stage.depth depth some less (number_of w) own (sym (ap (λ z. if z then 0 else g.stage.depth) own) ∙ e))
-          ];
-        }
+        named_begins g some less w named (way_cases callee backs g has some waits shares x w is named)
+
+    part_begins : (callee : ℕ) (backs : List Return) (g : ViewStage) → 0 < g.stage.depth → g.stage.depth < depth → IsWaiting table typed effects state callee backs g → SharesHere g
+        → (x : ℕ) (p : List Step) (w : Way) → g.views.part_way x p ≡ Some w → Begins w
+    part_begins callee backs g some less waits shares x p w is = elim (waits.holds.low x p w is).0 [
+      | inr (foreign, low, above) ↦ foreign_begins g less w foreign low
+      | inl named ↦ (let (l, through, changed) = shares.1 x p w is named in named_begins g some less w named (inr (l, through_for g l w through)))
+    ]
 
     -- the way of a cell of a place begins at an own variable, or at a package object that is passed, or goes on from that
     -- of a view
@@ -401,7 +424,9 @@ module _ (table : Table) (typed : TypedProgram) (effects : Effects)
               | inr own ↦ inl (λ e. other_frame s g.stage.depth depth some less (number_of c.name) own (sym (ap (λ z. if z then 0 else g.stage.depth) own) ∙ e))
             ];
           })
-          | inr l ↦ subst Begins (sym (lifted_way g.views c.name l))
+          | inr (inr l) ↦ subst Begins (sym (in_part_way g.views c.name l))
+              (goes_on l.way l.rest (part_begins callee backs g some less waits shares l.object l.steps l.way l.has))
+          | inr (inl l) ↦ subst Begins (sym (lifted_way g.views c.name l))
               (goes_on l.way l.rest (way_begins callee backs g has some less waits shares l.object l.way l.has (waits.holds.lies l.object l.way l.has)))
         ])
       where
@@ -422,7 +447,8 @@ module _ (table : Table) (typed : TypedProgram) (effects : Effects)
       | inl first ↦ absurd (no_cells g w n first way)
       | inr (some, less, callee, backs, waits, shared) ↦ elim way [
         | inl (x, is, cell) ↦ way_begins callee backs g has some less waits shared x w is (waits.holds.lies x w is)
-        | inr (c, there, is, cell) ↦ subst Begins is (cell_begins callee backs g has some less waits shared c there)
+        | inr (inl (c, there, is, cell)) ↦ subst Begins is (cell_begins callee backs g has some less waits shared c there)
+        | inr (inr (x, p, is, cell)) ↦ part_begins callee backs g some less waits shared x p w is
       ]
     ]
 
@@ -441,7 +467,7 @@ module _ (table : Table) (typed : TypedProgram) (effects : Effects)
     pub apart_elsewhere : (x : ℕ) (w : Way) → ((n : ℕ) × KeptElsewhere older w n) ⊎ ((l : Loc) × (p : List Step) × BareElsewhere older w l p)
         → base_of w ≡ OfRoot (OfVariable depth x) → ⊥
     apart_elsewhere x w (inl (n, kept)) base = kept_apart x w n kept base
-    apart_elsewhere x w (inr (l, p, (g, has, (taken, inl (c, there, is, cell))))) base = kept_apart x w c.cell (g, has, inr (c, there, is, refl)) base
+    apart_elsewhere x w (inr (l, p, (g, has, (taken, inl (c, there, is, cell))))) base = kept_apart x w c.cell (g, has, inr (inl (c, there, is, refl))) base
     apart_elsewhere x w (inr (l, p, (g, has, (taken, inr (y, shared, is, at))))) base = elim (between g has) [
       | inl first ↦ subst (λ z. Has z (along w p)) (first.1).2 taken
       | inr (some, less, callee, backs, waits, shared) ↦ (
@@ -456,7 +482,7 @@ module _ (table : Table) (typed : TypedProgram) (effects : Effects)
     stood : (callee : ℕ) (backs : List Return) (g : ViewStage) → IsWaiting table typed effects state callee backs g → (u : Way)
         → IsMoved (home s g.stage.depth) (facts_of program effects g.stage) u → Lies s g.stage.depth (expand g.views u)
     stood callee backs g waits u moved =
-        elim (stands (home s g.stage.depth) (sees_only s) g.views (view_here s state) (facts_of program effects g.stage) waits.views u
+        elim (stands (home s g.stage.depth) sees g.views (view_here s state) (facts_of program effects g.stage) waits.views u
         (moved.0, waits.clear.owned (name_of u) moved.1)) [
           | inl own ↦ inl own.named
           | inr held ↦ same_lies s g.stage.depth (expand g.views u) held.way (longer held.way (expand g.views u) held.under).base
@@ -469,7 +495,7 @@ module _ (table : Table) (typed : TypedProgram) (effects : Effects)
       | inl first ↦ absurd (subst (λ z. TakenBy z w) (first.1).2 taken).1
       | inr (some, less, callee, backs, waits, shared) ↦ (
           let base = taken_base s g.stage.returns g.stage.depth
-          (words_taken s g.cells state.memory g.stage.depth g.views (facts_of program effects g.stage) (lasting_of s waits.point.scope) backs g.stage.returns waits.taken) w taken in
+          (words_taken s sees g.cells state.memory g.stage.depth g.views (facts_of program effects g.stage) (lasting_of s waits.point.scope) backs g.stage.returns waits.taken) w taken in
           (base.0, base.1, base.2, (let low = begun_low s g.stage.depth base.0 base.1 base.3 in omega (arith, low, less))))
     ]
     gone_low w (g, has, inl (u, moved, leads)) = elim (between g has) [
@@ -495,11 +521,11 @@ module _ (table : Table) (typed : TypedProgram) (effects : Effects)
         let based : base_of to ≡ OfRoot (OfVariable (home s g.stage.depth y) y) = base ∙ ap (λ f. OfRoot (OfVariable f y)) at_home in
         elim (waits.goes to taken y base shared) [
           | inl written ↦ root_for g has some y w (taken_passed effects g to y taken base written) ((longer to w under).base ∙ based) shared
-          | inr (x, u, is, given, sees, above) ↦ (
+          | inr (x, u, is, given, sight, above) ↦ (
               let named : Named (home s g.stage.depth) u = base_named (home s g.stage.depth) u y (sym (longer u to above).base ∙ based) in
-              let (l, through, changed) = sharing x u is given named in
+              let (l, through, changed) = sharing.0 x u is given named in
               let (k, at, below, lent) = through_for g l u through in
-              (k, at, under_on k u w below (under_on u to w above under), subst (λ z. LentElsewhere older z (name_of k)) (changed sees) lent))
+              (k, at, under_on k u w below (under_on u to w above under), subst (λ z. LentElsewhere older z (name_of k)) (changed sight) lent))
         ]
 
     -- what is near and gone elsewhere is a part of a package object, and goes on from a place that is kept
@@ -507,7 +533,7 @@ module _ (table : Table) (typed : TypedProgram) (effects : Effects)
     near_lent w near (g, has, inr (to, taken, p, is)) = elim (between g has) [
       | inl first ↦ absurd (subst (λ z. Has z to) (first.1).2 taken)
       | inr (some, less, callee, backs, waits, sharing) ↦ (
-          let begin = words_taken s g.cells state.memory g.stage.depth g.views (facts_of program effects g.stage) (lasting_of s waits.point.scope) backs g.stage.returns waits.taken to taken in
+          let begin = words_taken s sees g.cells state.memory g.stage.depth g.views (facts_of program effects g.stage) (lasting_of s waits.point.scope) backs g.stage.returns waits.taken to taken in
           let based : base_of w ≡ OfRoot (OfVariable begin.0 begin.1) = ap base_of is ∙ along_base to p ∙ begin.2 in
           elim begin.3 [
             | inr (above, low) ↦ absurd (elim (near_base depth w begin.0 begin.1 near based) [ inl none ↦ omega (arith, above, none) | inr same ↦ omega (arith, low, less, same) ])
@@ -523,32 +549,33 @@ module _ (table : Table) (typed : TypedProgram) (effects : Effects)
     ]
     near_lent w near (g, has, inl (u, moved, leads)) = elim (between g has) [
       | inl first ↦ absurd (unmoved g.stage first.0 (name_of u) moved.1)
-      | inr (some, less, callee, backs, waits, shared) ↦ elim (lifts g.views u) [
-        | inl e ↦ (
-            let here : IsMoved (home s g.stage.depth) (facts_of program effects g.stage) w =
-            subst (IsMoved (home s g.stage.depth) (facts_of program effects g.stage)) (sym e ∙ leads) moved in
-            held_for g has some (Moved (name_of w)) w w here.1 refl here.0 (under_itself w) (near_package s g.stage.depth depth some less w here.0 near) refl)
-        | inr l ↦ elim (stood callee backs g waits u moved) [
-          | inr (foreign, low, above) ↦ absurd (elim (near_base depth w foreign.0 foreign.1 near (ap base_of (sym leads) ∙ foreign.2)) [
-            | inl none ↦ omega (arith, above, none)
-            | inr same ↦ omega (arith, low, less, same)
-          ])
-          | inl there ↦ (
-              let plain : sees_only s (number_of u) ≡ false = waits.clear.owned (name_of u) moved.1 in
-              let front : Named (home s g.stage.depth) l.way = on_named (home s g.stage.depth) l.way l.rest
-              (subst (Named (home s g.stage.depth)) (lifted_way g.views u l) there) in
-              let same : w ≡ on l.way l.rest = sym leads ∙ lifted_way g.views u l in
-              let named : Named (home s g.stage.depth) w = subst (Named (home s g.stage.depth)) leads there in
-              let root : is_package_object s (number_of l.way) ≡ true =
-              ap (is_package_object s) (sym (root_on l.way l.rest) ∙ ap number_of (sym same)) ∙ near_package s g.stage.depth depth some less w named near in
-              let (k, at, under, lent) : IsLentFor Borrowed l.way = elim (borrower_goes (home s g.stage.depth) (sees_only s) g.views (view_here s state) (facts_of program effects g.stage) waits.views
-              (LentBy program effects older) shared l.object l.way (ap (sees_only s) (sym (lifted_root g.views u l)) ∙ plain) l.has front) [
-                | inl own ↦ elim (goes_for g has some waits.views Borrowed l.way own root) [ inl lent ↦ lent | inr lent ↦ lent ]
-                | inr through ↦ through_for g Borrowed l.way through
-              ] in
-              (k, at, subst (Under k) (sym same) (under_on k l.way (on l.way l.rest) under (on_under l.way l.rest)), lent))
-        ]
-      ]
+      | inr (some, less, callee, backs, waits, shared) ↦ elim (plain_lifts (home s g.stage.depth) sees g.views (view_here s state) (facts_of program effects g.stage) waits.views u
+          (moved.0, waits.clear.owned (name_of u) moved.1)) [
+            | inl e ↦ (
+                let here : IsMoved (home s g.stage.depth) (facts_of program effects g.stage) w =
+                subst (IsMoved (home s g.stage.depth) (facts_of program effects g.stage)) (sym e ∙ leads) moved in
+                held_for g has some (Moved (name_of w)) w w here.1 refl here.0 (under_itself w) (near_package s g.stage.depth depth some less w here.0 near) refl)
+            | inr l ↦ elim (stood callee backs g waits u moved) [
+              | inr (foreign, low, above) ↦ absurd (elim (near_base depth w foreign.0 foreign.1 near (ap base_of (sym leads) ∙ foreign.2)) [
+                | inl none ↦ omega (arith, above, none)
+                | inr same ↦ omega (arith, low, less, same)
+              ])
+              | inl there ↦ (
+                  let plain : sees (number_of u) ≡ false = waits.clear.owned (name_of u) moved.1 in
+                  let front : Named (home s g.stage.depth) l.way = on_named (home s g.stage.depth) l.way l.rest
+                  (subst (Named (home s g.stage.depth)) (lifted_way g.views u l) there) in
+                  let same : w ≡ on l.way l.rest = sym leads ∙ lifted_way g.views u l in
+                  let named : Named (home s g.stage.depth) w = subst (Named (home s g.stage.depth)) leads there in
+                  let root : is_package_object s (number_of l.way) ≡ true =
+                  ap (is_package_object s) (sym (root_on l.way l.rest) ∙ ap number_of (sym same)) ∙ near_package s g.stage.depth depth some less w named near in
+                  let (k, at, under, lent) : IsLentFor Borrowed l.way = elim (borrower_goes (home s g.stage.depth) sees g.views (view_here s state) (facts_of program effects g.stage) waits.views
+                  (LentBy program effects older) shared l.object l.way (ap sees (sym (lifted_root g.views u l)) ∙ plain) l.has front) [
+                    | inl own ↦ elim (goes_for g has some waits.views Borrowed l.way own root) [ inl lent ↦ lent | inr lent ↦ lent ]
+                    | inr through ↦ through_for g Borrowed l.way through
+                  ] in
+                  (k, at, subst (Under k) (sym same) (under_on k l.way (on l.way l.rest) under (on_under l.way l.rest)), lent))
+            ]
+          ]
     ]
 
     -- what is gone elsewhere and meets a way of another frame doesn't begin near
@@ -589,7 +616,7 @@ module _ (table : Table) (typed : TypedProgram) (effects : Effects)
 
     -- its cell is reached
     pub bare_reached : (w : Way) (n : ℕ) (p : List Step) → BareElsewhere older w (OfCell n) p → Reaches (view_here s state) w (OfCell n)
-    bare_reached w n p (g, has, (taken, inl (c, there, is, cell))) = far w n (g, has, inr (c, there, is, same_cell cell))
+    bare_reached w n p (g, has, (taken, inl (c, there, is, cell))) = far w n (g, has, inr (inl (c, there, is, same_cell cell)))
       where
         same_cell : OfCell c.cell ≡ OfCell n → c.cell ≡ n
         same_cell e = cc
@@ -597,13 +624,13 @@ module _ (table : Table) (typed : TypedProgram) (effects : Effects)
 
     pub bare_rests : (w : Way) (l : Loc) (p : List Step) → BareElsewhere older w l p
         → ((n : ℕ) × KeptElsewhere older w n × (l ≡ OfCell n)) ⊎ ((r : Root) × (w ≡ Object r) × (l ≡ OfRoot r))
-    bare_rests w l p (g, has, (taken, inl (c, there, is, cell))) = inl (c.cell, (g, has, inr (c, there, is, refl)), sym cell)
+    bare_rests w l p (g, has, (taken, inl (c, there, is, cell))) = inl (c.cell, (g, has, inr (inl (c, there, is, refl))), sym cell)
     bare_rests w l p (g, has, (taken, inr (y, shared, is, at))) = inr (OfVariable 0 y, sym is, sym at)
 
     pub bare_begins : (w : Way) (l : Loc) (p : List Step) → BareElsewhere older w l p
         → (f : ℕ) × (x : ℕ) × (base_of w ≡ OfRoot (OfVariable f x)) × ((f ≡ home s depth x → ⊥) ⊎ ((k : Loan) × IsLentFor k (along w p)))
     bare_begins w l p (g, has, (taken, inl (c, there, is, cell))) =
-        let b = begins_elsewhere w c.cell (g, has, inr (c, there, is, refl)) in (
+        let b = begins_elsewhere w c.cell (g, has, inr (inl (c, there, is, refl))) in (
           b.0,
           b.1,
           b.2,

@@ -6,7 +6,7 @@ use Rattle.viewed_soundness.proofs.Stored.{Assigns, then_placed}
 use Rattle.viewed_steps.specs.Traversals.{IsSourceIn}
 use Rattle.machine.specs.Calls.{checks_at}
 use Rattle.spark_base.specs.declared.position.Pos.{Pos}
-use Rattle.viewed_soundness.proofs.Names.{plain_named, true_false}
+use Rattle.viewed_soundness.proofs.ViewKinds.{plain_named, true_false}
 use Rattle.std.proofs.Common.{◌≡◌, refl, sym, ap, ◌∙◌, subst, ◌⊎◌, inl, inr, ℕ, suc, ◌<◌, true, false, List, [], ◌∷◌, ◌++◌, drop, length, None, if◌then◌else◌, take, map}
 use Rattle.spark_base.specs.Lists.{Has}
 use Rattle.place_names.specs.declared.act.Act.{Act}
@@ -49,7 +49,7 @@ use Rattle.soundness.proofs.Waits.{waits_of}
 use Rattle.soundness.proofs.Waited.{FillsNone}
 use Rattle.soundness.proofs.Eased.{eased, goes_same}
 use Rattle.owned_loans.specs.Views.{Around, known_gone, Views, Viewed, ViewedAlone}
-use Rattle.viewed_soundness.specs.Holds.{IsNamed, AllKeep, is_view, sees_only, is_fixed}
+use Rattle.viewed_soundness.specs.Holds.{IsNamed, AllKeep, is_view, is_fixed, Seeing}
 use Rattle.viewed_soundness.proofs.Outcomes.{named_plain, Leads_on, stored_goes, not_views, assigned_acts}
 use Rattle.viewed_steps.specs.Awaited.{AreValues, temporaries_of, lasting_of, AreAwaited, types_for, TakesTogether}
 use Rattle.viewed_steps.proofs.Waited.{Shares, split_list}
@@ -60,23 +60,11 @@ use Rattle.viewed_steps.proofs.Placed.{MayBe}
 use Rattle.viewed_steps.proofs.Waiting.{StandsBetween, beside_them, handed, apart_elsewhere}
 use Rattle.viewed_steps.proofs.Standing.{or_right}
 use Rattle.viewed_steps.proofs.Standing as standing
-use Rattle.viewed_steps.specs.Traversals.{IsSourceIn}
 use Rattle.soundness.proofs.Following.{Each}
-use Rattle.viewed_soundness.proofs.Names.{true_false}
-use Rattle.std.proofs.Common.{◌≡◌, refl, sym, ap, ◌∙◌, subst, ◌⊎◌, inl, inr, ℕ, suc, ◌<◌, true, false, List, [], ◌∷◌, ◌++◌, drop, length, None, map}
-use Rattle.flow_paths.specs.Scopes.{taken, brought, scope_behind}
-use Rattle.machine.specs.Memory.{declared}
-use Rattle.machine.specs.Evaluate.{Done, followed_by, place_of}
-use Rattle.soundness.specs.Typed.{Kept}
-use Rattle.typed_laws.specs.Needed.{IsFine}
-use Rattle.soundness.specs.Sound.{IsNoCall, Stage, facts_of, AreStages, IsRunnable, returns_value, InScope, IsNamedSub, IsAtPoint, view_of as view_here}
-use Rattle.soundness.proofs.Eased.{eased}
+use Rattle.flow_paths.specs.Scopes.{brought}
+use Rattle.soundness.specs.Sound.{returns_value}
 use Rattle.soundness.proofs.Successors.{below_one}
-use Rattle.viewed_soundness.specs.Holds.{is_view, sees_only}
-use Rattle.viewed_soundness.proofs.Outcomes.{named_plain, Leads_on}
-use Rattle.viewed_steps.proofs.Waited.{Shares}
 use Rattle.viewed_steps.proofs.Beside.{IsOther, others_keep}
-use Rattle.viewed_steps.proofs.Waiting.{StandsBetween, beside_them, handed}
 use Rattle.soundness.specs.Ready.{IsSupplied, Fills}
 use Rattle.soundness.proofs.Onward.{GoesOn, declare_follows, assign_follows}
 use Rattle.viewed_steps.proofs.Turned as turned
@@ -88,12 +76,9 @@ use Rattle.viewed_soundness.proofs.Hands.{first_words, words_first}
 use Rattle.soundness.proofs.Taking.{Takes}
 use Rattle.viewed_steps.proofs.Packages as packages
 use Rattle.viewed_steps.proofs.Innermost as innermost
-use Rattle.std.specs.Prelude.{flat_map}
+use Rattle.std.specs.Prelude.{flat_map, Bool}
 use Rattle.machine.specs.Step.{led}
 use Rattle.machine.specs.Evaluate.{Raises, Traps}
-use Rattle.soundness.specs.Seen.{seen}
-use Rattle.soundness.specs.Ready.{IsSupplied}
-use Rattle.soundness.proofs.Waits.{waits_of}
 use Rattle.soundness.proofs.Numbers.{index_law}
 use Rattle.soundness.proofs.Lasting.{keeps}
 use Rattle.viewed_soundness.proofs.Evaluated.{Given, GivenOn, Ready, checked_on, keep_both}
@@ -101,8 +86,16 @@ use Rattle.viewed_steps.proofs.Declared.{declared_goes, first_fades}
 use Rattle.viewed_steps.proofs.EachInstruction as each
 use Rattle.viewed_steps.proofs.Supplied.{of_types}
 use Rattle.viewed_steps.proofs.Views.{AreAccess, all_held}
+use Rattle.viewed_steps.specs.Seeing.{sees_in}
+use Rattle.viewed_steps.proofs.Sees.{sees_seeing}
 
 module _ (table : Table) (typed : TypedProgram) (effects : Effects) (input : List ℕ) (ready : IsReady table typed effects) where
+  abbrev sees : ℕ → Bool
+  sees = sees_in (flow_program table typed)
+
+  abbrev seeing : Seeing (flow_typing (flow_program table typed)) sees
+  seeing = sees_seeing (flow_program table typed)
+
   abbrev program : FlowProgram
   program = flow_program table typed
 
@@ -128,9 +121,9 @@ module _ (table : Table) (typed : TypedProgram) (effects : Effects) (input : Lis
       (awaiting : AreAwaited table typed None (top ∷ stages_of (below ∷ more_frames)))
       (of_sub : IsNamedSub (flow_named table typed) top.frame.sub named) (at_point : IsAtPoint named.points top.frame.next p)
       (path : ControlPath (path_points program effects (sub_of program top.frame.sub)) top.before top.frame.next) (views : Views)
-      (viewed_before : ViewedAlone (home s (suc (length rest))) (sees_only s) (known_gone (home s (suc (length rest))) (GoneElsewhere program effects (below ∷ more_frames))) views
+      (viewed_before : ViewedAlone (home s (suc (length rest))) sees (known_gone (home s (suc (length rest))) (GoneElsewhere program effects (below ∷ more_frames))) views
       (view_here s state) (facts_of program effects top))
-      (kept : Kept s state.memory (waiting_in state)) (scope : InScope s state.memory (suc (length rest)) (lasting_of s p.scope)) (holds : HoldsAt s (suc (length rest)) views state.memory p)
+      (kept : Kept s state.memory (waiting_in state)) (scope : InScope s state.memory (suc (length rest)) (lasting_of s p.scope)) (holds : HoldsAt s sees (suc (length rest)) views state.memory p)
       (placed_before : ArePlaced program (suc (length rest)) (facts_of program effects top) views p.scope × IsBeyond program effects (suc (length rest)) views (below ∷ more_frames)) (above : NoneAbove s (suc (length rest)) state.memory
       × HasTraversals table typed (view_here s state) (record { stage = top; views = views; cells = [] } ∷ (below ∷ more_frames))) where
     abbrev outer : List Frame
@@ -170,7 +163,7 @@ module _ (table : Table) (typed : TypedProgram) (effects : Effects) (input : Lis
         → AllowsAll facts_now (acts_of_main p.instr)
     allowed_now = innermost.allowed_now table typed effects input ready state top below more_frames rest named p frames deep stages running awaiting of_sub at_point path views viewed_before kept scope holds placed_before above
 
-    abbrev viewed : Viewed (home s depth) (sees_only s) other views (view_here s state) facts_now
+    abbrev viewed : Viewed (home s depth) sees other views (view_here s state) facts_now
     viewed = innermost.viewed table typed effects input ready state top below more_frames rest named p frames deep stages running awaiting of_sub at_point path views viewed_before kept scope holds placed_before above
 
     abbrev left_scope : List ℕ
@@ -210,7 +203,7 @@ module _ (table : Table) (typed : TypedProgram) (effects : Effects) (input : Lis
     may x y = MayBe program (scope_behind p) x y × IsStoredAt p.instr x × IsSourceIn (sub_acts (sub_of program top.frame.sub)) x y
 
     abbrev LeadsFrom : Instruction → Outcome → Type 0
-    LeadsFrom i outcome = Leads_on easy ready.accepted.settled ready.owns other alone views ready.class.parts_named may refl refl (after (acts_of_main i) facts_now) outcome
+    LeadsFrom i outcome = Leads_on easy sees seeing ready.accepted.settled ready.owns other alone views ready.class.parts_named may refl refl (after (acts_of_main i) facts_now) outcome
 
     abbrev orderly : AreOrderly program p (λ q. (n : ℕ) × Has (map (number_in named.points) p.next) n × IsAtPoint named.points n q)
     orderly = innermost.orderly table typed effects input ready state top below more_frames rest named p frames deep stages running awaiting of_sub at_point path views viewed_before kept scope holds placed_before above
@@ -238,39 +231,39 @@ module _ (table : Table) (typed : TypedProgram) (effects : Effects) (input : Lis
       words_given : given_words ≡ first_words front []
       words_given = words_first front
 
-      pub ready_value : Ready (steps.here main_turn) ready.accepted.settled state.leaks [] other alone (keeps s ready.accepted.settled ready.owns) index_law ready.owns views
+      pub ready_value : Ready (steps.here main_turn) sees seeing ready.accepted.settled state.leaks [] other alone (keeps s ready.accepted.settled ready.owns) index_law ready.owns views
           ready.class.parts_named state.memory (front ++ waiting_in easy.state) facts_now
       ready_value = record {
-        viewed = subst (λ z. Viewed (home s depth) (sees_only s) other views (seen s state.memory z state.leaks) facts_now) waits_split viewed;
+        viewed = subst (λ z. Viewed (home s depth) sees other views (seen s state.memory z state.leaks) facts_now) waits_split viewed;
         kept = subst (Kept s state.memory) waits_split kept;
-        holds = all_held s in_formals depth views state.memory (λ y n view e. holds.held y n (λ fading. going fading.0 fading.1) view e) holds.only holds.owners holds.own;
+        holds = all_held s sees in_formals depth views state.memory (λ y n view bare e. holds.held y n (λ fading. going fading.0 fading.1) view bare e) holds.only holds.owners holds.own holds.taken holds.parts;
       }
 
       -- scalar values may wait above it
       pub source_within : (u : ℕ) → IsNamed s.table u → Source s u tree → (later first : List Waiting) → front ≡ later ++ first → AreScalarValues s later
-          → AreOfTypes s (types_taken s tree) first → AllowsAll facts_now (acts (acts_in s tree)) → AllKeep (is_fixed s) (acts (acts_in s tree))
-          → GivenOn (steps.here main_turn) ready.accepted.settled state.leaks [] other alone (keeps s ready.accepted.settled ready.owns) index_law ready.owns views
+          → AreOfTypes s (types_taken s tree) first → AllowsAll facts_now (acts (acts_in s tree)) → AllKeep (is_fixed s sees) (acts (acts_in s tree))
+          → GivenOn (steps.here main_turn) sees seeing ready.accepted.settled state.leaks [] other alone (keeps s ready.accepted.settled ready.owns) index_law ready.owns views
           ready.class.parts_named (first_words later []) u (waiting_in easy.state) (after (acts (acts_in s tree)) facts_now) (steps.taken_by main_turn u tree (start main_turn))
       source_within u named_type (inl (view, is)) later first split scalar fit allowed keep = absurd (true_false (is_anonymous (full s.table u)) view (named_plain s.table u named_type))
       source_within u named_type (inr gives) later first split scalar fit allowed keep =
           let now : List (List machine.Word) → Now = (λ ws. record { memory = state.memory; waits = ws }) in
-          subst (λ b. GivenOn (steps.here main_turn) ready.accepted.settled state.leaks [] other alone (keeps s ready.accepted.settled ready.owns) index_law ready.owns views
+          subst (λ b. GivenOn (steps.here main_turn) sees seeing ready.accepted.settled state.leaks [] other alone (keeps s ready.accepted.settled ready.owns) index_law ready.owns views
           ready.class.parts_named (first_words later []) u (waiting_in easy.state) (after (acts (acts_in s tree)) facts_now)
           (if b then run.viewed (steps.here main_turn) tree (start main_turn) else followed_by (value (steps.here main_turn) tree (start main_turn)) (checked (steps.here main_turn) u)))
           (sym (named_plain s.table u named_type))
-          (checked_on (steps.here main_turn) ready.accepted.settled state.leaks [] other alone (keeps s ready.accepted.settled ready.owns) index_law ready.owns views
+          (checked_on (steps.here main_turn) sees seeing ready.accepted.settled state.leaks [] other alone (keeps s ready.accepted.settled ready.owns) index_law ready.owns views
           ready.class.parts_named (first_words later []) u u (waiting_in easy.state) (after (acts (acts_in s tree)) facts_now) (value (steps.here main_turn) tree (start main_turn))
-          (subst (λ ws. GivenOn (steps.here main_turn) ready.accepted.settled state.leaks [] other alone (keeps s ready.accepted.settled ready.owns) index_law ready.owns views
+          (subst (λ ws. GivenOn (steps.here main_turn) sees seeing ready.accepted.settled state.leaks [] other alone (keeps s ready.accepted.settled ready.owns) index_law ready.owns views
           ready.class.parts_named (first_words later []) u (waiting_in easy.state) (after (acts (acts_in s tree)) facts_now) (value (steps.here main_turn) tree (now ws)))
           (sym (words_given ∙ ap (λ z. first_words z []) split))
-          (fed_alone (steps.here main_turn) ready.accepted.settled state.leaks [] other alone (keeps s ready.accepted.settled ready.owns) index_law ready.owns views
+          (fed_alone (steps.here main_turn) sees seeing ready.accepted.settled state.leaks [] other alone (keeps s ready.accepted.settled ready.owns) index_law ready.owns views
           ready.class.parts_named tree u gives taken_within.2 later first scalar fit (waiting_in easy.state) [] state.memory facts_now
-          (subst (λ z. Ready (steps.here main_turn) ready.accepted.settled state.leaks [] other alone (keeps s ready.accepted.settled ready.owns) index_law ready.owns views
+          (subst (λ z. Ready (steps.here main_turn) sees seeing ready.accepted.settled state.leaks [] other alone (keeps s ready.accepted.settled ready.owns) index_law ready.owns views
           ready.class.parts_named state.memory (z ++ waiting_in easy.state) facts_now) split ready_value) allowed named_type keep)))
 
       pub alone_within : (u : ℕ) → IsNamed s.table u → Source s u tree → AreOfTypes s (types_taken s tree) front → AllowsAll facts_now (acts (acts_in s tree))
-          → AllKeep (is_fixed s) (acts (acts_in s tree))
-          → Given (steps.here main_turn) ready.accepted.settled state.leaks [] other alone (keeps s ready.accepted.settled ready.owns) index_law ready.owns views
+          → AllKeep (is_fixed s sees) (acts (acts_in s tree))
+          → Given (steps.here main_turn) sees seeing ready.accepted.settled state.leaks [] other alone (keeps s ready.accepted.settled ready.owns) index_law ready.owns views
           ready.class.parts_named u (waiting_in easy.state) (after (acts (acts_in s tree)) facts_now) (steps.taken_by main_turn u tree (start main_turn))
       alone_within u named_type source fit allowed keep = source_within u named_type source [] front refl tt fit allowed keep
 
@@ -285,7 +278,7 @@ module _ (table : Table) (typed : TypedProgram) (effects : Effects) (input : Lis
           allowed_now (each.spares table typed effects input ready state top below more_frames rest named p frames deep stages running awaiting of_sub at_point path views viewed_before kept scope holds placed_before above going no_calls end)
           (standing.allowed table typed effects input ready state top older outer named p frames of_sub at_point path no_calls)
 
-      keeps_there : AllKeep (is_fixed s) (acts_of_main p.instr)
+      keeps_there : AllKeep (is_fixed s sees) (acts_of_main p.instr)
       keeps_there = standing.keeps_there table typed effects input ready state top older outer named p frames of_sub at_point
 
       -- an object that is no view
@@ -310,8 +303,8 @@ module _ (table : Table) (typed : TypedProgram) (effects : Effects) (input : Lis
             subst (AllowsAll facts_now) acts_same (subst (λ i. AllowsAll facts_now (acts_of_main i)) is
             (allowed_there (λ finish. (let never : Finish ≡ Declare y v = sym finish ∙ is in cc))))
 
-        pub keeps_here : AllKeep (is_fixed s) (acts (acts_in s held))
-        keeps_here = subst (AllKeep (is_fixed s)) acts_same (subst (λ i. AllKeep (is_fixed s) (acts_of_main i)) is keeps_there)
+        pub keeps_here : AllKeep (is_fixed s sees) (acts (acts_in s held))
+        keeps_here = subst (AllKeep (is_fixed s sees)) acts_same (subst (λ i. AllKeep (is_fixed s sees) (acts_of_main i)) is keeps_there)
 
         pub source_here : Source s (object_at s y).of held
         source_here = (subst (IsFine s named.sub.result) is (standing.fine table typed effects input ready state top older outer named p frames of_sub at_point)).1
@@ -324,14 +317,14 @@ module _ (table : Table) (typed : TypedProgram) (effects : Effects) (input : Lis
         values_here = values_fit going taken_within (Declare y v) is
 
         declared_value : (z : Evaluated (List machine.Word))
-            → Given (steps.here main_turn) ready.accepted.settled state.leaks [] other alone (keeps s ready.accepted.settled ready.owns) index_law ready.owns views
+            → Given (steps.here main_turn) sees seeing ready.accepted.settled state.leaks [] other alone (keeps s ready.accepted.settled ready.owns) index_law ready.owns views
             ready.class.parts_named (object_at s y).of (waiting_in easy.state) (after (acts_of_main (Declare y v)) facts_now) z
             → FadesTo (steps.here main_turn) state.memory z
             → LeadsFrom (Declare y v) (steps.evaluated main_turn z (λ vs m. steps.goes main_turn (declared depth y vs m) 0))
         declared_value (Done ws n) given faint =
             each.goes_too table typed effects input ready state top below more_frames rest named p frames deep stages running awaiting of_sub at_point path views viewed_before kept scope holds placed_before above going no_calls
             (Declare y v) (declared depth y ws n.memory) 0
-            (declared_goes easy ready.accepted.settled ready.owns other alone in_formals views ready.class.parts_named may refl refl y (after (acts_of_main (Declare y v)) facts_now)
+            (declared_goes easy sees seeing ready.accepted.settled ready.owns other alone in_formals views ready.class.parts_named may refl refl y (after (acts_of_main (Declare y v)) facts_now)
             named_object (orderly.begun y v is) ws n given faint
             (λ q. each.blank table typed effects input ready state top below more_frames rest named p frames deep stages running awaiting of_sub at_point path views viewed_before kept scope holds placed_before above going no_calls y v is q
             (word_in s.table (content s state.memory [] (OfRoot (OfVariable depth y))) q) refl)
@@ -346,10 +339,10 @@ module _ (table : Table) (typed : TypedProgram) (effects : Effects) (input : Lis
         unfolding initial
         declares_within =
             declared_value (steps.first_value main_turn (object_at s y).of v (start main_turn))
-            (subst (λ z. Given (steps.here main_turn) ready.accepted.settled state.leaks [] other alone (keeps s ready.accepted.settled ready.owns) index_law ready.owns views
+            (subst (λ z. Given (steps.here main_turn) sees seeing ready.accepted.settled state.leaks [] other alone (keeps s ready.accepted.settled ready.owns) index_law ready.owns views
             ready.class.parts_named (object_at s y).of (waiting_in easy.state) z (steps.taken_by main_turn (object_at s y).of held (start main_turn))) facts_same
             (alone_within going taken_within (object_at s y).of named_object source_here values_here allowed_here keeps_here))
-            (first_fades easy ready.accepted.settled ready.owns other alone in_formals views ready.class.parts_named may refl refl given_words (object_at s y).of v (refl, source_here))
+            (first_fades easy sees seeing ready.accepted.settled ready.owns other alone in_formals views ready.class.parts_named may refl refl given_words (object_at s y).of v (refl, source_here))
 
       -- a place that is no view
       module _ (r : Pos) (y : ℕ) (path_there : TypedTree) (u : ℕ) (is : p.instr ≡ Assign (Name r y path_there u) held) (path_scalar : AreScalarTypes s (types_taken s path_there)) (end : p.instr ≡ Finish → ⊥)
@@ -386,12 +379,12 @@ module _ (table : Table) (typed : TypedProgram) (effects : Effects) (input : Lis
         each_allowed =
             allows_both facts_now first_acts last_acts (subst (AllowsAll facts_now) acts_there (subst (λ i. AllowsAll facts_now (acts_of_main i)) is (allowed_there end)))
 
-        pub each_kept : AllKeep (is_fixed s) first_acts × AllKeep (is_fixed s) last_acts
+        pub each_kept : AllKeep (is_fixed s sees) first_acts × AllKeep (is_fixed s sees) last_acts
         each_kept =
-            keep_both (is_fixed s) first_acts last_acts (subst (AllKeep (is_fixed s)) acts_there (subst (λ i. AllKeep (is_fixed s) (acts_of_main i)) is keeps_there))
+            keep_both (is_fixed s sees) first_acts last_acts (subst (AllKeep (is_fixed s sees)) acts_there (subst (λ i. AllKeep (is_fixed s sees) (acts_of_main i)) is keeps_there))
 
-        pub plain_root : is_fixed s (name_of y path_there) ≡ false
-        plain_root = (keep_both (is_fixed s) (acts (acts_in s path_there)) (act.Write (name_of y path_there) ∷ []) each_kept.1).1.0
+        pub plain_root : is_fixed s sees (name_of y path_there) ≡ false
+        plain_root = (keep_both (is_fixed s sees) (acts (acts_in s path_there)) (act.Write (name_of y path_there) ∷ []) each_kept.1).1.0
 
         abbrev facts_then : List Fact
         facts_then = effect (act.Write (name_of y path_there)) (after (acts (acts_in s path_there)) (after first_acts facts_now))
@@ -413,14 +406,14 @@ module _ (table : Table) (typed : TypedProgram) (effects : Effects) (input : Lis
             (takes_values s ready.accepted.settled (types_taken s path_there) fronts.0 fronts.3 path_scalar [])
 
         stored_value : (z : Evaluated steps.Stored)
-            → Assigns (steps.here main_turn) ready.accepted.settled state.leaks [] other alone (keeps s ready.accepted.settled ready.owns) index_law ready.owns views
+            → Assigns (steps.here main_turn) sees seeing ready.accepted.settled state.leaks [] other alone (keeps s ready.accepted.settled ready.owns) index_law ready.owns views
             ready.class.parts_named (waiting_in easy.state) (after (acts_of_main (Assign target held)) facts_now) z
             → LeadsFrom (Assign target held) (steps.evaluated main_turn z (λ (st : steps.Stored) m. steps.leaking_goes (checks_at s (steps.target_pos main_turn target) m st.place)
             (steps.goes main_turn (stored s st.place st.words m) 0)))
         stored_value (Done st n) given =
             subst (λ z. LeadsFrom (Assign target held) (steps.leaking_goes (checks_at s (steps.target_pos main_turn target) n.memory st.place) z))
             (goes_same main_turn (stored s st.place st.words n.memory) 0)
-            (stored_goes easy ready.accepted.settled ready.owns other alone views ready.class.parts_named may refl refl
+            (stored_goes easy sees seeing ready.accepted.settled ready.owns other alone views ready.class.parts_named may refl refl
             (after (acts_of_main (Assign target held)) facts_now) (steps.target_pos main_turn target) st n given)
         stored_value (Raises how n) given =
             each.ends_so table typed effects input ready state top below more_frames rest named p frames deep stages running awaiting of_sub at_point path views viewed_before kept scope holds placed_before above going no_calls (Assign target held) how n.memory
@@ -431,10 +424,10 @@ module _ (table : Table) (typed : TypedProgram) (effects : Effects) (input : Lis
         assigns_within =
             stored_value (followed_by (steps.taken_by main_turn u held (start main_turn))
             (λ ws now. followed_by (place_of (steps.here main_turn) target now) (λ k now. Done (record { words = ws; place = k }) now)))
-            (subst (λ z. Assigns (steps.here main_turn) ready.accepted.settled state.leaks [] other alone (keeps s ready.accepted.settled ready.owns) index_law ready.owns views
+            (subst (λ z. Assigns (steps.here main_turn) sees seeing ready.accepted.settled state.leaks [] other alone (keeps s ready.accepted.settled ready.owns) index_law ready.owns views
             ready.class.parts_named (waiting_in easy.state) z (followed_by (steps.taken_by main_turn u held (start main_turn))
             (λ ws now. followed_by (place_of (steps.here main_turn) target now) (λ k now. Done (record { words = ws; place = k }) now)))) facts_there
-            (then_placed (steps.here main_turn) ready.accepted.settled state.leaks [] other alone (keeps s ready.accepted.settled ready.owns) index_law ready.owns views
+            (then_placed (steps.here main_turn) sees seeing ready.accepted.settled state.leaks [] other alone (keeps s ready.accepted.settled ready.owns) index_law ready.owns views
             ready.class.parts_named (first_words fronts.0 []) [] r y u path_there (waiting_in easy.state) (after first_acts facts_now) named_target plain_root leads_there path_takes
             each_allowed.1 (steps.taken_by main_turn u held (start main_turn))
             (source_within going taken_within u named_target source_there fronts.0 fronts.1 fronts.2 (scalar_values s (types_taken s path_there) fronts.0 fronts.3 path_scalar) fronts.4

@@ -1,3 +1,5 @@
+-- what only sees
+pub mod Seeing
 -- what waits in frames
 pub mod Awaited
 -- what a call takes from places of its caller

@@ -16,7 +16,6 @@ use Rattle.typed_tree.specs.Trees.{TypedTree, Name, NoMore, More, Null}
 use Rattle.typed_tree.specs.Trees as typed
 use Rattle.typed_tree.specs.Programs.{TypedProgram}
 use Rattle.flow_paths.specs.declared.report.Effects.{Effects}
-use Rattle.flow_paths.specs.Acts.{gives_variable}
 use Rattle.flow_paths.specs.Instructions.{Declare, Assign, Call, Input, EndScope, Finish, Hold}
 use Rattle.flow_paths.specs.Objects.{Typing, object_at, sub_at, is_formal, is_variable, is_anonymous, is_observer, is_package_object, view_of, traverses}
 use Rattle.flow_paths.specs.Points.{NamedPoint, FlowPoint}
@@ -26,16 +25,17 @@ use Rattle.flow_paths.specs.Views.{encloses, scope_of, traversed_formal, sub_act
 use Rattle.machine.specs.States.{sub_of}
 use Rattle.machine.specs.Owners.{is_in}
 use Rattle.soundness.specs.Typed.{OwnsByShape}
-use Rattle.soundness.specs.Sound.{Accepted, IsNamedSub, IsAtPoint, IsProcedure, IsRunnable, is_temporary_object, has_returned, IsEntered, goes_through_none, Uses}
+use Rattle.soundness.specs.Sound.{Accepted, IsNamedSub, IsAtPoint, IsProcedure, IsRunnable, is_temporary_object, has_returned, IsEntered, goes_through_none}
 use Rattle.soundness.specs.Ready.{root_of, stored_at, AreScoped, AreNew, AreElaborated, AreReturning}
 use Rattle.typed_laws.specs.Needed.{Matches, Leads, Stays, Gives, IsPlace}
 use Rattle.soundness.specs.Seen.{is_view_formal}
-use Rattle.viewed_soundness.specs.Holds.{sees_only, is_fixed, AllKeep, IsNamed, is_given}
+use Rattle.viewed_soundness.specs.Holds.{is_fixed, AllKeep, IsNamed, IsAccess, is_given, is_bundle}
 use Rattle.viewed_steps.specs.Awaited.{is_held, IsTakenAt, FillsTyped, TakesAlone}
-use Rattle.viewed_steps.specs.Traversals.{IsSourceName, TraversalCall, IsViewTaker, IsBorrowTaker}
+use Rattle.viewed_steps.specs.Traversals.{IsSourceName, TraversalCall, IsViewTaker}
 use Rattle.type_definitions.specs.declared.table.Shape.TheVariants as shape
 use Rattle.type_definitions.specs.Types.{shape_of}
 use Rattle.viewed_steps.specs.Sound.{IsScalarObject, IsViewClass, Lasts, IsStoredAt}
+use Rattle.viewed_steps.specs.Seeing.{sees_in}
 
 -- ---- calls
 
@@ -82,7 +82,7 @@ pub record AreValued (table : Table) (typed : TypedProgram) : Type 0 where
 abbrev pub IsOwnPlace : Typing → TypedTree → Type 0
 IsOwnPlace s e = (y : ℕ) → Has (root_of e) y → is_view_formal s y ≡ false
 
--- What a formal is shown that owns nothing: null, or what a name of its type designates.
+-- What a formal is shown that owns nothing: null, if it has no parts that see, or what a name of its type designates.
 -- It has that type; or both are access types, and designate one type.
 abbrev pub IsAccessAs : Typing → ℕ → ℕ → Type 0
 IsAccessAs s u t =
@@ -91,7 +91,7 @@ IsAccessAs s u t =
     × (shape_of s.table u ≡ shape.Access d c n) × (shape_of s.table t ≡ shape.Access k e o) × Matches s.table d k)
 
 abbrev pub IsSeen : Typing → ℕ → TypedTree → Type 0
-IsSeen s x typed.Null = Unit {0}
+IsSeen s x typed.Null = is_bundle s x ≡ false
 IsSeen s x (Name p y path u) = Leads s (object_at s y).of path u × IsAccessAs s u (object_at s x).of
 IsSeen s x e = ⊥
 
@@ -144,7 +144,7 @@ IsSource program scope x v =
     (q : Pos) × (y : ℕ) × (path : TypedTree) × (u : ℕ) × (e : TypedTree) × (v ≡ More e NoMore)
     × IsSourceName (flow_typing program) (object_at (flow_typing program) x).of e q y path u
     × Lasts program scope y x
-    × (is_observer (flow_typing program) x ≡ false → (sees_only (flow_typing program) y ≡ false) × (y < x))
+    × (is_observer (flow_typing program) x ≡ false → (is_observer (flow_typing program) y ≡ false) × (sees_in program x ≡ sees_in program y) × (y < x))
 
 -- An observer is likewise assigned from a name that lasts, and a borrower from one that is rooted in it.
 abbrev pub IsNewSource : FlowProgram → List ℕ → ℕ → TypedTree → Type 0
@@ -154,10 +154,10 @@ IsNewSource program scope x e =
     × (is_observer (flow_typing program) x ≡ false → y ≡ x)
 
 -- Nothing is copied back to through what only sees.
-abbrev pub AreUnobserved : Typing → List ℕ → TypedTree → Type 0
-AreUnobserved s (x ∷ formals) (More e rest) =
-    (is_in (object_at s x).mode ≡ false → (y : ℕ) → Has (root_of e) y → sees_only s y ≡ false) × AreUnobserved s formals rest
-AreUnobserved s formals actuals = Unit {0}
+abbrev pub AreUnobserved : Typing → (ℕ → Bool) → List ℕ → TypedTree → Type 0
+AreUnobserved s sees (x ∷ formals) (More e rest) =
+    (is_in (object_at s x).mode ≡ false → (y : ℕ) → Has (root_of e) y → sees y ≡ false) × AreUnobserved s sees formals rest
+AreUnobserved s sees formals actuals = Unit {0}
 
 -- Views at a point with its successors.
 pub record AreOrderly (program : FlowProgram) (p : NamedPoint) (next : NamedPoint → Type 0) : Type 0 where
@@ -165,8 +165,8 @@ pub record AreOrderly (program : FlowProgram) (p : NamedPoint) (next : NamedPoin
   pub assigned : (q : Pos) (x w : ℕ) (e : TypedTree) → p.instr ≡ Assign (Name q x NoMore w) e → is_anonymous (view_of (flow_typing program) x) ≡ true
       → IsNewSource program p.scope x e
   pub copied : (n : ℕ) (actuals : TypedTree) (result : Option ℕ) → p.instr ≡ Call n actuals result
-      → AreUnobserved (flow_typing program) (sub_of program n).formals actuals
-  pub read : (q : Pos) (x w : ℕ) (path : TypedTree) → p.instr ≡ Input (Name q x path w) → sees_only (flow_typing program) x ≡ false
+      → AreUnobserved (flow_typing program) (sees_in program) (sub_of program n).formals actuals
+  pub read : (q : Pos) (x w : ℕ) (path : TypedTree) → p.instr ≡ Input (Name q x path w) → sees_in program x ≡ false
   -- what is declared, or ends, is no formal that owns nothing; and of an anonymous access type, it is a
   -- variable, as what is assigned as a whole is
   pub variables : (x : ℕ) → IsStoredAt p.instr x ⊎ (p.instr ≡ EndScope x) → is_anonymous (view_of (flow_typing program) x) ≡ true
@@ -199,21 +199,18 @@ pub record ViewsAreOrderly (table : Table) (typed : TypedProgram) : Type 0 where
       → AreOrderly (flow_program table typed) p (λ q. (n : ℕ) × Has (map (number_in sub.points) p.next) n × IsAtPoint sub.points n q)
   -- nothing is moved, written or freed through an observer, or through a formal that owns nothing
   pub kept : (sub : FlowSub) → Has (flow_program table typed).subs sub → (p : FlowPoint) → Has sub.points p
-      → AllKeep (is_fixed (flow_typing (flow_program table typed))) (map (λ (a : Placed). a.act) p.acts)
+      → AllKeep (is_fixed (flow_typing (flow_program table typed)) (sees_in (flow_program table typed))) (map (λ (a : Placed). a.act) p.acts)
 
 -- ---- traversal functions
 
--- The call of one: its first actual is a name; and the point that it leads to takes the result, which borrows if a borrower
--- is given.
+-- The call of one: its first actual is a name; and the point that it leads to takes the result.
 pub record IsTraversalCall (s : Typing) (sub : NamedSub) (next : List ℕ) (n : ℕ) (actuals : TypedTree) : Type 0 where
   pub call : TraversalCall
   pub actuals_are : actuals ≡ More (Name call.name_pos call.root call.path call.of) call.others
   pub taker : (k : ℕ) → Has next k → (q : NamedPoint) → IsAtPoint sub.points k q → IsViewTaker s n call sub.sub.result q.instr
-  pub borrows : gives_variable s (sub_at s n).result ≡ true → (sees_only s call.root ≡ false)
-      × ((k : ℕ) → Has next k → (q : NamedPoint) → IsAtPoint sub.points k q → IsBorrowTaker s n call sub.sub.result q.instr)
 
--- What is asked of them. A call of one leads to the point that takes its result; its first formal sees, and no other one is
--- of an anonymous access type; what one returns by a name has no other root than that, or none that isn't
+-- What is asked of them. A call of one leads to the point that takes its result; its first formal sees and is of an access
+-- type, and no other one is of an anonymous access type; what one returns by a name has no other root than that, or none that isn't
 -- refuted; and after a return only ends of scopes and the end of the call follow.
 pub record AreTraversing (table : Table) (typed : TypedProgram) (effects : Effects) : Type 0 where
   pub firsts : (n : ℕ) → IsEntered (flow_program table typed) n → (x : ℕ) → Has (sub_of (flow_program table typed) n).formals x
@@ -222,6 +219,7 @@ pub record AreTraversing (table : Table) (typed : TypedProgram) (effects : Effec
   pub first : (n f : ℕ) → IsEntered (flow_program table typed) n
       → traversed_formal (flow_typing (flow_program table typed)) (sub_of (flow_program table typed) n) ≡ Some f
       → (is_formal (flow_typing (flow_program table typed)) f ≡ true) × (is_given (flow_typing (flow_program table typed)) f ≡ true)
+      × IsAccess (flow_typing (flow_program table typed)) f
   pub formal : (n : ℕ) → IsEntered (flow_program table typed) n → traverses (flow_typing (flow_program table typed)).table (sub_of (flow_program table typed) n).result ≡ true
       → (f : ℕ) × (traversed_formal (flow_typing (flow_program table typed)) (sub_of (flow_program table typed) n) ≡ Some f)
   pub given : (sub : FlowSub) → Has (flow_program table typed).subs sub → (p : FlowPoint) → Has sub.points p → (m : PlaceName) (b : Bool)
@@ -232,11 +230,6 @@ pub record AreTraversing (table : Table) (typed : TypedProgram) (effects : Effec
       → (e last : TypedTree) → p.instr ≡ Hold (More e last)
       → (of : ℕ) → sub.sub.result ≡ Some of → is_anonymous (full (flow_program table typed).table of) ≡ true
       → (e ≡ Null) ⊎ ((q : Pos) × (y : ℕ) × (path : TypedTree) × (u : ℕ) × IsSourceName (flow_typing (flow_program table typed)) of e q y path u)
-  -- what is called that gives a borrower doesn't use the package object that its first actual is rooted in
-  pub spared : (sub : FlowSub) → Has (flow_program table typed).subs sub → (p : FlowPoint) → Has sub.points p → (n : ℕ) (actuals : TypedTree) (result : Option ℕ)
-      → p.instr ≡ Call n actuals result → gives_variable (flow_typing (flow_program table typed)) (sub_at (flow_typing (flow_program table typed)) n).result ≡ true
-      → (q : Pos) (y : ℕ) (path : TypedTree) (u : ℕ) (more : TypedTree) → actuals ≡ More (Name q y path u) more
-      → is_package_object (flow_typing (flow_program table typed)) y ≡ true → Uses effects n y → ⊥
   -- what is called is taken
   pub followed : (sub : NamedSub) → Has (flow_named table typed) sub → (p : NamedPoint) → Has sub.points p → (n : ℕ) (actuals : TypedTree) (result : Option ℕ)
       → p.instr ≡ Call n actuals result → (f : ℕ) → traversed_formal (flow_typing (flow_program table typed)) (sub_of (flow_program table typed) n) ≡ Some f

@@ -20,7 +20,7 @@ use Rattle.typed_tree.specs.Programs.{TypedProgram}
 use Rattle.flow_paths.specs.declared.report.Effects.{Effects}
 use Rattle.flow_paths.specs.Instructions.{Instruction, Declare, Assign, Call, EndScope, Finish}
 use Rattle.flow_paths.specs.Objects.{Typing, object_at, sub_at, is_formal, is_observer, is_named_access, view_of, is_package_object, has_scope_end, is_anonymous}
-use Rattle.flow_paths.specs.Points.{NamedPoint, FlowPoint}
+use Rattle.flow_paths.specs.Points.{NamedPoint}
 use Rattle.flow_paths.specs.Laid.{FlowSub, FlowProgram, NamedSub, flow_typing, flow_program, flow_named}
 use Rattle.flow_paths.specs.Paths.{ControlPath}
 use Rattle.flow_paths.specs.Effects.{written_by, path_points}
@@ -35,12 +35,13 @@ use Rattle.machine.specs.Run.{step, no_point}
 use Rattle.owned_ways.specs.Ways.{Object, Step, OfVariable, OfRoot, Held, Way, Named, Under, Past, name_of, number_of, OfCell, Reaches, Loc, along, View, base_of}
 use Rattle.soundness.specs.Seen.{content, word_in, home, is_view_formal}
 use Rattle.soundness.specs.Typed.{Kept}
-use Rattle.soundness.specs.Sound.{goes_through_none, is_temporary_object, IsNamedSub, IsAtPoint, IsRunnable, Stage, facts_of, AreStages, Uses, IsPlain, InScope, IsTrap, has_returned}
+use Rattle.soundness.specs.Sound.{IsNamedSub, IsAtPoint, IsRunnable, Stage, facts_of, AreStages, Uses, IsPlain, InScope, IsTrap, has_returned}
 use Rattle.soundness.specs.Sound as owners
 use Rattle.owned_loans.specs.Views.{known_gone, Views, IsMovedBy, AreClear, IsForeign, AreShared, AreViews, IsOuter, ViewedAlone, expand}
-use Rattle.viewed_soundness.specs.Holds.{IsNamed, IsAccess, PartsAreNamed, is_view, sees_only, IsOwners, is_given, is_exclusive, lends_first}
+use Rattle.viewed_soundness.specs.Holds.{IsNamed, IsAccess, PartsAreNamed, is_view, IsOwners, is_given, is_exclusive, PartsHold, is_bundle}
 use Rattle.viewed_steps.specs.Awaited.{is_held, lasting_of, AreAwaited}
 use Rattle.viewed_steps.specs.Taken.{TakenBy, Lodge, AreTaken, AreCarried}
+use Rattle.viewed_steps.specs.Seeing.{sees_in}
 
 -- ---- the class
 
@@ -53,7 +54,7 @@ abbrev pub IsCopiedBack : Typing → ℕ → Type 0
 IsCopiedBack s x = (object_at s x).mode ≡ mode.In → ⊥
 
 abbrev pub IsShown : Typing → ℕ → Type 0
-IsShown s x = (is_given s x ≡ true) × IsAccess s x
+IsShown s x = is_given s x ≡ true
 
 abbrev pub IsOwnless : Typing → ℕ → Type 0
 IsOwnless s x = ((object_at s x).mode ≡ mode.In) × (is_owning s.table (object_at s x).of ≡ false) × IsNamed s.table (object_at s x).of
@@ -61,29 +62,19 @@ IsOwnless s x = ((object_at s x).mode ≡ mode.In) × (is_owning s.table (object
 abbrev pub IsKindOfFormal : Typing → ℕ → Type 0
 IsKindOfFormal s x = IsScalarObject s x ⊎ ((IsCopiedBack s x × IsNamed s.table (object_at s x).of) ⊎ (IsShown s x ⊎ IsOwnless s x))
 
--- In each call of a function that gives a borrower, the actual of its first formal doesn't overlap what other formals see.
-abbrev pub LendsApart : FlowProgram → Type 0
-LendsApart program =
-    (sub : FlowSub) → Has program.subs sub → (p : FlowPoint) → Has sub.points p → (n : ℕ) (actuals : TypedTree) (result : Option ℕ)
-    → p.instr ≡ Call n actuals result → (a b : alias.Passed) → Has (alias.passed (sub_of program n).formals actuals) a
-    → Has (alias.passed (sub_of program n).formals actuals) b → lends_first (flow_typing program) a.formal (sub_at (flow_typing program) n) ≡ true
-    → (a.formal ≡ b.formal → ⊥) → is_given (flow_typing program) b.formal ≡ true → overlaps a.actual.name b.actual.name ≡ true → ⊥
-
 -- Anonymous access types are those of objects and results alone; formals are such, those of functions of mode
--- `in`, and what they are shown isn't changed through them, but through the first one of a function that gives a
--- borrower; those of procedures of mode `in` that own nothing are of access-to-variable
--- types.
+-- `in`, and what they are shown isn't changed through them; those of procedures of mode `in` that own nothing and are
+-- of access types are of access-to-variable types.
 pub record IsViewClass (program : FlowProgram) : Type 0 where
   pub parts_named : PartsAreNamed program.table
   pub formals : (x : ℕ) → is_formal (flow_typing program) x ≡ true → IsKindOfFormal (flow_typing program) x
   pub functions : (n t : ℕ) → (sub_at (flow_typing program) n).result ≡ Some t → (x : ℕ) → Has (sub_at (flow_typing program) n).formals x
-      → is_formal (flow_typing program) x ≡ true → is_given (flow_typing program) x ≡ true → lends_first (flow_typing program) x (sub_at (flow_typing program) n) ≡ false
-      → is_exclusive (flow_typing program) x ≡ false
-  pub lends : LendsApart program
+      → is_formal (flow_typing program) x ≡ true → is_given (flow_typing program) x ≡ true → is_exclusive (flow_typing program) x ≡ false
   pub modes : (n t : ℕ) → (sub_at (flow_typing program) n).result ≡ Some t → (x : ℕ) → Has (sub_at (flow_typing program) n).formals x
       → (object_at (flow_typing program) x).mode ≡ mode.In
   pub procedures : (n : ℕ) → (sub_at (flow_typing program) n).result ≡ None → (x : ℕ) → Has (sub_at (flow_typing program) n).formals x
-      → is_formal (flow_typing program) x ≡ true → is_view_formal (flow_typing program) x ≡ true → is_named_access (view_of (flow_typing program) x) ≡ true
+      → is_formal (flow_typing program) x ≡ true → is_view_formal (flow_typing program) x ≡ true → IsAccess (flow_typing program) x
+      → is_named_access (view_of (flow_typing program) x) ≡ true
 
 -- ---- where objects last
 
@@ -108,37 +99,51 @@ IsFading s p x = (z : ℕ) × (p.instr ≡ EndScope z) × (is_observer s x ≡ t
 abbrev pub Lies : Typing → ℕ → Way → Type 0
 Lies s frame w = Named (home s frame) w ⊎ ((foreign : IsForeign (home s frame) w) × (foreign.0 < frame) × (0 < foreign.0))
 
+-- So it is of what parts of formals designate; if it is of the frame, it belongs to a package.
+abbrev pub ArePartsLow : Typing → ℕ → Views → Type 0
+ArePartsLow s frame v =
+    (x : ℕ) (p : List Step) (w : Way) → v.part_way x p ≡ Some w → Lies s frame w × (Named (home s frame) w → is_package_object s (number_of w) ≡ true)
+
 -- The objects of a frame that hold the number of a cell are views with a value, but for those that
 -- fade.
-pub record HoldsAt (s : Typing) (frame : ℕ) (v : Views) (m : Memory) (p : NamedPoint) : Type 0 where
-  pub held : (x n : ℕ) → (IsFading s p x → ⊥) → is_view s x ≡ true
+pub record HoldsAt (s : Typing) (sees : ℕ → Bool) (frame : ℕ) (v : Views) (m : Memory) (p : NamedPoint) : Type 0 where
+  pub held : (x n : ℕ) → (IsFading s p x → ⊥) → is_view s x ≡ true → is_bundle s x ≡ false
       → (get_or (variable_slots s (home s frame x) x m.variables) 0 no_slot).word ≡ Cell n
       → (w : Way) × (v.way x ≡ Some w) × (v.cell x ≡ n)
-  pub within : (x n : ℕ) → is_view s x ≡ true
+  pub within : (x n : ℕ) → is_view s x ≡ true → is_bundle s x ≡ false
       → (get_or (variable_slots s (home s frame x) x m.variables) 0 no_slot).word ≡ Cell n → is_within x p.scope ≡ true
   pub only : (x : ℕ) (w : Way) → v.way x ≡ Some w → is_view s x ≡ true
   pub lies : (x : ℕ) (w : Way) → v.way x ≡ Some w → Lies s frame w
   pub owners : (x : ℕ) (w : Way) → v.way x ≡ Some w → IsOwners s w
   -- what a formal sees was taken from no object of the frame, and what a borrower leads to was
   pub passed : (x : ℕ) (w : Way) → v.way x ≡ Some w → is_given s x ≡ true → Named (home s frame) (v.up x) → ⊥
-  pub own : (x : ℕ) (w : Way) → v.way x ≡ Some w → sees_only s x ≡ false → is_given s x ≡ false → Named (home s frame) (v.up x)
+  pub own : (x : ℕ) (w : Way) → v.way x ≡ Some w → sees x ≡ false → is_given s x ≡ false → Named (home s frame) (v.up x)
+  pub taken : (x : ℕ) (w : Way) → v.way x ≡ Some w → Named (home s frame) (v.up x) → is_observer s x ≡ false → sees x ≡ false
+  -- so it is of the parts of formals
+  pub parts : PartsHold s sees frame v m
+  pub low : ArePartsLow s frame v
 
 -- A view is in scope, and no temporary. The roots of its way and of what it was taken from last, and so does the one
 -- that holds the loan of an observer, if these are of the frame.
-pub record IsPlaced (program : FlowProgram) (frame : ℕ) (facts : List Fact) (v : Views) (scope : List ℕ) (x : ℕ) (w : Way) : Type 0 where
+pub record IsPlaced (program : FlowProgram) (sees : ℕ → Bool) (frame : ℕ) (facts : List Fact) (v : Views) (scope : List ℕ) (x : ℕ) (w : Way) : Type 0 where
   pub within : is_within x scope ≡ true
   pub plain : is_held (flow_typing program) x ≡ false
   pub up : Named (home (flow_typing program) frame) (v.up x) → Lasts program scope (number_of (v.up x)) x
   pub root : Named (home (flow_typing program) frame) w → Lasts program scope (number_of w) x
-  pub holder : Named (home (flow_typing program) frame) (v.up x) → sees_only (flow_typing program) x ≡ true
-      → (h : ℕ) × Has facts (Lent Observed h (name_of (v.loan x))) × Lasts program scope h x × (sees_only (flow_typing program) h ≡ true)
+  pub holder : Named (home (flow_typing program) frame) (v.up x) → sees x ≡ true
+      → (h : ℕ) × Has facts (Lent Observed h (name_of (v.loan x))) × Lasts program scope h x × (sees h ≡ true)
+
+abbrev pub ArePlacedWith : FlowProgram → (ℕ → Bool) → ℕ → List Fact → Views → List ℕ → Type 0
+ArePlacedWith program sees frame facts v scope = (x : ℕ) (w : Way) → v.way x ≡ Some w → IsPlaced program sees frame facts v scope x w
 
 abbrev pub ArePlaced : FlowProgram → ℕ → List Fact → Views → List ℕ → Type 0
-ArePlaced program frame facts v scope = (x : ℕ) (w : Way) → v.way x ≡ Some w → IsPlaced program frame facts v scope x w
+ArePlaced program frame facts v scope = ArePlacedWith program (sees_in program) frame facts v scope
 
--- Above a frame no variable of a view has a number.
+-- Above a frame no variable of a view has a number, and no part of a formal.
 abbrev pub NoneAbove : Typing → ℕ → Memory → Type 0
-NoneAbove s depth m = (f x n : ℕ) → depth < f → is_view s x ≡ true → (get_or (variable_slots s f x m.variables) 0 no_slot).word ≡ Cell n → ⊥
+NoneAbove s depth m =
+    ((f x n : ℕ) → depth < f → is_view s x ≡ true → (get_or (variable_slots s f x m.variables) 0 no_slot).word ≡ Cell n → ⊥)
+    × ((f x i n : ℕ) → depth < f → is_bundle s x ≡ true → (get_or (variable_slots s f x m.variables) i no_slot).word ≡ Cell n → ⊥)
 
 -- ---- frames that wait
 
@@ -233,16 +238,16 @@ pub record IsKept (s : Typing) (state : State) (g : ViewStage) (c : Lodge) : Typ
   pub aside : (to : Way) → Has g.stage.returns to → Past to c.way → ⊥
 
 -- A place is behind what a view was given, and may be changed through it.
-abbrev pub IsGivenTo : Typing → ViewStage → Way → Type 0
-IsGivenTo s g to =
-    (x : ℕ) × (w : Way) × (g.views.way x ≡ Some w) × (Named (home s g.stage.depth) (g.views.up x) → ⊥) × (sees_only s x ≡ false) × Under w to
+abbrev pub IsGivenTo : Typing → (ℕ → Bool) → ViewStage → Way → Type 0
+IsGivenTo s sees g to =
+    (x : ℕ) × (w : Way) × (g.views.way x ≡ Some w) × (Named (home s g.stage.depth) (g.views.up x) → ⊥) × (sees x ≡ false) × Under w to
 
 -- A name of the frame stands for such a place: it isn't lent, and no part of it is moved. If it is rooted in a package object,
 -- the frame writes that.
-pub record IsNameTaken (s : Typing) (effects : Effects) (facts : List Fact) (g : ViewStage) (to : Way) : Type 0 where
+pub record IsNameTaken (s : Typing) (sees : ℕ → Bool) (effects : Effects) (facts : List Fact) (g : ViewStage) (to : Way) : Type 0 where
   pub name : Way
   pub called : Named (home s g.stage.depth) name
-  pub plain : sees_only s (number_of name) ≡ false
+  pub plain : sees (number_of name) ≡ false
   pub leads : expand g.views name ≡ to
   pub unlent : (l : Loan) (h : ℕ) (n : PlaceName) → Has facts (Lent l h n) → overlaps n (name_of name) ≡ true → ⊥
   pub cleared : (n : PlaceName) → Has facts (Moved n) → covers (name_of name) n ≡ true → ⊥
@@ -287,47 +292,58 @@ pub record IsWaiting (table : Table) (typed : TypedProgram) (effects : Effects) 
       → Has (written_by effects g.stage.frame.sub) y
   -- a package object of which a part was taken is written, or was lent to the frame
   pub goes : (to : Way) → Has g.stage.returns to → (y : ℕ) → base_of to ≡ OfRoot (OfVariable 0 y) → is_package_object (flow_typing (flow_program table typed)) y ≡ true
-      → Has (written_by effects g.stage.frame.sub) y ⊎ IsGivenTo (flow_typing (flow_program table typed)) g to
+      → Has (written_by effects g.stage.frame.sub) y ⊎ IsGivenTo (flow_typing (flow_program table typed)) (sees_in (flow_program table typed)) g to
   pub names : (to : Way) → Has g.stage.returns to
-      → IsNameTaken (flow_typing (flow_program table typed)) effects (facts_of (flow_program table typed) effects g.stage) g to
-  -- none of the places goes before what a view sees
+      → IsNameTaken (flow_typing (flow_program table typed)) (sees_in (flow_program table typed)) effects (facts_of (flow_program table typed) effects g.stage) g to
+  -- none of the places goes before what a view sees, or a part of a formal
   pub off : (x : ℕ) (w : Way) → g.views.way x ≡ Some w → (to : Way) → Has g.stage.returns to → Past to w → ⊥
+  pub off_parts : (x : ℕ) (q : List Step) (w : Way) → g.views.part_way x q ≡ Some w → (to : Way) → Has g.stage.returns to → Past to w → ⊥
   pub uses : (x : ℕ) → Uses effects callee x → Uses effects g.stage.frame.sub x
   pub writes : (x : ℕ) → Has (written_by effects callee) x → Has (written_by effects g.stage.frame.sub) x
-  pub clear : AreClear (sees_only (flow_typing (flow_program table typed))) (facts_of (flow_program table typed) effects g.stage)
-  pub views : AreViews (home (flow_typing (flow_program table typed)) g.stage.depth) (sees_only (flow_typing (flow_program table typed))) g.views
+  pub clear : AreClear (sees_in (flow_program table typed)) (facts_of (flow_program table typed) effects g.stage)
+  pub views : AreViews (home (flow_typing (flow_program table typed)) g.stage.depth) (sees_in (flow_program table typed)) g.views
       (owners.view_of (flow_typing (flow_program table typed)) state) (facts_of (flow_program table typed) effects g.stage)
-  pub holds : HoldsAt (flow_typing (flow_program table typed)) g.stage.depth g.views state.memory point
+  pub holds : HoldsAt (flow_typing (flow_program table typed)) (sees_in (flow_program table typed)) g.stage.depth g.views state.memory point
   pub placed : ArePlaced (flow_program table typed) g.stage.depth (facts_of (flow_program table typed) effects g.stage) g.views point.scope
   pub kept : (c : Lodge) → Has g.cells c → IsKept (flow_typing (flow_program table typed)) state g c
   -- no number stands in what was taken
   pub bare : (w : Way) (l : Loc) (p : List Step) → IsBareOf (flow_typing (flow_program table typed)) g w l p → (q : List Step) (n : ℕ)
       → word_in (flow_typing (flow_program table typed)).table (content (flow_typing (flow_program table typed)) state.memory [] l) (q ++ p) ≡ Held n → ⊥
-  pub taken : AreTaken (flow_typing (flow_program table typed)) g.cells state.memory g.stage.depth g.views (facts_of (flow_program table typed) effects g.stage)
+  pub taken : AreTaken (flow_typing (flow_program table typed)) (sees_in (flow_program table typed)) g.cells state.memory g.stage.depth g.views (facts_of (flow_program table typed) effects g.stage)
       (lasting_of (flow_typing (flow_program table typed)) point.scope) backs g.stage.returns
 
 -- The frame of the package objects has no views, and nothing waits in it.
 abbrev pub IsFirst : ViewStage → Type 0
-IsFirst e = (e.stage.frame.sub ≡ 0) × IsPlain e.stage × ((x : ℕ) → e.views.way x ≡ None) × (e.stage.depth ≡ 0) × (e.cells ≡ [])
+IsFirst e =
+    (e.stage.frame.sub ≡ 0) × IsPlain e.stage × ((x : ℕ) → e.views.way x ≡ None) × (e.stage.depth ≡ 0) × (e.cells ≡ [])
+    × ((x : ℕ) (p : List Step) → e.views.part_way x p ≡ None)
+
+-- None of these ways meets what a part of a formal designates.
+abbrev pub PartsApart : Views → (Way → Type 0) → Type 0
+PartsApart v gone = (x : ℕ) (p : List Step) (w z : Way) → v.part_way x p ≡ Some w → gone z → Under z w ⊎ Under w z → ⊥
 
 -- Nothing that is gone for the frames around meets what a view of a frame sees that belongs to them.
 abbrev pub AreUnmet : FlowProgram → Effects → ViewStage → List ViewStage → Type 0
 AreUnmet program effects g older =
-    (x : ℕ) (w z : Way) → g.views.way x ≡ Some w → IsOuter (home (flow_typing program) g.stage.depth) g.views x w → GoneElsewhere program effects older z
-    → Under z w ⊎ Under w z → ⊥
+    ((x : ℕ) (w z : Way) → g.views.way x ≡ Some w → IsOuter (home (flow_typing program) g.stage.depth) g.views x w → GoneElsewhere program effects older z
+    → Under z w ⊎ Under w z → ⊥)
+    × PartsApart g.views (GoneElsewhere program effects older)
 
--- A way of a frame that waits, with its cell: one of a view, or one to a place that is copied back to.
+-- A way of a frame that waits, with its cell: one of a view, or one to a place that is copied back to, or one of a part
+-- of a formal.
 abbrev pub IsWayOf : ViewStage → Way → ℕ → Type 0
 IsWayOf g w n =
-    ((x : ℕ) × (g.views.way x ≡ Some w) × (g.views.cell x ≡ n)) ⊎ ((c : Lodge) × Has g.cells c × (c.way ≡ w) × (c.cell ≡ n))
+    ((x : ℕ) × (g.views.way x ≡ Some w) × (g.views.cell x ≡ n))
+    ⊎ (((c : Lodge) × Has g.cells c × (c.way ≡ w) × (c.cell ≡ n))
+    ⊎ ((x : ℕ) × (p : List Step) × (g.views.part_way x p ≡ Some w) × (g.views.part_cell x p ≡ n)))
 
 abbrev pub KeptBy : List ViewStage → Way → ℕ → Type 0
 KeptBy older w n = (g : ViewStage) × Has older g × IsWayOf g w n
 
 -- None of the frames around goes past what a view of a frame changes that belongs to them.
-abbrev pub ArePast : Typing → ℕ → Views → List ViewStage → Type 0
-ArePast s depth v older =
-    (x : ℕ) (w : Way) → v.way x ≡ Some w → (Named (home s depth) (v.up x) → ⊥) → sees_only s x ≡ false → (k : Way) (n : ℕ) → KeptBy older k n → Past w k → ⊥
+abbrev pub ArePast : Typing → (ℕ → Bool) → ℕ → Views → List ViewStage → Type 0
+ArePast s sees depth v older =
+    (x : ℕ) (w : Way) → v.way x ≡ Some w → (Named (home s depth) (v.up x) → ⊥) → sees x ≡ false → (k : Way) (n : ℕ) → KeptBy older k n → Past w k → ⊥
 
 -- A place of a package object that a frame that waits keeps.
 abbrev pub LentBy : FlowProgram → Effects → List ViewStage → Loan → PlaceName → Type 0
@@ -338,8 +354,8 @@ LentBy program effects older l n =
 -- So they don't; and what a view of a frame was given that begins at a package object goes on from a place that they keep.
 abbrev pub IsBeyond : FlowProgram → Effects → ℕ → Views → List ViewStage → Type 0
 IsBeyond program effects depth v older =
-    ArePast (flow_typing program) depth v older
-    × AreShared (home (flow_typing program) depth) (sees_only (flow_typing program)) (LentBy program effects older) v
+    ArePast (flow_typing program) (sees_in program) depth v older
+    × AreShared (home (flow_typing program) depth) (sees_in program) (LentBy program effects older) v
 
 -- The frames around one that runs a subprogram and copies formals back.
 abbrev pub AreWaiting : Table → TypedProgram → Effects → State → ℕ → List Return → List ViewStage → Type 0
@@ -415,7 +431,7 @@ pub record IsSound (table : Table) (typed : TypedProgram) (effects : Effects) (s
   pub awaited : AreAwaited table typed None (top ∷ stages_of older)
   pub path : ControlPath (path_points (flow_program table typed) effects (sub_of (flow_program table typed) top.frame.sub)) top.before top.frame.next
   -- the state is well owned, each view has a way to its cell, and what ways find gone is moved
-  pub viewed : ViewedAlone (home (flow_typing (flow_program table typed)) top.depth) (sees_only (flow_typing (flow_program table typed)))
+  pub viewed : ViewedAlone (home (flow_typing (flow_program table typed)) top.depth) (sees_in (flow_program table typed))
       (known_gone (home (flow_typing (flow_program table typed)) top.depth) (GoneElsewhere (flow_program table typed) effects older)) views
       (owners.view_of (flow_typing (flow_program table typed)) state) (facts_of (flow_program table typed) effects top)
   -- words have the types of what they stand in
@@ -426,7 +442,7 @@ pub record IsSound (table : Table) (typed : TypedProgram) (effects : Effects) (s
   pub at_point : IsAtPoint named.points top.frame.next point
   -- variables that own are in scope, and so are views
   pub scope : InScope (flow_typing (flow_program table typed)) state.memory top.depth (lasting_of (flow_typing (flow_program table typed)) point.scope)
-  pub holds : HoldsAt (flow_typing (flow_program table typed)) top.depth views state.memory point
+  pub holds : HoldsAt (flow_typing (flow_program table typed)) (sees_in (flow_program table typed)) top.depth views state.memory point
   pub placed : ArePlaced (flow_program table typed) top.depth (facts_of (flow_program table typed) effects top) views point.scope
   pub past : IsBeyond (flow_program table typed) effects top.depth views older
   pub none_above : NoneAbove (flow_typing (flow_program table typed)) top.depth state.memory

@@ -1,7 +1,7 @@
 -- What a call takes from places of its caller, and gives back when it ends.
 --
 -- While the call is in progress, the formal owns what the place had, and the place has no number.
-use Rattle.std.specs.Prelude.{◌≡◌, ◌⊎◌, ◌<◌, ℕ, true, false, List, [], ◌∷◌, ◌++◌, suc}
+use Rattle.std.specs.Prelude.{◌≡◌, ◌⊎◌, ◌<◌, ℕ, true, false, List, [], ◌∷◌, ◌++◌, suc, Bool}
 use Rattle.spark_base.specs.Lists.{Has}
 use Rattle.place_names.specs.declared.fact.Fact.{Fact}
 use Rattle.place_names.specs.declared.fact.Fact.TheVariants.{Moved, Lent}
@@ -18,7 +18,7 @@ use Rattle.part_offsets.specs.Parts.{type_in, offset_in, has_part}
 use Rattle.soundness.specs.Seen.{content, word_in, home, is_view_formal}
 use Rattle.soundness.specs.Typed.{Matches, IsFixed}
 use Rattle.owned_loans.specs.Views.{Views, expand}
-use Rattle.viewed_soundness.specs.Holds.{IsNamed, sees_only}
+use Rattle.viewed_soundness.specs.Holds.{IsNamed, is_bundle}
 
 -- A way is one of these, or goes on from it to a part.
 abbrev pub TakenBy : List Way → Way → Type 0
@@ -95,9 +95,10 @@ pub record IsLodged (s : Typing) (k : Place) (c : Lodge) : Type 0 where
   pub at : k.at ≡ offset_in s.table (trunk_type s c.way) steps
   pub of : Matches s.table k.of (type_in s.table (trunk_type s c.way) steps)
 
--- A scalar place in a variable, or in such a cell.
+-- A scalar place in a variable, which is that of no formal with parts that see, or in such a cell.
 abbrev pub IsPlainPlace : Typing → List Lodge → Place → Type 0
-IsPlainPlace s cells k = IsFixed s k ⊎ ((c : Lodge) × Has cells c × IsLodged s k c × (is_scalar (full s.table k.of) ≡ true))
+IsPlainPlace s cells k =
+    ((fixed : IsFixed s k) × (is_bundle s fixed.object ≡ false)) ⊎ ((c : Lodge) × Has cells c × IsLodged s k c × (is_scalar (full s.table k.of) ≡ true))
 
 abbrev pub IsCopiedTo : Typing → List Lodge → Return → Type 0
 IsCopiedTo s cells r = (is_scalar (full s.table (object_at s r.formal).of) ≡ true) × IsPlainPlace s cells r.to
@@ -111,12 +112,12 @@ IsAmong cells start trunk = (n : ℕ) → start ≡ OfCell n → (c : Lodge) × 
 -- What is passed for a formal that isn't scalar and is copied back: such a place, whose variable is in
 -- scope if it may own, and whose value the formal may have. A name of the frame stands for its way, which isn't lent,
 -- and of which no part is known to be moved.
-pub record IsPassedOn (s : Typing) (cells : List Lodge) (depth : ℕ) (v : Views) (facts : List Fact) (scope : List ℕ) (x : ℕ) (k : Place) (to : Way) : Type 0 where
+pub record IsPassedOn (s : Typing) (sees : ℕ → Bool) (cells : List Lodge) (depth : ℕ) (v : Views) (facts : List Fact) (scope : List ℕ) (x : ℕ) (k : Place) (to : Way) : Type 0 where
   pub inside : IsInside s depth k to
   pub name : Way
   pub called : Named (home s depth) name
   pub leads : expand v name ≡ to
-  pub plain : sees_only s (number_of name) ≡ false
+  pub plain : sees (number_of name) ≡ false
   pub among : IsAmong cells inside.start inside.trunk
   pub fits : Matches s.table k.of (object_at s x).of
   pub formal : is_package_object s x ≡ false
@@ -132,9 +133,9 @@ abbrev pub IsBare : (s : Typing) (depth : ℕ) (k : Place) (to : Way) → Memory
 IsBare s depth k to m inside =
     (p : List Step) (c : ℕ) → word_in s.table (content s m [] inside.start) (p ++ inside.steps) ≡ Held c → ⊥
 
-abbrev pub IsTaken : Typing → List Lodge → Memory → ℕ → Views → List Fact → List ℕ → Return → Way → Type 0
-IsTaken s cells m depth v facts scope r to =
-    (passed : IsPassedOn s cells depth v facts scope r.formal r.to to) × IsBare s depth r.to to m passed.inside
+abbrev pub IsTaken : Typing → (ℕ → Bool) → List Lodge → Memory → ℕ → Views → List Fact → List ℕ → Return → Way → Type 0
+IsTaken s sees cells m depth v facts scope r to =
+    (passed : IsPassedOn s sees cells depth v facts scope r.formal r.to to) × IsBare s depth r.to to m passed.inside
 
 -- None of these ways begins another one, or is begun by it.
 abbrev pub IsApartFrom : Way → List Way → Type 0
@@ -146,9 +147,9 @@ IsAnother x rest = (r : Return) → Has rest r → r.formal ≡ x → ⊥
 
 -- Formals of scalar types are copied back to scalar places, which owners don't see; the others to places
 -- that were taken, one after the other.
-abbrev pub AreTaken : Typing → List Lodge → Memory → ℕ → Views → List Fact → List ℕ → List Return → List Way → Type 0
-AreTaken s cells m depth v facts scope [] ways = ways ≡ []
-AreTaken s cells m depth v facts scope (r ∷ rest) [] = IsCopiedTo s cells r × AreTaken s cells m depth v facts scope rest []
-AreTaken s cells m depth v facts scope (r ∷ rest) (to ∷ ways) =
-    (IsCopiedTo s cells r × AreTaken s cells m depth v facts scope rest (to ∷ ways))
-    ⊎ (IsTaken s cells m depth v facts scope r to × IsApartFrom to ways × IsAnother r.formal rest × AreTaken s cells m depth v facts scope rest ways)
+abbrev pub AreTaken : Typing → (ℕ → Bool) → List Lodge → Memory → ℕ → Views → List Fact → List ℕ → List Return → List Way → Type 0
+AreTaken s sees cells m depth v facts scope [] ways = ways ≡ []
+AreTaken s sees cells m depth v facts scope (r ∷ rest) [] = IsCopiedTo s cells r × AreTaken s sees cells m depth v facts scope rest []
+AreTaken s sees cells m depth v facts scope (r ∷ rest) (to ∷ ways) =
+    (IsCopiedTo s cells r × AreTaken s sees cells m depth v facts scope rest (to ∷ ways))
+    ⊎ (IsTaken s sees cells m depth v facts scope r to × IsApartFrom to ways × IsAnother r.formal rest × AreTaken s sees cells m depth v facts scope rest ways)

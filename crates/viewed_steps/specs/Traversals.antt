@@ -12,19 +12,17 @@ use Rattle.type_definitions.specs.declared.table.Shape.TheVariants as shape
 use Rattle.type_definitions.specs.Types.{shape_of, full}
 use Rattle.typed_tree.specs.Trees.{TypedTree, Name, NoMore, Call as CallIn, More}
 use Rattle.flow_paths.specs.Instructions.{Instruction, Declare, Assign, Hold}
-use Rattle.flow_paths.specs.Objects.{Typing, sub_at, object_at, is_variable, is_borrower, is_observer, view_of, traverses, is_anonymous}
+use Rattle.flow_paths.specs.Objects.{Typing, sub_at, object_at, is_variable, is_observer, view_of, traverses, is_anonymous}
 use Rattle.flow_paths.specs.Names.{name_of}
 use Rattle.flow_paths.specs.Views.{Roots}
-use Rattle.flow_paths.specs.Acts.{gives_variable}
 use Rattle.machine.specs.Words as machine
 use Rattle.machine.specs.States.{Waiting}
 use Rattle.owned_ways.specs.Ways.{OfCell, Way, All, View, Reaches, Under, Named}
 use Rattle.owned_ways.specs.Ways as ways
 use Rattle.owned_loans.specs.Views.{Go, on, Views, expand}
-use Rattle.owned_loans.proofs.Ways.{Lifted}
 use Rattle.soundness.specs.Seen.{home}
 use Rattle.typed_laws.specs.Needed.{Matches}
-use Rattle.viewed_soundness.specs.Holds.{is_view}
+use Rattle.viewed_soundness.specs.Holds.{GoesBy}
 use Rattle.viewed_steps.specs.Awaited.{IsTakenBy}
 
 -- ---- sources
@@ -92,13 +90,6 @@ IsViewTaker s n c result i =
     ⊎ (((p : Pos) × (x : ℕ) × (u : ℕ) × (i ≡ Assign (Name p x NoMore u) (call_in n c)) × IsSeer s x × (is_observer s x ≡ false → c.root ≡ x))
     ⊎ ((i ≡ Hold (More (call_in n c) NoMore)) × (traverses s.table result ≡ true)))
 
--- It borrows.
-abbrev pub IsBorrowTaker : Typing → ℕ → TraversalCall → Option ℕ → Instruction → Type 0
-IsBorrowTaker s n c result i =
-    ((x : ℕ) × (i ≡ Declare x (More (call_in n c) NoMore)) × (is_borrower s x ≡ true))
-    ⊎ (((p : Pos) × (x : ℕ) × (u : ℕ) × (i ≡ Assign (Name p x NoMore u) (call_in n c)) × (is_borrower s x ≡ true) × (c.root ≡ x))
-    ⊎ ((i ≡ Hold (More (call_in n c) NoMore)) × (traverses s.table result ≡ true) × (gives_variable s result ≡ true)))
-
 -- The first actual as a way of its frame.
 pub record Traverses (s : Typing) (depth : ℕ) (i : Instruction) (n : ℕ) : Type 0 where
   pub call : TraversalCall
@@ -110,7 +101,7 @@ pub record Traverses (s : Typing) (depth : ℕ) (i : Instruction) (n : ℕ) : Ty
 -- What the first formal sees is what the first actual designates.
 pub record SeesFirst (s : Typing) (depth : ℕ) (i : Instruction) (n : ℕ) (around : Views) (first : Option Way) : Type 0 where
   pub traverses : Traverses s depth i n
-  pub lifted : is_view s traverses.call.root ≡ true → (w : Way) → first ≡ Some w → (l : Lifted around (All traverses.place)) × (l.object ≡ traverses.call.root)
+  pub goes : (w : Way) → first ≡ Some w → GoesBy s around traverses.call.root (All traverses.place)
   pub leads : (w : Way) → first ≡ Some w → expand around (All traverses.place) ≡ w
 
 -- ---- what waits
@@ -124,7 +115,7 @@ pub record IsGivenTo (s : Typing) (view : View) (depth : ℕ) (i : Instruction) 
   pub word : machine.Word
   pub is : w.words ≡ word ∷ []
   pub reached : (k : ℕ) → word ≡ machine.Cell k → Reaches view (expand v (on (All traverses.place) rest)) (OfCell k)
-  pub lifted : is_view s traverses.call.root ≡ true → (k : ℕ) → word ≡ machine.Cell k → (l : Lifted v (All traverses.place)) × (l.object ≡ traverses.call.root)
+  pub goes : (k : ℕ) → word ≡ machine.Cell k → GoesBy s v traverses.call.root (All traverses.place)
 
 -- So is the latest value that waits, if it is of an anonymous access type.
 abbrev pub AreGiven : Typing → View → ℕ → Instruction → Views → List Waiting → Type 0

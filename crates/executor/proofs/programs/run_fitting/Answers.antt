@@ -8,7 +8,7 @@ use Rattle.run_laws.specs.Settings.{start_of}
 use Rattle.machine.specs.Run.{Run, run}
 use Rattle.whole_runs.specs.Tellings.{Sinks, HaveFronts}
 use Rattle.whole_runs.proofs.Owed.{none_had}
-use Rattle.executor.specs.Executes.{IsExecuted}
+use Rattle.executor.specs.Executes.{IsDone}
 use Rattle.run_steps.specs.Runs.{running_setting, running_state}
 use Rattle.executor.proofs.Runs.{steps_from, all_executed, all_cut, runs_from}
 use Rattle.executor.proofs.programs.run_fitting.Goals as goal
@@ -31,7 +31,7 @@ returns-clause-executed g c =
     c.in-Ok.ensures.state ∙ ap (state_at_start (flow_typing (program_of c.args.laid.now)).table (rows_program c.args.codes)) c.is_declaring-declares.ensures in
     let old : Sinks = record { output = g.K.Sink.written c.args.out.now; lines = g.K.Sink.written c.args.err.now } in
     let new : Sinks = record { output = g.K.Sink.written c.run_whole.new.out; lines = g.K.Sink.written c.run_whole.new.err } in
-    subst (λ names. IfOk c.run_whole.result (λ ran. IsExecuted (map string_bytes names) (run (program_of c.args.laid.now) c.args.input.now c.args.steps) ran old new)) c.deref.ensures.value
+    subst (λ names. IfOk c.run_whole.result (λ ran. IsDone (map string_bytes names) (run (program_of c.args.laid.now) c.args.input.now c.args.steps) ran old new)) c.deref.ensures.value
     (all_executed c.args.laid.now c.args.codes c.requires.ready c.args.input.now c.args.steps c.requires.fits (map string_bytes c.deref.result.now) (running_setting c.in-Ok.run') (running_state c.in-Ok.run') c.run_whole.result
     old new c.in-Ok.ensures.setting begun c.run_whole.ensures.written)
 

@@ -11,7 +11,7 @@ invariant_of-result c = record {
       is_layout c.args.typed c.into_parts-names.result.1 c.into_parts-names.result.2 c.in_ok-objects.objects c.in_ok-subs.field-0
       c.into_parts-names.ensures.table c.into_parts-names.ensures.program c.in_ok-subs.ensures.laid
       (c.in_ok-objects.ensures ∙ ap (λ (ts : List ℕ). c.into_parts-names.result.2.objects ++ map waiting_object ts) c.deref.ensures.value)
-      c.in_ok-subs.ensures.judges t.0 t.1);
+      c.in_ok-subs.ensures.judges t.0 t.1 t.2);
 }
 
 pub returns-clause-laid : goal.returns-clause-laid

@@ -40,6 +40,15 @@ returns-clause-identified c =
     ∙ ap identified_of_events (c.as_slice.ensures ∙ c.in_ok-events.ensures ∙ ap (λ files. source_events (trees_of files)) c.deref.ensures.value)
     ∙ sym (identified_is (trees_of c.args.files.items))
 
+pub invariant_of-result-clause-named : goal.invariant_of-result-clause-named
+invariant_of-result-clause-named c = ∣ record {
+  texts = c.requires.read.0;
+  read = c.requires.read.1;
+  named = fault_is (trees_of c.args.files.items)
+      ∙ sym (ap fault_of_events (c.as_slice.ensures ∙ c.in_ok-events.ensures ∙ ap (λ files. source_events (trees_of files)) c.deref.ensures.value))
+      ∙ c.in_ok-made.ensures.fault;
+} ∣₁
+
 pub invariant_of-result-clause-fault : goal.invariant_of-result-clause-fault
 invariant_of-result-clause-fault c =
     ∣ fault_is (trees_of c.args.files.items)

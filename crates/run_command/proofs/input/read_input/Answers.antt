@@ -1,4 +1,4 @@
-use Rattle.std.proofs.Common.{ℕ, List, take}
+use Rattle.std.proofs.Common.{take}
 use Rattle.run_command.proofs.Taken.{read_out}
 use Rattle.run_command.proofs.input.read_input.Goals as goal
 

@@ -1,4 +1,4 @@
-use Rattle.std.proofs.Common.{◌≡◌, sym, subst, List, ℕ, map, string_bytes}
+use Rattle.std.proofs.Common.{sym, subst, map, string_bytes}
 use Rattle.laid_program.specs.Programs.{program_of}
 use Rattle.run_command.specs.Answers.{Answer}
 use Rattle.spark_tool.specs.declared.finding.Finding.{Finding}

@@ -1,4 +1,4 @@
-use Rattle.std.proofs.Common.{◌≡◌, ap, subst, sym, map, string_bytes, true, List, ℕ, Option, IfSome}
+use Rattle.std.proofs.Common.{◌≡◌, subst, map, string_bytes, true, List, ℕ, Option, IfSome}
 use Rattle.std.proofs.KnownBytes.{Keeps-refl}
 use Rattle.laid_program.specs.Programs.{program_of}
 use Rattle.run_command.specs.Answers.{Answer, Tells, TellsFront}

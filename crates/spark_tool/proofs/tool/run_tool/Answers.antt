@@ -1,4 +1,4 @@
-use Rattle.std.proofs.Common.{◌≡◌, ◌∙◌, sym, ap, Err}
+use Rattle.std.proofs.Common.{◌∙◌, sym, ap, Err}
 use Rattle.spark_tool.specs.declared.stop.Stop.{Stop}
 use Rattle.spark_tool.proofs.Complete.{stop_delivers}
 use Rattle.spark_tool.proofs.Outcomes.{read_stop}

@@ -1,5 +1,5 @@
 use Rattle.std.proofs.Common.{◌≡◌, refl, sym, ap, ◌∙◌, subst, List, length, map, None}
-use Rattle.std.proofs.Math.Logic.{∥∥₁_elim}
+use Rattle.std.proofs.Math.Logic.{∥∥₁_elim, ∥∥₁_map}
 use Rattle.std.specs.Coded.{Coded-set, coded_ℕ}
 use Rattle.ada_tree.specs.declared.unit.SourceUnit.{SourceUnit}
 use Rattle.name_events.specs.Denotes.{decl_infos}
@@ -61,11 +61,12 @@ invariant_of-result c =
     record {
       bodies = c.in_ok-parts.ensures.0;
       within = subst (λ (t : Table). AreWithin t) (sym c.in_ok-table.ensures) (within files known units _ lowered counted c.in_ok-settled.ensures judged);
-      typed = ∣ (
+      typed = ∥∥₁_map c.args.resolved.named (λ read. (
         files,
         typed files known units _ lowered counted c.in_ok-settled.ensures judged c.in_ok-table.table c.in_ok-parts.parts
             c.in_ok-table.ensures holds,
-      ) ∣₁;
+        read,
+      ));
     }
 
 pub returns-clause-judges : goal.returns-clause-judges

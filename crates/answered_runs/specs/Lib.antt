@@ -1,0 +1,3 @@
+-- what is said of `run`
+pub mod Headline
+pub mod Runs

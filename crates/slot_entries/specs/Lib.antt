@@ -1,0 +1,2 @@
+-- what is kept where frames begin and end
+pub mod Entries

@@ -1,0 +1,2 @@
+-- runs of programs that are lowered
+pub mod Runs

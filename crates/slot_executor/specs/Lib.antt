@@ -1,0 +1,2 @@
+-- what a run answers
+pub mod Executes

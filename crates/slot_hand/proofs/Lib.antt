@@ -1,0 +1,6 @@
+-- what is appended step by step
+pub mod Appended
+-- cells that are made of words
+pub mod Making
+-- leak checks
+pub mod Checks

@@ -1,0 +1,96 @@
+//! What spots with words of some kinds hold.
+ghost use Rattle.std.specs.Prelude.{◌≡◌, ◌≤◌, false, length, take, drop, OnOk, OnErr, IsErrOf};
+ghost use Rattle.machine.specs.Words.{access_offsets};
+ghost use Rattle.run_codes.specs.Flat.{is_broken, kinds as kinds_of, Given, and_then};
+ghost use Rattle.run_results.specs.Results.{leaks_of};
+ghost use Rattle.handled_runs.specs.Slots.{held};
+ghost use Rattle.handled_runs.specs.Leaks.{leaks_in};
+ghost use Rattle.slot_memory.specs.Memory.{Knows, Always, elsewhere};
+ghost use Rattle.slot_memory.specs.Spots.{spot_of};
+ghost use Rattle.slot_hand.specs.Outcomes.{Makeable, Made};
+ghost use Rattle.slot_hand.specs.Leaks.{Reads, Finds};
+
+use crate::words::{push_leaks, push_values};
+use code_rows::Stop;
+use run_results::Leak;
+use run_values::{Kind, Value};
+use slot_heap::Store;
+use slot_memory::{Memory, Spot};
+use spark_base::Pos;
+use type_table::TypeTable;
+use type_words::{push_access_offsets, push_kinds};
+
+/// The kinds of the words of a type.
+pub(crate) fn take_kinds(table: &TypeTable, of: u32, kinds: &mut Vec<Kind>) -> Result<(), Stop>
+    ensures kinds { OnOk result (kinds.new.items ≡ kinds_of table.now of) }
+    ensures memory { OnErr result (IsErrOf result Stop.Memory) }
+{
+    kinds.clear();
+    push_kinds(table, of, kinds)?;
+    Ok(())
+}
+
+/// At which words of a type its access parts stand.
+pub(crate) fn take_offsets(table: &TypeTable, of: u32, offsets: &mut Vec<u32>) -> Result<(), Stop>
+    ensures offsets { OnOk result (offsets.new.items ≡ access_offsets table.now of) }
+    ensures memory { OnErr result (IsErrOf result Stop.Memory) }
+{
+    offsets.clear();
+    push_access_offsets(table, of, offsets)?;
+    Ok(())
+}
+
+/// The words of some kinds at a spot.
+fn read_held<R: Store>(
+    memory: &Memory<R>,
+    spot: Spot,
+    kinds: &[Kind],
+    found: &mut Vec<i64>,
+) -> Result<(), Stop>
+    requires { Knows R.Means memory.now (λ s. is_broken (held s (spot_of spot) kinds.now) ≡ false) }
+    ensures { Always R.Means memory.now (λ s. is_broken (held s (spot_of spot) kinds.now) ≡ false → Reads (held s (spot_of spot) kinds.now) result found.new.items) }
+{
+    found.clear();
+    memory.push_words(spot, kinds, found)
+}
+
+/// The words from an index on become a cell, and its name comes in their place.
+pub(crate) fn make<R: Store>(
+    memory: &mut Memory<R>,
+    kinds: &[Kind],
+    from: usize,
+    values: &mut Vec<Value>,
+    words: &mut Vec<i64>,
+) -> Result<(), Stop>
+    requires from { from ≤ length words.old.items }
+    requires whole { Makeable R.Means memory.old kinds.now (drop from words.old.items) }
+    ensures made { Made R.Means memory.old kinds.now (drop from words.old.items) result (take from words.old.items) words.new.items memory.new }
+    ensures elsewhere { elsewhere memory.new ≡ elsewhere memory.old }
+{
+    values.clear();
+    push_values(kinds, &words.as_slice()[from..], values)?;
+    let word = match memory.allocate(values) {
+        Ok(word) => word,
+        Err(stop) => return Err(stop),
+    };
+    words.truncate(from);
+    words.push(word)?;
+    Ok(())
+}
+
+/// Appends the failed leak checks of the access values at some offsets from a spot.
+pub(crate) fn find_leaks<R: Store>(
+    memory: &Memory<R>,
+    spot: Spot,
+    kinds: &[Kind],
+    offsets: &[u32],
+    pos: Pos,
+    found: &mut Vec<i64>,
+    leaks: &mut Vec<Leak>,
+) -> Result<(), Stop>
+    requires { Knows R.Means memory.now (λ s. is_broken (held s (spot_of spot) kinds.now) ≡ false) }
+    ensures { Always R.Means memory.now (λ s. is_broken (held s (spot_of spot) kinds.now) ≡ false → Finds (and_then (held s (spot_of spot) kinds.now) (λ zs. Given (leaks_in s.numbers pos zs offsets.now))) result (leaks_of leaks.old.items) (leaks_of leaks.new.items)) }
+{
+    read_held(memory, spot, kinds, found)?;
+    push_leaks(memory, found, offsets, pos, leaks)
+}

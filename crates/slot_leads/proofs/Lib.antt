@@ -1,0 +1,4 @@
+-- where a run starts
+pub mod Started
+-- what a step comes to where the run goes on
+pub mod Led

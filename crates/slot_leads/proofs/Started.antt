@@ -1,0 +1,133 @@
+-- Where a run starts.
+use Rattle.std.proofs.Common.{◌≡◌, ◌≤◌, ◌+◌, ℕ, true, false, List, [], ◌∷◌, ◌++◌, length, refl, sym, ap, subst, ◌∙◌, arith, ℤ}
+use Rattle.type_definitions.specs.Types.{Table}
+use Rattle.run_codes.specs.Codes.{Sub}
+use Rattle.run_codes.specs.Programs.{Program}
+use Rattle.run_codes.specs.Points.{sub_at, template}
+use Rattle.code_rows.specs.declared.point.Sub.{Sub as SubRow}
+use Rattle.code_rows.specs.declared.codes.Codes.{Codes}
+use Rattle.code_rows.specs.Points.{program_of, sub_of}
+use Rattle.slot_heap.specs.Heaps.{Heap, no_heap}
+use Rattle.handled_runs.specs.Slots.{Slots}
+use Rattle.handled_steps.specs.Runs.{no_memory}
+use Rattle.slot_memory.specs.Cells.{Cells, Keep}
+use Rattle.slot_memory.specs.Memory.{Kept, Ghosts, slots, Stands}
+use Rattle.slot_frames.specs.Stacks.{Stacked}
+use Rattle.slot_runs.specs.Pasts.{plain_memory}
+use Rattle.slot_stages.specs.Stages.{state_of, IsStage}
+use Rattle.slot_stages.specs.Leads.{with_main}
+use Rattle.slot_stages.proofs.Starts.{first_stage, first_frame, first_is, first_above, starts_packages, starts_main}
+use Rattle.slot_entries.specs.Entries.{stacked_words}
+use Rattle.slot_turns.specs.Betweens.{stage_of, IsBetween}
+use Rattle.slot_leads.specs.Begins.{MainBegins}
+use Rattle.slot_leads.specs.Starts.{only_frame, no_cells, IsFirst, HasPackages, silent, IsStarted}
+
+abbrev no_ghosts : Ghosts
+no_ghosts = record { heap = no_heap; numbers = λ h. 0; moves = []; peaks = []; sizes = [] }
+
+keep_none : {R : Type 0} (Means : R → Heap → Type 0) (store : R) → Means store no_heap → Keep Means (no_cells store) no_heap (λ h. 0)
+keep_none Means store means = record {
+  means = means;
+  once = tt;
+  sized = λ h n is. absurd (cc);
+  numbered = λ h. refl;
+  counted = omega arith;
+  slots = omega arith;
+  few = omega arith;
+}
+
+no_read : (n : ℕ) (bytes : List ℕ) → n ≡ 0 → n ≤ length bytes
+no_read n bytes none = omega (arith, none)
+
+-- A memory with nothing but words.
+abbrev words_kept : {R : Type 0} → R → List ℤ → Slots
+words_kept store stack = record no_memory { stack = stack }
+
+words_alone : {R : Type 0} (m : Kept R) (store : R) (stack : List ℤ) → m.stack ≡ stack → m.heap ≡ no_cells store → plain_memory (slots m no_ghosts) ≡ plain_memory (words_kept store stack)
+words_alone m store stack words cells =
+    ap (λ ws. record (plain_memory (slots m no_ghosts)) { stack = ws }) words
+    ∙ ap (λ (c : Cells _). record (plain_memory (words_kept store stack)) { live = c.live; made = c.made; freed = c.freed }) cells
+
+stands_none : {R : Type 0} (Means : R → Heap → Type 0) (store : R) (m : Kept R) → Means store no_heap → m.heap ≡ no_cells store → m.moves ≡ [] → Stands Means m no_ghosts
+stands_none Means store m means cells moves = record {
+  cells = subst (λ c. Keep Means c no_heap (λ h. 0)) (sym cells) (keep_none Means store means);
+  moves = moves;
+}
+
+one_frame : (n : ℕ) → n ≡ n + 0
+one_frame n = omega arith
+
+-- Only the frame of the package objects counts.
+pub packages_words : {R : Type 0} (table : Table) (program : Program) (store : R) (bytes : List ℕ) (m : Kept R) (s : Stacked) (words : ℕ)
+    → HasPackages table program store bytes m s words → words ≡ stacked_words s
+packages_words table program store bytes m s words has = has.words ∙ one_frame (sub_at program 0).words ∙ ap stacked_words (sym has.frames)
+
+-- Their words are pushed.
+pub packages_pushed : {R : Type 0} (codes : Codes) (table : Table) (store : R) (bytes : List ℕ) (sub : SubRow) (m q : Kept R) (s t : Stacked) (words all : ℕ)
+    → IsFirst store sub bytes m s words → sub_of codes sub ≡ sub_at (program_of codes) 0 → q ≡ record m { stack = m.stack ++ template table (sub_of codes sub) } → t ≡ s → all ≡ words
+    → HasPackages table (program_of codes) store bytes q t all
+packages_pushed {R} codes table store bytes sub m q s t words all is same memory frames count = record {
+  stack = ap (λ (x : Kept R). x.stack) memory ∙ ap (λ (ws : List ℤ). ws ++ template table (sub_of codes sub)) is.stack ∙ ap (λ (x : Sub). template table x) same;
+  base = ap (λ (x : Kept R). x.base) memory ∙ is.base;
+  waits = ap (λ (x : Kept R). x.waits) memory ∙ is.waits;
+  heap = ap (λ (x : Kept R). x.heap) memory ∙ is.heap;
+  moves = ap (λ (x : Kept R). x.moves) memory ∙ is.moves;
+  input = ap (λ (x : Kept R). x.input) memory ∙ is.input;
+  read = ap (λ (x : Kept R). x.read) memory ∙ is.read;
+  frames = frames ∙ is.frames ∙ ap (λ (x : Sub). only_frame x.first x.words) same;
+  words = count ∙ is.words ∙ ap (λ (x : Sub). x.words) same;
+}
+
+module _ {R : Type 0} (Means : R → Heap → Type 0) (table : Table) (program : Program) (store : R) (bytes : List ℕ) (m : Kept R) (s : Stacked) (words : ℕ)
+    (means : Means store no_heap) (has : HasPackages table program store bytes m s words) where
+  abbrev packages : Sub
+  packages = sub_at program 0
+
+  pub packages_started : IsStarted Means table program bytes true m s words
+  packages_started =
+      let t : Stacked = only_frame packages.first packages.words in
+      let is : IsStage (first_stage m no_ghosts (first_frame 0 packages) []) = first_is m no_ghosts 0 packages (ap length has.waits) has.base refl in
+      let P : Stacked → Type 0 = λ x. IsBetween (silent m x) in
+      record {
+        ghosts = no_ghosts;
+        between = subst P (sym has.frames) (record { stacked = is.stacked; base = has.base; read = no_read m.read m.input has.read });
+        stands = record { memory = stands_none Means store m means has.heap has.moves; settled = refl };
+        input = has.input;
+        words = packages_words table program store bytes m s words has;
+        state = ap (λ (x : Stacked). state_of (stage_of (silent m x) no_ghosts)) has.frames
+            ∙ starts_packages table program m no_ghosts has.read (words_alone m store (template table packages) has.stack has.heap);
+      }
+
+  module _ (q : Kept R) (t : Stacked) (all : ℕ) (begins : MainBegins table program m s q t) (counted : all ≡ stacked_words t) where
+    abbrev main : Sub
+    main = sub_at program begins.main
+
+    abbrev main_stacked : Stacked
+    main_stacked = record { frame = first_frame (length (template table packages)) main; outer = first_frame 0 packages ∷ []; waits = []; returns = [] }
+
+    main_frames : t ≡ main_stacked
+    main_frames =
+        begins.frames
+        ∙ ap (λ x. with_main main x (length m.stack)) has.frames
+        ∙ ap (λ (ws : List ℤ). with_main main (only_frame packages.first packages.words) (length ws)) has.stack
+
+    pub main_started : IsStarted Means table program bytes false q t all
+    main_started =
+        let read : q.read ≡ 0 = ap (λ (x : Kept R). x.read) begins.memory ∙ has.read in
+        let base : q.base ≡ length (template table packages) = ap (λ (x : Kept R). x.base) begins.memory ∙ ap length has.stack in
+        let heap : q.heap ≡ no_cells store = ap (λ (x : Kept R). x.heap) begins.memory ∙ has.heap in
+        let moves : q.moves ≡ [] = ap (λ (x : Kept R). x.moves) begins.memory ∙ has.moves in
+        let stack : q.stack ≡ template table packages ++ template table main =
+        ap (λ (x : Kept R). x.stack) begins.memory ∙ ap (λ (ws : List ℤ). ws ++ template table main) has.stack in
+        let waits : length q.waits ≡ 0 = ap (λ (x : Kept R). length x.waits) begins.memory ∙ ap length has.waits in
+        let is = first_above q no_ghosts (length (template table packages)) main packages waits base refl in
+        let P : Stacked → Type 0 = λ x. IsBetween (silent q x) in
+        record {
+          ghosts = no_ghosts;
+          between = subst P (sym main_frames) (record { stacked = is.stacked; base = base; read = no_read q.read q.input read });
+          stands = record { memory = stands_none Means store q means heap moves; settled = refl };
+          input = ap (λ (x : Kept R). x.input) begins.memory ∙ has.input;
+          words = counted;
+          state = ap (λ (x : Stacked). state_of (stage_of (silent q x) no_ghosts)) main_frames
+              ∙ starts_main table program begins.main q no_ghosts begins.has read (words_alone q store (template table packages ++ template table main) stack heap);
+        }

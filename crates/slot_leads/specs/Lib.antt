@@ -1,0 +1,4 @@
+-- the main procedure begins
+pub mod Begins
+-- where a run starts
+pub mod Starts

@@ -1,0 +1,6 @@
+-- what the public contracts rest on
+pub mod Cells
+pub mod Memory
+pub mod Spots
+pub mod Answers
+pub mod Moves

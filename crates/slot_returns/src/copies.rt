@@ -1,0 +1,63 @@
+//! What is copied back when a call ends.
+ghost use Rattle.std.specs.Prelude.{◌≡◌, ◌+◌, false, OnErr, IfOk, IsErrOf, map};
+ghost use Rattle.run_codes.specs.Flat.{InStack, is_broken};
+ghost use Rattle.slot_memory.specs.Memory.{Knows, elsewhere};
+ghost use Rattle.slot_memory.specs.Spots.{spot_of};
+ghost use Rattle.slot_frames.specs.Frames.{return_of};
+ghost use Rattle.slot_returns.specs.Backs.{copied, Copies, CanCopy, CopiesAll};
+
+use code_rows::{Exception, Stop};
+use slot_frames::Return;
+use slot_hand::Hand;
+use slot_heap::Store;
+use slot_memory::{Memory, Spot};
+use type_bounds::fits;
+use type_table::TypeTable;
+
+/// The place at an offset in the frame.
+fn frame_spot<R: Store>(memory: &Memory<R>, at: u32) -> Result<Spot, Stop>
+    ensures spot { IfOk result (λ s. spot_of s ≡ InStack (memory.now.base + at)) }
+    ensures memory { OnErr result (IsErrOf result Stop.Memory) }
+{
+    match memory.base().checked_add(at as usize) {
+        Some(index) => Ok(Spot::Stack { index }),
+        None => Err(Stop::Memory),
+    }
+}
+
+/// A formal is copied back. What it holds is tested first.
+pub fn copy_one<R: Store>(
+    table: &TypeTable,
+    memory: &mut Memory<R>,
+    hand: &mut Hand,
+    back: Return,
+) -> Result<(), Stop>
+    requires { Knows R.Means memory.old (λ s. is_broken (copied table.now (return_of back) s) ≡ false) }
+    ensures copied { Copies R.Means memory.old (copied table.now (return_of back)) result memory.new }
+    ensures elsewhere { elsewhere memory.new ≡ elsewhere memory.old }
+{
+    let found = frame_spot(memory, back.at)?;
+    hand.clear();
+    hand.push_held(table, memory, found, back.from)?;
+    if !fits(table, back.of, hand.words()) {
+        return Err(Stop::Raises(Exception::ConstraintError));
+    }
+    hand.store(table, memory, back.to.same(), back.of, 0)
+}
+
+/// The formals are copied back in order.
+pub fn copy_back<R: Store>(
+    table: &TypeTable,
+    memory: &mut Memory<R>,
+    hand: &mut Hand,
+    returns: &[Return],
+) -> Result<(), Stop>
+    requires { CanCopy R.Means memory.old table.now (map return_of returns.now) }
+    ensures copied { CopiesAll R.Means memory.old table.now (map return_of returns.now) result memory.new }
+    ensures elsewhere { elsewhere memory.new ≡ elsewhere memory.old }
+{
+    'returns: for i in 0..returns.len() {
+        copy_one(table, memory, hand, returns[i])?;
+    }
+    Ok(())
+}

@@ -1,0 +1,64 @@
+-- How a run ends.
+use Rattle.std.proofs.Common.{◌≡◌, ◌≢◌, ℕ, ◌+◌, ◌-◌, sym, ap, subst, ◌∙◌, arith}
+use Rattle.spark_base.specs.declared.position.Pos.{Pos}
+use Rattle.code_rows.specs.declared.stop.Stop.{Stop}
+use Rattle.code_rows.specs.declared.stop.Stop.TheVariants as stop
+use Rattle.code_rows.specs.Stops.{stop_of}
+use Rattle.run_results.specs.declared.ran.Ending.{Ending}
+use Rattle.run_results.specs.declared.ran.Ending.TheVariants as ending
+use Rattle.run_results.specs.Results.{ending_of}
+use Rattle.run_codes.specs.Codes.{Point}
+use Rattle.slot_heap.specs.Heaps.{Heap}
+use Rattle.handled_runs.specs.Slots.{Slots}
+use Rattle.handled_steps.specs.States.{Outcome, Ends, Turn, counted, given_up, halted}
+use Rattle.slot_memory.specs.Memory.{Ghosts}
+use Rattle.slot_runs.specs.Turns.{Setting}
+use Rattle.slot_turns.specs.declared.halt.Halt.{Halt}
+use Rattle.slot_turns.specs.declared.overs.Over.{Over}
+use Rattle.slot_turns.specs.Betweens.{Between}
+use Rattle.slot_turns.specs.Steps.{turn_at, DoneAt, IsEnded, Halts}
+use Rattle.slot_turns.specs.Overs.{EndsBy, IsCounted, IsOver}
+
+-- The main procedure ends.
+pub ended_over : {R : Type 0} (Means : R → Heap → Type 0) (May : Outcome → Type 0) (new : Between R) (over : Over) → IsEnded Means May new
+    → over.ending ≡ ending.Normal → over.made ≡ new.kept.heap.made → over.freed ≡ new.kept.heap.freed → IsOver May over new
+ended_over Means May new over is normal made freed = record {
+  state = is.state;
+  comes = subst (λ (e : Ending). May (Ends (ending_of e) is.state)) (sym normal) is.comes;
+  output = is.output;
+  leaks = is.leaks;
+  made = is.made ∙ sym made;
+  freed = is.freed ∙ sym freed;
+}
+
+-- What is counted before a step.
+pub counted_freed : (freed made were with : ℕ) → were ≡ made → with ≡ freed + (made - were) → with ≡ freed
+counted_freed freed made were with same is = omega (arith, same, is)
+
+not_memory : (s : Stop) (p : Pos) (end : Ending) → EndsBy s p end → s ≢ stop.Memory
+not_memory (stop.Raises e) p end is = λ same. absurd (cc)
+not_memory stop.Memory p end is = λ same. is
+not_memory _ p end is = λ same. absurd is
+
+ends_by : (t : Turn) (s : Stop) (end : Ending) (m : Slots) → EndsBy s t.point.pos end
+    → halted t (stop_of s) m ≡ Ends (ending_of end) (counted (record t.state { memory = given_up t.state.memory m }))
+ends_by t (stop.Raises e) end m is = ap (λ (x : Ending). Ends (ending_of x) (counted (record t.state { memory = given_up t.state.memory m }))) (sym is)
+ends_by t _ end m is = absurd is
+
+-- The point raises.
+pub halts_over : {R : Type 0} (c : Setting) (p : Point) (pos : Pos) (old new : Between R) (g : Ghosts) (h : Halt) (made freed : ℕ) (over : Over) → pos ≡ p.pos
+    → (h.stop ≢ stop.Memory → Halts (turn_at c p old g) (DoneAt c p old g) h old new) → made ≡ old.kept.heap.made → freed ≡ old.kept.heap.freed → IsCounted h pos made freed over
+    → IsOver (DoneAt c p old g) over new
+halts_over c p pos old new g h made freed over at halts made_is freed_is counted_is =
+    let t : Turn = turn_at c p old g in
+    let is = halts (not_memory h.stop pos over.ending counted_is.ending) in
+    let end : EndsBy h.stop p.pos over.ending = subst (λ x. EndsBy h.stop x over.ending) at counted_is.ending in
+    let more : is.memory.made - old.kept.heap.made ≡ h.made - made = ap (λ n. n - old.kept.heap.made) is.made ∙ ap (λ n. h.made - n) (sym made_is) in
+    record {
+      state = counted (record t.state { memory = given_up t.state.memory is.memory });
+      comes = subst (DoneAt c p old g) (ends_by t h.stop over.ending is.memory end) is.comes;
+      output = sym is.output;
+      leaks = sym is.leaks;
+      made = is.made ∙ sym counted_is.made;
+      freed = ap (λ n. old.kept.heap.freed + n) more ∙ ap (λ n. n + (h.made - made)) (sym freed_is) ∙ sym counted_is.freed;
+    }

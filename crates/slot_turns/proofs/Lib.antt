@@ -1,0 +1,4 @@
+-- what the code needs and comes to
+pub mod Turned
+-- how a run ends
+pub mod Ended

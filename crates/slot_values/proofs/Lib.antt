@@ -1,0 +1,4 @@
+pub mod Reading
+pub mod Scalars
+pub mod Places
+pub mod Nested

@@ -1,0 +1,10 @@
+pub mod Wholes
+pub mod Never
+pub mod Names
+pub mod Leaves
+pub mod Indexed
+pub mod Operands
+pub mod Operators
+pub mod Behind
+pub mod Indexes
+pub mod Spots

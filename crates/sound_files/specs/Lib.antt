@@ -1,2 +1,0 @@
--- the class of programs, by their text
-pub mod Class

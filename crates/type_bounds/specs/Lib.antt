@@ -1,0 +1,2 @@
+-- one word between two others
+pub mod Bounds
