@@ -8,8 +8,8 @@ ghost use Rattle.answered_runs.specs.run_command.Runs.{IsEnded, run_answer};
 ghost use Rattle.spark_tool.specs.Answers.{names_of};
 
 use crate::stop::Stop;
-use path_check::AcceptedProgram;
 use answered_runs::run_program;
+use path_check::AcceptedProgram;
 use spark_base::{STEPS, Sink, Source};
 use std::alloc::Global;
 
