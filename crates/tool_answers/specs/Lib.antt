@@ -4,4 +4,4 @@ pub mod Reading
 pub mod Parsing
 pub mod Product
 -- libraries that the crates above name through this one
-pub use Rattle.run_command.specs as run_command
+pub use Rattle.self_test.specs.run_command as run_command

@@ -5,5 +5,4 @@
 //! of the sources and the programs that stand in it.
 #![tactic(auto)]
 
-pub use run_command::{RunFault, run_program};
-pub use self_test::self_test;
+pub use self_test::{RunFault, run_program, self_test};
