@@ -3,10 +3,17 @@
 
     python3 tools/crate_lines.py                    ends with 1 where a line differs, and prints a line for each
     python3 tools/crate_lines.py --write            writes the lines; comments and the order of crates stay
+    python3 tools/crate_lines.py --ways             prints how many ways lead down from the crates, and which
+                                                    libraries a crate should name through another one
 
 A crate's text is its src/, specs/ and proofs/. Code names a library as `NAME::`, clauses, definitions and proofs as
 `Rattle.NAME.`. What the types of a library are made of needn't be named: the compiler finds it. So a crate is
 proved again only where a library changes that it uses, or that one of these uses.
+
+The gate walks all ways down from each crate, along the lines, again and again. Each line that has both a library and
+one that is made of it doubles them, so there are bounds. A crate can name a library through another one that passes
+it on: `Rattle.E.specs.D.X` is `Rattle.D.specs.X` where `specs/Lib.antt` of `E` has `pub use Rattle.D.specs as D`, and
+`E::x` is `D::x` where `E` has `pub use D::x`.
 """
 import pathlib
 import re
@@ -14,6 +21,8 @@ import sys
 
 TOP = pathlib.Path(__file__).resolve().parent.parent
 LINES = TOP / "crates.txt"
+# (the gate takes some 45 seconds for each million)
+MOST_WAYS = 20_000_000
 
 def bare(path):
     """The text of a file without its comments."""
@@ -65,10 +74,60 @@ def made(text):
     return "\n".join(lines) + "\n"
 
 
+def lines_below(text):
+    """For each crate, lowest first, the libraries of this repository in its line."""
+    crates, found = read(text), {}
+
+    def visit(crate):
+        if crate not in found:
+            own = [library for library in crates[crate][1] if library in crates]
+            for library in own:
+                visit(library)
+            found[crate] = own
+
+    for crate in crates:
+        visit(crate)
+    return found
+
+
+def ways_below(below):
+    """How many ways lead down from each crate, with the one that ends at once."""
+    ways = {}
+    for crate, own in below.items():
+        ways[crate] = 1 + sum(ways[library] for library in own)
+    return ways
+
+
+def costly(below):
+    """The libraries that cost most ways and that a crate can name through another one: ways, crate, library, others."""
+    ways, reached, above = ways_below(below), {}, dict.fromkeys(below, 1)
+    for crate, own in below.items():
+        reached[crate] = set(own).union(*(reached[library] for library in own))
+    for crate in reversed(below):
+        for library in below[crate]:
+            above[library] += above[crate]
+    for crate, own in below.items():
+        for library in own:
+            through = [it for it in own if library in reached[it]]
+            if through:
+                yield above[crate] * ways[library], crate, library, through
+
+
+def tell_ways():
+    """Prints the ways, and ten libraries that cost most of them."""
+    below = lines_below(LINES.read_text())
+    print("%d ways, of at most %d" % (sum(ways_below(below).values()), MOST_WAYS))
+    for ways, crate, library, through in sorted(costly(below), reverse=True)[:10]:
+        print("%s has %s: %d ways; it can name it through %s" % (crate, library, ways, " or ".join(through)))
+
+
 def faults():
-    """A line for each crate whose libraries aren't those that it names."""
+    """A line for each crate whose libraries aren't those that it names, and one where there are too many ways."""
     text = LINES.read_text()
     now, wanted = read(text), read(made(text))
+    ways = sum(ways_below(lines_below(text)).values())
+    if ways > MOST_WAYS:
+        yield "crates.txt: %d ways lead down from the crates, more than %d: see --ways" % (ways, MOST_WAYS)
     for crate, (_, libraries) in wanted.items():
         listed = now[crate][1]
         for library in [it for it in listed if it not in libraries]:
@@ -80,6 +139,9 @@ def faults():
 def main():
     if sys.argv[1:] == ["--write"]:
         LINES.write_text(made(LINES.read_text()))
+        return 0
+    if sys.argv[1:] == ["--ways"]:
+        tell_ways()
         return 0
     if sys.argv[1:]:
         print(__doc__)

@@ -3,7 +3,7 @@ use Rattle.std.proofs.Common.{◌≡◌, ◌≤◌, ℕ, List, None, arith}
 use Rattle.spark_base.specs.declared.limits.TheConstants.{TOKENS}
 use Rattle.ada_tree.specs.declared.unit.SourceUnit.{SourceUnit}
 use Rattle.flow_paths.specs.declared.report.Effects.{Effects}
-use Rattle.program_check.specs.Sources.{flow_of}
+use Rattle.accepted_runs.specs.program_check.Sources.{flow_of}
 use Rattle.run_codes.specs.Programs.{lowered_program}
 use Rattle.lowered_sources.specs.Tokens.{token_count}
 use Rattle.lowered_sources.proofs.Main.{parsed_lowered}

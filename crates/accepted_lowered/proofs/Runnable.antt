@@ -5,9 +5,9 @@ use Rattle.ada_tree.specs.declared.unit.SourceUnit.{SourceUnit}
 use Rattle.flow_paths.specs.declared.report.Effects.{Effects}
 use Rattle.laid_program.specs.declared.laid.Laid.{Laid}
 use Rattle.laid_program.specs.Programs.{program_of}
-use Rattle.program_check.specs.Sources.{flow_of}
+use Rattle.accepted_runs.specs.program_check.Sources.{flow_of}
 use Rattle.run_codes.specs.Programs.{lowered_program}
-use Rattle.run_ready.specs.Tests.{IsReady}
+use Rattle.tested_files.specs.run_ready.Tests.{IsReady}
 use Rattle.tested_files.proofs.Main.{parsed_ready}
 use Rattle.accepted_runs.specs.Passed.{Passes}
 use Rattle.accepted_runs.proofs.Parsed.{are_parsed}

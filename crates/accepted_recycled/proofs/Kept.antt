@@ -3,8 +3,8 @@ use Rattle.std.proofs.Common.{subst, IsSome}
 use Rattle.std.proofs.Math.Logic.{∥∥₁_map}
 use Rattle.laid_program.specs.Programs.{program_of}
 use Rattle.path_check.specs.declared.accepted.AcceptedProgram.{AcceptedProgram}
-use Rattle.accepted_runs.specs.Passed.{IsPassed}
-use Rattle.accepted_runs.proofs.Kept.{accepted_passed, has_main}
+use Rattle.accepted_lowered.specs.accepted_runs.Passed.{IsPassed}
+use Rattle.accepted_lowered.proofs.accepted_runs.Kept.{accepted_passed, has_main}
 use Rattle.accepted_recycled.specs.Runs.{RunsAreRecycled}
 use Rattle.accepted_recycled.proofs.Main.{passed_recycled}
 

@@ -8,9 +8,9 @@ use Rattle.flow_paths.specs.declared.report.Effects.{Effects}
 use Rattle.flow_paths.specs.Laid.{FlowProgram, flow_typing}
 use Rattle.laid_program.specs.declared.laid.Laid.{Laid}
 use Rattle.laid_program.specs.Programs.{program_of as laid_out}
-use Rattle.program_check.specs.Sources.{flow_of}
-use Rattle.order_laws.specs.Orderly.{typed_of}
-use Rattle.typed_files.proofs.Main.{parsed_steps}
+use Rattle.accepted_lowered.specs.accepted_runs.program_check.Sources.{flow_of}
+use Rattle.accepted_lowered.specs.typed_files.order_laws.Orderly.{typed_of}
+use Rattle.accepted_lowered.proofs.typed_files.Main.{parsed_steps}
 use Rattle.machine.specs.States.{sub_of}
 use Rattle.machine.specs.Run.{Run, run}
 use Rattle.handled_steps.specs.States.{Outcome, Goes, Ends, Wants, Fails}
@@ -20,15 +20,15 @@ use Rattle.run_codes.specs.Points.{is_declaring}
 use Rattle.run_points.specs.Turns.{HasTypes}
 use Rattle.run_points.specs.Frames.{HasFrames}
 use Rattle.run_points.proofs.Lowering.{is_lowered}
-use Rattle.run_ready.proofs.Tables.{types_are}
-use Rattle.run_ready.proofs.Entering.{frames_are}
+use Rattle.accepted_lowered.proofs.run_ready.Tables.{types_are}
+use Rattle.accepted_lowered.proofs.run_ready.Entering.{frames_are}
 use Rattle.handled_steps.proofs.Runs.{run_keeps}
 use Rattle.recycled_runs.proofs.Runs.{GivesSame}
 use Rattle.recycled_runs.proofs.Ready.{ready_recycled}
-use Rattle.accepted_runs.specs.Passed.{Passes}
-use Rattle.accepted_runs.specs.Mains.{HasMain}
-use Rattle.accepted_runs.proofs.Parsed.{are_parsed}
-use Rattle.accepted_runs.proofs.Views.{passed_ready}
+use Rattle.accepted_lowered.specs.accepted_runs.Passed.{Passes}
+use Rattle.accepted_lowered.specs.accepted_runs.Mains.{HasMain}
+use Rattle.accepted_lowered.proofs.accepted_runs.Parsed.{are_parsed}
+use Rattle.accepted_lowered.proofs.accepted_runs.Views.{passed_ready}
 use Rattle.accepted_lowered.specs.Runs.{IsRunnable}
 use Rattle.accepted_lowered.proofs.Runnable.{passed_runnable}
 use Rattle.accepted_recycled.specs.Runs.{IsRunOf, RunsAreRecycled}

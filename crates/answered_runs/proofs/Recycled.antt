@@ -3,13 +3,13 @@ use Rattle.std.proofs.Common.{◌≡◌, ℕ, List, Some}
 use Rattle.spark_base.specs.declared.limits.TheConstants.{SOURCE_BYTES}
 use Rattle.laid_program.specs.declared.laid.Laid.{Laid}
 use Rattle.laid_program.specs.Programs.{program_of as laid_out}
-use Rattle.program_check.specs.Sources.{flow_of}
+use Rattle.accepted_recycled.specs.accepted_runs.program_check.Sources.{flow_of}
 use Rattle.command_words.specs.Words.{Check}
-use Rattle.run_command.specs.Answers.{Answer}
+use Rattle.tool_answers.specs.run_command.Answers.{Answer}
 use Rattle.tool_answers.specs.Commands.{command_of}
 use Rattle.tool_answers.specs.Reading.{sources}
 use Rattle.tool_answers.specs.Product.{Product}
-use Rattle.accepted_runs.specs.Mains.{HasMain}
+use Rattle.accepted_recycled.specs.accepted_runs.Mains.{HasMain}
 use Rattle.accepted_recycled.specs.Runs.{RunsAreRecycled}
 use Rattle.accepted_recycled.proofs.Main.{passed_recycled}
 use Rattle.answered_runs.proofs.Passing.{Passed, product_passed}

@@ -1,7 +1,7 @@
 -- What `run` rests on.
 use Rattle.std.specs.Prelude.{◌≡◌, ℕ, List}
 use Rattle.spark_base.specs.declared.limits.TheConstants.{SOURCE_BYTES}
-use Rattle.run_command.specs.Answers.{Answer}
+use Rattle.tool_answers.specs.run_command.Answers.{Answer}
 use Rattle.tool_answers.specs.Reading.{sources}
 use Rattle.tool_answers.specs.Product.{Finding, Checks, run_answer_of}
 

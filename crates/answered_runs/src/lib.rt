@@ -8,3 +8,5 @@
 //! is a main procedure (`specs/Headline.antt`, `proofs/Headline.antt`): `spark_tool` promises that.
 //! It can be run, too. Nothing here runs.
 #![tactic(auto)]
+
+pub use tool_answers::{RunFault, run_program, self_test};

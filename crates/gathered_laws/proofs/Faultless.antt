@@ -19,7 +19,7 @@ use Rattle.type_definitions.specs.Statements.{is_one_choice, coverage, type_or_i
 use Rattle.type_definitions.specs.Gathered.{declared_number, declared_pos, in_visible, in_hidden, instance_type}
 use Rattle.type_definitions.specs.Declarations.{bound_faults, constraint_faults, body_faults, in_body, in_loop, selector_faults, choices_of, choices_faults, is_last, is_named_access, all_types, object_actual, denotes_deallocation, actual_marks, code_faults, alternatives_faults, alternative_faults}
 use Rattle.type_definitions.specs.Whole.{unit_faults, main_faults, outside, known_of, type_fault}
-use Rattle.type_sizes.specs.Formed.{is_formed, are_alternatives, is_alternative, all_formed}
+use Rattle.settled_types.specs.type_sizes.Formed.{is_formed, are_alternatives, is_alternative, all_formed}
 use Rattle.settled_types.proofs.Faultless.{no_faults}
 use Rattle.typed_laws.proofs.Agreeing.{nil_left, nil_right, holds}
 use Rattle.gathered_laws.specs.Faultless.{IsFaultless}

@@ -22,7 +22,7 @@ use Rattle.type_definitions.specs.Entries.{entry_of, is_type, type_of_entry, typ
 use Rattle.type_definitions.specs.Names.{Context}
 use Rattle.type_definitions.specs.Whole.{predefined_types, at_first, outside, gather_units, known_from, known_of, type_fault}
 use Rattle.type_definitions.specs.Gathered.{gather, each, declared_number, declared_pos, with_entry, with_info, with_type, own_info, with_indication, awaited_info, component_group, component_list, component_groups, defined, is_asked, are_static_bounds, bound_pair, with_literals, with_definition, full_info, constrained_shape, subtype_info, meant_by, indicated, with_object, object_info, constant_value, with_number, number_info, initial_value, plain_object, with_formal, with_formal_group, with_formals, with_result, with_front, with_body_front, profile, is_subprogram, front_number, parameter_type, in_subprogram, in_visible, in_hidden, instance_type}
-use Rattle.type_sizes.specs.Formed.{all_formed}
+use Rattle.settled_types.specs.type_sizes.Formed.{all_formed}
 use Rattle.settled_types.specs.Orderly.{at_start, IsOrderly}
 use Rattle.settled_types.specs.Stamped.{AllOpen}
 use Rattle.settled_types.proofs.Faultless.{program_open}

@@ -21,9 +21,9 @@ use Rattle.tree_lowering.specs.Lowered.{lowered_files}
 use Rattle.file_positions.specs.Order.{IsLeftOf, token_position, token_positions, spelled_positions, event_position, event_positions}
 use Rattle.file_positions.specs.Texts.{told_cut, AreParsed}
 use Rattle.file_positions.proofs.Ascending.{text_positions, file_positions, events_left}
-use Rattle.meant_files.specs.Declarations.{each_as, literals_of, front_declarations, declarations, declared_by}
-use Rattle.meant_files.proofs.Walk.{files_declared}
-use Rattle.typed_texts.specs.Literals.{id_count, defined_count, literal_count}
+use Rattle.typed_files.specs.meant_files.Declarations.{each_as, literals_of, front_declarations, declarations, declared_by}
+use Rattle.typed_files.proofs.meant_files.Walk.{files_declared}
+use Rattle.lowered_texts.specs.typed_texts.Literals.{id_count, defined_count, literal_count}
 use Rattle.lowered_sources.specs.Tokens.{token_count}
 
 -- ---- literals are declarations

@@ -28,16 +28,16 @@ use Rattle.file_positions.proofs.Main.{files_apart, files_ended}
 use Rattle.scope_laws.specs.Code.{Once}
 use Rattle.scope_laws.proofs.Lists.{all_has}
 use Rattle.order_laws.proofs.Faults.{units_faultless}
-use Rattle.sound_files.proofs.Once.{files_once}
+use Rattle.typed_files.proofs.sound_files.Once.{files_once}
 use Rattle.seen_files.proofs.Main.{files_seen, files_values_seen}
 use Rattle.typed_runs.specs.Meant.{typed_in, laid_in, site_in}
-use Rattle.typed_texts.specs.Literals.{literal_count}
-use Rattle.typed_texts.specs.Meant.{IsMeant}
-use Rattle.typed_texts.proofs.Bounds.{at_most, HasBoth, IsPosition, bounds_kept, positions_kept}
+use Rattle.lowered_texts.specs.typed_texts.Literals.{literal_count}
+use Rattle.lowered_texts.specs.typed_texts.Meant.{IsMeant}
+use Rattle.lowered_texts.proofs.typed_texts.Bounds.{at_most, HasBoth, IsPosition, bounds_kept, positions_kept}
 use Rattle.typed_files.proofs.Main.{are_meant}
 use Rattle.run_codes.specs.Lowered.{max_position}
 use Rattle.run_codes.specs.Programs.{lowered_program}
-use Rattle.lowered_files.specs.Code.{code_literals}
+use Rattle.lowered_texts.specs.lowered_files.Code.{code_literals}
 use Rattle.lowered_texts.proofs.Main.{text_lowered}
 use Rattle.lowered_sources.specs.Words.{IsWord}
 use Rattle.lowered_sources.specs.Tokens.{token_count}

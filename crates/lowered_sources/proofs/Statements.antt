@@ -26,7 +26,7 @@ use Rattle.typed_tree.specs.Programs.{TypedSub, placed, subs_in, over_units}
 use Rattle.typed_tree.specs.Programs as programs
 use Rattle.scope_laws.proofs.Lists.{all_both}
 use Rattle.lowered_laws.specs.Lowers.{literals}
-use Rattle.lowered_files.specs.Code.{code_literals}
+use Rattle.lowered_texts.specs.lowered_files.Code.{code_literals}
 use Rattle.lowered_sources.specs.Words.{IsWord, AreWords}
 use Rattle.lowered_sources.proofs.Readings.{HasWords, HasWordsAll, seen_words}
 use Rattle.lowered_sources.proofs.Trees.{no_words, both_words, expression_words, actuals_words, first_words, optional_words}

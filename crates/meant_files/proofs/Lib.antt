@@ -17,3 +17,5 @@ pub mod Bodies
 pub mod Apart
 pub mod Told
 pub mod Main
+-- libraries that the crates above name through this one
+pub use Rattle.seen_files.proofs as seen_files

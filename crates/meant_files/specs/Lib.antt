@@ -8,3 +8,5 @@ pub mod Counted
 pub mod Followed
 -- objects of the types that are indicated
 pub mod Typed
+-- libraries that the crates above name through this one
+pub use Rattle.seen_files.specs as seen_files

@@ -11,7 +11,7 @@ use Rattle.flow_paths.specs.Prep.{Setting, with_held, prep}
 use Rattle.flow_paths.specs.Layout.{Around, with_scope, declared, laid}
 use Rattle.flow_paths.specs.Laid.{around_body, elaboration_points}
 use Rattle.scope_laws.proofs.Lists.{and_first, and_second, all_both, all_one}
-use Rattle.ready_laws.specs.InOrder.{declares_only}
+use Rattle.order_laws.specs.ready_laws.InOrder.{declares_only}
 use Rattle.package_values.specs.Calls.{calls_nothing}
 
 neither : (a b : Bool) → a || b ≡ false → (a ≡ false) × (b ≡ false)

@@ -8,7 +8,7 @@ use Rattle.flow_paths.specs.Points.{NamedPoint}
 use Rattle.flow_paths.specs.Laid.{unnumbered, elaboration_points, typing_of}
 use Rattle.soundness.specs.Sound.{calls_procedures}
 use Rattle.scope_laws.proofs.Lists.{all_has}
-use Rattle.ready_laws.specs.InOrder.{declares_only, AreStill}
+use Rattle.order_laws.specs.ready_laws.InOrder.{declares_only, AreStill}
 use Rattle.order_laws.specs.Written.{is_unit}
 use Rattle.order_laws.specs.Orderly.{typed_of}
 use Rattle.order_laws.proofs.Faults.{units_faultless}

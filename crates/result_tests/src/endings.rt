@@ -1,7 +1,6 @@
 //! Lines and statuses of how runs end.
 use code_rows::Exception;
-use executor::{Ending, Ran};
-use run_command::{ending_line, ending_status};
+use run_command::{Ending, Ran, ending_line, ending_status};
 use spark_base::Pos;
 use std::test::Fail;
 

@@ -5,3 +5,5 @@ pub mod Runs
 -- what the functions inside promise each other
 pub mod Inputs
 pub mod Faults
+-- libraries that the crates above name through this one
+pub use Rattle.executor.specs as executor

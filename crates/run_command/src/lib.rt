@@ -14,6 +14,7 @@ mod input;
 mod run;
 
 pub use ending::{ending_line, ending_status};
+pub use executor::{Ending, Ran, execute};
 pub use fault::RunFault;
 pub use input::read_input;
 pub use run::run_program;

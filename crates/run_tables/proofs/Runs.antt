@@ -26,10 +26,10 @@ use Rattle.flow_paths.specs.Laid.{FlowProgram, flow_program}
 use Rattle.machine.specs.Run as machine_run
 use Rattle.machine.specs.Typed.{Position, sorts}
 use Rattle.named_files.proofs.Library.{procedures}
-use Rattle.meant_files.proofs.Told.{files_followed}
-use Rattle.meant_files.proofs.Bodies.{files_have_bodies}
-use Rattle.called_subs.specs.Called.{HaveBodies}
-use Rattle.called_subs.proofs.Main.{calls_within}
+use Rattle.sound_files.proofs.meant_files.Told.{files_followed}
+use Rattle.sound_files.proofs.meant_files.Bodies.{files_have_bodies}
+use Rattle.sound_files.specs.called_subs.Called.{HaveBodies}
+use Rattle.sound_files.proofs.called_subs.Main.{calls_within}
 use Rattle.order_laws.specs.Orderly.{typed_of}
 use Rattle.order_laws.proofs.Faults.{units_faultless}
 use Rattle.sound_files.proofs.Once.{files_once}

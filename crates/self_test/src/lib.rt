@@ -8,4 +8,5 @@
 
 mod summary;
 
+pub use run_command::{RunFault, run_program};
 pub use summary::self_test;

@@ -5,10 +5,10 @@ ghost use Rattle.laid_program.specs.Programs.{program_of};
 ghost use Rattle.self_test.specs.Runs.{HasCounts, run_of};
 ghost use Rattle.self_test.specs.Summaries.{test_line};
 
-use executor::{Ran, execute};
 use path_check::AcceptedProgram;
 use reuse_heap::TrapStore;
 use rule_reports::{Summary, summary_line};
+use run_command::{Ran, execute};
 use run_results::ExecFault;
 use spark_base::{PlainSink, STEPS};
 use std::alloc::Global;

@@ -19,8 +19,8 @@ use Rattle.flow_paths.specs.Laid.{FlowSub, FlowProgram, sub_temporaries, named_s
 use Rattle.machine.specs.States.{no_sub}
 use Rattle.machine.specs.Run.{no_point}
 use Rattle.file_positions.specs.Order.{Ascends, event_positions}
-use Rattle.meant_files.proofs.Told.{files_followed}
-use Rattle.meant_files.proofs.Bodies.{files_have_bodies}
+use Rattle.called_subs.proofs.meant_files.Told.{files_followed}
+use Rattle.called_subs.proofs.meant_files.Bodies.{files_have_bodies}
 use Rattle.called_subs.specs.Called.{HaveBodies}
 use Rattle.called_subs.proofs.Main.{calls_within}
 use Rattle.ready_laws.specs.InOrder.{IsSub}

@@ -24,8 +24,8 @@ use Rattle.gathered_laws.specs.Views.{AreViews}
 use Rattle.gathered_laws.proofs.Components.{components_left}
 use Rattle.gathered_laws.proofs.Laws.{program_laws}
 use Rattle.named_files.proofs.Records.{records_apart}
-use Rattle.meant_files.specs.Typed.{AreTyped as AreDeclared}
-use Rattle.meant_files.proofs.Main.{first_table, files_kept, files_typed}
+use Rattle.called_subs.specs.meant_files.Typed.{AreTyped as AreDeclared}
+use Rattle.called_subs.proofs.meant_files.Main.{first_table, files_kept, files_typed}
 use Rattle.order_laws.proofs.Faults.{units_faultless}
 use Rattle.settled_types.specs.Stamped.{AllOpen}
 use Rattle.settled_types.proofs.Main.{second, rows_first, rows_second}

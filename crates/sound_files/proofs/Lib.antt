@@ -16,3 +16,8 @@ pub mod Functions
 pub mod Shared
 pub mod Fronts
 pub mod Owners
+-- libraries that the crates above name through this one
+pub use Rattle.called_subs.proofs.meant_files
+pub use Rattle.called_subs.proofs.seen_files
+pub use Rattle.type_rules.proofs as type_rules
+pub use Rattle.called_subs.proofs as called_subs

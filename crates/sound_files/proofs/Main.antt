@@ -17,7 +17,7 @@ use Rattle.gathered_laws.specs.Made.{IsMade}
 use Rattle.gathered_laws.specs.Views.{AreViews}
 use Rattle.order_laws.specs.Orderly.{typed_of, IsOrderly}
 use Rattle.order_laws.proofs.Faults.{units_faultless}
-use Rattle.seen_files.proofs.Main.{files_seen}
+use Rattle.called_subs.proofs.seen_files.Main.{files_seen}
 use Rattle.sound_files.proofs.Whole.{whole}
 use Rattle.sound_files.proofs.Once.{files_once}
 use Rattle.sound_files.proofs.Written.{files_written}

@@ -61,8 +61,8 @@ use Rattle.orderly_files.specs.Numbered.{AreNumbered}
 use Rattle.orderly_files.proofs.Declares.{numbered_both, behind_both}
 use Rattle.orderly_files.proofs.Main.{longer_all, files_numbered}
 use Rattle.scope_laws.specs.Code.{Once}
-use Rattle.seen_files.specs.Fits.{all_numbers, group_numbers, front_numbers}
-use Rattle.meant_files.proofs.Objects.{object_numbers, units_same}
+use Rattle.called_subs.specs.seen_files.Fits.{all_numbers, group_numbers, front_numbers}
+use Rattle.called_subs.proofs.meant_files.Objects.{object_numbers, units_same}
 
 -- ---- lists of numbers
 

@@ -10,12 +10,12 @@ use Rattle.leak_checks.specs.Plan.{LeakPlan}
 use Rattle.program_check.specs.Sources.{printed_in}
 use Rattle.rule_reports.specs.Lines.{leak_plan_lines}
 use Rattle.command_words.specs.Words.{Command, Check, Run, Leaks, Make, Selftest, Fits}
-use Rattle.run_command.specs.Answers.{Answer}
+use Rattle.answered_runs.specs.run_command.Answers.{Answer}
 use Rattle.spark_tool.specs.declared.finding.Outcome.{Outcome}
 use Rattle.spark_tool.specs.declared.stop.Stop.{Stop}
 use Rattle.spark_tool.specs.Answers.{answer_for}
-use Rattle.tool_answers.specs.Product.{Finding, Ends, Passes, Lists, ends, planned, listed, Answers, usage, check, check_answer, leaks, run, run_answer_of, make, made, Checks, missing, misused, unread, fixed_answer, selftest, made_names, made_source, test_answer}
-use Rattle.tool_answers.specs.Reading.{Sources, Missing, sources}
+use Rattle.answered_runs.specs.tool_answers.Product.{Finding, Ends, Passes, Lists, ends, planned, listed, Answers, usage, check, check_answer, leaks, run, run_answer_of, make, made, Checks, missing, misused, unread, fixed_answer, selftest, made_names, made_source, test_answer}
+use Rattle.answered_runs.specs.tool_answers.Reading.{Sources, Missing, sources}
 use Rattle.answered_runs.proofs.Headline.{found_untrapped}
 use Rattle.spark_tool.specs.Refusals.{Gives, IsFor}
 

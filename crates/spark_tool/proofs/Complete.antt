@@ -4,8 +4,8 @@ use Rattle.std.proofs.Common.{◌≡◌, ◌≢◌, ◌⊎◌, inl, inr, ℕ, Bo
 use Rattle.std.specs.Io.KnownBytes.{Appends, Keeps}
 use Rattle.std.proofs.KnownBytes.{Appends-nil, Appends-kept}
 use Rattle.spark_base.specs.Outside.{AppendsPrefix}
-use Rattle.run_command.specs.Answers.{Answer, Tells, TellsFront}
-use Rattle.tool_answers.specs.Product.{Product, unread}
+use Rattle.answered_runs.specs.run_command.Answers.{Answer, Tells, TellsFront}
+use Rattle.answered_runs.specs.tool_answers.Product.{Product, unread}
 use Rattle.answered_runs.proofs.Headline.{run_soundly}
 use Rattle.spark_tool.specs.Promises.{Delivers, DeliversFront, DeliversNoMore, HasInput}
 use Rattle.spark_tool.specs.Stops.{stop_status}

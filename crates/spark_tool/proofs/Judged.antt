@@ -29,8 +29,8 @@ use Rattle.program_check.specs.Sources.{flow_of, printed_in}
 use Rattle.rule_reports.specs.declared.code.Code.{Code}
 use Rattle.rule_reports.specs.Lines.{report_lines}
 use Rattle.source_trees.specs.Trees.{AreRead}
-use Rattle.tool_answers.specs.Product.{Finding, Checks, mistyped, beyond, checked, stops, judged, Rejects, Passes, type_code, limit_code}
-use Rattle.tool_answers.specs.Reading.{Texts}
+use Rattle.answered_runs.specs.tool_answers.Product.{Finding, Checks, mistyped, beyond, checked, stops, judged, Rejects, Passes, type_code, limit_code}
+use Rattle.answered_runs.specs.tool_answers.Reading.{Texts}
 use Rattle.spark_tool.specs.Refusals.{IsRefused, Tells, layout_code, program_code}
 
 -- ---- broken sentences on types

@@ -30,13 +30,13 @@ use Rattle.program_check.proofs.OneEffects.{one_effects}
 use Rattle.rule_reports.specs.declared.code.Code.{Code}
 use Rattle.rule_reports.specs.declared.code.Code.TheVariants.{S1}
 use Rattle.command_words.specs.Words.{Command, Check, Run, Leaks, Make, Selftest}
-use Rattle.run_command.specs.Answers.{Answer}
-use Rattle.tool_answers.specs.Commands.{command_of}
-use Rattle.tool_answers.specs.Reading.{Sources, Texts, TooLarge, Missing, sources}
+use Rattle.answered_runs.specs.run_command.Answers.{Answer}
+use Rattle.answered_runs.specs.tool_answers.Commands.{command_of}
+use Rattle.answered_runs.specs.tool_answers.Reading.{Sources, Texts, TooLarge, Missing, sources}
 use Rattle.source_trees.specs.Cuts.{AllTokens, all_tokens}
 use Rattle.source_trees.specs.Trees.{told_cut, AreTreesOf}
-use Rattle.tool_answers.specs.Parsing.{IsParsed, IsRefusedAt, FirstRefused}
-use Rattle.tool_answers.specs.Product.{Finding, Ends, Rejects, Passes, rejected, Lists, ends, rejects, planned, listed, leaks, Answers, Product, usage, check, check_answer, run, run_answer_of, make, made, Checks, missing, too_large, lexical, syntactic, unresolved, mistyped, beyond, checked, stops, unread, misused, judged, lexical_code, syntactic_code, name_code, type_code, limit_code, selftest, made_names, made_source, test_answer}
+use Rattle.answered_runs.specs.tool_answers.Parsing.{IsParsed, IsRefusedAt, FirstRefused}
+use Rattle.answered_runs.specs.tool_answers.Product.{Finding, Ends, Rejects, Passes, rejected, Lists, ends, rejects, planned, listed, leaks, Answers, Product, usage, check, check_answer, run, run_answer_of, make, made, Checks, missing, too_large, lexical, syntactic, unresolved, mistyped, beyond, checked, stops, unread, misused, judged, lexical_code, syntactic_code, name_code, type_code, limit_code, selftest, made_names, made_source, test_answer}
 use Rattle.spark_tool.proofs.Parsed.{at_middle, parsed_of}
 
 -- ---- pairs

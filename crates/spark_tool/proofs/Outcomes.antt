@@ -2,13 +2,13 @@
 use Rattle.std.proofs.Common.{◌≡◌, ◌≢◌, ◌⊎◌, ◌<◌, inl, inr, ℕ, Bool, true, refl, sym, subst, List, [], ◌∷◌, Option, None, Some, Result, Ok, Err, IfSome, IfOk, OnErr, arith}
 use Rattle.spark_base.specs.Lists.{Has}
 use Rattle.command_words.specs.Words.{Command, Check, Run, Leaks, Make, Selftest}
-use Rattle.run_command.specs.Answers.{Answer, Tells}
+use Rattle.answered_runs.specs.run_command.Answers.{Answer, Tells}
 use Rattle.spark_tool.specs.declared.finding.Outcome.{Outcome}
 use Rattle.spark_tool.specs.declared.stop.Stop.{Stop}
 use Rattle.spark_tool.specs.declared.stop.Stop.TheVariants.{Read, Write, Memory}
 use Rattle.spark_tool.specs.Answers.{answer_for}
-use Rattle.tool_answers.specs.Commands.{reads_files, runs}
-use Rattle.tool_answers.specs.Product.{Answers, Product}
+use Rattle.answered_runs.specs.tool_answers.Commands.{reads_files, runs}
+use Rattle.answered_runs.specs.tool_answers.Product.{Answers, Product}
 use Rattle.spark_tool.specs.Promises.{IsUnrun, HasInput, Delivers}
 use Rattle.spark_tool.specs.Refusals.{Gives}
 use Rattle.spark_tool.specs.Stops.{stop_status}

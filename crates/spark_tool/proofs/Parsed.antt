@@ -18,9 +18,9 @@ use Rattle.ada_parser.specs.Refused.{RefusedAt, IsRefusal}
 use Rattle.source_trees.specs.Cuts.{all_tokens}
 use Rattle.spark_tool.specs.Lexing.{cuts_of}
 use Rattle.source_trees.specs.Trees.{told_cut, AreTreesOf}
-use Rattle.tool_answers.specs.Parsing.{IsParsed, IsRefusedAt, FirstRefused}
-use Rattle.tool_answers.specs.Product.{Finding, Checks, syntactic}
-use Rattle.tool_answers.specs.Reading.{Texts}
+use Rattle.answered_runs.specs.tool_answers.Parsing.{IsParsed, IsRefusedAt, FirstRefused}
+use Rattle.answered_runs.specs.tool_answers.Product.{Finding, Checks, syntactic}
+use Rattle.answered_runs.specs.tool_answers.Reading.{Texts}
 use Rattle.spark_tool.specs.Refusals.{IsFirstRefusal, IsRefused, parse_code}
 
 -- tokens are told alike as they are and as they were cut

@@ -9,8 +9,8 @@ use Rattle.rule_reports.specs.declared.code.Code.TheVariants.{L1, L2, L3, L4, L5
 use Rattle.spark_tool.specs.declared.parsing.SourceRefusal.{SourceRefusal}
 use Rattle.spark_tool.specs.declared.parsing.SourceRefusal.TheVariants as source
 use Rattle.source_trees.specs.Cuts.{all_tokens}
-use Rattle.tool_answers.specs.Product.{Finding, Checks, lexical, lexical_code, stops}
-use Rattle.tool_answers.specs.Reading.{Texts}
+use Rattle.answered_runs.specs.tool_answers.Product.{Finding, Checks, lexical, lexical_code, stops}
+use Rattle.answered_runs.specs.tool_answers.Reading.{Texts}
 use Rattle.spark_tool.specs.Refusals.{RefusesTexts, IsRefused, source_code}
 use Rattle.spark_tool.proofs.Parsed.{refusal_answers}
 

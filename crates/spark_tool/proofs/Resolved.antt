@@ -9,8 +9,8 @@ use Rattle.name_resolve.specs.declared.refusal.NameRefusal.{NameRefusal}
 use Rattle.name_resolve.specs.declared.refusal.NameRefusal.TheVariants as refusal
 use Rattle.name_resolve.specs.Judges.{Says}
 use Rattle.source_trees.specs.Trees.{AreRead}
-use Rattle.tool_answers.specs.Product.{Finding, Checks, unresolved, name_code, stops}
-use Rattle.tool_answers.specs.Reading.{Texts}
+use Rattle.answered_runs.specs.tool_answers.Product.{Finding, Checks, unresolved, name_code, stops}
+use Rattle.answered_runs.specs.tool_answers.Reading.{Texts}
 use Rattle.spark_tool.specs.Refusals.{IsRefused, naming_code}
 
 broken_answers : (names texts : List (List ℕ)) (trees : List (List SourceUnit)) (broken : NameRule) (pos : Pos) (answer : Finding) → AreRead texts trees

@@ -1,6 +1,6 @@
 -- The files read so far.
 use Rattle.std.proofs.Common.{ℕ, List, ◌++◌}
-use Rattle.tool_answers.specs.Reading.{Sources, Texts, TooLarge, Missing}
+use Rattle.answered_runs.specs.tool_answers.Reading.{Sources, Texts, TooLarge, Missing}
 
 -- the texts of the files before
 abbrev pub with_texts : List (List ℕ) → Sources → Sources

@@ -2,8 +2,8 @@
 use Rattle.std.specs.Prelude.{ℕ, List, [], map, string_bytes}
 use Rattle.laid_program.specs.Programs as laid
 use Rattle.path_check.specs.declared.accepted.AcceptedProgram.{AcceptedProgram}
-use Rattle.run_command.specs.Answers.{Answer}
-use Rattle.run_command.specs.Runs.{run_answer}
+use Rattle.answered_runs.specs.run_command.Answers.{Answer}
+use Rattle.answered_runs.specs.run_command.Runs.{run_answer}
 use Rattle.spark_tool.specs.declared.answer.Stream.{Stream}
 use Rattle.spark_tool.specs.declared.answer.Stream.TheVariants as stream
 use Rattle.spark_tool.specs.declared.answer.Answer as held
@@ -11,7 +11,7 @@ use Rattle.spark_tool.specs.declared.finding.Finding as held_finding
 use Rattle.spark_tool.specs.declared.finding.Finding.TheVariants as found
 use Rattle.spark_tool.specs.declared.finding.Outcome.{Outcome}
 use Rattle.spark_tool.specs.declared.finding.Outcome.TheVariants as outcome
-use Rattle.tool_answers.specs.Product.{Finding, Ends, Rejects, Passes}
+use Rattle.answered_runs.specs.tool_answers.Product.{Finding, Ends, Rejects, Passes}
 
 abbrev pub answer_to : Stream → List ℕ → ℕ → Answer
 answer_to stream.Out text status = record { out = text; err = []; status = status }

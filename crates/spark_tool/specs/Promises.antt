@@ -1,9 +1,9 @@
 -- What the call of the program promises (docs/TOOL.md, "Statuses").
 use Rattle.std.specs.Prelude.{◌≡◌, ℕ, List, Bool, true, false, Option, Some, [], ◌∷◌}
 use Rattle.spark_base.specs.Lists.{Has}
-use Rattle.run_command.specs.Answers.{Answer, Tells, TellsFront}
+use Rattle.answered_runs.specs.run_command.Answers.{Answer, Tells, TellsFront}
 use Rattle.answered_runs.specs.Headline.{IsRunSoundly}
-use Rattle.tool_answers.specs.Product.{Product}
+use Rattle.answered_runs.specs.tool_answers.Product.{Product}
 
 -- The statuses of an answer: done; rejected; refused; the ends of a run by an exception, by its
 -- budget and after a leak; misused; an input that is too large.

@@ -3,7 +3,7 @@ use Rattle.std.specs.Prelude.{◌≡◌, ◌<◌, ◌≤◌, ℕ, List, map, len
 use Rattle.std.specs.declared.alloc.Global.{Global}
 use Rattle.spark_base.specs.declared.limits.TheConstants.{SOURCE_BYTES}
 use Rattle.spark_base.specs.Outside.{file_bytes}
-use Rattle.tool_answers.specs.Reading.{Sources, Texts, TooLarge}
+use Rattle.answered_runs.specs.tool_answers.Reading.{Sources, Texts, TooLarge}
 use Rattle.spark_tool.specs.declared.reading.Gathered.{Gathered}
 use Rattle.spark_tool.specs.declared.reading.Gathered.TheVariants as found
 

@@ -17,7 +17,7 @@ use Rattle.lay_out.specs.declared.refusal.LayRefusal.{LayRefusal}
 use Rattle.lay_out.specs.declared.refusal.LayRefusal.TheVariants as lay
 use Rattle.command_words.specs.Words.{Command}
 use Rattle.laid_program.specs.Programs.{program_of}
-use Rattle.run_command.specs.Answers.{Answer}
+use Rattle.answered_runs.specs.run_command.Answers.{Answer}
 use Rattle.path_check.specs.Told.{reports_in}
 use Rattle.path_check.specs.declared.verdict.Verdict.{Verdict}
 use Rattle.path_check.specs.declared.verdict.Verdict.TheVariants as verdict
@@ -28,15 +28,15 @@ use Rattle.rule_reports.specs.Lines.{report_lines}
 use Rattle.spark_tool.specs.declared.parsing.SourceRefusal.{SourceRefusal}
 use Rattle.spark_tool.specs.declared.parsing.SourceRefusal.TheVariants as source
 use Rattle.source_trees.specs.Cuts.{all_tokens}
-use Rattle.tool_answers.specs.Parsing.{FirstRefused}
-use Rattle.tool_answers.specs.Product as product
-use Rattle.tool_answers.specs.Product.{Finding, Ends, Rejects, Passes}
+use Rattle.answered_runs.specs.tool_answers.Parsing.{FirstRefused}
+use Rattle.answered_runs.specs.tool_answers.Product as product
+use Rattle.answered_runs.specs.tool_answers.Product.{Finding, Ends, Rejects, Passes}
 use Rattle.spark_tool.specs.declared.finding.Finding as held
 use Rattle.spark_tool.specs.declared.finding.Finding.TheVariants as found
 use Rattle.spark_tool.specs.declared.finding.Outcome.{Outcome}
 use Rattle.spark_tool.specs.declared.finding.Outcome.TheVariants as outcome
 use Rattle.spark_tool.specs.Answers.{answer_of, answer_for, names_of}
-use Rattle.tool_answers.specs.Commands.{runs}
+use Rattle.answered_runs.specs.tool_answers.Commands.{runs}
 
 -- The refusal is that of the first of the files that isn't that of a source; out of memory has no
 -- cause in them.

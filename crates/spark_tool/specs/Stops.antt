@@ -1,7 +1,7 @@
 -- The statuses of what ends a command before its answer is written (docs/TOOL.md, "Statuses").
 use Rattle.std.specs.Prelude.{ℕ}
-use Rattle.run_command.specs.declared.fault.RunFault.{RunFault}
-use Rattle.run_command.specs.declared.fault.RunFault.TheVariants as fault
+use Rattle.answered_runs.specs.run_command.declared.fault.RunFault.{RunFault}
+use Rattle.answered_runs.specs.run_command.declared.fault.RunFault.TheVariants as fault
 use Rattle.spark_tool.specs.declared.stop.Stop.{Stop}
 use Rattle.spark_tool.specs.declared.stop.Stop.TheVariants.{Read, Write, Memory}
 

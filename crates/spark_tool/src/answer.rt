@@ -1,7 +1,7 @@
 //! What a command writes and answers.
 ghost use Rattle.std.specs.Prelude.{◌≡◌, IfOk, [], map, string_bytes};
 ghost use Rattle.ada_lexer.specs.Positions.{first_position};
-ghost use Rattle.tool_answers.specs.Product as spec;
+ghost use Rattle.answered_runs.specs.tool_answers.Product as spec;
 ghost use Rattle.spark_tool.specs.Answers.{answer_of};
 
 use prog_maker::make_program;

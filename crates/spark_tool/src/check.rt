@@ -10,9 +10,9 @@ ghost use Rattle.flow_paths.specs.Printing.{printed_name};
 ghost use Rattle.path_check.specs.Told.{reports_in};
 ghost use Rattle.program_check.specs.Answers.{KeepsNames};
 ghost use Rattle.rule_reports.specs.Lines.{report_lines};
-ghost use Rattle.tool_answers.specs.Product.{Checks};
+ghost use Rattle.answered_runs.specs.tool_answers.Product.{Checks};
 ghost use Rattle.spark_tool.specs.Refusals.{IsRefused, IsNamed, Tells, IsChecked};
-ghost use Rattle.tool_answers.specs.Reading.{Texts};
+ghost use Rattle.answered_runs.specs.tool_answers.Reading.{Texts};
 ghost use Rattle.spark_tool.specs.Reading.{sources_of, IsWhole};
 
 use crate::answer::{file_refusal_answer, refusal_answer};

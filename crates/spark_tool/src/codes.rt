@@ -1,6 +1,6 @@
 //! The positions and the codes of refusals.
 ghost use Rattle.std.specs.Prelude.{◌≡◌};
-ghost use Rattle.tool_answers.specs.Product as spec;
+ghost use Rattle.answered_runs.specs.tool_answers.Product as spec;
 ghost use Rattle.spark_tool.specs.Refusals as refusals;
 
 use crate::parsing::SourceRefusal;

@@ -6,8 +6,8 @@ ghost use Rattle.spark_base.specs.Words.{operands};
 ghost use Rattle.command_words.specs.Words as grammar;
 ghost use Rattle.command_words.specs.Words.{Fits, command_in};
 ghost use Rattle.spark_tool.specs.Answers.{answer_for, finding_of, names_of};
-ghost use Rattle.tool_answers.specs.Commands.{reads_files, runs, there};
-ghost use Rattle.tool_answers.specs.Product.{Answers, Checks, Lists, Passes, check_answer, fixed_answer, refused, rejected, run_answer_of, unread, with_main};
+ghost use Rattle.answered_runs.specs.tool_answers.Commands.{reads_files, runs, there};
+ghost use Rattle.answered_runs.specs.tool_answers.Product.{Answers, Checks, Lists, Passes, check_answer, fixed_answer, refused, rejected, run_answer_of, unread, with_main};
 ghost use Rattle.ada_lexer.specs.Positions.{first_position};
 ghost use Rattle.flow_paths.specs.declared.report.Effects.{Effects};
 ghost use Rattle.flow_paths.specs.declared.report.LeakLine.{LeakLine};
@@ -15,7 +15,7 @@ ghost use Rattle.laid_program.specs.Programs.{program_of};
 ghost use Rattle.leak_checks.specs.Plan.{LeakPlan};
 ghost use Rattle.program_check.specs.Sources.{printed_in};
 ghost use Rattle.rule_reports.specs.Lines.{leak_plan_lines};
-ghost use Rattle.tool_answers.specs.Reading.{Missing, sources};
+ghost use Rattle.answered_runs.specs.tool_answers.Reading.{Missing, sources};
 ghost use Rattle.spark_tool.specs.Refusals.{Gives, IsChecked, IsFor, IsMade, IsNamed, IsReady};
 
 use crate::answer::{

@@ -3,7 +3,7 @@ ghost use Rattle.std.specs.Prelude.{◌≡◌, ◌≢◌, ◌⊎◌, ◌≤◌, 
 ghost use Rattle.spark_base.specs.Lists.{Has};
 ghost use Rattle.spark_base.specs.Outside.{Rose, Lacks};
 ghost use Rattle.spark_base.specs.Words.{operands};
-ghost use Rattle.tool_answers.specs.Reading.{sources, Missing};
+ghost use Rattle.answered_runs.specs.tool_answers.Reading.{sources, Missing};
 ghost use Rattle.spark_tool.specs.Reading.{IsWithin, ReadsFile, IsWhole, sources_of};
 
 use crate::stop::Stop;

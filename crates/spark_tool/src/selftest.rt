@@ -3,9 +3,9 @@ ghost use Rattle.std.specs.Prelude.{◌≡◌, ◌≢◌, ℕ, List, Option, Err
 ghost use Rattle.command_words.specs.Words as grammar;
 ghost use Rattle.laid_program.specs.Programs.{program_of};
 ghost use Rattle.spark_tool.specs.Answers.{answer_for, finding_of};
-ghost use Rattle.tool_answers.specs.Commands.{runs};
-ghost use Rattle.tool_answers.specs.Product.{Checks, Passes, made_names, made_source, test_answer};
-ghost use Rattle.tool_answers.specs.Product as product;
+ghost use Rattle.answered_runs.specs.tool_answers.Commands.{runs};
+ghost use Rattle.answered_runs.specs.tool_answers.Product.{Checks, Passes, made_names, made_source, test_answer};
+ghost use Rattle.answered_runs.specs.tool_answers.Product as product;
 ghost use Rattle.spark_tool.specs.Reading.{IsWhole, sources_of};
 ghost use Rattle.spark_tool.specs.Refusals.{IsChecked, IsFor, IsReady};
 
@@ -15,9 +15,9 @@ use crate::command::{refuse, reject};
 use crate::finding::{Finding, Outcome};
 use crate::reading::Gathered;
 use crate::stop::Stop;
+use answered_runs::self_test;
 use path_check::AcceptedProgram;
 use prog_maker::make_program;
-use self_test::self_test;
 use spark_base::SOURCE_BYTES;
 use std::alloc::{AllocError, Global};
 use std::mem::ManuallyDrop;

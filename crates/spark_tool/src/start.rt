@@ -3,13 +3,13 @@ ghost use Rattle.std.specs.Prelude.{◌≡◌, ◌≢◌, ◌≤◌, ◌⊎◌, 
 ghost use Rattle.std.specs.Io.KnownBytes.{IsAtEnd, Keeps};
 ghost use Rattle.spark_base.specs.Outside.{Rose};
 ghost use Rattle.laid_program.specs.Programs.{program_of};
-ghost use Rattle.run_command.specs.Answers.{Grows, Tells, TellsFront};
-ghost use Rattle.run_command.specs.Runs.{IsEnded, run_answer};
+ghost use Rattle.answered_runs.specs.run_command.Answers.{Grows, Tells, TellsFront};
+ghost use Rattle.answered_runs.specs.run_command.Runs.{IsEnded, run_answer};
 ghost use Rattle.spark_tool.specs.Answers.{names_of};
 
 use crate::stop::Stop;
+use answered_runs::run_program;
 use path_check::AcceptedProgram;
-use run_command::run_program;
 use spark_base::{STEPS, Sink, Source};
 use std::alloc::Global;
 

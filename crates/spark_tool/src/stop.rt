@@ -2,7 +2,7 @@
 ghost use Rattle.std.specs.Prelude.{◌≡◌};
 ghost use Rattle.spark_tool.specs.Stops.{stop_status, stop_of};
 
-use run_command::RunFault;
+use answered_runs::RunFault;
 use std::alloc::{AllocError, AllocFailed};
 
 /// What ends a command before its answer is written.

@@ -3,10 +3,10 @@ ghost use Rattle.std.specs.Prelude.{◌≡◌, ◌≢◌, ◌<◌, ◌⊎◌, �
 ghost use Rattle.std.specs.Io.KnownBytes.{IsAtEnd, Keeps};
 ghost use Rattle.spark_base.specs.Lists.{Has};
 ghost use Rattle.spark_base.specs.Outside.{Rose};
-ghost use Rattle.run_command.specs.Answers.{Grows, Tells, TellsFront};
+ghost use Rattle.answered_runs.specs.run_command.Answers.{Grows, Tells, TellsFront};
 ghost use Rattle.spark_tool.specs.Answers.{answer_of};
-ghost use Rattle.tool_answers.specs.Commands.{command_of, reads_files, runs};
-ghost use Rattle.tool_answers.specs.Product.{Product, fixed_answer, unread};
+ghost use Rattle.answered_runs.specs.tool_answers.Commands.{command_of, reads_files, runs};
+ghost use Rattle.answered_runs.specs.tool_answers.Product.{Product, fixed_answer, unread};
 ghost use Rattle.spark_tool.specs.Promises.{IsStatus, IsRegular, IsUnrun, HasInput, Delivers, DeliversFront, DeliversNoMore};
 ghost use Rattle.spark_tool.specs.Refusals.{Gives, IsFor, IsMade, IsReady};
 

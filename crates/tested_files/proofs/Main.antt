@@ -28,8 +28,8 @@ use Rattle.named_files.proofs.Library.{procedures}
 use Rattle.order_laws.specs.Written.{is_unit}
 use Rattle.order_laws.specs.Orderly.{typed_of}
 use Rattle.order_laws.proofs.Faults.{units_faultless}
-use Rattle.sound_files.proofs.Once.{files_once}
-use Rattle.sound_files.proofs.Written.{files_written}
+use Rattle.run_tables.proofs.sound_files.Once.{files_once}
+use Rattle.run_tables.proofs.sound_files.Written.{files_written}
 use Rattle.table_laws.specs.Ranks.{IsFit}
 use Rattle.run_ready.specs.Tests.{IsReady}
 use Rattle.run_tables.proofs.Programs.{small, program_listed}

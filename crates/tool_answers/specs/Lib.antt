@@ -3,3 +3,5 @@ pub mod Commands
 pub mod Reading
 pub mod Parsing
 pub mod Product
+-- libraries that the crates above name through this one
+pub use Rattle.self_test.specs.run_command as run_command

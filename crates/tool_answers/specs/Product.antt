@@ -34,8 +34,8 @@ use Rattle.prog_maker.specs.Texts.{program_text}
 use Rattle.command_words.specs.Words.{Command, Check, Run, Leaks, Make, Selftest}
 use Rattle.machine.specs.Run.{run as run_of}
 use Rattle.soundness.specs.Sound.{IsTrap}
-use Rattle.run_command.specs.Answers.{Answer}
-use Rattle.run_command.specs.Runs.{run_answer}
+use Rattle.self_test.specs.run_command.Answers.{Answer}
+use Rattle.self_test.specs.run_command.Runs.{run_answer}
 use Rattle.self_test.specs.Summaries.{test_line}
 use Rattle.tool_answers.specs.Commands.{command_of}
 use Rattle.tool_answers.specs.Reading.{Sources, Texts, TooLarge, Missing, sources}

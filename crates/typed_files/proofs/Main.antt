@@ -22,7 +22,7 @@ use Rattle.typing_steps.specs.Programs.{program_of}
 use Rattle.typed_tree.specs.Expressions.{object_number, object_type}
 use Rattle.typed_tree.specs.Programs.{TypedSub, DeclaredObject, program_objects}
 use Rattle.type_sizes.specs.Formed.{all_formed}
-use Rattle.type_rules.proofs.Formed.{files_formed}
+use Rattle.sound_files.proofs.type_rules.Formed.{files_formed}
 use Rattle.settled_types.specs.Orderly.{at_start, IsOrderly}
 use Rattle.settled_types.specs.Stamped.{AllOpen}
 use Rattle.settled_types.proofs.Faultless.{program_open}
@@ -47,18 +47,18 @@ use Rattle.named_files.proofs.Library.{procedures}
 use Rattle.named_files.proofs.Records.{records_apart}
 use Rattle.named_files.proofs.Formals.{formals_are_apart}
 use Rattle.scope_laws.specs.Code.{Once}
-use Rattle.seen_files.specs.Reached.{IsObjectIn}
-use Rattle.seen_files.proofs.Entries.{is_object_entry, known_keeps}
-use Rattle.seen_files.proofs.Files.{files_fit}
+use Rattle.sound_files.specs.seen_files.Reached.{IsObjectIn}
+use Rattle.sound_files.proofs.seen_files.Entries.{is_object_entry, known_keeps}
+use Rattle.sound_files.proofs.seen_files.Files.{files_fit}
 use Rattle.machine.specs.Typed.{is_typed}
-use Rattle.meant_files.specs.Denoted.{AreDenoted}
-use Rattle.meant_files.specs.Typed.{AreTyped as AreDeclared}
-use Rattle.meant_files.proofs.Objects.{object_numbers, units_same}
-use Rattle.meant_files.proofs.Puts.{subprogram_declared}
-use Rattle.meant_files.proofs.Bodies.{files_have_bodies}
-use Rattle.meant_files.proofs.Denoted.{units_denoted}
-use Rattle.meant_files.proofs.Main.{followed, files_apart, files_bodied, files_kept, files_typed}
-use Rattle.meant_files.proofs.Codes as codes
+use Rattle.sound_files.specs.meant_files.Denoted.{AreDenoted}
+use Rattle.sound_files.specs.meant_files.Typed.{AreTyped as AreDeclared}
+use Rattle.sound_files.proofs.meant_files.Objects.{object_numbers, units_same}
+use Rattle.sound_files.proofs.meant_files.Puts.{subprogram_declared}
+use Rattle.sound_files.proofs.meant_files.Bodies.{files_have_bodies}
+use Rattle.sound_files.proofs.meant_files.Denoted.{units_denoted}
+use Rattle.sound_files.proofs.meant_files.Main.{followed, files_apart, files_bodied, files_kept, files_typed}
+use Rattle.sound_files.proofs.meant_files.Codes as codes
 use Rattle.order_laws.specs.Written.{is_unit}
 use Rattle.order_laws.proofs.Faults.{units_faultless}
 use Rattle.steady_types.specs.Flat.{IsFlatUnit}

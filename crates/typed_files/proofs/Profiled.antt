@@ -48,7 +48,7 @@ use Rattle.anonymous_types.proofs.Main as views
 use Rattle.type_sizes.specs.Formed.{all_formed}
 use Rattle.settled_types.specs.Orderly.{IsOrderly}
 use Rattle.named_files.specs.Formals.{formal_texts, HasFirst, IsResult, IsFrontApart, AreFormalsApart}
-use Rattle.meant_files.specs.Typed.{IsOf, AreOf, AreGroupsTyped, IsFrontTyped, AreTyped}
+use Rattle.sound_files.specs.meant_files.Typed.{IsOf, AreOf, AreGroupsTyped, IsFrontTyped, AreTyped}
 use Rattle.typed_runs.specs.Formals.{AreSameViews, IsFormal, AreFormals, formals_of, AreProfiled}
 use Rattle.typed_runs.specs.Meant.{site_in, typing_laid}
 

@@ -41,7 +41,7 @@ use Rattle.anonymous_types.proofs.Main as views
 use Rattle.type_sizes.specs.Formed.{all_formed}
 use Rattle.settled_types.specs.Orderly.{IsOrderly}
 use Rattle.named_files.specs.Formals.{HasFirst, AreFormalsApart}
-use Rattle.meant_files.specs.Typed.{AreOf, AreGroupsTyped, AreTyped}
+use Rattle.sound_files.specs.meant_files.Typed.{AreOf, AreGroupsTyped, AreTyped}
 use Rattle.typed_runs.specs.Meant.{site_in, typing_laid}
 use Rattle.typed_files.proofs.Profiled.{Pairs, HasFront, IsGoodFront, units_fronts}
 use Rattle.typed_files.proofs.Profiled as profiled

@@ -22,7 +22,7 @@ use Rattle.type_definitions.specs.Types.{Table, full, view_of, is_scalar, is_own
 use Rattle.type_definitions.specs.Entries.{integer, boolean, marked}
 use Rattle.type_definitions.specs.Expressions.{is_anonymous}
 use Rattle.type_definitions.specs.Whole.{outside, known_of, type_fault}
-use Rattle.type_rules.proofs.Formed.{files_formed}
+use Rattle.ready_types.proofs.type_rules.Formed.{files_formed}
 use Rattle.typed_tree.specs.declared.object.Object.{Object}
 use Rattle.typed_tree.specs.declared.object.ObjectKind.{ObjectKind}
 use Rattle.typed_tree.specs.declared.object.ObjectKind.TheVariants as object_kind
@@ -68,28 +68,28 @@ use Rattle.order_laws.specs.Orderly.{typed_of, typing_in, bodies_of, IsOrderly}
 use Rattle.order_laws.proofs.Accepted.{is_in_order}
 use Rattle.order_laws.proofs.Faults.{units_faultless}
 use Rattle.package_values.proofs.Main.{packages_still}
-use Rattle.seen_files.specs.Reached.{IsObjectIn}
-use Rattle.seen_files.proofs.Files.{files_fit}
-use Rattle.seen_files.proofs.Entries.{known_keeps}
-use Rattle.seen_files.proofs.Main.{files_values_seen}
-use Rattle.meant_files.specs.Typed.{AreTyped}
-use Rattle.meant_files.proofs.Main.{files_denote}
-use Rattle.meant_files.proofs.Main as meant
-use Rattle.meant_files.proofs.Codes as codes
+use Rattle.typed_files.specs.seen_files.Reached.{IsObjectIn}
+use Rattle.typed_files.proofs.seen_files.Files.{files_fit}
+use Rattle.typed_files.proofs.seen_files.Entries.{known_keeps}
+use Rattle.typed_files.proofs.seen_files.Main.{files_values_seen}
+use Rattle.typed_files.specs.meant_files.Typed.{AreTyped}
+use Rattle.typed_files.proofs.meant_files.Main.{files_denote}
+use Rattle.typed_files.proofs.meant_files.Main as meant
+use Rattle.typed_files.proofs.meant_files.Codes as codes
 use Rattle.scope_laws.proofs.Lists.{and_second}
-use Rattle.sound_files.proofs.Laws.{table_laws, files_declared, integers_scalar, truths_scalar}
-use Rattle.sound_files.proofs.Called.{files_bodies}
-use Rattle.sound_files.proofs.Mains.{main_formless}
-use Rattle.sound_files.proofs.Functions.{functions_in}
-use Rattle.sound_files.proofs.Shared.{functions_see, formals_differ}
-use Rattle.sound_files.proofs.Declared.{declared_known, formals_apart}
-use Rattle.sound_files.proofs.Owners.{modes_there, formals_wide, main_there}
-use Rattle.sound_files.proofs.Classes.{are_answered}
+use Rattle.typed_files.proofs.sound_files.Laws.{table_laws, files_declared, integers_scalar, truths_scalar}
+use Rattle.typed_files.proofs.sound_files.Called.{files_bodies}
+use Rattle.typed_files.proofs.sound_files.Mains.{main_formless}
+use Rattle.typed_files.proofs.sound_files.Functions.{functions_in}
+use Rattle.typed_files.proofs.sound_files.Shared.{functions_see, formals_differ}
+use Rattle.typed_files.proofs.sound_files.Declared.{declared_known, formals_apart}
+use Rattle.typed_files.proofs.sound_files.Owners.{modes_there, formals_wide, main_there}
+use Rattle.typed_files.proofs.sound_files.Classes.{are_answered}
 use Rattle.typed_runs.specs.Code.{IsTypedUse}
 use Rattle.typed_runs.proofs.Results.{results_there}
 use Rattle.viewed_soundness.proofs.Outcomes.{named_plain}
 use Rattle.typed_files.proofs.Main.{files_code, files_fine, files_steps, files_used, files_firsts, files_first}
-use Rattle.sound_files.proofs.Main.{files_orderly}
+use Rattle.typed_files.proofs.sound_files.Main.{files_orderly}
 use Rattle.viewed_steps.specs.Ready.{IsReady}
 use Rattle.viewed_steps.proofs.Main.{ready_sound}
 use Rattle.view_laws.specs.InOrder.{AreViewsInOrder}

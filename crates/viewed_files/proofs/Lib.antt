@@ -12,3 +12,5 @@ pub mod Traversals
 pub mod Main
 pub mod Passed
 pub mod Files
+-- libraries that the crates above name through this one
+pub use Rattle.typed_files.proofs as typed_files

@@ -37,9 +37,9 @@ use Rattle.order_laws.specs.Written.{is_unit}
 use Rattle.order_laws.proofs.Bodies.{IsDeclare}
 use Rattle.order_laws.proofs.First.{units_declare}
 use Rattle.order_laws.proofs.Numbers.{numbers, body_same, formals_same}
-use Rattle.meant_files.specs.Denoted.{AreDenoted}
-use Rattle.meant_files.specs.Typed.{AreTyped}
-use Rattle.seen_files.specs.Fits.{AllFit}
+use Rattle.typed_files.specs.meant_files.Denoted.{AreDenoted}
+use Rattle.typed_files.specs.meant_files.Typed.{AreTyped}
+use Rattle.typed_files.specs.seen_files.Fits.{AllFit}
 use Rattle.view_laws.specs.InOrder.{no_views, names_no_view, fits, AreViewsInOrder}
 use Rattle.view_laws.proofs.Enclosing.{itself}
 use Rattle.view_laws.proofs.Inner.{scopes_inner}

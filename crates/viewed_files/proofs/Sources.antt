@@ -48,8 +48,8 @@ use Rattle.typed_laws.proofs.Agreeing.{holds, nil_left, nil_right}
 use Rattle.typed_laws.proofs.Readings.{call_of}
 use Rattle.typed_points.specs.Meant.{AreDeclared, AreNumbers, IsMeantOptional}
 use Rattle.typed_points.proofs.Flags.{flagged, reading_same}
-use Rattle.seen_files.specs.Uses.{Uses}
-use Rattle.meant_files.specs.Typed.{AreIndicated, AreOf, IsGroupTyped, AreGroupsTyped, IsFrontTyped, AreIntegers}
+use Rattle.typed_files.specs.seen_files.Uses.{Uses}
+use Rattle.typed_files.specs.meant_files.Typed.{AreIndicated, AreOf, IsGroupTyped, AreGroupsTyped, IsFrontTyped, AreIntegers}
 use Rattle.scope_laws.proofs.Lists.{all_both, and_first, and_second}
 use Rattle.view_laws.specs.InOrder.{gives_view, is_name_of, is_one_name_of, is_any, stores_name}
 use Rattle.viewed_files.specs.Sources.{has_source, all_fit}

@@ -20,8 +20,8 @@ use Rattle.typed_laws.proofs.Agreeing.{nil_left, nil_right}
 use Rattle.typed_points.specs.Meant.{IsMeantCode, AreMeantBodies, AreMeantObjects}
 use Rattle.scope_laws.proofs.Lists.{and_first, and_second, all_both}
 use Rattle.order_laws.specs.Written.{is_declaration, are_declarations, are_statements, is_body, are_parts, is_procedure, is_unit}
-use Rattle.meant_files.specs.Denoted.{AreDenoted}
-use Rattle.meant_files.specs.Typed.{AreTyped}
+use Rattle.typed_files.specs.meant_files.Denoted.{AreDenoted}
+use Rattle.typed_files.specs.meant_files.Typed.{AreTyped}
 use Rattle.viewed_files.specs.Sources.{has_source, all_fit}
 use Rattle.viewed_files.proofs.Sources as source
 use Rattle.viewed_files.proofs.Sources.{IsLocalView, DeclaresPlain}

@@ -29,8 +29,8 @@ use Rattle.typed_points.proofs.Flags.{flagged}
 use Rattle.typed_points.proofs.Statements.{parameter_scalar}
 use Rattle.scope_laws.proofs.Lists.{and_first, and_second, both_true, all_both}
 use Rattle.order_laws.specs.Written.{is_declaration, are_declarations, are_statements, is_statement, are_branches, is_branch, are_alternatives, is_alternative}
-use Rattle.meant_files.specs.Denoted.{AreDenoted}
-use Rattle.meant_files.specs.Typed.{AreTyped}
+use Rattle.typed_files.specs.meant_files.Denoted.{AreDenoted}
+use Rattle.typed_files.specs.meant_files.Typed.{AreTyped}
 use Rattle.viewed_files.specs.Sources.{has_source, all_fit}
 use Rattle.viewed_files.proofs.Sources as source
 use Rattle.viewed_files.proofs.Sources.{IsLocalView, DeclaresPlain, scalar_plain}

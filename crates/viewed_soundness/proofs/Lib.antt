@@ -18,3 +18,5 @@ pub mod Lends
 pub mod Coming
 -- what formals see
 pub mod Given
+-- libraries that the crates above name through this one
+pub use Rattle.soundness.proofs as soundness

@@ -22,14 +22,14 @@ use Rattle.machine.specs.States.{Waiting, Leak}
 use Rattle.owned_ways.specs.Ways.{Step, Component, OfVariable, Loc, OfRoot, Way, Object, Into, Empty, Named, Past, Under, IsRooted, Reaches, IsSame, AllowsAll, after, part, along, Allows, Gone}
 use Rattle.owned_ways.specs.Ways as ways
 use Rattle.part_offsets.specs.Parts.{type_in, IsSettled}
-use Rattle.soundness.specs.Seen.{IsNear, Content, content, trunk, steps_in, seen, home}
-use Rattle.soundness.specs.Typed.{OwnsByShape, Kept, Spot}
+use Rattle.viewed_soundness.specs.soundness.Seen.{IsNear, Content, content, trunk, steps_in, seen, home}
+use Rattle.viewed_soundness.specs.soundness.Typed.{OwnsByShape, Kept, Spot}
 use Rattle.typed_laws.specs.Needed.{IndexLaw}
-use Rattle.soundness.proofs.Contents.{word_no, word_part}
-use Rattle.soundness.proofs.Joined.{leaf_join}
-use Rattle.soundness.proofs.Steps.{no_leaf}
-use Rattle.soundness.proofs.Fixed.{matches_scalar}
-use Rattle.soundness.proofs.Scalars.{acts, acts_append, after_append, read_effect}
+use Rattle.viewed_soundness.proofs.soundness.Contents.{word_no, word_part}
+use Rattle.viewed_soundness.proofs.soundness.Joined.{leaf_join}
+use Rattle.viewed_soundness.proofs.soundness.Steps.{no_leaf}
+use Rattle.viewed_soundness.proofs.soundness.Fixed.{matches_scalar}
+use Rattle.viewed_soundness.proofs.soundness.Scalars.{acts, acts_append, after_append, read_effect}
 use Rattle.owned_loans.specs.Views.{Around, Views, Viewed, expand, way_at}
 use Rattle.viewed_soundness.specs.Holds.{PartsAreNamed, Holds, is_view, IsOwners, Seeing}
 use Rattle.viewed_soundness.proofs.ViewKinds.{bundle_view, plain_sees, true_false}

@@ -6,7 +6,7 @@ use Rattle.place_names.specs.declared.fact.Fact.{Fact}
 use Rattle.place_names.specs.Names.{overlaps}
 use Rattle.owned_ways.specs.Ways.{Step, Root, OfVariable, OfHand, Loc, OfRoot, OfCell, Way, Object, Lost, Into, All, View, Reaches, Under, along, name_of}
 use Rattle.owned_ways.proofs.Unique.{one_location}
-use Rattle.soundness.specs.Seen.{trunk}
+use Rattle.viewed_soundness.specs.soundness.Seen.{trunk}
 use Rattle.owned_loans.specs.Views.{Around, Views, way_at, expand, expand_root, Viewed, part_at, inner_steps, expand_part, part_from}
 use Rattle.owned_loans.proofs.Meeting.{IsPlain}
 use Rattle.owned_loans.proofs.Safe.{Unlent, apart_names}

@@ -22,13 +22,13 @@ use Rattle.owned_ways.proofs.Moving.{parts_apart}
 use Rattle.owned_ways.proofs.Unique.{one_way}
 use Rattle.owned_ways.proofs.Locations.{reaches_along}
 use Rattle.part_offsets.specs.Parts.{IsSettled}
-use Rattle.soundness.specs.Seen.{content, trunk, steps_in, word_in, seen, home}
-use Rattle.soundness.specs.Typed.{Matches, OwnsByShape, Kept, Spot}
-use Rattle.soundness.proofs.Joined.{trunk_part}
-use Rattle.soundness.proofs.Contents.{word_no}
-use Rattle.soundness.proofs.Steps.{matches_words, no_leaf, taken_slots, room}
-use Rattle.soundness.proofs.Lasting.{keeps, put_away}
-use Rattle.soundness.proofs.Returning.{Backs, formal_fixed}
+use Rattle.viewed_soundness.specs.soundness.Seen.{content, trunk, steps_in, word_in, seen, home}
+use Rattle.viewed_soundness.specs.soundness.Typed.{Matches, OwnsByShape, Kept, Spot}
+use Rattle.viewed_soundness.proofs.soundness.Joined.{trunk_part}
+use Rattle.viewed_soundness.proofs.soundness.Contents.{word_no}
+use Rattle.viewed_soundness.proofs.soundness.Steps.{matches_words, no_leaf, taken_slots, room}
+use Rattle.viewed_soundness.proofs.soundness.Lasting.{keeps, put_away}
+use Rattle.viewed_soundness.proofs.soundness.Returning.{Backs, formal_fixed}
 use Rattle.owned_loans.specs.Views.{Views, IsMovedBy}
 use Rattle.viewed_soundness.proofs.Evaluated.{matches_named}
 use Rattle.viewed_steps.proofs.Left.{cells_same}

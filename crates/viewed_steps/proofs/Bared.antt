@@ -8,7 +8,7 @@ use Rattle.machine.specs.States.{Return}
 use Rattle.owned_ways.specs.Ways.{Step, Loc, OfCell, Way, Object, Lost, Into, All, Held, View, Reaches, Past, along}
 use Rattle.owned_ways.proofs.Unique.{one_location}
 use Rattle.owned_ways.proofs.Locations.{depth, past_depth}
-use Rattle.soundness.specs.Seen.{content, steps_in, word_in}
+use Rattle.viewed_soundness.specs.soundness.Seen.{content, steps_in, word_in}
 use Rattle.viewed_steps.specs.Taken.{Lodge, IsInside, IsAmong, AreTaken}
 use Rattle.viewed_steps.proofs.Carried.{start_reached, start_steps}
 use Rattle.owned_loans.specs.Views.{Views}

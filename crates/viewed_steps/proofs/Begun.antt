@@ -3,8 +3,8 @@ use Rattle.viewed_steps.specs.Sound.{ViewStage, IsTraversal}
 use Rattle.viewed_steps.specs.Awaited.{IsTakenBy}
 use Rattle.viewed_steps.specs.Traversals.{TraversalCall, call_in, IsViewTaker, AreRooted, SeesFirst}
 use Rattle.viewed_steps.proofs.LaidOut.{IsLaidOne, AreLaidOut}
-use Rattle.soundness.proofs.Points.{one_named, one_point}
-use Rattle.soundness.specs.Sound.{IsNamedSub, IsAtPoint}
+use Rattle.viewed_soundness.proofs.soundness.Points.{one_named, one_point}
+use Rattle.viewed_soundness.specs.soundness.Sound.{IsNamedSub, IsAtPoint}
 use Rattle.std.proofs.Common.{◌≡◌, refl, sym, ap, ◌∙◌, subst, inl, inr, ℕ, List, [], ◌∷◌, ◌++◌, Option, Some, Bool}
 use Rattle.spark_base.specs.Lists.{Has}
 use Rattle.place_names.specs.declared.act.Mode.TheVariants as mode

@@ -13,7 +13,7 @@ use Rattle.owned_loans.proofs.Ways.{beginnings}
 use Rattle.flow_paths.specs.Objects.{Typing, is_package_object}
 use Rattle.machine.specs.Memory.{Memory, Place}
 use Rattle.machine.specs.States.{Return}
-use Rattle.soundness.specs.Seen.{IsNear, content, word_in, home}
+use Rattle.viewed_soundness.specs.soundness.Seen.{IsNear, content, word_in, home}
 use Rattle.viewed_steps.specs.Taken.{Lodge, IsInside, IsAmong, IsBare, TakenBy, AreTaken, AreCarried}
 use Rattle.owned_ways.proofs.Assigned.{same_sound}
 

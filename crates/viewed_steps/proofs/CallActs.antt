@@ -38,20 +38,20 @@ use Rattle.machine.specs.Owners.{is_in_formal, waiting_in, is_in}
 use Rattle.place_names.specs.declared.act.Mode.TheVariants as mode
 use Rattle.owned_ways.specs.Ways.{Way, after, AllowsAll}
 use Rattle.owned_ways.specs.Ways as ways
-use Rattle.soundness.specs.Seen.{is_view_formal, IsNear, content, seen, home, trunk}
-use Rattle.soundness.specs.Typed.{Kept}
-use Rattle.soundness.specs.Sound.{Uses, Stage, facts_of, AreStages, IsRunnable, InScope, IsNamedSub, IsAtPoint, view_of as view_here}
-use Rattle.soundness.proofs.Numbers.{index_law}
-use Rattle.soundness.proofs.Lasting.{keeps}
-use Rattle.soundness.proofs.Passing.{AreReads, reads_keep, signature_is}
-use Rattle.soundness.proofs.Contents.{bool_cases}
-use Rattle.soundness.proofs.Inherited.{global_after}
-use Rattle.soundness.proofs.Points.{flow_at}
-use Rattle.soundness.proofs.Scalars.{acts, acts_append, after_append, allows_both}
-use Rattle.soundness.proofs.Successors.{below_one, successor_there}
-use Rattle.soundness.proofs.Used.{called_are, added_after, globals_are}
-use Rattle.soundness.proofs.Around.{IsFar}
-use Rattle.soundness.proofs.Eased.{eased}
+use Rattle.viewed_soundness.specs.soundness.Seen.{is_view_formal, IsNear, content, seen, home, trunk}
+use Rattle.viewed_soundness.specs.soundness.Typed.{Kept}
+use Rattle.viewed_soundness.specs.soundness.Sound.{Uses, Stage, facts_of, AreStages, IsRunnable, InScope, IsNamedSub, IsAtPoint, view_of as view_here}
+use Rattle.viewed_soundness.proofs.soundness.Numbers.{index_law}
+use Rattle.viewed_soundness.proofs.soundness.Lasting.{keeps}
+use Rattle.viewed_soundness.proofs.soundness.Passing.{AreReads, reads_keep, signature_is}
+use Rattle.viewed_soundness.proofs.soundness.Contents.{bool_cases}
+use Rattle.viewed_soundness.proofs.soundness.Inherited.{global_after}
+use Rattle.viewed_soundness.proofs.soundness.Points.{flow_at}
+use Rattle.viewed_soundness.proofs.soundness.Scalars.{acts, acts_append, after_append, allows_both}
+use Rattle.viewed_soundness.proofs.soundness.Successors.{below_one, successor_there}
+use Rattle.viewed_soundness.proofs.soundness.Used.{called_are, added_after, globals_are}
+use Rattle.viewed_soundness.proofs.soundness.Around.{IsFar}
+use Rattle.viewed_soundness.proofs.soundness.Eased.{eased}
 use Rattle.owned_loans.specs.Views.{Around, known_gone, Views, Viewed, ViewedAlone}
 use Rattle.viewed_soundness.specs.Holds.{Holds, is_view, IsOwners, AllKeep, is_fixed, is_given, Seeing, is_bundle}
 use Rattle.viewed_soundness.proofs.Evaluated.{live_trunk, keep_both}

@@ -32,16 +32,16 @@ use Rattle.machine.specs.Owners.{waiting_in}
 use Rattle.place_names.specs.declared.act.Mode.TheVariants as mode
 use Rattle.owned_ways.specs.Ways.{Step, Way, after, AllowsAll, Past}
 use Rattle.owned_ways.specs.Ways as ways
-use Rattle.soundness.specs.Seen.{IsNear, content, seen, home, trunk, word_in, steps_in}
-use Rattle.soundness.specs.Typed.{Kept}
-use Rattle.soundness.specs.Sound.{Stage, facts_of, AreStages, Uses, IsRunnable, returns_value, InScope, IsNamedSub, IsAtPoint, view_of as view_here}
-use Rattle.soundness.proofs.Stays.{Quiet}
-use Rattle.soundness.proofs.Passing.{entered, signature_is}
-use Rattle.soundness.proofs.Points.{path_there}
-use Rattle.soundness.proofs.Used.{called_used}
-use Rattle.soundness.proofs.Around.{IsFar}
-use Rattle.soundness.proofs.Waits.{led_waits}
-use Rattle.soundness.proofs.Eased.{eased}
+use Rattle.viewed_soundness.specs.soundness.Seen.{IsNear, content, seen, home, trunk, word_in, steps_in}
+use Rattle.viewed_soundness.specs.soundness.Typed.{Kept}
+use Rattle.viewed_soundness.specs.soundness.Sound.{Stage, facts_of, AreStages, Uses, IsRunnable, returns_value, InScope, IsNamedSub, IsAtPoint, view_of as view_here}
+use Rattle.viewed_soundness.proofs.soundness.Stays.{Quiet}
+use Rattle.viewed_soundness.proofs.soundness.Passing.{entered, signature_is}
+use Rattle.viewed_soundness.proofs.soundness.Points.{path_there}
+use Rattle.viewed_soundness.proofs.soundness.Used.{called_used}
+use Rattle.viewed_soundness.proofs.soundness.Around.{IsFar}
+use Rattle.viewed_soundness.proofs.soundness.Waits.{led_waits}
+use Rattle.viewed_soundness.proofs.soundness.Eased.{eased}
 use Rattle.owned_loans.specs.Views.{Around, known_gone, Views, IsMovedBy, AreClear as FactsAreClear, AreViews, Viewed, ViewedAlone, IsOuter}
 use Rattle.owned_loans.proofs.Moves.{parts_on, view_on, reached}
 use Rattle.viewed_soundness.proofs.Names.{parts_same}

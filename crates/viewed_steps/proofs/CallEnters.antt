@@ -40,15 +40,15 @@ use Rattle.place_names.specs.declared.act.Mode.TheVariants as mode
 use Rattle.owned_ways.specs.Ways.{Step, Way, Past}
 use Rattle.owned_ways.specs.Ways as ways
 use Rattle.owned_ways.proofs.Locations.{past_under, under_along, under_itself}
-use Rattle.soundness.specs.Seen.{IsNear, content, seen, home, trunk}
-use Rattle.soundness.specs.Typed.{Kept}
-use Rattle.soundness.specs.Sound.{Stage, facts_of, AreStages, IsRunnable, returns_value, InScope, IsNamedSub, IsAtPoint, view_of as view_here}
-use Rattle.soundness.proofs.Stays.{Quiet}
-use Rattle.soundness.proofs.Numbers.{index_law}
-use Rattle.soundness.proofs.Lasting.{keeps}
-use Rattle.soundness.proofs.Passing.{entered}
-use Rattle.soundness.proofs.Around.{IsFar, package_named}
-use Rattle.soundness.proofs.Eased.{eased}
+use Rattle.viewed_soundness.specs.soundness.Seen.{IsNear, content, seen, home, trunk}
+use Rattle.viewed_soundness.specs.soundness.Typed.{Kept}
+use Rattle.viewed_soundness.specs.soundness.Sound.{Stage, facts_of, AreStages, IsRunnable, returns_value, InScope, IsNamedSub, IsAtPoint, view_of as view_here}
+use Rattle.viewed_soundness.proofs.soundness.Stays.{Quiet}
+use Rattle.viewed_soundness.proofs.soundness.Numbers.{index_law}
+use Rattle.viewed_soundness.proofs.soundness.Lasting.{keeps}
+use Rattle.viewed_soundness.proofs.soundness.Passing.{entered}
+use Rattle.viewed_soundness.proofs.soundness.Around.{IsFar, package_named}
+use Rattle.viewed_soundness.proofs.soundness.Eased.{eased}
 use Rattle.owned_loans.specs.Views.{expand, Around, known_gone, Views, IsMovedBy, ExcusedBy, Viewed, ViewedAlone, AreShared, IsShared}
 use Rattle.owned_loans.proofs.Ways.{under_on, Meet, meets_front, flip}
 use Rattle.owned_loans.proofs.Moves.{expand_under}
@@ -75,7 +75,7 @@ use Rattle.viewed_steps.proofs.Views.{AreLowFormals, AreAccess, AreFar, kind_giv
 use Rattle.viewed_steps.proofs.Exclusive.{ChangesLent, IsLentAs, IsSeenFrom, AreLent, IsFrom, from_past, from_past_part, from_far, from_apart, from_place, mode_in, second_true}
 use Rattle.viewed_steps.proofs.SeenApart.{seen_apart}
 use Rattle.viewed_steps.proofs.Passed.{apart_there}
-use Rattle.soundness.proofs.Passing.{signature_is}
+use Rattle.viewed_soundness.proofs.soundness.Passing.{signature_is}
 use Rattle.machine.specs.Owners.{is_in}
 use Rattle.place_names.specs.Names.{overlaps}
 use Rattle.place_names.specs.declared.rule.Loan.TheVariants.{Borrowed}

@@ -27,13 +27,13 @@ use Rattle.machine.specs.Owners.{waiting_in}
 use Rattle.place_names.specs.declared.act.Mode.TheVariants as mode
 use Rattle.owned_ways.specs.Ways.{Step, Way}
 use Rattle.owned_ways.specs.Ways as ways
-use Rattle.soundness.specs.Seen.{is_view_formal, seen, home}
+use Rattle.viewed_soundness.specs.soundness.Seen.{is_view_formal, seen, home}
 use Rattle.owned_ways.proofs.Named.{longer}
 use Rattle.owned_ways.proofs.Dropped.{named_base}
-use Rattle.soundness.proofs.Contents.{bool_cases}
-use Rattle.soundness.specs.Typed.{Kept}
-use Rattle.soundness.specs.Sound.{Stage, facts_of, AreStages, Uses, IsRunnable, InScope, IsNamedSub, IsAtPoint, view_of as view_here}
-use Rattle.soundness.proofs.Around.{package_named}
+use Rattle.viewed_soundness.proofs.soundness.Contents.{bool_cases}
+use Rattle.viewed_soundness.specs.soundness.Typed.{Kept}
+use Rattle.viewed_soundness.specs.soundness.Sound.{Stage, facts_of, AreStages, Uses, IsRunnable, InScope, IsNamedSub, IsAtPoint, view_of as view_here}
+use Rattle.viewed_soundness.proofs.soundness.Around.{package_named}
 use Rattle.owned_loans.specs.Views.{expand, Around, known_gone, Views, ViewedAlone, IsThrough, IsShared, on}
 use Rattle.owned_loans.proofs.Ways.{under_on, Lifted, lifted_way, stands_alone, on_named, on_under, InPart, in_part_way}
 use Rattle.viewed_soundness.proofs.ViewKinds.{open_bundle, bundle_view, true_false}
@@ -67,7 +67,7 @@ use Rattle.flow_paths.specs.Objects.{sub_at, Signature, is_named_access, is_vari
 use Rattle.flow_paths.specs.Names.{written}
 use Rattle.flow_paths.specs.Views.{is_in_mode}
 use Rattle.flow_paths.specs.Effects.{act_writes, act_reads}
-use Rattle.soundness.proofs.Passing.{signature_is}
+use Rattle.viewed_soundness.proofs.soundness.Passing.{signature_is}
 use Rattle.owned_loans.specs.Views.{AreClear as FactsAreClear}
 use Rattle.owned_loans.proofs.Allowed.{Cleared}
 use Rattle.viewed_steps.specs.Sound.{lent_to, shown_one, shown_by, shown_at, loan_by}

@@ -23,16 +23,16 @@ use Rattle.machine.specs.States.{Waiting, Leak, sub_of}
 use Rattle.machine.specs.Owners.{is_in}
 use Rattle.owned_ways.specs.Ways.{Loc, Way, Reaches, AllowsAll, after}
 use Rattle.part_offsets.specs.Parts.{IsSettled}
-use Rattle.soundness.specs.Seen.{IsNear, content, trunk, seen, home}
-use Rattle.soundness.specs.Typed.{Matches, OwnsByShape, Kept}
-use Rattle.soundness.specs.Sound.{goes_through_none}
+use Rattle.viewed_soundness.specs.soundness.Seen.{IsNear, content, trunk, seen, home}
+use Rattle.viewed_soundness.specs.soundness.Typed.{Matches, OwnsByShape, Kept}
+use Rattle.viewed_soundness.specs.soundness.Sound.{goes_through_none}
 use Rattle.typed_laws.specs.Needed.{Gives, Stays, IndexLaw, IsPlace as IsPlaceOf}
-use Rattle.soundness.proofs.Contents.{bool_cases}
-use Rattle.soundness.proofs.Fixed.{matches_scalar}
-use Rattle.soundness.proofs.Scalars.{acts, acts_append, allows_both}
-use Rattle.soundness.proofs.Stays.{One, Quiet, quiet_then, quiet_from}
-use Rattle.soundness.proofs.Taking.{Takes}
-use Rattle.soundness.proofs.Passing.{IsRead, AreReads, AddNone, IsValue, plain_type, reads_keep, read_adds_none, signature_is}
+use Rattle.viewed_soundness.proofs.soundness.Contents.{bool_cases}
+use Rattle.viewed_soundness.proofs.soundness.Fixed.{matches_scalar}
+use Rattle.viewed_soundness.proofs.soundness.Scalars.{acts, acts_append, allows_both}
+use Rattle.viewed_soundness.proofs.soundness.Stays.{One, Quiet, quiet_then, quiet_from}
+use Rattle.viewed_soundness.proofs.soundness.Taking.{Takes}
+use Rattle.viewed_soundness.proofs.soundness.Passing.{IsRead, AreReads, AddNone, IsValue, plain_type, reads_keep, read_adds_none, signature_is}
 use Rattle.owned_loans.specs.Views.{Around, Views, Viewed}
 use Rattle.viewed_soundness.specs.Holds.{IsNamed, IsAccess, PartsAreNamed, Holds, IsOwners, is_given, Seeing, is_bundle}
 use Rattle.viewed_soundness.proofs.ViewKinds.{true_false, both_no, plain_named, bundle_access, given_view}

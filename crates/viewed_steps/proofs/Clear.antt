@@ -19,7 +19,7 @@ use Rattle.machine.specs.Owners.{is_in_formal}
 use Rattle.owned_ways.specs.Ways.{Way, Allows, AllowsAll, after}
 use Rattle.owned_ways.specs.Ways as ways
 use Rattle.owned_loans.proofs.Clear.{refused}
-use Rattle.soundness.proofs.Scalars.{acts, acts_append, allows_both, read_effect}
+use Rattle.viewed_soundness.proofs.soundness.Scalars.{acts, acts_append, allows_both, read_effect}
 use Rattle.owned_loans.proofs.Allowed.{Cleared}
 use Rattle.viewed_soundness.specs.Holds.{is_given}
 use Rattle.viewed_steps.proofs.Seeing.{IsClear, AreClear}

@@ -19,33 +19,33 @@ use Rattle.viewed_soundness.specs.Holds.{Holds, IsNamed, IsOwners, PartsAreNamed
 use Rattle.viewed_soundness.specs.Taken.{type_given, types_taken, TakesFit}
 use Rattle.viewed_soundness.proofs.Evaluated.{part_named}
 use Rattle.viewed_steps.proofs.Entered.{IsFit}
-use Rattle.soundness.specs.Seen.{IsNear, content, home, in_hand, seen, trunk}
+use Rattle.viewed_soundness.specs.soundness.Seen.{IsNear, content, home, in_hand, seen, trunk}
 use Rattle.part_offsets.specs.Parts.{IsSettled, has_part, offset_in, type_in}
-use Rattle.soundness.specs.Typed.{Kept, Matches, OwnsByShape, Points}
+use Rattle.viewed_soundness.specs.soundness.Typed.{Kept, Matches, OwnsByShape, Points}
 use Rattle.machine.specs.States.{Leak, Waiting}
 use Rattle.machine.specs.Memory.{Memory, Place, Slot, moved_out, slots_of, words_of}
-use Rattle.soundness.proofs.Stays.{One, Quiet, quiet_then, quiet_from}
+use Rattle.viewed_soundness.proofs.soundness.Stays.{One, Quiet, quiet_then, quiet_from}
 use Rattle.spark_base.specs.declared.position.Pos.{Pos}
-use Rattle.soundness.proofs.Taking.{Takes}
-use Rattle.soundness.proofs.Waits.{drop_none}
+use Rattle.viewed_soundness.proofs.soundness.Taking.{Takes}
+use Rattle.viewed_soundness.proofs.soundness.Waits.{drop_none}
 use Rattle.viewed_steps.proofs.Supplied.{Supplies, supplies_both, supplies_none, supplies_one, takes_supplied}
 use Rattle.flow_paths.specs.Objects.{Typing, object_at}
-use Rattle.soundness.proofs.Walks.{Walked, way_along}
-use Rattle.soundness.proofs.Scalars.{acts, acts_append, after_append, allows_both, read_effect}
+use Rattle.viewed_soundness.proofs.soundness.Walks.{Walked, way_along}
+use Rattle.viewed_soundness.proofs.soundness.Scalars.{acts, acts_append, after_append, allows_both, read_effect}
 use Rattle.flow_paths.specs.Acts.{acts_in, placed, used}
 use Rattle.place_names.specs.Facts.{effect}
 use Rattle.machine.specs.Words.{element_of, element_type, fits_type, no_component, element_count}
 use Rattle.machine.specs.Typed.{field_count, is_array, is_record, tree_count}
-use Rattle.soundness.proofs.Keeping.{joined, repeated, repeated_long, retyped_points, scalar, top_points, kept_with}
-use Rattle.soundness.proofs.Lasting.{keeps}
-use Rattle.soundness.proofs.Steps.{matches_words, room, taken_slots}
+use Rattle.viewed_soundness.proofs.soundness.Keeping.{joined, repeated, repeated_long, retyped_points, scalar, top_points, kept_with}
+use Rattle.viewed_soundness.proofs.soundness.Lasting.{keeps}
+use Rattle.viewed_soundness.proofs.soundness.Steps.{matches_words, room, taken_slots}
 use Rattle.flow_paths.specs.Names.{name_of, waiting as waits_in}
-use Rattle.soundness.proofs.Filling.{nth_part, part_is, part_offset, part_there, words_next, words_none, words_to, words_whole}
-use Rattle.soundness.proofs.Fixed.{plain_word}
+use Rattle.viewed_soundness.proofs.soundness.Filling.{nth_part, part_is, part_offset, part_there, words_next, words_none, words_to, words_whole}
+use Rattle.viewed_soundness.proofs.soundness.Fixed.{plain_word}
 use Rattle.owned_loans.proofs.Allowed.{read_open}
 use Rattle.machine.specs.Words as machine
 use Rattle.typed_tree.specs.Trees as typed
-use Rattle.soundness.proofs.Passing.{AreReads}
+use Rattle.viewed_soundness.proofs.soundness.Passing.{AreReads}
 use Rattle.viewed_steps.proofs.Reading.{no_reads, one_read, both_reads, reads_in, index_reads, unowned, unowned_read}
 
 -- ---- parts of what owns nothing own nothing

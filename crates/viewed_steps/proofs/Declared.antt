@@ -28,22 +28,22 @@ use Rattle.owned_ways.proofs.Dropped.{named_base}
 use Rattle.owned_ways.proofs.Locations.{reaches_along, named_along as rooted_along}
 use Rattle.owned_ways.proofs.Assigned.{is_false}
 use Rattle.part_offsets.specs.Parts.{offset_in, is_leaf, IsSettled}
-use Rattle.soundness.specs.Seen.{IsNear, is_view_formal, content, trunk, steps_in, word_in, owner_at, seen, home}
-use Rattle.soundness.specs.Changes.{Alike}
-use Rattle.soundness.specs.Typed.{OwnsByShape, Kept}
+use Rattle.viewed_soundness.specs.soundness.Seen.{IsNear, is_view_formal, content, trunk, steps_in, word_in, owner_at, seen, home}
+use Rattle.viewed_soundness.specs.soundness.Changes.{Alike}
+use Rattle.viewed_soundness.specs.soundness.Typed.{OwnsByShape, Kept}
 use Rattle.typed_laws.specs.Needed.{Source, FirstSource}
-use Rattle.soundness.proofs.Near.{near_under, near_along}
-use Rattle.soundness.proofs.Contents.{bool_cases, word_yes, word_no, word_root}
-use Rattle.soundness.proofs.Memories.{put_other}
-use Rattle.soundness.proofs.Moments.{declared_sound, number_part}
-use Rattle.soundness.proofs.Steps.{alike}
-use Rattle.soundness.proofs.Defaults.{none_default}
-use Rattle.soundness.proofs.Following.{Each}
-use Rattle.soundness.proofs.Fading.{FadesTo, still, then_fades, if_fades, checked_fades, fades}
-use Rattle.soundness.proofs.Lasting.{keeps, lengths, declared_kept}
-use Rattle.soundness.proofs.Numbers.{index_law}
-use Rattle.soundness.proofs.Scalars.{acts}
-use Rattle.soundness.proofs.Taking.{Takes, takes_as, takes_zero, no_takes, nothing_more}
+use Rattle.viewed_soundness.proofs.soundness.Near.{near_under, near_along}
+use Rattle.viewed_soundness.proofs.soundness.Contents.{bool_cases, word_yes, word_no, word_root}
+use Rattle.viewed_soundness.proofs.soundness.Memories.{put_other}
+use Rattle.viewed_soundness.proofs.soundness.Moments.{declared_sound, number_part}
+use Rattle.viewed_soundness.proofs.soundness.Steps.{alike}
+use Rattle.viewed_soundness.proofs.soundness.Defaults.{none_default}
+use Rattle.viewed_soundness.proofs.soundness.Following.{Each}
+use Rattle.viewed_soundness.proofs.soundness.Fading.{FadesTo, still, then_fades, if_fades, checked_fades, fades}
+use Rattle.viewed_soundness.proofs.soundness.Lasting.{keeps, lengths, declared_kept}
+use Rattle.viewed_soundness.proofs.soundness.Numbers.{index_law}
+use Rattle.viewed_soundness.proofs.soundness.Scalars.{acts}
+use Rattle.viewed_soundness.proofs.soundness.Taking.{Takes, takes_as, takes_zero, no_takes, nothing_more}
 use Rattle.owned_loans.specs.Views.{Around, Views, expand, ExcusedBy, Viewed, IsForeign}
 use Rattle.owned_loans.proofs.Ways.{lifts, lifted_way, root_on, base_on, home_or_foreign, part_root}
 use Rattle.owned_loans.proofs.Moves.{as_sound, all_known, view_on, view_rooted, reached, parts_on}

@@ -2,7 +2,7 @@
 -- ends of scopes.
 use Rattle.viewed_steps.proofs.Traversed.{declared_source, assigned_source}
 use Rattle.flow_paths.specs.Views.{sub_acts}
-use Rattle.soundness.proofs.Passing.{plain_type}
+use Rattle.viewed_soundness.proofs.soundness.Passing.{plain_type}
 use Rattle.std.proofs.Common.{◌≡◌, refl, sym, ap, ◌∙◌, subst, ◌⊎◌, inl, inr, ℕ, suc, ◌+◌, ◌<◌, Bool, true, false, not, ◌||◌, List, [], ◌∷◌, ◌++◌, map, drop, length, arith, append-nil, Option, Some, None, nat_lt, int_le, ◌&&◌, if◌then◌else◌, take}
 use Rattle.spark_base.specs.Lists.{Has}
 use Rattle.spark_base.specs.declared.position.Pos.{Pos}
@@ -44,24 +44,24 @@ use Rattle.owned_ways.specs.Ways.{Step, OfVariable, OfRoot, Way, Held, after, Al
 use Rattle.owned_ways.specs.Ways as ways
 use Rattle.owned_ways.proofs.Locations.{reaches_along, named_along as rooted_along}
 use Rattle.owned_ways.proofs.Dropped.{named_base}
-use Rattle.soundness.specs.Seen.{IsNear, content, word_in, home}
-use Rattle.soundness.specs.Typed.{Kept}
+use Rattle.viewed_soundness.specs.soundness.Seen.{IsNear, content, word_in, home}
+use Rattle.viewed_soundness.specs.soundness.Typed.{Kept}
 use Rattle.typed_laws.specs.Needed.{IsFine, Stays, Source, FirstSource, FirstWrites, FirstStays, Returns}
-use Rattle.soundness.specs.Sound.{IsNoCall, Stage, facts_of, AreStages, IsRunnable, returns_value, InScope, IsNamedSub, IsAtPoint, view_of as view_here, is_temporary_object}
-use Rattle.soundness.specs.Ready.{stored_at, Fills, IsSupplied}
-use Rattle.soundness.proofs.Contents.{bool_cases, word_root}
-use Rattle.soundness.proofs.Scalars.{acts, acts_append}
-use Rattle.soundness.proofs.Scoped.{MayHold, Inside}
-use Rattle.soundness.proofs.Inherited.{Splits, after_splits}
-use Rattle.soundness.proofs.Around.{IsFar}
-use Rattle.soundness.proofs.Following.{Each}
-use Rattle.soundness.proofs.Onward.{GoesOn, declare_follows, assign_follows, release_follows, input_follows, test_follows, choose_follows, stays_follows, output_follows, start_follows, next_follows}
-use Rattle.soundness.proofs.Waits.{drop_none}
-use Rattle.soundness.proofs.Taking.{Takes, takes_as, takes_both, nothing_more}
-use Rattle.soundness.proofs.Waited.{FillsNone}
-use Rattle.soundness.proofs.Eased.{eased, waits_same, goes_same, from_eased}
-use Rattle.soundness.proofs.Continued.{got_with, released_with, started_with, input_eased, release_eased, start_eased}
-use Rattle.soundness.proofs.Successors.{not_true, below_one, below_two}
+use Rattle.viewed_soundness.specs.soundness.Sound.{IsNoCall, Stage, facts_of, AreStages, IsRunnable, returns_value, InScope, IsNamedSub, IsAtPoint, view_of as view_here, is_temporary_object}
+use Rattle.viewed_soundness.specs.soundness.Ready.{stored_at, Fills, IsSupplied}
+use Rattle.viewed_soundness.proofs.soundness.Contents.{bool_cases, word_root}
+use Rattle.viewed_soundness.proofs.soundness.Scalars.{acts, acts_append}
+use Rattle.viewed_soundness.proofs.soundness.Scoped.{MayHold, Inside}
+use Rattle.viewed_soundness.proofs.soundness.Inherited.{Splits, after_splits}
+use Rattle.viewed_soundness.proofs.soundness.Around.{IsFar}
+use Rattle.viewed_soundness.proofs.soundness.Following.{Each}
+use Rattle.viewed_soundness.proofs.soundness.Onward.{GoesOn, declare_follows, assign_follows, release_follows, input_follows, test_follows, choose_follows, stays_follows, output_follows, start_follows, next_follows}
+use Rattle.viewed_soundness.proofs.soundness.Waits.{drop_none}
+use Rattle.viewed_soundness.proofs.soundness.Taking.{Takes, takes_as, takes_both, nothing_more}
+use Rattle.viewed_soundness.proofs.soundness.Waited.{FillsNone}
+use Rattle.viewed_soundness.proofs.soundness.Eased.{eased, waits_same, goes_same, from_eased}
+use Rattle.viewed_soundness.proofs.soundness.Continued.{got_with, released_with, started_with, input_eased, release_eased, start_eased}
+use Rattle.viewed_soundness.proofs.soundness.Successors.{not_true, below_one, below_two}
 use Rattle.owned_loans.specs.Views.{Around, known_gone, Views, Viewed, Unused, IsForeign, ViewedAlone}
 use Rattle.viewed_soundness.specs.Holds.{AllKeep, is_view, is_fixed, Seeing}
 use Rattle.viewed_soundness.proofs.ViewKinds.{plain_named, true_false}

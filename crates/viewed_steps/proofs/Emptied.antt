@@ -17,7 +17,7 @@ use Rattle.place_names.specs.Facts.{removes, effect}
 use Rattle.place_names.specs.declared.act.Act.TheVariants as act
 use Rattle.place_names.specs.declared.act.Mode.TheVariants as mode
 use Rattle.spark_base.proofs.Lists.{Has-append_cases, Has-filter}
-use Rattle.soundness.proofs.Contents.{bool_cases}
+use Rattle.viewed_soundness.proofs.soundness.Contents.{bool_cases}
 use Rattle.std.specs.List.{filter}
 use Rattle.owned_loans.specs.Views.{Views, AreClear, expand}
 use Rattle.viewed_steps.proofs.Between.{OwnersStand}

@@ -10,13 +10,13 @@ use Rattle.machine.specs.States.{Waiting, Leak}
 use Rattle.owned_ways.specs.Ways.{Step, OfVariable, Loc, OfRoot, OfCell, IsSame, Reaches, Way, Empty, Gone, Held, Under, Past, part, along}
 use Rattle.owned_ways.proofs.Locations.{below}
 use Rattle.part_offsets.specs.Parts.{IsSettled}
-use Rattle.soundness.specs.Seen.{content, trunk, steps_in, word_in, seen, home, is_view_formal}
-use Rattle.soundness.specs.Changes.{Checks}
-use Rattle.soundness.specs.Typed.{OwnsByShape, Kept, Spot}
-use Rattle.soundness.proofs.Contents.{word_part, word_root}
-use Rattle.soundness.proofs.Defaults.{none_default}
-use Rattle.soundness.proofs.Memories.{put_other}
-use Rattle.soundness.proofs.Lasting.{keeps, lengths, less_kept, declared_kept}
+use Rattle.viewed_soundness.specs.soundness.Seen.{content, trunk, steps_in, word_in, seen, home, is_view_formal}
+use Rattle.viewed_soundness.specs.soundness.Changes.{Checks}
+use Rattle.viewed_soundness.specs.soundness.Typed.{OwnsByShape, Kept, Spot}
+use Rattle.viewed_soundness.proofs.soundness.Contents.{word_part, word_root}
+use Rattle.viewed_soundness.proofs.soundness.Defaults.{none_default}
+use Rattle.viewed_soundness.proofs.soundness.Memories.{put_other}
+use Rattle.viewed_soundness.proofs.soundness.Lasting.{keeps, lengths, less_kept, declared_kept}
 use Rattle.owned_loans.specs.Views.{Views}
 use Rattle.viewed_soundness.specs.Holds.{is_view}
 use Rattle.viewed_soundness.proofs.ViewKinds.{true_false, not_view}

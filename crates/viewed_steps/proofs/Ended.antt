@@ -21,12 +21,12 @@ use Rattle.machine.specs.Owners.{waiting_in}
 use Rattle.owned_ways.specs.Ways.{Step, OfVariable, Way, Named, Allows, name_of, number_of}
 use Rattle.owned_ways.proofs.Assigned.{kept_fact}
 use Rattle.part_offsets.specs.Parts.{offset_in, IsSettled}
-use Rattle.soundness.specs.Seen.{IsNear, is_view_formal, home}
-use Rattle.soundness.specs.Typed.{OwnsByShape, Kept}
-use Rattle.soundness.specs.Sound as sound
-use Rattle.soundness.proofs.Defaults.{none_default}
-use Rattle.soundness.proofs.Keeping.{cell_has}
-use Rattle.soundness.proofs.Memories.{removed_same, removed_other}
+use Rattle.viewed_soundness.specs.soundness.Seen.{IsNear, is_view_formal, home}
+use Rattle.viewed_soundness.specs.soundness.Typed.{OwnsByShape, Kept}
+use Rattle.viewed_soundness.specs.soundness.Sound as sound
+use Rattle.viewed_soundness.proofs.soundness.Defaults.{none_default}
+use Rattle.viewed_soundness.proofs.soundness.Keeping.{cell_has}
+use Rattle.viewed_soundness.proofs.soundness.Memories.{removed_same, removed_other}
 use Rattle.owned_loans.specs.Views.{Around, Views, Viewed, Unused, with_view, IsThrough}
 use Rattle.owned_loans.proofs.Safe.{root_before}
 use Rattle.owned_loans.proofs.Taken.{becomes_with, given_up}

@@ -18,14 +18,14 @@ use Rattle.machine.specs.States.{Waiting, Leak}
 use Rattle.owned_ways.specs.Ways.{Step, OfVariable, OfHand, Loc, OfRoot, OfCell, Reaches, Way, Object, Empty, Held, Under, Past, Named, along, base_of, number_of}
 use Rattle.owned_ways.proofs.Locations.{same_loc}
 use Rattle.part_offsets.specs.Parts.{type_in, has_part, IsSettled}
-use Rattle.soundness.specs.Seen.{content, word_in, seen, home, is_view_formal, in_hand}
+use Rattle.viewed_soundness.specs.soundness.Seen.{content, word_in, seen, home, is_view_formal, in_hand}
 use Rattle.type_definitions.specs.declared.table.Shape.TheVariants as shape
-use Rattle.soundness.specs.Typed.{Matches, IsCell, OwnsByShape, Kept, Spot, Points}
-use Rattle.soundness.proofs.Memories.{put_other}
-use Rattle.soundness.proofs.Moments.{number_part, declared_sound}
-use Rattle.soundness.proofs.Steps.{matches_words, plain_end, alike, taken_slots, room}
-use Rattle.soundness.proofs.Lasting.{keeps, declared_kept}
-use Rattle.soundness.proofs.Stays.{One}
+use Rattle.viewed_soundness.specs.soundness.Typed.{Matches, IsCell, OwnsByShape, Kept, Spot, Points}
+use Rattle.viewed_soundness.proofs.soundness.Memories.{put_other}
+use Rattle.viewed_soundness.proofs.soundness.Moments.{number_part, declared_sound}
+use Rattle.viewed_soundness.proofs.soundness.Steps.{matches_words, plain_end, alike, taken_slots, room}
+use Rattle.viewed_soundness.proofs.soundness.Lasting.{keeps, declared_kept}
+use Rattle.viewed_soundness.proofs.soundness.Stays.{One}
 use Rattle.owned_loans.specs.Views.{Views, IsMovedBy, expand}
 use Rattle.owned_loans.proofs.Ways.{lifts, lifted_root, part_root}
 use Rattle.viewed_soundness.proofs.ViewKinds.{both_no, true_false, view_access, not_view}

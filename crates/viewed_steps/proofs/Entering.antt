@@ -14,11 +14,11 @@ use Rattle.owned_ways.specs.Ways.{Step, OfVariable, OfHand, Loc, OfRoot, OfCell,
 use Rattle.owned_ways.proofs.Locations.{under_along, under_itself}
 use Rattle.type_definitions.specs.Types.{is_owning}
 use Rattle.part_offsets.specs.Parts.{IsSettled}
-use Rattle.soundness.proofs.Contents.{word_no}
-use Rattle.soundness.proofs.Lasting.{keeps}
-use Rattle.soundness.specs.Seen.{content, trunk, steps_in, word_in, seen, home}
-use Rattle.soundness.specs.Changes.{Checks, leaks_at}
-use Rattle.soundness.specs.Typed.{OwnsByShape, Kept}
+use Rattle.viewed_soundness.proofs.soundness.Contents.{word_no}
+use Rattle.viewed_soundness.proofs.soundness.Lasting.{keeps}
+use Rattle.viewed_soundness.specs.soundness.Seen.{content, trunk, steps_in, word_in, seen, home}
+use Rattle.viewed_soundness.specs.soundness.Changes.{Checks, leaks_at}
+use Rattle.viewed_soundness.specs.soundness.Typed.{OwnsByShape, Kept}
 use Rattle.owned_loans.specs.Views.{Views, IsMovedBy}
 use Rattle.owned_loans.proofs.Ways.{beginnings}
 use Rattle.viewed_soundness.specs.Holds.{is_view}

@@ -7,12 +7,12 @@ use Rattle.viewed_steps.proofs.Views.{AreUnseen, given_type}
 use Rattle.viewed_steps.specs.Ready.{IsReady, IsCalled, IsTraversalCall, IsSeen, IsActualTo, AreActualsTo, AreDifferent, is_shown_type}
 use Rattle.viewed_steps.specs.Sound.{ViewStage}
 use Rattle.viewed_steps.specs.Traversals.{traversed_name}
-use Rattle.soundness.proofs.Points.{flow_at}
-use Rattle.soundness.proofs.Scalars.{acts, acts_append, after_append}
-use Rattle.soundness.proofs.Inherited.{global_after}
-use Rattle.soundness.proofs.Used.{globals_are, called_are}
-use Rattle.soundness.proofs.Passing.{signature_is}
-use Rattle.soundness.specs.Sound.{Stage, IsNamedSub, IsAtPoint}
+use Rattle.viewed_soundness.proofs.soundness.Points.{flow_at}
+use Rattle.viewed_soundness.proofs.soundness.Scalars.{acts, acts_append, after_append}
+use Rattle.viewed_soundness.proofs.soundness.Inherited.{global_after}
+use Rattle.viewed_soundness.proofs.soundness.Used.{globals_are, called_are}
+use Rattle.viewed_soundness.proofs.soundness.Passing.{signature_is}
+use Rattle.viewed_soundness.specs.soundness.Sound.{Stage, IsNamedSub, IsAtPoint}
 use Rattle.std.proofs.Common.{◌≡◌, refl, sym, ap, ◌∙◌, subst, ◌⊎◌, inl, inr, ℕ, Bool, true, false, List, [], ◌∷◌, ◌++◌, map, Option, Some, None, if◌then◌else◌}
 use Rattle.spark_base.specs.Lists.{Has}
 use Rattle.place_names.specs.declared.act.Mode.TheVariants as mode

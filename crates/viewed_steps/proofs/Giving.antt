@@ -2,12 +2,12 @@
 use Rattle.place_names.specs.declared.act.Act.TheVariants as act
 use Rattle.flow_paths.specs.Acts as flow
 use Rattle.flow_paths.specs.Acts.{acts_in}
-use Rattle.soundness.proofs.Scalars.{acts}
-use Rattle.soundness.proofs.Taking.{Takes, takes_as, nothing_more, takes_zero}
+use Rattle.viewed_soundness.proofs.soundness.Scalars.{acts}
+use Rattle.viewed_soundness.proofs.soundness.Taking.{Takes, takes_as, nothing_more, takes_zero}
 use Rattle.viewed_steps.proofs.Returned.{goes_on, names_view, name_given, changes_nothing}
 use Rattle.place_names.specs.Facts.{removes, effect}
-use Rattle.soundness.proofs.Operands.{hold_is}
-use Rattle.soundness.proofs.Stays.{Quiet}
+use Rattle.viewed_soundness.proofs.soundness.Operands.{hold_is}
+use Rattle.viewed_soundness.proofs.soundness.Stays.{Quiet}
 use Rattle.type_definitions.specs.declared.table.Shape.TheVariants as shape
 use Rattle.viewed_steps.proofs.Taking as taking
 use Rattle.viewed_steps.proofs.Results as results
@@ -40,7 +40,7 @@ use Rattle.flow_paths.specs.Scopes.{taken, scope_behind}
 use Rattle.machine.specs.Words.{fits_type}
 use Rattle.machine.specs.Words as machine
 use Rattle.machine.specs.Evaluate as run
-use Rattle.soundness.proofs.Contents.{bool_cases}
+use Rattle.viewed_soundness.proofs.soundness.Contents.{bool_cases}
 use Rattle.machine.specs.Memory.{given_up, Memory, cell}
 use Rattle.machine.specs.Evaluate.{Done, followed_by, place_of, Raises, Traps, Evaluated, Now, evaluate}
 use Rattle.machine.specs.States.{Waiting, Frame, State, Outcome, sub_of, Goes}
@@ -48,15 +48,15 @@ use Rattle.machine.specs.Step.{Turn, turn, start, successor}
 use Rattle.machine.specs.Step as steps
 use Rattle.machine.specs.Owners.{waiting_in, WellOwned}
 use Rattle.owned_ways.specs.Ways.{Step, OfVariable, OfRoot, Way, Held, after, AllowsAll}
-use Rattle.soundness.specs.Seen.{IsNear, content, word_in, home, seen}
-use Rattle.soundness.specs.Typed.{Kept, IsCell}
+use Rattle.viewed_soundness.specs.soundness.Seen.{IsNear, content, word_in, home, seen}
+use Rattle.viewed_soundness.specs.soundness.Typed.{Kept, IsCell}
 use Rattle.typed_laws.specs.Needed.{IsFine, Source, Matches, Returns}
 use Rattle.viewed_soundness.specs.Taken.{GivesPlainly}
-use Rattle.soundness.specs.Sound.{IsNoCall, Stage, facts_of, AreStages, IsRunnable, returns_value, InScope, IsNamedSub, IsAtPoint, view_of as view_here, has_returned}
-use Rattle.soundness.proofs.Scoped.{Inside}
-use Rattle.soundness.proofs.Around.{IsFar}
-use Rattle.soundness.proofs.Waited.{FillsNone}
-use Rattle.soundness.proofs.Eased.{eased}
+use Rattle.viewed_soundness.specs.soundness.Sound.{IsNoCall, Stage, facts_of, AreStages, IsRunnable, returns_value, InScope, IsNamedSub, IsAtPoint, view_of as view_here, has_returned}
+use Rattle.viewed_soundness.proofs.soundness.Scoped.{Inside}
+use Rattle.viewed_soundness.proofs.soundness.Around.{IsFar}
+use Rattle.viewed_soundness.proofs.soundness.Waited.{FillsNone}
+use Rattle.viewed_soundness.proofs.soundness.Eased.{eased}
 use Rattle.owned_loans.specs.Views.{Around, known_gone, Views, Viewed, Go, ViewedAlone}
 use Rattle.viewed_soundness.specs.Holds.{is_view, is_bundle, Seeing}
 use Rattle.viewed_soundness.proofs.Outcomes.{Leads_on, IsGood}
@@ -72,7 +72,7 @@ use Rattle.viewed_steps.proofs.Standing as standing
 use Rattle.viewed_steps.proofs.Packages as packages
 use Rattle.viewed_steps.proofs.Innermost as innermost
 use Rattle.machine.specs.Step.{led}
-use Rattle.soundness.specs.Ready.{IsSupplied}
+use Rattle.viewed_soundness.specs.soundness.Ready.{IsSupplied}
 use Rattle.viewed_steps.proofs.EachInstruction as each
 use Rattle.flow_paths.specs.Instructions.{Hold}
 use Rattle.owned_ways.specs.Ways as ways

@@ -21,7 +21,7 @@ use Rattle.place_names.specs.Rules.{forbidden_if, forbids, breaks_O1, breaks_O3,
 use Rattle.flow_paths.specs.Effects.{act_reads, act_writes, actual_writes}
 use Rattle.flow_paths.specs.Objects.{Typing, is_borrower, is_package_object}
 use Rattle.owned_ways.specs.Ways.{after}
-use Rattle.soundness.proofs.Contents.{bool_cases}
+use Rattle.viewed_soundness.proofs.soundness.Contents.{bool_cases}
 use Rattle.viewed_steps.proofs.Lent.{ends}
 
 -- ---- facts among others

@@ -5,7 +5,7 @@ use Rattle.flow_paths.specs.Views.{sub_acts, traversed_formal}
 use Rattle.viewed_steps.proofs.Rooted.{own_root}
 use Rattle.viewed_steps.proofs.Traversed.{named_left, named_brought}
 use Rattle.viewed_soundness.specs.Holds.{is_view, Seeing}
-use Rattle.soundness.proofs.Lasting.{ownerless}
+use Rattle.viewed_soundness.proofs.soundness.Lasting.{ownerless}
 use Rattle.typed_tree.specs.declared.object.ObjectKind.{ObjectKind}
 use Rattle.typed_tree.specs.declared.object.ObjectKind.TheVariants as object_kind
 use Rattle.std.specs.List.{AllByRecursion}
@@ -42,22 +42,22 @@ use Rattle.machine.specs.Typed.{successors}
 use Rattle.machine.specs.Owners.{WellOwned, waiting_in}
 use Rattle.owned_ways.specs.Ways.{Step, OfVariable, OfRoot, Way, Held, after, AllowsAll, number_of}
 use Rattle.owned_ways.specs.Ways as ways
-use Rattle.soundness.specs.Seen.{IsNear, content, word_in, home}
-use Rattle.soundness.specs.Typed.{Kept}
-use Rattle.soundness.specs.Sound.{Stage, facts_of, AreStages, Uses, IsRunnable, is_temporary_object, returns_value, has_returned, InScope, IsNamedSub, IsAtPoint, view_of as view_here, IsPlainValue, IsNoCall}
-use Rattle.soundness.specs.Ready.{stored_at, IsSupplied}
-use Rattle.soundness.proofs.Contents.{bool_cases, word_no}
+use Rattle.viewed_soundness.specs.soundness.Seen.{IsNear, content, word_in, home}
+use Rattle.viewed_soundness.specs.soundness.Typed.{Kept}
+use Rattle.viewed_soundness.specs.soundness.Sound.{Stage, facts_of, AreStages, Uses, IsRunnable, is_temporary_object, returns_value, has_returned, InScope, IsNamedSub, IsAtPoint, view_of as view_here, IsPlainValue, IsNoCall}
+use Rattle.viewed_soundness.specs.soundness.Ready.{stored_at, IsSupplied}
+use Rattle.viewed_soundness.proofs.soundness.Contents.{bool_cases, word_no}
 use Rattle.machine.specs.Run.{no_point}
-use Rattle.soundness.proofs.Points.{flow_at, point_there, sub_at_number, sub_in_range}
-use Rattle.soundness.proofs.Scoped.{MayHold, Inside}
-use Rattle.soundness.proofs.Inherited.{Splits, after_splits, allowed_beside}
-use Rattle.soundness.proofs.Used.{writes_used, reads_used, fact_added}
-use Rattle.soundness.proofs.Around.{IsFar}
-use Rattle.soundness.proofs.Waits.{waits_of, drop_none}
-use Rattle.soundness.proofs.Taking.{Takes}
-use Rattle.soundness.proofs.Waited.{within_left, FillsNone}
-use Rattle.soundness.proofs.Eased.{eased, takes_all}
-use Rattle.soundness.proofs.Raised.{raised_owned}
+use Rattle.viewed_soundness.proofs.soundness.Points.{flow_at, point_there, sub_at_number, sub_in_range}
+use Rattle.viewed_soundness.proofs.soundness.Scoped.{MayHold, Inside}
+use Rattle.viewed_soundness.proofs.soundness.Inherited.{Splits, after_splits, allowed_beside}
+use Rattle.viewed_soundness.proofs.soundness.Used.{writes_used, reads_used, fact_added}
+use Rattle.viewed_soundness.proofs.soundness.Around.{IsFar}
+use Rattle.viewed_soundness.proofs.soundness.Waits.{waits_of, drop_none}
+use Rattle.viewed_soundness.proofs.soundness.Taking.{Takes}
+use Rattle.viewed_soundness.proofs.soundness.Waited.{within_left, FillsNone}
+use Rattle.viewed_soundness.proofs.soundness.Eased.{eased, takes_all}
+use Rattle.viewed_soundness.proofs.soundness.Raised.{raised_owned}
 use Rattle.owned_loans.specs.Views.{Around, known_gone, Views, Viewed, ViewedAlone}
 use Rattle.viewed_soundness.proofs.ViewKinds.{true_false, given_view}
 use Rattle.viewed_steps.specs.Awaited.{TakesPassed, IsTakenAt, AreOwnless, AreFor, AreValues, temporaries_of, is_held, lasting_of, awaited, AreAwaited, AreScalar, TakesScalars, StoresNone, IsTaken}

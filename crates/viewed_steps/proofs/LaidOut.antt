@@ -13,8 +13,8 @@ use Rattle.machine.specs.Calls.{Passed, Value, From, To}
 use Rattle.machine.specs.Owners.{is_in}
 use Rattle.owned_ways.specs.Ways.{Way, Named, Reaches}
 use Rattle.owned_ways.specs.Ways as ways
-use Rattle.soundness.specs.Seen.{home}
-use Rattle.soundness.specs.Typed.{Matches, IsFixed}
+use Rattle.viewed_soundness.specs.soundness.Seen.{home}
+use Rattle.viewed_soundness.specs.soundness.Typed.{Matches, IsFixed}
 use Rattle.owned_loans.specs.Views.{Views, expand}
 use Rattle.owned_loans.proofs.Safe.{Open}
 use Rattle.viewed_soundness.specs.Holds.{is_bundle}

@@ -30,7 +30,7 @@ use Rattle.flow_paths.specs.Aliases.{pair_reports, overlap_reports, may_overlap}
 use Rattle.flow_paths.specs.Aliases as alias
 use Rattle.owned_ways.specs.Ways.{Allows, AllowsAll, after}
 use Rattle.owned_ways.proofs.Assigned.{kept_fact, is_false}
-use Rattle.soundness.proofs.Scalars.{acts, acts_append, allows_both}
+use Rattle.viewed_soundness.proofs.soundness.Scalars.{acts, acts_append, allows_both}
 use Rattle.owned_loans.proofs.Clear.{refused}
 use Rattle.viewed_soundness.specs.Holds.{is_fixed, AllKeep}
 use Rattle.viewed_soundness.proofs.ViewKinds.{free_sees}

@@ -16,8 +16,8 @@ use Rattle.machine.specs.Words as machine
 use Rattle.machine.specs.Memory.{variable_slots, no_slot, Place}
 use Rattle.machine.specs.States.{Frame, Return, State}
 use Rattle.owned_ways.specs.Ways.{Loc, IsSame, Step, OfVariable, OfRoot, OfCell, Way, Object, Held, Reaches, part}
-use Rattle.soundness.specs.Seen.{content, word_in, home}
-use Rattle.soundness.specs.Sound.{Stage, facts_of, AreStages, view_of as view_here}
+use Rattle.viewed_soundness.specs.soundness.Seen.{content, word_in, home}
+use Rattle.viewed_soundness.specs.soundness.Sound.{Stage, facts_of, AreStages, view_of as view_here}
 use Rattle.owned_loans.specs.Views.{known_gone}
 use Rattle.owned_loans.proofs.Moves.{view_on, parts_on}
 use Rattle.viewed_steps.specs.Taken.{IsInside, IsBare, IsAmong, IsOwnAt}

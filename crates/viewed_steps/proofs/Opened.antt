@@ -16,7 +16,7 @@ use Rattle.place_names.specs.Names.{Name as PlaceName, is_equal, begins, is_pref
 use Rattle.place_names.specs.Rules.{lent, moved_or_borrowed, moved_or_lent, breaks_O2, breaks_O3, breaks_O10}
 use Rattle.place_names.proofs.Names.{both_parts, both_true}
 use Rattle.owned_ways.specs.Ways.{Way, Allows, name_of}
-use Rattle.soundness.proofs.Freeing.{switched}
+use Rattle.viewed_soundness.proofs.soundness.Freeing.{switched}
 use Rattle.owned_loans.proofs.Clear.{refused}
 use Rattle.owned_loans.proofs.Allowed.{either_right, leads_overlaps, write_open, write_unlent}
 use Rattle.owned_loans.proofs.Safe.{Open, Unlent}

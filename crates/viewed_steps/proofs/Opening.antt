@@ -26,8 +26,8 @@ use Rattle.part_offsets.specs.Parts.{IsSettled, has_part, type_in, offset_in}
 use Rattle.type_definitions.specs.declared.table.Shape.{Shape}
 use Rattle.type_definitions.specs.declared.table.Shape.TheVariants as shape
 use Rattle.type_definitions.specs.Types.{shape_of}
-use Rattle.soundness.specs.Seen.{IsNear, content, trunk, seen, home}
-use Rattle.soundness.specs.Typed.{OwnsByShape, Kept}
+use Rattle.viewed_soundness.specs.soundness.Seen.{IsNear, content, trunk, seen, home}
+use Rattle.viewed_soundness.specs.soundness.Typed.{OwnsByShape, Kept}
 use Rattle.typed_laws.specs.Needed.{IndexLaw}
 use Rattle.owned_loans.specs.Views.{Around, Views, AreViews, ExcusedBy, Viewed, with_view}
 use Rattle.viewed_soundness.specs.Holds.{PartsAreNamed, is_view, IsOwners, Holds, PartsHold, is_given, is_bundle, GoesBy, Seeing}

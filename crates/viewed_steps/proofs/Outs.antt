@@ -10,9 +10,9 @@ use Rattle.owned_ways.specs.Ways.{Step, OfVariable, OfRoot, OfCell, Loc, Way, Ob
 use Rattle.owned_ways.proofs.Locations.{reaches_along, under_along, under_itself}
 use Rattle.owned_ways.proofs.Unique.{one_way}
 use Rattle.owned_loans.proofs.Ways.{beginnings}
-use Rattle.soundness.specs.Seen.{content, word_in}
-use Rattle.soundness.specs.Changes.{leaks_at}
-use Rattle.soundness.proofs.Joined.{part_part}
+use Rattle.viewed_soundness.specs.soundness.Seen.{content, word_in}
+use Rattle.viewed_soundness.specs.soundness.Changes.{leaks_at}
+use Rattle.viewed_soundness.proofs.soundness.Joined.{part_part}
 use Rattle.viewed_steps.specs.Taken.{Lodge}
 
 -- Its way, and where its leak checks are reported.

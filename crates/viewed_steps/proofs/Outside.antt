@@ -14,9 +14,9 @@ use Rattle.flow_paths.specs.Laid.{FlowProgram, flow_program, flow_typing}
 use Rattle.machine.specs.States.{State}
 use Rattle.owned_ways.specs.Ways.{Step, OfVariable, OfRoot, Way, Loc, along, base_of, name_of, number_of, Past, Under, Named, View}
 use Rattle.owned_ways.proofs.Dropped.{named_base}
-use Rattle.soundness.specs.Seen.{home}
-use Rattle.soundness.specs.Sound.{Stage, facts_of}
-use Rattle.soundness.proofs.Near.{named_near}
+use Rattle.viewed_soundness.specs.soundness.Seen.{home}
+use Rattle.viewed_soundness.specs.soundness.Sound.{Stage, facts_of}
+use Rattle.viewed_soundness.proofs.soundness.Near.{named_near}
 use Rattle.viewed_soundness.specs.Holds.{is_view}
 use Rattle.viewed_steps.specs.Sound.{ViewStage, GoneElsewhere, KeptBy}
 use Rattle.viewed_steps.proofs.Views.{base_named}

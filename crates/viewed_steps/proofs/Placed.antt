@@ -18,11 +18,11 @@ use Rattle.machine.specs.Step.{Turn, typing}
 use Rattle.owned_ways.specs.Ways.{OfRoot, Held, Way, name_of, number_of, Named, base_of}
 use Rattle.owned_ways.specs.Ways as ways
 use Rattle.part_offsets.specs.Parts.{IsSettled}
-use Rattle.soundness.specs.Seen.{home, IsNear, content, word_in}
-use Rattle.soundness.specs.Typed.{OwnsByShape}
-use Rattle.soundness.specs.Sound.{InScope}
-use Rattle.soundness.proofs.Contents.{word_no}
-use Rattle.soundness.proofs.Lasting.{ownerless}
+use Rattle.viewed_soundness.specs.soundness.Seen.{home, IsNear, content, word_in}
+use Rattle.viewed_soundness.specs.soundness.Typed.{OwnsByShape}
+use Rattle.viewed_soundness.specs.soundness.Sound.{InScope}
+use Rattle.viewed_soundness.proofs.soundness.Contents.{word_no}
+use Rattle.viewed_soundness.proofs.soundness.Lasting.{ownerless}
 use Rattle.owned_loans.specs.Views.{Around, Views}
 use Rattle.viewed_soundness.specs.Holds.{PartsAreNamed, is_view, Seeing}
 use Rattle.viewed_soundness.proofs.ViewKinds.{true_false}

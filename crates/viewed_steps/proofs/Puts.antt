@@ -23,18 +23,18 @@ use Rattle.owned_ways.proofs.Unique.{one_location}
 use Rattle.owned_ways.proofs.Dropped.{named_base}
 use Rattle.owned_loans.proofs.Ways.{in_part_way, lifts, lifted_way}
 use Rattle.part_offsets.specs.Parts.{type_in, offset_in, has_part, IsSettled}
-use Rattle.soundness.specs.Seen.{IsNear, content, trunk, steps_in, seen, home, is_view_formal}
-use Rattle.soundness.specs.Typed.{Matches, OwnsByShape, Kept, Spot, IsFixed, loc_of}
-use Rattle.soundness.specs.Sound.{goes_through_none}
+use Rattle.viewed_soundness.specs.soundness.Seen.{IsNear, content, trunk, steps_in, seen, home, is_view_formal}
+use Rattle.viewed_soundness.specs.soundness.Typed.{Matches, OwnsByShape, Kept, Spot, IsFixed, loc_of}
+use Rattle.viewed_soundness.specs.soundness.Sound.{goes_through_none}
 use Rattle.typed_laws.specs.Needed.{Stays, IndexLaw, IsPlace as IsPlaceOf, Leads, Gives}
-use Rattle.soundness.proofs.Joined.{steps_part}
-use Rattle.soundness.proofs.Fixed.{plain_word}
-use Rattle.soundness.proofs.Scalars.{acts, number_along, named_along}
-use Rattle.soundness.proofs.Stays.{One, Quiet, quiet_then}
-use Rattle.soundness.proofs.Taking.{Takes}
-use Rattle.soundness.proofs.Walks.{way_along, Walked}
+use Rattle.viewed_soundness.proofs.soundness.Joined.{steps_part}
+use Rattle.viewed_soundness.proofs.soundness.Fixed.{plain_word}
+use Rattle.viewed_soundness.proofs.soundness.Scalars.{acts, number_along, named_along}
+use Rattle.viewed_soundness.proofs.soundness.Stays.{One, Quiet, quiet_then}
+use Rattle.viewed_soundness.proofs.soundness.Taking.{Takes}
+use Rattle.viewed_soundness.proofs.soundness.Walks.{way_along, Walked}
 use Rattle.viewed_soundness.proofs.Walks.{walk}
-use Rattle.soundness.proofs.Passing.{IsValue}
+use Rattle.viewed_soundness.proofs.soundness.Passing.{IsValue}
 use Rattle.owned_loans.specs.Views.{Around, Views, expand, ExcusedBy, Viewed, Go, Part, Down, on}
 use Rattle.owned_loans.proofs.Moves.{IsPlace, expand_along, reached}
 use Rattle.owned_loans.proofs.Meeting.{stands_base, stands}
@@ -53,7 +53,7 @@ use Rattle.viewed_steps.proofs.Aside.{cell_name}
 use Rattle.viewed_steps.proofs.Direct.{IsDirect, steps_direct, past_none, direct_leads, IsIn, walked_in, both_quiet, direct_part, part_reached}
 use Rattle.viewed_steps.proofs.LaidOut.{IsOwnPut, IsPlainAt, IsOpenActual, IsHousedPut}
 use Rattle.viewed_steps.proofs.Entered.{IsFit}
-use Rattle.soundness.proofs.Keeping.{top_points, scalar}
+use Rattle.viewed_soundness.proofs.soundness.Keeping.{top_points, scalar}
 use Rattle.place_names.specs.declared.selector.Sel.{Sel}
 use Rattle.place_names.specs.declared.selector.Sel.TheVariants.{Field, Elem, Deref}
 use Rattle.place_names.specs.Names.{Name as PlaceName}

@@ -32,20 +32,20 @@ use Rattle.machine.specs.Owners.{waiting_in}
 use Rattle.owned_ways.specs.Ways.{OfVariable, OfHand, Loc, Way, Object, Reaches, IsRooted, Named, Allows, after, AllowsAll, number_of}
 use Rattle.owned_ways.specs.Ways as ways
 use Rattle.part_offsets.specs.Parts.{IsSettled}
-use Rattle.soundness.specs.Seen.{IsNear, is_view_formal, content, trunk, seen, home}
-use Rattle.soundness.specs.Changes.{leaks_at}
-use Rattle.soundness.specs.Typed.{Matches, OwnsByShape, Spot}
+use Rattle.viewed_soundness.specs.soundness.Seen.{IsNear, is_view_formal, content, trunk, seen, home}
+use Rattle.viewed_soundness.specs.soundness.Changes.{leaks_at}
+use Rattle.viewed_soundness.specs.soundness.Typed.{Matches, OwnsByShape, Spot}
 use Rattle.typed_laws.specs.Needed.{Leads}
-use Rattle.soundness.proofs.Near.{near_under}
-use Rattle.soundness.proofs.Contents.{bool_cases}
-use Rattle.soundness.proofs.Walks.{way_along, Walked}
-use Rattle.soundness.proofs.Steps.{plain_shape}
-use Rattle.soundness.proofs.Scalars.{acts, acts_append, after_append, allows_both, number_along, named_along}
-use Rattle.soundness.proofs.Stays.{Quiet}
-use Rattle.soundness.proofs.Taking.{Takes}
-use Rattle.soundness.proofs.Numbers.{index_law}
-use Rattle.soundness.proofs.Lasting.{keeps, put_away}
-use Rattle.soundness.proofs.Freeing.{plain_parts, switched}
+use Rattle.viewed_soundness.proofs.soundness.Near.{near_under}
+use Rattle.viewed_soundness.proofs.soundness.Contents.{bool_cases}
+use Rattle.viewed_soundness.proofs.soundness.Walks.{way_along, Walked}
+use Rattle.viewed_soundness.proofs.soundness.Steps.{plain_shape}
+use Rattle.viewed_soundness.proofs.soundness.Scalars.{acts, acts_append, after_append, allows_both, number_along, named_along}
+use Rattle.viewed_soundness.proofs.soundness.Stays.{Quiet}
+use Rattle.viewed_soundness.proofs.soundness.Taking.{Takes}
+use Rattle.viewed_soundness.proofs.soundness.Numbers.{index_law}
+use Rattle.viewed_soundness.proofs.soundness.Lasting.{keeps, put_away}
+use Rattle.viewed_soundness.proofs.soundness.Freeing.{plain_parts, switched}
 use Rattle.owned_loans.specs.Views.{Around, Views, expand, Viewed}
 use Rattle.owned_loans.proofs.Allowed.{write_open}
 use Rattle.viewed_soundness.specs.Holds.{IsNamed, PartsAreNamed, IsOwners, Seeing}

@@ -31,23 +31,23 @@ use Rattle.owned_ways.proofs.Named.{covered_under}
 use Rattle.owned_ways.proofs.Assigned.{kept_fact, is_false}
 use Rattle.part_offsets.specs.Parts.{type_in, offset_in, has_part, owns_one, is_leaf, IsSettled}
 use Rattle.part_offsets.proofs.Ranges.{leaf_end, leaf_part}
-use Rattle.soundness.specs.Seen.{IsNear, is_view_formal, Content, content, trunk, steps_in, owner_at, owner_word, seen, home}
-use Rattle.soundness.specs.Changes.{Alike as AlikeTypes, Checks, leaks_at}
-use Rattle.soundness.specs.Typed.{Matches, OwnsByShape, Spot}
+use Rattle.viewed_soundness.specs.soundness.Seen.{IsNear, is_view_formal, Content, content, trunk, steps_in, owner_at, owner_word, seen, home}
+use Rattle.viewed_soundness.specs.soundness.Changes.{Alike as AlikeTypes, Checks, leaks_at}
+use Rattle.viewed_soundness.specs.soundness.Typed.{Matches, OwnsByShape, Spot}
 use Rattle.typed_laws.specs.Needed.{Leads}
-use Rattle.soundness.proofs.Contents.{bool_cases, word_yes, word_no, word_part, checks_made, all_checks}
-use Rattle.soundness.proofs.Joined.{trunk_trunk, below_cell}
-use Rattle.soundness.proofs.Walks.{both_true, way_along, Walked}
+use Rattle.viewed_soundness.proofs.soundness.Contents.{bool_cases, word_yes, word_no, word_part, checks_made, all_checks}
+use Rattle.viewed_soundness.proofs.soundness.Joined.{trunk_trunk, below_cell}
+use Rattle.viewed_soundness.proofs.soundness.Walks.{both_true, way_along, Walked}
 use Rattle.viewed_soundness.proofs.Walks.{one_slot, type_is, slot_is, held_there, cell_spot, slot_at, owners_rooted}
-use Rattle.soundness.proofs.Frees.{freed_there, made_still, releases}
-use Rattle.soundness.proofs.Owners.{strip}
-use Rattle.soundness.proofs.Keeping.{cell_has}
-use Rattle.soundness.proofs.Steps.{alike}
-use Rattle.soundness.proofs.Scalars.{acts, acts_append, after_append, allows_both, number_along, named_along}
-use Rattle.soundness.proofs.Stays.{Quiet}
-use Rattle.soundness.proofs.Taking.{Takes}
-use Rattle.soundness.proofs.Numbers.{index_law}
-use Rattle.soundness.proofs.Lasting.{keeps, stored_kept, freed_kept}
+use Rattle.viewed_soundness.proofs.soundness.Frees.{freed_there, made_still, releases}
+use Rattle.viewed_soundness.proofs.soundness.Owners.{strip}
+use Rattle.viewed_soundness.proofs.soundness.Keeping.{cell_has}
+use Rattle.viewed_soundness.proofs.soundness.Steps.{alike}
+use Rattle.viewed_soundness.proofs.soundness.Scalars.{acts, acts_append, after_append, allows_both, number_along, named_along}
+use Rattle.viewed_soundness.proofs.soundness.Stays.{Quiet}
+use Rattle.viewed_soundness.proofs.soundness.Taking.{Takes}
+use Rattle.viewed_soundness.proofs.soundness.Numbers.{index_law}
+use Rattle.viewed_soundness.proofs.soundness.Lasting.{keeps, stored_kept, freed_kept}
 use Rattle.owned_ways.proofs.Unique.{one_way, one_location}
 use Rattle.owned_loans.specs.Views.{Around, Views, expand, ExcusedBy, IsAway, Viewed}
 use Rattle.owned_loans.proofs.Clear.{clear_same}

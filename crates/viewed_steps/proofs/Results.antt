@@ -39,18 +39,18 @@ use Rattle.machine.specs.Typed.{successors}
 use Rattle.machine.specs.Owners.{WellOwned, waiting_in}
 use Rattle.owned_ways.specs.Ways.{Step, OfVariable, OfRoot, Way, Held, after, AllowsAll, along, number_of}
 use Rattle.owned_ways.specs.Ways as ways
-use Rattle.soundness.specs.Seen.{IsNear, content, word_in, home, seen}
-use Rattle.soundness.specs.Typed.{Kept}
+use Rattle.viewed_soundness.specs.soundness.Seen.{IsNear, content, word_in, home, seen}
+use Rattle.viewed_soundness.specs.soundness.Typed.{Kept}
 use Rattle.typed_laws.specs.Needed.{IsFine, Stays, Source}
-use Rattle.soundness.specs.Sound.{IsNoCall, Stage, facts_of, AreStages, IsRunnable, returns_value, InScope, IsNamedSub, IsAtPoint, view_of as view_here, is_temporary_object, has_returned}
-use Rattle.soundness.proofs.Scalars.{acts}
-use Rattle.soundness.proofs.Scoped.{Inside}
-use Rattle.soundness.proofs.Around.{IsFar}
-use Rattle.soundness.proofs.Waits.{drop_none, waits_of}
-use Rattle.soundness.proofs.Taking.{Takes, takes_as, nothing_more}
-use Rattle.soundness.proofs.Waited.{FillsNone}
-use Rattle.soundness.proofs.Eased.{eased, waits_same}
-use Rattle.soundness.proofs.Successors.{below_one}
+use Rattle.viewed_soundness.specs.soundness.Sound.{IsNoCall, Stage, facts_of, AreStages, IsRunnable, returns_value, InScope, IsNamedSub, IsAtPoint, view_of as view_here, is_temporary_object, has_returned}
+use Rattle.viewed_soundness.proofs.soundness.Scalars.{acts}
+use Rattle.viewed_soundness.proofs.soundness.Scoped.{Inside}
+use Rattle.viewed_soundness.proofs.soundness.Around.{IsFar}
+use Rattle.viewed_soundness.proofs.soundness.Waits.{drop_none, waits_of}
+use Rattle.viewed_soundness.proofs.soundness.Taking.{Takes, takes_as, nothing_more}
+use Rattle.viewed_soundness.proofs.soundness.Waited.{FillsNone}
+use Rattle.viewed_soundness.proofs.soundness.Eased.{eased, waits_same}
+use Rattle.viewed_soundness.proofs.soundness.Successors.{below_one}
 use Rattle.owned_loans.specs.Views.{Around, known_gone, Views, Viewed, ViewedAlone, IsShared, IsMovedBy}
 use Rattle.viewed_soundness.specs.Holds.{IsNamed, AllKeep, is_view, is_fixed, Holds, Seeing}
 use Rattle.viewed_soundness.proofs.Outcomes.{IsGood, Leads_on, unturned, scalar_taken}
@@ -73,14 +73,14 @@ use Rattle.std.specs.Prelude.{is_some, flat_map}
 use Rattle.type_definitions.specs.Entries.{boolean}
 use Rattle.typed_tree.specs.declared.node.ShortCircuit.{ShortCircuit}
 use Rattle.machine.specs.Run.{no_point}
-use Rattle.soundness.specs.Ready.{IsSupplied, Fills}
-use Rattle.soundness.proofs.Onward.{Gets, value_inside, source_inside}
-use Rattle.soundness.proofs.Operands.{handed_over, hold_is}
-use Rattle.soundness.proofs.Points.{path_there}
-use Rattle.soundness.proofs.Stays.{Quiet, One}
-use Rattle.soundness.proofs.Numbers.{index_law}
-use Rattle.soundness.proofs.Lasting.{keeps}
-use Rattle.soundness.proofs.Fixed.{plain_word}
+use Rattle.viewed_soundness.specs.soundness.Ready.{IsSupplied, Fills}
+use Rattle.viewed_soundness.proofs.soundness.Onward.{Gets, value_inside, source_inside}
+use Rattle.viewed_soundness.proofs.soundness.Operands.{handed_over, hold_is}
+use Rattle.viewed_soundness.proofs.soundness.Points.{path_there}
+use Rattle.viewed_soundness.proofs.soundness.Stays.{Quiet, One}
+use Rattle.viewed_soundness.proofs.soundness.Numbers.{index_law}
+use Rattle.viewed_soundness.proofs.soundness.Lasting.{keeps}
+use Rattle.viewed_soundness.proofs.soundness.Fixed.{plain_word}
 use Rattle.viewed_soundness.proofs.Evaluated.{Given}
 use Rattle.viewed_steps.proofs.Declared.{source_given}
 use Rattle.viewed_steps.proofs.Operands.{left_operand_on, right_operand_on}

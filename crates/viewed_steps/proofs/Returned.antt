@@ -24,13 +24,13 @@ use Rattle.owned_ways.specs.Ways.{Way, OfRoot, OfCell, Inside, All, Reaches, Und
 use Rattle.owned_ways.specs.Ways as ways
 use Rattle.owned_ways.proofs.Locations.{same_loc}
 use Rattle.part_offsets.specs.Parts.{IsSettled}
-use Rattle.soundness.specs.Seen.{IsNear, seen, home}
-use Rattle.soundness.specs.Typed.{OwnsByShape}
+use Rattle.viewed_soundness.specs.soundness.Seen.{IsNear, seen, home}
+use Rattle.viewed_soundness.specs.soundness.Typed.{OwnsByShape}
 use Rattle.typed_laws.specs.Needed.{Leads, Gives, Matches, Source}
-use Rattle.soundness.proofs.Numbers.{index_law}
-use Rattle.soundness.proofs.Scalars.{acts, acts_append, after_append, allows_both}
-use Rattle.soundness.proofs.Stays.{Quiet}
-use Rattle.soundness.proofs.Taking.{Takes}
+use Rattle.viewed_soundness.proofs.soundness.Numbers.{index_law}
+use Rattle.viewed_soundness.proofs.soundness.Scalars.{acts, acts_append, after_append, allows_both}
+use Rattle.viewed_soundness.proofs.soundness.Stays.{Quiet}
+use Rattle.viewed_soundness.proofs.soundness.Taking.{Takes}
 use Rattle.owned_loans.specs.Views.{Go, Part, Down, on, expand, Around, Views}
 use Rattle.owned_loans.proofs.Allowed.{give_clears}
 use Rattle.viewed_soundness.specs.Holds.{PartsAreNamed, is_view, is_bundle, Seeing}

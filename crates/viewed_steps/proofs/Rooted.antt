@@ -9,8 +9,8 @@ use Rattle.flow_paths.specs.Views.{Roots, itself, borrows, observes, IsOnlyRoot,
 use Rattle.owned_ways.specs.Ways.{Way, Under}
 use Rattle.owned_loans.specs.Views.{Views, expand}
 use Rattle.owned_loans.proofs.Ways.{under_on, on_under, lifted_way}
-use Rattle.soundness.specs.Seen.{is_view_formal}
-use Rattle.soundness.proofs.Contents.{bool_cases}
+use Rattle.viewed_soundness.specs.soundness.Seen.{is_view_formal}
+use Rattle.viewed_soundness.proofs.soundness.Contents.{bool_cases}
 use Rattle.viewed_soundness.specs.Holds.{is_view, is_bundle, GoesBy}
 use Rattle.viewed_steps.specs.Traversals.{IsSourceIn, IsRootedIn, AreRooted}
 

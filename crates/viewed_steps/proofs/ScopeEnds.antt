@@ -8,7 +8,7 @@ use Rattle.viewed_steps.proofs.Rooted.{rooted_on}
 use Rattle.viewed_steps.proofs.Low.{BeginsLow, given_still, reaches_low, undeclared_words}
 use Rattle.viewed_steps.proofs.Traversed.{none_given, named_given}
 use Rattle.viewed_soundness.specs.Holds.{is_view, is_bundle, Seeing}
-use Rattle.soundness.specs.Ready.{Fills, IsSupplied}
+use Rattle.viewed_soundness.specs.soundness.Ready.{Fills, IsSupplied}
 use Rattle.std.proofs.Common.{◌≡◌, refl, sym, ap, ◌∙◌, subst, ◌⊎◌, inl, inr, ℕ, zero, suc, ◌<◌, true, false, List, [], ◌∷◌, ◌++◌, map, drop, length, arith, Some, None}
 use Rattle.spark_base.specs.Lists.{Has}
 use Rattle.place_names.specs.declared.act.Act.{Act}
@@ -37,17 +37,17 @@ use Rattle.machine.specs.Typed.{successors}
 use Rattle.machine.specs.Owners.{waiting_in}
 use Rattle.owned_ways.specs.Ways.{Step, OfVariable, OfRoot, Way, Held, after, AllowsAll}
 use Rattle.owned_ways.specs.Ways as ways
-use Rattle.soundness.specs.Seen.{IsNear, content, word_in, home, seen}
-use Rattle.soundness.specs.Typed.{Kept}
-use Rattle.soundness.specs.Sound.{IsNoCall, Stage, facts_of, AreStages, IsRunnable, returns_value, InScope, IsNamedSub, IsAtPoint, view_of as view_here, is_temporary_object, has_returned}
-use Rattle.soundness.proofs.Scoped.{Inside}
-use Rattle.soundness.proofs.Inherited.{Splits, allowed_beside}
-use Rattle.soundness.proofs.Around.{IsFar}
-use Rattle.soundness.proofs.Following.{Each}
-use Rattle.soundness.proofs.Onward.{GoesOn, end_scope_follows}
-use Rattle.soundness.proofs.Waited.{FillsNone}
-use Rattle.soundness.proofs.Waits.{drop_none}
-use Rattle.soundness.proofs.Successors.{below_one, successor_there}
+use Rattle.viewed_soundness.specs.soundness.Seen.{IsNear, content, word_in, home, seen}
+use Rattle.viewed_soundness.specs.soundness.Typed.{Kept}
+use Rattle.viewed_soundness.specs.soundness.Sound.{IsNoCall, Stage, facts_of, AreStages, IsRunnable, returns_value, InScope, IsNamedSub, IsAtPoint, view_of as view_here, is_temporary_object, has_returned}
+use Rattle.viewed_soundness.proofs.soundness.Scoped.{Inside}
+use Rattle.viewed_soundness.proofs.soundness.Inherited.{Splits, allowed_beside}
+use Rattle.viewed_soundness.proofs.soundness.Around.{IsFar}
+use Rattle.viewed_soundness.proofs.soundness.Following.{Each}
+use Rattle.viewed_soundness.proofs.soundness.Onward.{GoesOn, end_scope_follows}
+use Rattle.viewed_soundness.proofs.soundness.Waited.{FillsNone}
+use Rattle.viewed_soundness.proofs.soundness.Waits.{drop_none}
+use Rattle.viewed_soundness.proofs.soundness.Successors.{below_one, successor_there}
 use Rattle.owned_loans.specs.Views.{Around, known_gone, Views, Viewed, ViewedAlone}
 use Rattle.viewed_soundness.proofs.Outcomes.{Is_left}
 use Rattle.viewed_steps.specs.Awaited.{AreValues, lasting_of, awaited, AreAwaited}

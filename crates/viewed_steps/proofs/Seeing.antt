@@ -18,12 +18,12 @@ use Rattle.machine.specs.States.{Waiting, Leak}
 use Rattle.owned_ways.specs.Ways.{Step, Loc, OfCell, Way, All, Reaches, Under, Named, AllowsAll, number_of, base_of, along}
 use Rattle.owned_ways.specs.Ways as ways
 use Rattle.part_offsets.specs.Parts.{IsSettled, has_part, type_in, offset_in}
-use Rattle.soundness.specs.Seen.{IsNear, content, trunk, seen, home, is_view_formal}
-use Rattle.soundness.specs.Typed.{IsCell, OwnsByShape, Kept}
+use Rattle.viewed_soundness.specs.soundness.Seen.{IsNear, content, trunk, seen, home, is_view_formal}
+use Rattle.viewed_soundness.specs.soundness.Typed.{IsCell, OwnsByShape, Kept}
 use Rattle.typed_laws.specs.Needed.{IndexLaw, Matches}
-use Rattle.soundness.proofs.Scalars.{acts}
-use Rattle.soundness.proofs.Stays.{Quiet}
-use Rattle.soundness.proofs.Taking.{Takes, takes_zero}
+use Rattle.viewed_soundness.proofs.soundness.Scalars.{acts}
+use Rattle.viewed_soundness.proofs.soundness.Stays.{Quiet}
+use Rattle.viewed_soundness.proofs.soundness.Taking.{Takes, takes_zero}
 use Rattle.owned_loans.specs.Views.{Around, Views, expand, ExcusedBy, Viewed}
 use Rattle.owned_loans.proofs.Allowed.{Cleared}
 use Rattle.owned_loans.proofs.Ended.{stands_itself}
@@ -37,9 +37,9 @@ use Rattle.viewed_soundness.proofs.Sources.{Shows, source_on}
 use Rattle.viewed_soundness.proofs.Bundles.{ShowsParts, parts_on}
 use Rattle.viewed_steps.specs.Ready.{IsSeen, IsAccessAs}
 use Rattle.viewed_steps.specs.Sound.{Lies}
-use Rattle.soundness.proofs.Steps.{matches_words, same_below}
-use Rattle.soundness.proofs.Keeping.{retyped_points}
-use Rattle.soundness.proofs.Passing.{plain_type}
+use Rattle.viewed_soundness.proofs.soundness.Steps.{matches_words, same_below}
+use Rattle.viewed_soundness.proofs.soundness.Keeping.{retyped_points}
+use Rattle.viewed_soundness.proofs.soundness.Passing.{plain_type}
 use Rattle.viewed_soundness.proofs.Lends.{matches_on}
 use Rattle.viewed_steps.proofs.Entered.{IsTyped, IsFit}
 use Rattle.viewed_steps.proofs.Views.{AreLowFormals, bundle_owns}

@@ -12,8 +12,8 @@ use Rattle.owned_loans.proofs.Clear.{overlaps_whole}
 use Rattle.owned_loans.proofs.Meeting.{off_seen, off_part}
 use Rattle.owned_loans.proofs.Safe.{Unlent, Unborrowed, unviewed, lent_fact, only_itself, apart_names}
 use Rattle.owned_loans.proofs.Ways.{Meet, flip, meets_on, meet_overlaps, lifted_way, in_part_way, on_under}
-use Rattle.soundness.specs.Seen.{home}
-use Rattle.soundness.proofs.Contents.{bool_cases}
+use Rattle.viewed_soundness.specs.soundness.Seen.{home}
+use Rattle.viewed_soundness.proofs.soundness.Contents.{bool_cases}
 use Rattle.owned_ways.proofs.Dropped.{named_base}
 use Rattle.viewed_steps.proofs.Views.{base_named}
 use Rattle.viewed_soundness.specs.Holds.{is_view, is_bundle, GoesBy}

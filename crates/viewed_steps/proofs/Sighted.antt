@@ -12,9 +12,9 @@ use Rattle.machine.specs.States.{Outcome}
 use Rattle.machine.specs.Step.{Turn, typing, taken_by, target_pos}
 use Rattle.owned_ways.specs.Ways.{Way, after, AllowsAll}
 use Rattle.part_offsets.specs.Parts.{IsSettled}
-use Rattle.soundness.specs.Seen.{IsNear, home}
-use Rattle.soundness.specs.Typed.{OwnsByShape}
-use Rattle.soundness.proofs.Scalars.{acts}
+use Rattle.viewed_soundness.specs.soundness.Seen.{IsNear, home}
+use Rattle.viewed_soundness.specs.soundness.Typed.{OwnsByShape}
+use Rattle.viewed_soundness.proofs.soundness.Scalars.{acts}
 use Rattle.owned_loans.specs.Views.{Around, Views, Unused}
 use Rattle.viewed_soundness.specs.Holds.{PartsAreNamed, is_given, Seeing}
 use Rattle.viewed_soundness.proofs.Outcomes.{IsGood, Leads_on}

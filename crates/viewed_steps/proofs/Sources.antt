@@ -19,11 +19,11 @@ use Rattle.machine.specs.States.{Outcome}
 use Rattle.machine.specs.Step.{Turn, typing, taken_by, target_pos}
 use Rattle.owned_ways.specs.Ways.{Way, after, AllowsAll}
 use Rattle.part_offsets.specs.Parts.{IsSettled}
-use Rattle.soundness.specs.Seen.{IsNear, home}
-use Rattle.soundness.specs.Typed.{OwnsByShape}
+use Rattle.viewed_soundness.specs.soundness.Seen.{IsNear, home}
+use Rattle.viewed_soundness.specs.soundness.Typed.{OwnsByShape}
 use Rattle.typed_laws.specs.Needed.{Leads, Gives, Source}
-use Rattle.soundness.proofs.Scalars.{acts}
-use Rattle.soundness.proofs.Taking.{Takes}
+use Rattle.viewed_soundness.proofs.soundness.Scalars.{acts}
+use Rattle.viewed_soundness.proofs.soundness.Taking.{Takes}
 use Rattle.owned_loans.specs.Views.{Around, Views, Unused}
 use Rattle.viewed_soundness.specs.Holds.{IsNamed, PartsAreNamed, is_given, Seeing}
 use Rattle.viewed_soundness.proofs.Outcomes.{IsGood, Leads_on}

@@ -6,8 +6,8 @@ use Rattle.viewed_steps.proofs.TakerActs.{taker_names}
 use Rattle.viewed_steps.specs.Ready.{IsReady}
 use Rattle.viewed_steps.specs.Sound.{ViewStage}
 use Rattle.viewed_steps.specs.Traversals.{IsViewTaker, TraversalCall, call_in, traversed_name}
-use Rattle.soundness.proofs.Points.{flow_at, path_there}
-use Rattle.soundness.specs.Sound.{IsNoCall, Stage, IsNamedSub, IsAtPoint}
+use Rattle.viewed_soundness.proofs.soundness.Points.{flow_at, path_there}
+use Rattle.viewed_soundness.specs.soundness.Sound.{IsNoCall, Stage, IsNamedSub, IsAtPoint}
 use Rattle.std.proofs.Common.{◌≡◌, refl, sym, ◌∙◌, subst, ◌⊎◌, inl, inr, ℕ, true, false, Option, List, ◌∷◌}
 use Rattle.spark_base.specs.Lists.{Has}
 use Rattle.place_names.specs.declared.act.Placed.{Placed}

@@ -1,8 +1,8 @@
 -- What takes the result of a traversal function borrows, observes or gives what the first actual names. So nothing
 -- of that is moved or borrowed there.
 use Rattle.viewed_steps.proofs.Sources.{observer_only}
-use Rattle.soundness.proofs.Contents.{bool_cases}
-use Rattle.soundness.proofs.Scalars.{acts}
+use Rattle.viewed_soundness.proofs.soundness.Contents.{bool_cases}
+use Rattle.viewed_soundness.proofs.soundness.Scalars.{acts}
 use Rattle.place_names.specs.declared.act.Act.{Act}
 use Rattle.place_names.specs.declared.act.Act.TheVariants as act
 use Rattle.place_names.specs.Names.{Name as PlaceName}

@@ -3,7 +3,7 @@ use Rattle.viewed_steps.proofs.Traversed.{declared_source, assigned_source}
 use Rattle.flow_paths.specs.Views.{sub_acts}
 use Rattle.viewed_steps.specs.Traversals.{GivesView, IsSourceIn}
 use Rattle.viewed_steps.proofs.Sources.{leads_or}
-use Rattle.soundness.proofs.Following.{Each}
+use Rattle.viewed_soundness.proofs.soundness.Following.{Each}
 use Rattle.machine.specs.Calls.{checks_at}
 use Rattle.spark_base.specs.declared.position.Pos.{Pos}
 use Rattle.viewed_soundness.proofs.ViewKinds.{true_false}
@@ -34,15 +34,15 @@ use Rattle.machine.specs.Step.{Turn, turn, start, successor}
 use Rattle.machine.specs.Step as steps
 use Rattle.machine.specs.Owners.{waiting_in}
 use Rattle.owned_ways.specs.Ways.{Step, OfVariable, OfRoot, Way, Held, after, AllowsAll}
-use Rattle.soundness.specs.Seen.{IsNear, content, word_in, home, seen}
-use Rattle.soundness.specs.Typed.{Kept}
+use Rattle.viewed_soundness.specs.soundness.Seen.{IsNear, content, word_in, home, seen}
+use Rattle.viewed_soundness.specs.soundness.Typed.{Kept}
 use Rattle.typed_laws.specs.Needed.{IsFine}
-use Rattle.soundness.specs.Sound.{IsNoCall, Stage, facts_of, AreStages, IsRunnable, returns_value, InScope, IsNamedSub, IsAtPoint, view_of as view_here}
-use Rattle.soundness.proofs.Scoped.{Inside}
-use Rattle.soundness.proofs.Around.{IsFar}
-use Rattle.soundness.proofs.Waited.{FillsNone}
-use Rattle.soundness.proofs.Eased.{eased}
-use Rattle.soundness.proofs.Successors.{below_one}
+use Rattle.viewed_soundness.specs.soundness.Sound.{IsNoCall, Stage, facts_of, AreStages, IsRunnable, returns_value, InScope, IsNamedSub, IsAtPoint, view_of as view_here}
+use Rattle.viewed_soundness.proofs.soundness.Scoped.{Inside}
+use Rattle.viewed_soundness.proofs.soundness.Around.{IsFar}
+use Rattle.viewed_soundness.proofs.soundness.Waited.{FillsNone}
+use Rattle.viewed_soundness.proofs.soundness.Eased.{eased}
+use Rattle.viewed_soundness.proofs.soundness.Successors.{below_one}
 use Rattle.owned_loans.specs.Views.{Around, known_gone, Views, Viewed, ViewedAlone}
 use Rattle.viewed_soundness.specs.Holds.{is_view, Seeing}
 use Rattle.viewed_soundness.proofs.Outcomes.{named_plain, Leads_on}
@@ -59,14 +59,14 @@ use Rattle.viewed_steps.proofs.Standing as standing
 use Rattle.viewed_steps.proofs.Packages as packages
 use Rattle.viewed_steps.proofs.Innermost as innermost
 use Rattle.machine.specs.Step.{led}
-use Rattle.soundness.specs.Ready.{IsSupplied, Fills}
-use Rattle.soundness.proofs.Onward.{GoesOn, declare_follows, assign_follows}
+use Rattle.viewed_soundness.specs.soundness.Ready.{IsSupplied, Fills}
+use Rattle.viewed_soundness.proofs.soundness.Onward.{GoesOn, declare_follows, assign_follows}
 use Rattle.viewed_steps.proofs.EachInstruction as each
 use Rattle.viewed_steps.proofs.Turned as turned
 use Rattle.flow_paths.specs.Instructions.{Hold}
 use Rattle.flow_paths.specs.Scopes.{is_within}
 use Rattle.type_definitions.specs.Types.{shape_of}
-use Rattle.soundness.proofs.Lasting.{less_kept}
+use Rattle.viewed_soundness.proofs.soundness.Lasting.{less_kept}
 use Rattle.owned_ways.specs.Ways as ways
 use Rattle.owned_loans.specs.Views.{on, expand}
 use Rattle.viewed_soundness.specs.Holds.{is_given}

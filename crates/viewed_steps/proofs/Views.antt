@@ -16,13 +16,13 @@ use Rattle.machine.specs.Owners.{is_in, is_in_formal}
 use Rattle.owned_ways.specs.Ways.{Step, OfVariable, OfHand, OfRoot, Way, Object, Lost, Into, All, Named, base_of}
 use Rattle.owned_ways.proofs.Dropped.{named_base}
 use Rattle.part_offsets.specs.Parts.{offset_in}
-use Rattle.soundness.specs.Seen.{home, is_view_formal}
+use Rattle.viewed_soundness.specs.soundness.Seen.{home, is_view_formal}
 use Rattle.owned_loans.specs.Views.{Views, IsForeign}
 use Rattle.viewed_soundness.proofs.ViewKinds.{bundle_formal, true_false}
 use Rattle.viewed_soundness.proofs.Outcomes.{named_plain}
 use Rattle.viewed_soundness.specs.Holds.{PartsHold, is_access, is_bundle, is_view, IsOwners, IsAccess, Holds, is_given}
-use Rattle.soundness.specs.Typed.{OwnsByShape}
-use Rattle.soundness.proofs.Passing.{plain_type}
+use Rattle.viewed_soundness.specs.soundness.Typed.{OwnsByShape}
+use Rattle.viewed_soundness.proofs.soundness.Passing.{plain_type}
 use Rattle.viewed_steps.specs.Sound.{Lies, ArePartsLow, IsKindOfFormal}
 use Rattle.viewed_steps.specs.Ready.{is_shown_type}
 

@@ -21,10 +21,10 @@ use Rattle.owned_ways.specs.Ways.{Loc, IsSame, Step, OfVariable, OfRoot, OfCell,
 use Rattle.owned_ways.proofs.Locations.{under_itself, under_along}
 use Rattle.owned_ways.proofs.Named.{longer}
 use Rattle.owned_ways.proofs.Dropped.{named_base}
-use Rattle.soundness.specs.Seen.{IsNear, content, word_in, home}
-use Rattle.soundness.specs.Sound.{Stage, facts_of, AreStages, Uses, view_of as view_here}
-use Rattle.soundness.proofs.Around.{near_or_far, IsFar, near_package, package_named}
-use Rattle.soundness.proofs.Contents.{bool_cases, word_part, word_root}
+use Rattle.viewed_soundness.specs.soundness.Seen.{IsNear, content, word_in, home}
+use Rattle.viewed_soundness.specs.soundness.Sound.{Stage, facts_of, AreStages, Uses, view_of as view_here}
+use Rattle.viewed_soundness.proofs.soundness.Around.{near_or_far, IsFar, near_package, package_named}
+use Rattle.viewed_soundness.proofs.soundness.Contents.{bool_cases, word_part, word_root}
 use Rattle.owned_loans.specs.Views.{on, Around, known_gone, Views, expand, IsThrough, IsForeign, Go, IsShared, AreShared, AreViews}
 use Rattle.owned_loans.proofs.Ways.{under_on, on_under, on_named, lifts, lifted_root, lifted_way, base_on, root_on, in_part_way}
 use Rattle.owned_loans.proofs.Meeting.{stands, plain_lifts}

@@ -15,8 +15,8 @@ use Rattle.machine.specs.Memory as memory
 use Rattle.machine.specs.States.{Return}
 use Rattle.owned_ways.specs.Ways.{Step, Loc, OfVariable, OfRoot, OfCell, Way, Object, Lost, Into, All, Held, Gone, Under, Named, along, base_of, name_of, number_of, object_of}
 use Rattle.part_offsets.specs.Parts.{type_in, offset_in, has_part}
-use Rattle.soundness.specs.Seen.{content, word_in, home, is_view_formal}
-use Rattle.soundness.specs.Typed.{Matches, IsFixed}
+use Rattle.viewed_soundness.specs.soundness.Seen.{content, word_in, home, is_view_formal}
+use Rattle.viewed_soundness.specs.soundness.Typed.{Matches, IsFixed}
 use Rattle.owned_loans.specs.Views.{Views, expand}
 use Rattle.viewed_soundness.specs.Holds.{IsNamed, is_bundle}
 

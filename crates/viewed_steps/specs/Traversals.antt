@@ -20,7 +20,7 @@ use Rattle.machine.specs.States.{Waiting}
 use Rattle.owned_ways.specs.Ways.{OfCell, Way, All, View, Reaches, Under, Named}
 use Rattle.owned_ways.specs.Ways as ways
 use Rattle.owned_loans.specs.Views.{Go, on, Views, expand}
-use Rattle.soundness.specs.Seen.{home}
+use Rattle.viewed_soundness.specs.soundness.Seen.{home}
 use Rattle.typed_laws.specs.Needed.{Matches}
 use Rattle.viewed_soundness.specs.Holds.{GoesBy}
 use Rattle.viewed_steps.specs.Awaited.{IsTakenBy}

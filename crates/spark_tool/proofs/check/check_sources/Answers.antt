@@ -1,8 +1,8 @@
 use Rattle.std.proofs.Common.{List, ℕ, ap, sym, subst, map, string_bytes}
-use Rattle.run_command.specs.Answers.{Answer}
+use Rattle.answered_runs.specs.run_command.Answers.{Answer}
 use Rattle.spark_tool.specs.Answers.{answer_of}
-use Rattle.tool_answers.specs.Product.{Ends, Checks, too_large}
-use Rattle.tool_answers.specs.Reading.{Sources, TooLarge}
+use Rattle.answered_runs.specs.tool_answers.Product.{Ends, Checks, too_large}
+use Rattle.answered_runs.specs.tool_answers.Reading.{Sources, TooLarge}
 use Rattle.spark_tool.specs.Reading.{sources_of}
 use Rattle.spark_tool.proofs.check.check_sources.Goals as goal
 

@@ -2,7 +2,7 @@ use Rattle.std.proofs.Common.{◌∙◌, sym, ap, List, ℕ, map, string_bytes}
 use Rattle.spark_base.specs.Words.{operands}
 use Rattle.command_words.specs.Words.{Check, Run, Leaks, command_in}
 use Rattle.spark_tool.specs.Answers.{answer_of}
-use Rattle.tool_answers.specs.Commands.{there}
+use Rattle.answered_runs.specs.tool_answers.Commands.{there}
 use Rattle.spark_tool.proofs.CommandWords.{may_be_opened, fits_check, fits_run, fits_leaks, check_fault, run_fault, leaks_fault, made_gives, made_fixed, test_gives}
 use Rattle.spark_tool.proofs.command.command_outcome.Goals as goal
 

@@ -1,9 +1,9 @@
 use Rattle.std.proofs.Common.{sym, subst, map, string_bytes}
 use Rattle.laid_program.specs.Programs.{program_of}
-use Rattle.run_command.specs.Answers.{Answer}
+use Rattle.answered_runs.specs.run_command.Answers.{Answer}
 use Rattle.spark_tool.specs.declared.finding.Finding.{Finding}
 use Rattle.spark_tool.specs.Answers.{answer_of, finding_of}
-use Rattle.tool_answers.specs.Product.{Rejects, Lists, ends, rejects}
+use Rattle.answered_runs.specs.tool_answers.Product.{Rejects, Lists, ends, rejects}
 use Rattle.spark_tool.proofs.CommandWords.{plan_lists}
 use Rattle.spark_tool.proofs.command.list_outcome.Goals as goal
 

@@ -1,6 +1,6 @@
 use Rattle.std.proofs.Common.{◌≡◌, ◌≤◌, All, length, map, drop, IfSome, string_bytes}
 use Rattle.spark_base.specs.declared.limits.TheConstants.{SOURCE_BYTES}
-use Rattle.tool_answers.specs.Reading.{sources}
+use Rattle.answered_runs.specs.tool_answers.Reading.{sources}
 use Rattle.spark_tool.proofs.Sources.{with_texts}
 use Rattle.spark_tool.proofs.reading.read_files.Given as goal
 

@@ -1,14 +1,14 @@
 use Rattle.std.proofs.Common.{◌≡◌, subst, map, string_bytes, true, List, ℕ, Option, IfSome}
 use Rattle.std.proofs.KnownBytes.{Keeps-refl}
 use Rattle.laid_program.specs.Programs.{program_of}
-use Rattle.run_command.specs.Answers.{Answer, Tells, TellsFront}
+use Rattle.answered_runs.specs.run_command.Answers.{Answer, Tells, TellsFront}
 use Rattle.spark_tool.specs.declared.stop.Stop.TheVariants.{Write, Memory}
-use Rattle.run_command.specs.Runs.{run_answer}
+use Rattle.answered_runs.specs.run_command.Runs.{run_answer}
 use Rattle.spark_tool.specs.declared.finding.Outcome.{Outcome}
 use Rattle.spark_tool.specs.declared.finding.Outcome.TheVariants as outcome
 use Rattle.spark_tool.specs.Answers.{answer_of, names_of}
-use Rattle.tool_answers.specs.Commands.{command_of, runs}
-use Rattle.tool_answers.specs.Product.{fixed_answer}
+use Rattle.answered_runs.specs.tool_answers.Commands.{command_of, runs}
+use Rattle.answered_runs.specs.tool_answers.Product.{fixed_answer}
 use Rattle.spark_tool.specs.Refusals.{IsFor, IsMade, IsReady}
 use Rattle.spark_tool.proofs.Complete.{answer_delivers_front, run_delivers_front, no_more, nothing_more, fixed_tells_front}
 use Rattle.spark_tool.proofs.Outcomes.{gives_this, ok_delivers, ok_fixed, ok_unrun, at_stop, run_ok_delivers, no_fixed, ok_no_fixed, run_reads}

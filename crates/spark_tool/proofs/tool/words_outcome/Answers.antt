@@ -3,7 +3,7 @@ use Rattle.std.specs.Prelude.{option_and_then}
 use Rattle.command_words.specs.Words as grammar
 use Rattle.command_words.specs.declared.command.WordFault.{WordFault}
 use Rattle.spark_tool.specs.Answers.{answer_of}
-use Rattle.tool_answers.specs.Commands.{command_of, there}
+use Rattle.answered_runs.specs.tool_answers.Commands.{command_of, there}
 use Rattle.spark_tool.proofs.CommandWords.{usage_gives}
 use Rattle.spark_tool.proofs.tool.words_outcome.Goals as goal
 
