@@ -1,5 +1,5 @@
 -- Runs of programs that are lowered.
-use Rattle.std.proofs.Common.{◌≡◌, inl, inr, ℕ, Bool, true, false, List, [], ◌∷◌, ◌++◌, length, refl, sym, ap, subst, ◌∙◌, Option, Some, None}
+use Rattle.std.proofs.Common.{◌≡◌, ℕ, Bool, true, false, List, [], ◌∷◌, ◌++◌, length, refl, sym, ap, subst, ◌∙◌, Option, Some, None}
 use Rattle.std.specs.Io.KnownBytes.{Appends}
 use Rattle.flow_paths.specs.Laid.{FlowProgram, flow_typing}
 use Rattle.machine.specs.Evaluate.{StorageError}
@@ -11,13 +11,13 @@ use Rattle.type_definitions.specs.Types.{Table}
 use Rattle.spark_base.specs.declared.position.Pos.{Pos}
 use Rattle.run_codes.specs.Programs.{Program, lowered_program}
 use Rattle.run_codes.specs.Points.{Frame, Ran, ran_of, is_declaring}
-use Rattle.handled_steps.specs.States.{State, Outcome, Goes, Ends, Wants, Fails}
+use Rattle.handled_steps.specs.States.{State, Outcome, Ends}
 use Rattle.handled_steps.specs.Steps.{Within}
-use Rattle.handled_steps.specs.Runs.{RunsWithin, given, ran_with, state_at_start}
+use Rattle.handled_steps.specs.Runs.{RunsWithin, ran_with, state_at_start}
 use Rattle.run_results.specs.declared.ran.Ran.{Ran as RanRow}
 use Rattle.run_results.specs.Results.{ending_of, IsRun}
 use Rattle.run_results.specs.Lines.{leak_lines}
-use Rattle.slot_runs.specs.Turns.{Setting, Untold, Inside, state_of, IsRunning, SomeSteps, is_failing, NeverFails}
+use Rattle.slot_runs.specs.Turns.{Setting, Untold, Inside, state_of, IsRunning, SomeSteps, NeverFails}
 use Rattle.slot_runs.specs.Tellings.{Sinks, HaveFronts}
 use Rattle.slot_runs.specs.Answers.{IsWritten, IsCut, CanRun, CanStart, Writes, Cuts}
 use Rattle.slot_runs.proofs.Owed.{had_more}
