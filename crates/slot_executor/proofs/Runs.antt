@@ -54,29 +54,6 @@ starts table p false = by p.main
     by None = record { steps = refl; output = refl; leaks = refl; made = refl; freed = refl }
     by (Some n) = record { steps = refl; output = refl; leaks = refl; made = refl; freed = refl }
 
--- ---- outcomes
-
-ran_or : Option Ran → Ran → Ran
-ran_or (Some x) y = x
-ran_or None y = y
-
--- What gives the same doesn't fail.
-same_there : (x : Run) (r : Outcome) → IsSame x r → is_failing r ≡ false
-same_there x (Goes s) same = refl
-same_there x (Ends e s) same = refl
-same_there x Wants same = refl
-same_there x Fails (inl same) = cc
-same_there x Fails (inr same) = cc
-
--- What is given is that.
-same_given : (x : Run) (r : Outcome) (ran : Ran) → IsSame x r → given r ≡ Some ran → ran ≡ ran_of x
-unfolding ran_or
-same_given x r ran (inl same) is = ap (λ o. ran_or o ran) (sym is ∙ same)
-same_given x r ran (inr wants) is = nothing (ap given (sym wants) ∙ is)
-  where
-    nothing : None ≡ Some ran → ran ≡ ran_of x
-    nothing same = cc
-
 -- ---- runs within a stack
 
 within_fits : (fit : Bool) (table : Table) (p : Program) (declares : Bool) (at : Pos) (input : List ℕ) (n : ℕ) (r : Outcome) → fit ≡ true
@@ -101,12 +78,12 @@ module _ (program : FlowProgram) (input : List ℕ) (same : AreSame program inpu
       (within_fits (fits p main) (flow_typing program).table p (is_declaring program) (sub_of program main).pos input k r fit comes)
 
   steps_there : NeverFails (Moments n)
-  steps_there r comes = same_there (run program input n) r (is_same n r comes)
+  steps_there r comes = (is_same n r comes).there
 
   -- What is written is the run of the machine.
   run_executed : (files : List (List ℕ)) (ran : RanRow) (old new : Sinks) → IsWritten files (Moments n) ran old new → IsExecuted files (run program input n) ran old new
   run_executed files ran old new is =
-      let one : is.run ≡ ran_of (run program input n) = same_given (run program input n) is.outcome is.run (is_same n is.outcome is.comes) is.gives in
+      let one : is.run ≡ ran_of (run program input n) = (is_same n is.outcome is.comes).gives is.run is.gives in
       record {
         is = subst (λ r. IsRun r ran) one is.is;
         output = subst (λ (r : Ran). Appends old.output new.output r.output) one is.output;
@@ -116,7 +93,7 @@ module _ (program : FlowProgram) (input : List ℕ) (same : AreSame program inpu
   -- A run that is cut off has fronts of what the machine's has.
   run_cut : (files : List (List ℕ)) (old new : Sinks) → IsCut files Moments n old new → HaveFronts files old new (run program input n).output (run program input n).leaks
   run_cut files old new is =
-      let one : is.run ≡ ran_of (run program input is.steps) = same_given (run program input is.steps) is.outcome is.run (is_same is.steps is.outcome is.comes) is.gives in
+      let one : is.run ≡ ran_of (run program input is.steps) = (is_same is.steps is.outcome is.comes).gives is.run is.gives in
       let begins = run_begins program input is.steps n is.few in
       let shorter : Run = run program input is.steps in
       let longer : Run = run program input n in
@@ -175,10 +152,8 @@ module _ (laid : Laid) (main : ℕ) (is : IsUnfit laid main) (input : List ℕ) 
   no_run : raised ≡ ran_of (run (program_of laid) input n)
   no_run =
       let end : Outcome = Ends (Raised StorageError (sub_of (program_of laid) main).pos) begun in
-      same_given (run (program_of laid) input n) end raised
       (same is.points is.lowered main is.has n end
-      (none_fits (fits is.points main) (flow_typing (program_of laid)).table is.points (is_declaring (program_of laid)) (sub_of (program_of laid) main).pos input n is.unfit))
-      refl
+      (none_fits (fits is.points main) (flow_typing (program_of laid)).table is.points (is_declaring (program_of laid)) (sub_of (program_of laid) main).pos input n is.unfit)).gives raised refl
 
   pub unfit_ran : (ran : RanRow) → ending_of ran.ending ≡ Raised StorageError (sub_of (program_of laid) main).pos → ran.steps ≡ 0 → ran.made ≡ 0 → ran.freed ≡ 0 → ran.leaked ≡ 0
       → IsRun (ran_of (run (program_of laid) input n)) ran

@@ -1,5 +1,5 @@
 -- What a run of a program answers over a heap that uses its slots again.
-use Rattle.std.specs.Prelude.{◌≡◌, ◌⊎◌, ℕ, ◌+◌, Bool, true, false, List, nat_le, Some}
+use Rattle.std.specs.Prelude.{◌≡◌, ℕ, ◌+◌, Bool, true, false, List, nat_le, Some}
 use Rattle.std.specs.Io.KnownBytes.{Appends}
 use Rattle.flow_paths.specs.Laid.{FlowProgram, flow_typing}
 use Rattle.machine.specs.States.{sub_of, stack_words}
@@ -8,12 +8,13 @@ use Rattle.laid_program.specs.declared.laid.Laid.{Laid}
 use Rattle.laid_program.specs.Programs.{program_of}
 use Rattle.run_codes.specs.Programs.{Program, lowered_program}
 use Rattle.run_codes.specs.Points.{sub_at, is_declaring, ran_of}
-use Rattle.handled_steps.specs.States.{State, Outcome, Wants}
+use Rattle.run_codes.specs.Points as points
+use Rattle.handled_steps.specs.States.{State, Outcome}
 use Rattle.handled_steps.specs.Runs.{RunOf, given, state_at_start}
 use Rattle.run_results.specs.declared.ran.Ran.{Ran}
 use Rattle.run_results.specs.Results.{IsRun}
 use Rattle.run_results.specs.Lines.{leak_lines}
-use Rattle.slot_runs.specs.Turns.{Setting, Untold, Inside, state_of}
+use Rattle.slot_runs.specs.Turns.{Setting, Untold, Inside, state_of, is_failing}
 use Rattle.slot_runs.specs.Tellings.{Sinks}
 
 -- The run has this ending and these counts; one sink got its output, and the other one its leak lines.
@@ -24,9 +25,10 @@ pub record IsExecuted (files : List (List ℕ)) (run : Run) (ran : Ran) (old new
 
 -- ---- what may come of a run
 
--- It gives what a run of the machine gives, or memory is wanted.
-abbrev pub IsSame : Run → Outcome → Type 0
-IsSame x r = (given r ≡ Some (ran_of x)) ⊎ (r ≡ Wants)
+-- It doesn't fail, and what it gives is what a run of the machine gives. Where memory is wanted, it gives nothing.
+pub record IsSame (x : Run) (r : Outcome) : Type 0 where
+  pub there : is_failing r ≡ false
+  pub gives : (ran : points.Ran) → given r ≡ Some ran → ran ≡ ran_of x
 
 -- So does whatever may come of the runs of a program on an input, as it is lowered.
 abbrev pub AreSame : FlowProgram → List ℕ → Type 0

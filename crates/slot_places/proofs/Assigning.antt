@@ -1,5 +1,5 @@
 -- Values that are assigned.
-use Rattle.std.proofs.Common.{◌≡◌, ◌≢◌, refl, sym, ap, ◌∙◌, subst, ℕ, Bool, false, List, [], ◌∷◌, ◌++◌, Option, ℤ, Result, Ok, Err, OnOk, OnErr, IsErrOf}
+use Rattle.std.proofs.Common.{◌≡◌, ◌≢◌, refl, sym, ap, ◌∙◌, subst, ℕ, false, List, [], ◌∷◌, ◌++◌, Option, ℤ, Result, Ok, Err, OnOk, OnErr, IsErrOf}
 use mathlib.Core.Logic.{inl, inr}
 use Rattle.spark_base.specs.declared.position.Pos.{Pos}
 use Rattle.type_definitions.specs.Types.{Table}
@@ -20,7 +20,7 @@ use Rattle.slot_memory.specs.Memory.{Kept, Ghosts, Stands, Shows, Knows, Always,
 use Rattle.slot_words.specs.Reading.{ReadsSpot, GivesSpot}
 use Rattle.slot_words.proofs.Wholes.{first_whole, next_whole, first_stops}
 use Rattle.slot_values.specs.Fillings.{Fillable, Filled}
-use Rattle.slot_places.specs.Steps.{IsLeft, Leaves, Leavable, Leaving, stored_leaking, stored_checked, stored_settled, Assignable, Assigns, Assigning}
+use Rattle.slot_places.specs.Steps.{Leaves, Leavable, Leaving, stored_leaking, stored_checked, stored_settled, Assignable, Assigns, Assigning}
 use Rattle.slot_words.proofs.Never.{given_of, checked_never, stored_never, settled_never}
 use Rattle.slot_places.proofs.Never.{stored_checked_never}
 

@@ -3,7 +3,7 @@ use Rattle.std.proofs.Common.{◌≡◌, refl, sym, ap, ◌∙◌, subst, ℕ, �
 use Rattle.run_values.specs.declared.value.Value.{Value}
 use Rattle.run_values.specs.declared.value.Kind.{Kind}
 use Rattle.slot_heap.specs.Heaps.{Cell, Heap, words_at, IsLive}
-use Rattle.run_codes.specs.Flat.{Got, Given, Stops, Broken, Spot, InStack, InCell, have_kinds, spliced}
+use Rattle.run_codes.specs.Flat.{Given, Broken, Spot, InStack, InCell, have_kinds, spliced}
 use Rattle.handled_runs.specs.Fits.{are_slot_words}
 use Rattle.handled_runs.specs.Slots.{Slots}
 use Rattle.handled_runs.specs.Changes.{with_stack, with_heap, written_all, slot_values, cell_stored, stored}

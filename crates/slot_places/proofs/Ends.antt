@@ -14,9 +14,9 @@ use Rattle.handled_runs.specs.Changes.{with_stack, stored}
 use Rattle.handled_runs.specs.Leaks.{leaks_at}
 use Rattle.handled_runs.specs.Assigned.{Left}
 use Rattle.handled_steps.specs.Steps.{in_stack, put_words}
-use Rattle.slot_memory.specs.Memory.{Kept, Ghosts, Stands, Shows, Knows, Always, Changes, slots, ghosts_of}
+use Rattle.slot_memory.specs.Memory.{Kept, Knows, Always, Changes, slots}
 use Rattle.slot_words.proofs.Wholes.{first_whole, next_whole}
-use Rattle.slot_places.specs.Steps.{IsLeft, Leavable, Leaving, ended_scope}
+use Rattle.slot_places.specs.Steps.{Leavable, Leaving, ended_scope}
 use Rattle.slot_words.proofs.Never.{given_of, leaks_never, stored_never}
 use Rattle.slot_places.proofs.Assigning.{Found, Halted, found_is}
 

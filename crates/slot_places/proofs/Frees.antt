@@ -1,5 +1,5 @@
 -- Cells that are released.
-use Rattle.std.proofs.Common.{◌≡◌, ◌≢◌, refl, sym, ap, ◌∙◌, subst, ℕ, zero, suc, ◌<◌, ◌^◌, Bool, false, List, [], ◌∷◌, ◌++◌, length, Option, Some, None, ℤ, pos, unsigned_abs, Result, Ok, Err, OnOk}
+use Rattle.std.proofs.Common.{◌≡◌, refl, sym, ap, ◌∙◌, subst, ℕ, suc, ◌<◌, ◌^◌, false, List, [], ◌∷◌, length, Option, Some, None, ℤ, pos, unsigned_abs, Result, Ok, Err}
 use Rattle.spark_base.specs.declared.position.Pos.{Pos}
 use Rattle.type_definitions.specs.Types.{Table}
 use Rattle.run_values.specs.declared.value.Value.{Value}
@@ -8,7 +8,7 @@ use Rattle.run_values.specs.declared.value.Kind.TheVariants as sort
 use Rattle.machine.specs.States.{Leak}
 use Rattle.slot_heap.specs.Heaps.{Heap, words_at, IsLive}
 use Rattle.run_codes.specs.Codes.{Place}
-use Rattle.run_codes.specs.Flat.{Got, Given, Stops, Broken, Spot, InCell, and_then, is_broken}
+use Rattle.run_codes.specs.Flat.{Got, Given, Spot, InCell, and_then, is_broken}
 use Rattle.code_rows.specs.declared.stop.Stop.{Stop}
 use Rattle.code_rows.specs.Stops.{stop_of}
 use Rattle.handled_runs.specs.Slots.{Slots, spot, held}
@@ -23,8 +23,8 @@ use Rattle.slot_memory.specs.Answers.{Frees}
 use Rattle.slot_memory.proofs.Heaps.{size_words}
 use Rattle.slot_words.specs.Reading.{ReadsSpot, GivesSpot}
 use Rattle.slot_words.proofs.Wholes.{first_whole, next_whole, first_stops}
-use Rattle.slot_places.specs.Steps.{IsLeft, Leaves, Leavable, Leaving, named_at}
-use Rattle.slot_words.proofs.Never.{given_of, held_never, leaks_never, stored_never}
+use Rattle.slot_places.specs.Steps.{Leaves, Leavable, Leaving, named_at}
+use Rattle.slot_words.proofs.Never.{given_of, leaks_never, stored_never}
 use Rattle.slot_places.proofs.Assigning.{Found, Halted, none_found, found_is}
 use Rattle.slot_places.proofs.Cells.{live_is, stored_live}
 

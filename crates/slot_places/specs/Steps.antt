@@ -3,7 +3,7 @@
 --
 -- A memory stands for many slots, which differ in what no code keeps. In one of them nothing is broken, and what is
 -- answered is so in each of them in which nothing is.
-use Rattle.std.specs.Prelude.{◌≡◌, ◌≢◌, ◌⊎◌, ℕ, suc, List, ◌++◌, false, Option, Result, Ok, Err, ℤ}
+use Rattle.std.specs.Prelude.{◌≡◌, ◌≢◌, ◌⊎◌, ℕ, List, ◌++◌, false, Option, Result, Ok, Err, ℤ}
 use Rattle.spark_base.specs.declared.position.Pos.{Pos}
 use Rattle.type_definitions.specs.Types.{Table}
 use Rattle.machine.specs.States.{Leak}

@@ -1,0 +1,2 @@
+-- what the end of a call comes to
+pub mod Ends
