@@ -279,6 +279,11 @@ IsSettled (Leads t n leaks) = t.moves ≡ []
 IsSettled (Halts x t) = Unit {0}
 IsSettled Fails = Unit {0}
 
+-- So it is of the slots that are led to.
+pub leads_settled : (t : Slots) (n : ℕ) (leaks : List Leak) → IsSettled (Leads t n leaks) → t.moves ≡ []
+unfolding IsSettled
+leads_settled t n leaks is = is
+
 done_settled : (n : ℕ) (s : Slots) (g : Got (Left Slots)) → AllOf IsDone g → IsSettled (left n s g)
 unfolding IsSettled
 done_settled n s (Given l) all = all
