@@ -1,0 +1,2 @@
+-- a truth waits
+pub mod Truths
