@@ -22,7 +22,7 @@ import sys
 TOP = pathlib.Path(__file__).resolve().parent.parent
 LINES = TOP / "crates.txt"
 # (the gate takes some 45 seconds for each million)
-MOST_WAYS = 20_000_000
+MOST_WAYS = 6_000_000
 
 def bare(path):
     """The text of a file without its comments."""

@@ -1,6 +1,6 @@
 -- The acts and the leak checks of a point follow from its instruction.
 use Rattle.std.proofs.Common.{◌≡◌, ℕ, List, [], ◌∷◌, map, refl, subst, inl, inr}
-use Rattle.spark_base.specs.Lists.{Has}
+use Rattle.typed_tree.specs.spark_base.Lists.{Has}
 use Rattle.flow_paths.specs.Acts.{Frame, acts_of, leaks_of}
 use Rattle.flow_paths.specs.Points.{PointName, NamedPoint, FlowPoint, flow_point}
 use Rattle.flow_paths.specs.Laid.{numbered, number_in}

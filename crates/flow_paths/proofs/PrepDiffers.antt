@@ -1,7 +1,7 @@
 -- The names of the points before a use differ.
 use Rattle.std.proofs.Common.{◌≡◌, ℕ, ◌+◌, ◌*◌, ◌≤◌, List, [], ◌∷◌, ◌++◌, arith}
 use Rattle.std.specs.Prelude.{Bool, true, false, Some, None, if◌then◌else◌}
-use Rattle.spark_base.specs.declared.position.Pos.{Pos}
+use Rattle.typed_tree.specs.spark_base.declared.position.Pos.{Pos}
 use Rattle.typed_tree.specs.Trees.{TypedTree, Name, Component, Designated, Element, Call, Image, Parens, Unary, Binary, Short, IsNull, Aggregate, Alike, New, More}
 use Rattle.flow_paths.specs.Instructions.{Instruction, Evaluate}
 use Rattle.flow_paths.specs.Instructions as instruction

@@ -7,9 +7,9 @@ use Rattle.std.specs.Prelude.{Bool, true, false, Option, Some, None, drop, rever
 use Rattle.std.specs.List.{AllByRecursion}
 use Rattle.std.proofs.lemmas.Grind.{common_steps}
 use Rattle.std.proofs.lemmas.List.{append_assoc}
-use Rattle.spark_base.specs.Lists.{Has}
-use Rattle.spark_base.proofs.Lists.{Has-append_left, Has-append_right, Has-append_cases}
-use Rattle.spark_base.specs.declared.position.Pos.{Pos}
+use Rattle.typed_tree.specs.spark_base.Lists.{Has}
+use Rattle.typed_tree.proofs.spark_base.Lists.{Has-append_left, Has-append_right, Has-append_cases}
+use Rattle.typed_tree.specs.spark_base.declared.position.Pos.{Pos}
 use Rattle.typed_tree.specs.Trees.{TypedTree, Name, Component, Designated, Element, Call, Image, Parens, Unary, Binary, Short, IsNull, Aggregate, Alike, New, More}
 use Rattle.flow_paths.specs.Instructions.{Instruction, Evaluate}
 use Rattle.flow_paths.specs.Instructions as instruction

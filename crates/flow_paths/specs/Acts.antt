@@ -2,15 +2,15 @@
 --
 -- Acts stand in the order in which the step evaluates what they name.
 use Rattle.std.specs.Prelude.{ℕ, ◌+◌, Bool, false, List, [], ◌∷◌, ◌++◌, map, length, Option, Some, None, if◌then◌else◌}
-use Rattle.spark_base.specs.declared.position.Pos.{Pos}
-use Rattle.place_names.specs.declared.selector.Sel.{Sel}
-use Rattle.place_names.specs.declared.selector.Sel.TheVariants as sel
-use Rattle.place_names.specs.declared.act.Mode.TheVariants as mode
-use Rattle.place_names.specs.declared.act.Act.{Act}
-use Rattle.place_names.specs.declared.act.Act.TheVariants as act
-use Rattle.place_names.specs.declared.act.Placed.{Placed}
-use Rattle.place_names.specs.Names.{Name as PlaceName, object, extend}
-use Rattle.type_definitions.specs.Types.{full, parts, is_owning}
+use Rattle.typed_tree.specs.spark_base.declared.position.Pos.{Pos}
+use Rattle.typed_tree.specs.place_names.declared.selector.Sel.{Sel}
+use Rattle.typed_tree.specs.place_names.declared.selector.Sel.TheVariants as sel
+use Rattle.typed_tree.specs.place_names.declared.act.Mode.TheVariants as mode
+use Rattle.typed_tree.specs.place_names.declared.act.Act.{Act}
+use Rattle.typed_tree.specs.place_names.declared.act.Act.TheVariants as act
+use Rattle.typed_tree.specs.place_names.declared.act.Placed.{Placed}
+use Rattle.typed_tree.specs.place_names.Names.{Name as PlaceName, object, extend}
+use Rattle.typed_tree.specs.type_definitions.Types.{full, parts, is_owning}
 use Rattle.typed_tree.specs.Trees.{TypedTree, Name, Component, Designated, Element, Call, Image, Parens, Unary, Binary, Short, IsNull, Aggregate, Alike, New, More}
 use Rattle.flow_paths.specs.declared.point.LeakSpot.{LeakSpot}
 use Rattle.flow_paths.specs.Instructions.{Instruction, Skip, Declare, Assign, Output, Input, Release, Test, Choose, Start, Next, Evaluate, LeaveLoop, Hold, EndScope, Finish, Fall}

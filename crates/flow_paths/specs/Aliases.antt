@@ -1,10 +1,10 @@
 -- The rules on the actuals of one call of a procedure, which look at the text without paths
 -- (docs/FLOW.md, "Actuals that overlap"): A1 and A2.
 use Rattle.std.specs.Prelude.{ℕ, Bool, not, ◌&&◌, ◌||◌, List, [], ◌∷◌, ◌++◌, flat_map, Option, Some, None, is_some, if◌then◌else◌}
-use Rattle.place_names.specs.Names.{overlaps}
-use Rattle.place_names.specs.declared.rule.Rule.TheVariants as rule
-use Rattle.place_names.specs.Reports.{Report}
-use Rattle.type_definitions.specs.Types.{is_scalar}
+use Rattle.typed_tree.specs.place_names.Names.{overlaps}
+use Rattle.typed_tree.specs.place_names.declared.rule.Rule.TheVariants as rule
+use Rattle.typed_tree.specs.place_names.Reports.{Report}
+use Rattle.typed_tree.specs.type_definitions.Types.{is_scalar}
 use Rattle.typed_tree.specs.Trees.{TypedTree, More}
 use Rattle.flow_paths.specs.declared.report.Effects.{Effects}
 use Rattle.flow_paths.specs.Instructions.{Instruction, Call}

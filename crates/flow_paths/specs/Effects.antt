@@ -2,14 +2,14 @@
 -- (docs/FLOW.md, "Effects"); and the acts that a call does on them.
 use Rattle.std.specs.Prelude.{◌≡◌, ℕ, suc, ◌<◌, Bool, true, false, not, ◌&&◌, ◌||◌, ◌==◌, List, [], ◌∷◌, ◌++◌, map, drop, length, get_or, IsTrue, None, if◌then◌else◌}
 use Rattle.std.specs.List.{list_any}
-use Rattle.spark_base.specs.Lists.{Has}
-use Rattle.spark_base.specs.declared.position.Pos.{Pos}
-use Rattle.place_names.specs.Names.{Name}
-use Rattle.place_names.specs.declared.act.Mode.{Mode}
-use Rattle.place_names.specs.declared.act.Mode.TheVariants as mode
-use Rattle.place_names.specs.declared.act.Act.{Act}
-use Rattle.place_names.specs.declared.act.Act.TheVariants as act
-use Rattle.place_names.specs.declared.act.Placed.{Placed}
+use Rattle.typed_tree.specs.spark_base.Lists.{Has}
+use Rattle.typed_tree.specs.spark_base.declared.position.Pos.{Pos}
+use Rattle.typed_tree.specs.place_names.Names.{Name}
+use Rattle.typed_tree.specs.place_names.declared.act.Mode.{Mode}
+use Rattle.typed_tree.specs.place_names.declared.act.Mode.TheVariants as mode
+use Rattle.typed_tree.specs.place_names.declared.act.Act.{Act}
+use Rattle.typed_tree.specs.place_names.declared.act.Act.TheVariants as act
+use Rattle.typed_tree.specs.place_names.declared.act.Placed.{Placed}
 use Rattle.typed_tree.specs.declared.object.Object.{Object}
 use Rattle.typed_tree.specs.Trees.{TypedTree, Name as Named, Component, Designated, Element, Call as CallOf, EndOfFile, Image, Parens, Unary, Binary, Short, IsNull, Aggregate, Alike, New, More}
 use Rattle.flow_paths.specs.declared.report.Effects.{Effects}

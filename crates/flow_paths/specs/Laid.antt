@@ -4,14 +4,14 @@
 -- has its points with numbers, in the order of the text.
 use Rattle.std.specs.Prelude.{ℕ, suc, ◌+◌, not, ◌&&◌, ◌||◌, ◌==◌, List, [], ◌∷◌, ◌++◌, map, filter, flat_map, reverse, length, sum, Option, Some, None, is_some, if◌then◌else◌}
 use Rattle.std.specs.List.{list_any, position_or_len}
-use Rattle.spark_base.specs.declared.position.Pos.{Pos}
-use Rattle.place_names.specs.declared.act.Act.{Act}
-use Rattle.place_names.specs.declared.act.Placed.{Placed}
-use Rattle.place_names.specs.declared.act.Mode.TheVariants as mode
-use Rattle.place_names.specs.declared.fact.Fact.{Fact}
-use Rattle.place_names.specs.Facts.{place, adds, is_same_fact}
-use Rattle.type_definitions.specs.Types.{Table, words}
-use Rattle.type_definitions.specs.Entries.{integer, boolean}
+use Rattle.typed_tree.specs.spark_base.declared.position.Pos.{Pos}
+use Rattle.typed_tree.specs.place_names.declared.act.Act.{Act}
+use Rattle.typed_tree.specs.place_names.declared.act.Placed.{Placed}
+use Rattle.typed_tree.specs.place_names.declared.act.Mode.TheVariants as mode
+use Rattle.typed_tree.specs.place_names.declared.fact.Fact.{Fact}
+use Rattle.typed_tree.specs.place_names.Facts.{place, adds, is_same_fact}
+use Rattle.typed_tree.specs.type_definitions.Types.{Table, words}
+use Rattle.typed_tree.specs.type_definitions.Entries.{integer, boolean}
 use Rattle.typed_tree.specs.declared.object.Object.{Object}
 use Rattle.typed_tree.specs.declared.object.ObjectKind.TheVariants as object_kind
 use Rattle.typed_tree.specs.Trees.{TypedCode, Declare, If, Branch, Case, When, Loop, While, For, Block, More}

@@ -3,7 +3,7 @@
 -- k is what follows a construct. Points stand in the order of the text: those of a construct itself
 -- before those of the statements in it, and those that end it after them.
 use Rattle.std.specs.Prelude.{ℕ, suc, ◌==◌, List, [], ◌∷◌, ◌++◌, filter, flat_map, reverse, drop, length, None, if◌then◌else◌}
-use Rattle.spark_base.specs.declared.position.Pos.{Pos}
+use Rattle.typed_tree.specs.spark_base.declared.position.Pos.{Pos}
 use Rattle.typed_tree.specs.Trees.{TypedTree, TypedCode, Declare, Assign, Skip, Output, Input, Release, If, Branch, Case, When, Loop, While, For, Exit, Return, Block, More}
 use Rattle.typed_tree.specs.Trees as typed
 use Rattle.flow_paths.specs.Instructions.{Instruction}

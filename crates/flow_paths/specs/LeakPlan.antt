@@ -4,11 +4,11 @@ use Rattle.std.specs.declared.cmp.Ordering.{Ordering}
 use Rattle.std.specs.declared.cmp.Ordering.TheVariants.{Less}
 use Rattle.std.specs.Ordering.{ordering_then, nat_cmp}
 use Rattle.std.specs.Cmp.Lexicographic.{slice_cmp}
-use Rattle.spark_base.specs.Lists.{Has}
-use Rattle.spark_base.specs.Positions.{position_cmp}
-use Rattle.place_names.specs.Names.{Name, has_elem}
-use Rattle.place_names.specs.declared.fact.Fact.TheVariants.{Moved}
-use Rattle.place_names.specs.Reports.{selector_cmp}
+use Rattle.typed_tree.specs.spark_base.Lists.{Has}
+use Rattle.typed_tree.specs.spark_base.Positions.{position_cmp}
+use Rattle.typed_tree.specs.place_names.Names.{Name, has_elem}
+use Rattle.typed_tree.specs.place_names.declared.fact.Fact.TheVariants.{Moved}
+use Rattle.typed_tree.specs.place_names.Reports.{selector_cmp}
 use Rattle.flow_paths.specs.declared.report.Effects.{Effects}
 use Rattle.flow_paths.specs.declared.report.LeakLine.{LeakLine}
 use Rattle.flow_paths.specs.declared.point.LeakSpot.{LeakSpot}

@@ -18,3 +18,9 @@ pub mod Reports
 pub mod LeakPlan
 -- laws of the points of a subprogram
 pub mod Scopes
+-- libraries that the crates above name through this one
+pub use Rattle.typed_tree.specs as typed_tree
+pub use Rattle.typed_tree.specs.type_definitions
+pub use Rattle.typed_tree.specs.resolved_tree
+pub use Rattle.typed_tree.specs.place_names
+pub use Rattle.typed_tree.specs.spark_base

@@ -2,14 +2,14 @@
 use Rattle.std.specs.Prelude.{Bool, List, [], ◌∷◌, ◌++◌, map, flat_map, filter, length, nat_lt, Option, Some, None, if◌then◌else◌}
 use Rattle.std.specs.declared.cmp.Ordering.{Ordering}
 use Rattle.std.specs.declared.cmp.Ordering.TheVariants.{Less, Equal, Greater}
-use Rattle.spark_base.specs.declared.position.Pos.{Pos}
-use Rattle.spark_base.specs.declared.limits.TheConstants.{SELECTORS, POINTS, FACTS}
-use Rattle.spark_base.specs.Positions.{position_cmp}
-use Rattle.place_names.specs.Names.{Name, object}
-use Rattle.place_names.specs.declared.act.Act.{Act}
-use Rattle.place_names.specs.declared.act.Act.TheVariants as act
-use Rattle.place_names.specs.declared.act.Placed.{Placed}
-use Rattle.place_names.specs.Facts.{place, adds}
+use Rattle.typed_tree.specs.spark_base.declared.position.Pos.{Pos}
+use Rattle.typed_tree.specs.spark_base.declared.limits.TheConstants.{SELECTORS, POINTS, FACTS}
+use Rattle.typed_tree.specs.spark_base.Positions.{position_cmp}
+use Rattle.typed_tree.specs.place_names.Names.{Name, object}
+use Rattle.typed_tree.specs.place_names.declared.act.Act.{Act}
+use Rattle.typed_tree.specs.place_names.declared.act.Act.TheVariants as act
+use Rattle.typed_tree.specs.place_names.declared.act.Placed.{Placed}
+use Rattle.typed_tree.specs.place_names.Facts.{place, adds}
 use Rattle.flow_paths.specs.declared.refusal.LayFault.{LayFault}
 use Rattle.flow_paths.specs.declared.refusal.LayFault.TheVariants as fault
 use Rattle.flow_paths.specs.declared.point.LeakSpot.{LeakSpot}

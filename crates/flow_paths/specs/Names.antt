@@ -1,10 +1,10 @@
 -- Names in expressions, and which calls an expression has (docs/RULES.md, "Names of places";
 -- docs/FLOW.md, "Points").
 use Rattle.std.specs.Prelude.{ℕ, ◌+◌, Bool, true, false, ◌||◌, List, [], ◌∷◌, Option, Some, None, if◌then◌else◌}
-use Rattle.spark_base.specs.declared.position.Pos.{Pos}
-use Rattle.place_names.specs.declared.selector.Sel.{Sel}
-use Rattle.place_names.specs.declared.selector.Sel.TheVariants as sel
-use Rattle.place_names.specs.Names.{Name as PlaceName}
+use Rattle.typed_tree.specs.spark_base.declared.position.Pos.{Pos}
+use Rattle.typed_tree.specs.place_names.declared.selector.Sel.{Sel}
+use Rattle.typed_tree.specs.place_names.declared.selector.Sel.TheVariants as sel
+use Rattle.typed_tree.specs.place_names.Names.{Name as PlaceName}
 use Rattle.typed_tree.specs.Trees.{TypedTree, Name, Component, Designated, Element, Call, Image, Parens, Unary, Binary, Short, IsNull, Aggregate, Alike, New, NoMore, More}
 
 -- ---- names

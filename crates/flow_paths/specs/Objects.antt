@@ -1,10 +1,10 @@
 -- What the layout asks of objects, types and subprograms (docs/FLOW.md, "Acts").
 use Rattle.std.specs.Prelude.{ℕ, Bool, true, false, not, ◌&&◌, ◌||◌, List, [], ◌∷◌, map, get_or, Option, Some, None, is_some, if◌then◌else◌}
-use Rattle.place_names.specs.declared.act.Mode.{Mode}
-use Rattle.place_names.specs.declared.act.Mode.TheVariants as mode
-use Rattle.type_definitions.specs.declared.judgement.View.{View}
-use Rattle.type_definitions.specs.declared.judgement.View.TheVariants as view
-use Rattle.type_definitions.specs.Types.{Table, full, is_owning}
+use Rattle.typed_tree.specs.place_names.declared.act.Mode.{Mode}
+use Rattle.typed_tree.specs.place_names.declared.act.Mode.TheVariants as mode
+use Rattle.typed_tree.specs.type_definitions.declared.judgement.View.{View}
+use Rattle.typed_tree.specs.type_definitions.declared.judgement.View.TheVariants as view
+use Rattle.typed_tree.specs.type_definitions.Types.{Table, full, is_owning}
 use Rattle.typed_tree.specs.declared.object.Object.{Object}
 use Rattle.typed_tree.specs.declared.object.ObjectKind.{ObjectKind}
 use Rattle.typed_tree.specs.declared.object.ObjectKind.TheVariants as object_kind

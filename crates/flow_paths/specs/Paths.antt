@@ -3,13 +3,13 @@
 -- A path goes from the first point of a subprogram from point to successor. Conditions play no
 -- part.
 use Rattle.std.specs.Prelude.{◌≡◌, zero, suc, ℕ, List, [], ◌∷◌, ◌++◌, map, Some}
-use Rattle.spark_base.specs.Lists.{Has}
-use Rattle.place_names.specs.declared.act.Act.{Act}
-use Rattle.place_names.specs.declared.act.Placed.{Placed}
-use Rattle.place_names.specs.declared.fact.Fact.{Fact}
-use Rattle.place_names.specs.Facts.{facts_after}
-use Rattle.place_names.specs.Rules.{Forbidden, forbids}
-use Rattle.place_names.specs.Reports.{Report, report_at}
+use Rattle.typed_tree.specs.spark_base.Lists.{Has}
+use Rattle.typed_tree.specs.place_names.declared.act.Act.{Act}
+use Rattle.typed_tree.specs.place_names.declared.act.Placed.{Placed}
+use Rattle.typed_tree.specs.place_names.declared.fact.Fact.{Fact}
+use Rattle.typed_tree.specs.place_names.Facts.{facts_after}
+use Rattle.typed_tree.specs.place_names.Rules.{Forbidden, forbids}
+use Rattle.typed_tree.specs.place_names.Reports.{Report, report_at}
 
 -- A point, as far as paths go: its acts, and the numbers of its successors.
 pub record PathPoint : Type 0 where

@@ -5,8 +5,8 @@
 -- construct that it belongs to, and by its number among the points of that construct itself.
 use Rattle.std.specs.Prelude.{ℕ, Bool, ◌&&◌, ◌==◌, List, [], ◌∷◌, map}
 use Rattle.std.specs.Cmp.Lexicographic.{pointwise}
-use Rattle.spark_base.specs.declared.position.Pos.{Pos}
-use Rattle.place_names.specs.declared.act.Placed.{Placed}
+use Rattle.typed_tree.specs.spark_base.declared.position.Pos.{Pos}
+use Rattle.typed_tree.specs.place_names.declared.act.Placed.{Placed}
 use Rattle.flow_paths.specs.declared.point.LeakSpot.{LeakSpot}
 use Rattle.flow_paths.specs.Instructions.{Instruction}
 use Rattle.flow_paths.specs.Acts.{Frame, acts_of, leaks_of}

@@ -1,7 +1,7 @@
 -- How the names of a program are printed (docs/RULES.md, "Names of places").
 use Rattle.std.specs.Prelude.{ℕ, List}
-use Rattle.place_names.specs.Names.{Name}
-use Rattle.type_definitions.specs.Types.{Table}
+use Rattle.typed_tree.specs.place_names.Names.{Name}
+use Rattle.typed_tree.specs.type_definitions.Types.{Table}
 use Rattle.typed_tree.specs.declared.object.Object.{Object}
 use Rattle.typed_tree.specs.Printed.{printed}
 

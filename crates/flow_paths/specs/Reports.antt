@@ -1,7 +1,7 @@
 -- All reports of a program (docs/RULES.md, "Reports").
 use Rattle.std.specs.Prelude.{List}
-use Rattle.spark_base.specs.Lists.{Has}
-use Rattle.place_names.specs.Reports.{Report, IsReportList}
+use Rattle.typed_tree.specs.spark_base.Lists.{Has}
+use Rattle.typed_tree.specs.place_names.Reports.{Report, IsReportList}
 use Rattle.flow_paths.specs.declared.report.Report.{Report as Told}
 use Rattle.flow_paths.specs.declared.report.Effects.{Effects}
 use Rattle.flow_paths.specs.Laid.{FlowSub, FlowProgram}

@@ -1,19 +1,19 @@
 -- The rules on constant views, observers, borrowers and traversal functions, which look at the text
 -- without paths (docs/FLOW.md, "Views"): V1 to V4.
 use Rattle.std.specs.Prelude.{◌≡◌, ℕ, zero, suc, Bool, true, false, not, ◌&&◌, ◌||◌, ◌==◌, List, [], ◌∷◌, map, flat_map, length, get_or, Option, Some, None, is_some, IsTrue}
-use Rattle.spark_base.specs.Lists.{Has}
-use Rattle.spark_base.specs.declared.position.Pos.{Pos}
-use Rattle.place_names.specs.declared.selector.Sel.TheVariants as sel
-use Rattle.place_names.specs.Names.{Name, object, extend}
-use Rattle.place_names.specs.declared.act.Mode.{Mode}
-use Rattle.place_names.specs.declared.act.Mode.TheVariants as mode
-use Rattle.place_names.specs.declared.act.Act.{Act}
-use Rattle.place_names.specs.declared.act.Act.TheVariants as act
-use Rattle.place_names.specs.declared.act.Placed.{Placed}
-use Rattle.place_names.specs.declared.rule.Rule.{Rule}
-use Rattle.place_names.specs.declared.rule.Rule.TheVariants as rule
-use Rattle.place_names.specs.Reports.{Report}
-use Rattle.type_definitions.specs.Types.{is_nil}
+use Rattle.typed_tree.specs.spark_base.Lists.{Has}
+use Rattle.typed_tree.specs.spark_base.declared.position.Pos.{Pos}
+use Rattle.typed_tree.specs.place_names.declared.selector.Sel.TheVariants as sel
+use Rattle.typed_tree.specs.place_names.Names.{Name, object, extend}
+use Rattle.typed_tree.specs.place_names.declared.act.Mode.{Mode}
+use Rattle.typed_tree.specs.place_names.declared.act.Mode.TheVariants as mode
+use Rattle.typed_tree.specs.place_names.declared.act.Act.{Act}
+use Rattle.typed_tree.specs.place_names.declared.act.Act.TheVariants as act
+use Rattle.typed_tree.specs.place_names.declared.act.Placed.{Placed}
+use Rattle.typed_tree.specs.place_names.declared.rule.Rule.{Rule}
+use Rattle.typed_tree.specs.place_names.declared.rule.Rule.TheVariants as rule
+use Rattle.typed_tree.specs.place_names.Reports.{Report}
+use Rattle.typed_tree.specs.type_definitions.Types.{is_nil}
 use Rattle.flow_paths.specs.declared.report.Effects.{Effects}
 use Rattle.flow_paths.specs.Instructions.{Instruction, Assign, Call}
 use Rattle.flow_paths.specs.Objects.{Typing, object_at, view_of, is_borrower, is_observer, is_formal, is_package_object, is_named_access, traverses}

@@ -1,7 +1,6 @@
 //! Instructions: what the step of a point does.
 
-use spark_base::Listed;
-use typed_tree::ShortCircuit;
+use typed_tree::{Listed, ShortCircuit};
 
 /// The instruction of a point. Names and expressions are those of the typed program, by number of
 /// the node.

@@ -1,8 +1,7 @@
 //! The points of subprograms.
 
 use crate::instr::Instr;
-use place_names::{Fact, PlaceName, Placed};
-use spark_base::{Listed, Pos};
+use typed_tree::{Fact, Listed, PlaceName, Placed, Pos};
 
 /// A leak check: where it stands and what it looks at, before the effect of the act with this
 /// index.

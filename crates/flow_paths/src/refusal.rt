@@ -1,6 +1,6 @@
 //! Why a program is refused when its control flow is laid out.
 
-use spark_base::Pos;
+use typed_tree::Pos;
 
 /// A limit that a program is beyond (`docs/TOOL.md`, "Limits").
 #[derive(Clone, Copy)]

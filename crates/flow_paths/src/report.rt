@@ -1,7 +1,6 @@
 //! What is said of a program.
 
-use place_names::{PlaceName, Rule, State};
-use spark_base::{Listed, Pos};
+use typed_tree::{Listed, PlaceName, Pos, Rule, State};
 
 /// The package objects, and Ada.Text_IO, that each subprogram reads and writes, in ascending order.
 #[derive(Drop)]

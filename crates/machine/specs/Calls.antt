@@ -1,12 +1,12 @@
 -- Leak checks, and what calls pass (docs/RUN.md, "Calls").
 use Rattle.std.specs.Prelude.{ℕ, ◌+◌, Bool, false, List, [], ◌∷◌, ◌++◌, map, flat_map, get_or, Option, Some, None, if◌then◌else◌}
-use Rattle.spark_base.specs.declared.position.Pos.{Pos}
-use Rattle.place_names.specs.declared.act.Mode.TheVariants as mode
-use Rattle.typed_tree.specs.Trees.{TypedTree, More}
+use Rattle.flow_paths.specs.spark_base.declared.position.Pos.{Pos}
+use Rattle.flow_paths.specs.place_names.declared.act.Mode.TheVariants as mode
+use Rattle.flow_paths.specs.typed_tree.Trees.{TypedTree, More}
 use Rattle.flow_paths.specs.Objects.{Typing, object_at, is_anonymous, view_of, Passing, ByValue, Traversed}
 use Rattle.flow_paths.specs.Objects as objects
 use Rattle.flow_paths.specs.Names.{Written, written}
-use Rattle.type_definitions.specs.Types.{parts}
+use Rattle.flow_paths.specs.type_definitions.Types.{parts}
 use Rattle.machine.specs.Words.{Word, Cell, default, offsets}
 use Rattle.machine.specs.Memory.{Memory, Slot, Place, no_slot, slots_at, words_of, moved_out, declared}
 use Rattle.machine.specs.Evaluate.{Now, Here, Evaluated, Done, followed_by, value, viewed, place_of, checked}

@@ -4,18 +4,18 @@
 -- take the values that wait; it may raise an exception, or touch a freed cell.
 use Rattle.std.specs.Prelude.{ℕ, suc, ◌+◌, ◌*◌, Bool, true, false, not, ◌&&◌, List, [], ◌∷◌, ◌++◌, map, length, drop, get_or, nat_eq, nat_le, Option, Some, None, ℤ, pos, ◌-ℤ◌, int_le, unsigned_abs, if◌then◌else◌}
 use Rattle.std.specs.Char.{to_ascii_uppercase}
-use Rattle.resolved_tree.specs.declared.operator.Operator.{Operator}
-use Rattle.resolved_tree.specs.declared.operator.UnaryOperator.{UnaryOperator}
-use Rattle.type_definitions.specs.declared.table.Shape.{Shape}
-use Rattle.type_definitions.specs.declared.table.Shape.TheVariants as shape
-use Rattle.type_definitions.specs.declared.table.Static.{Static}
-use Rattle.type_definitions.specs.Types.{Table, base, shape_of, words, is_owning}
-use Rattle.type_definitions.specs.Entries.{integer, boolean}
-use Rattle.type_definitions.specs.Statics.{operate, one}
-use Rattle.typed_tree.specs.declared.node.ShortCircuit.{ShortCircuit}
-use Rattle.typed_tree.specs.declared.node.ShortCircuit.TheVariants as short
-use Rattle.typed_tree.specs.Trees.{TypedTree, Number, Literal, Text, Name, Component as IntoComponent, Designated, Element, Call, EndOfFile, Parens, Image, Unary, Binary, Short, IsNull, Aggregate, Alike, New, NoMore, More}
-use Rattle.typed_tree.specs.Trees as typed
+use Rattle.flow_paths.specs.resolved_tree.declared.operator.Operator.{Operator}
+use Rattle.flow_paths.specs.resolved_tree.declared.operator.UnaryOperator.{UnaryOperator}
+use Rattle.flow_paths.specs.type_definitions.declared.table.Shape.{Shape}
+use Rattle.flow_paths.specs.type_definitions.declared.table.Shape.TheVariants as shape
+use Rattle.flow_paths.specs.type_definitions.declared.table.Static.{Static}
+use Rattle.flow_paths.specs.type_definitions.Types.{Table, base, shape_of, words, is_owning}
+use Rattle.flow_paths.specs.type_definitions.Entries.{integer, boolean}
+use Rattle.flow_paths.specs.type_definitions.Statics.{operate, one}
+use Rattle.flow_paths.specs.typed_tree.declared.node.ShortCircuit.{ShortCircuit}
+use Rattle.flow_paths.specs.typed_tree.declared.node.ShortCircuit.TheVariants as short
+use Rattle.flow_paths.specs.typed_tree.Trees.{TypedTree, Number, Literal, Text, Name, Component as IntoComponent, Designated, Element, Call, EndOfFile, Parens, Image, Unary, Binary, Short, IsNull, Aggregate, Alike, New, NoMore, More}
+use Rattle.flow_paths.specs.typed_tree.Trees as typed
 use Rattle.flow_paths.specs.Objects.{Typing, object_at, is_package_object, designated}
 use Rattle.flow_paths.specs.Names.{has_call}
 use Rattle.run_values.specs.Images.{image}

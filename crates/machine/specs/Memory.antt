@@ -3,8 +3,8 @@
 -- A word that was moved away stays where it was and is marked as gone. Cells have numbers from 1
 -- on, in the order in which they are made, and keep them when they are freed.
 use Rattle.std.specs.Prelude.{ℕ, zero, suc, ◌+◌, Bool, true, false, not, ◌&&◌, ◌==◌, List, [], ◌∷◌, ◌++◌, map, filter, take, drop, length, sum, get_or, nat_le, if◌then◌else◌}
-use Rattle.type_definitions.specs.Types.{words}
-use Rattle.type_definitions.specs.Entries.{integer}
+use Rattle.flow_paths.specs.type_definitions.Types.{words}
+use Rattle.flow_paths.specs.type_definitions.Entries.{integer}
 use Rattle.flow_paths.specs.Objects.{Typing, object_at}
 use Rattle.machine.specs.Words.{Word, Null, default, access_offsets}
 

@@ -1,9 +1,9 @@
 -- Who owns a cell, and when a state is well owned (docs/RUN.md, "Owners").
 use Rattle.std.specs.Prelude.{◌≡◌, ◌≤◌, ◌⊎◌, ℕ, Bool, true, false, not, ◌&&◌, ◌==◌, List, [], ◌∷◌, flat_map, length, get_or, if◌then◌else◌}
-use Rattle.spark_base.specs.Lists.{Has}
-use Rattle.place_names.specs.declared.act.Mode.{Mode}
-use Rattle.place_names.specs.declared.act.Mode.TheVariants as mode
-use Rattle.type_definitions.specs.Entries.{integer}
+use Rattle.flow_paths.specs.spark_base.Lists.{Has}
+use Rattle.flow_paths.specs.place_names.declared.act.Mode.{Mode}
+use Rattle.flow_paths.specs.place_names.declared.act.Mode.TheVariants as mode
+use Rattle.flow_paths.specs.type_definitions.Entries.{integer}
 use Rattle.flow_paths.specs.Objects.{Typing, object_at, is_formal}
 use Rattle.machine.specs.Words.{Cell, access_offsets}
 use Rattle.machine.specs.Memory.{Slot, OfVariable, fresh, no_slot, cell, slots_at}

@@ -1,6 +1,6 @@
 -- The state of a run between two steps (docs/RUN.md, "States").
 use Rattle.std.specs.Prelude.{ℕ, Bool, List, [], map, sum, get_or, ℤ, None}
-use Rattle.spark_base.specs.declared.position.Pos.{Pos}
+use Rattle.flow_paths.specs.spark_base.declared.position.Pos.{Pos}
 use Rattle.flow_paths.specs.Laid.{FlowSub, FlowProgram}
 use Rattle.machine.specs.Words.{Word}
 use Rattle.machine.specs.Memory.{Memory, Place}

@@ -1,14 +1,14 @@
 -- What one step does, one case for each instruction (docs/RUN.md, "Steps").
 use Rattle.std.specs.Prelude.{ℕ, zero, suc, Bool, true, false, not, ◌&&◌, ◌||◌, ◌==◌, List, [], ◌∷◌, ◌++◌, map, flat_map, reverse, take, drop, length, get_or, nat_le, nat_lt, Option, Some, None, ℤ, pos, negsuc, ◌+ℤ◌, unsigned_abs, int_le, int_lt, if◌then◌else◌}
 use Rattle.std.specs.List.{position_or_len}
-use Rattle.spark_base.specs.declared.position.Pos.{Pos}
-use Rattle.type_definitions.specs.Types.{full}
-use Rattle.typed_tree.specs.declared.node.ShortCircuit.{ShortCircuit}
-use Rattle.typed_tree.specs.Trees.{TypedTree, TypedCode, Interval, Others, More}
+use Rattle.flow_paths.specs.spark_base.declared.position.Pos.{Pos}
+use Rattle.flow_paths.specs.type_definitions.Types.{full}
+use Rattle.flow_paths.specs.typed_tree.declared.node.ShortCircuit.{ShortCircuit}
+use Rattle.flow_paths.specs.typed_tree.Trees.{TypedTree, TypedCode, Interval, Others, More}
 use Rattle.flow_paths.specs.Instructions.{Instruction, Skip, Declare, Assign, Call, Output, Input, Release, Test, Choose, Start, Next, Evaluate, LeaveLoop, Hold, EndScope, Finish, Fall}
 use Rattle.flow_paths.specs.Objects.{Typing, object_at, sub_at, is_anonymous, designated, passings}
 use Rattle.flow_paths.specs.Names.{Written, written, first}
-use Rattle.type_definitions.specs.Entries.{integer, boolean}
+use Rattle.flow_paths.specs.type_definitions.Entries.{integer, boolean}
 use Rattle.flow_paths.specs.Scopes.{taken}
 use Rattle.flow_paths.specs.Points.{FlowPoint}
 use Rattle.flow_paths.specs.Laid.{FlowProgram, flow_typing}

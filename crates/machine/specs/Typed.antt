@@ -9,17 +9,17 @@
 use Rattle.std.specs.Prelude.{ℕ, zero, suc, Bool, true, false, not, ◌&&◌, ◌||◌, List, [], ◌∷◌, ◌++◌, flat_map, length, slice_get, nat_eq, nat_lt, Option, Some, None, is_some, ℤ, if◌then◌else◌}
 use Rattle.std.specs.Ordering.{int_eq}
 use Rattle.std.specs.List.{list_all}
-use Rattle.resolved_tree.specs.declared.operator.Operator.{Operator}
-use Rattle.resolved_tree.specs.declared.operator.Operator.TheVariants as operator
-use Rattle.resolved_tree.specs.declared.operator.UnaryOperator.{UnaryOperator}
-use Rattle.resolved_tree.specs.declared.operator.UnaryOperator.TheVariants as unary
-use Rattle.type_definitions.specs.declared.table.Component.{Component}
-use Rattle.type_definitions.specs.declared.table.Shape.{Shape}
-use Rattle.type_definitions.specs.declared.table.Shape.TheVariants as shape
-use Rattle.type_definitions.specs.Types.{Table, shape_found, shape_of, meant_type, span, is_owning}
-use Rattle.type_definitions.specs.Entries.{integer}
-use Rattle.typed_tree.specs.Trees.{TypedTree, TypedCode, Number, Literal, Text, Name, Component as IntoComponent, Designated, Element, Call, EndOfFile, Parens, Image, Unary, Binary, Short, IsNull, Aggregate, Alike, New, NoMore, More}
-use Rattle.typed_tree.specs.Trees as typed
+use Rattle.flow_paths.specs.resolved_tree.declared.operator.Operator.{Operator}
+use Rattle.flow_paths.specs.resolved_tree.declared.operator.Operator.TheVariants as operator
+use Rattle.flow_paths.specs.resolved_tree.declared.operator.UnaryOperator.{UnaryOperator}
+use Rattle.flow_paths.specs.resolved_tree.declared.operator.UnaryOperator.TheVariants as unary
+use Rattle.flow_paths.specs.type_definitions.declared.table.Component.{Component}
+use Rattle.flow_paths.specs.type_definitions.declared.table.Shape.{Shape}
+use Rattle.flow_paths.specs.type_definitions.declared.table.Shape.TheVariants as shape
+use Rattle.flow_paths.specs.type_definitions.Types.{Table, shape_found, shape_of, meant_type, span, is_owning}
+use Rattle.flow_paths.specs.type_definitions.Entries.{integer}
+use Rattle.flow_paths.specs.typed_tree.Trees.{TypedTree, TypedCode, Number, Literal, Text, Name, Component as IntoComponent, Designated, Element, Call, EndOfFile, Parens, Image, Unary, Binary, Short, IsNull, Aggregate, Alike, New, NoMore, More}
+use Rattle.flow_paths.specs.typed_tree.Trees as typed
 use Rattle.flow_paths.specs.Instructions.{Instruction, Skip, Declare, Assign, Output, Input, Release, Test, Choose, Start, Next, Evaluate, LeaveLoop, Hold, EndScope, Finish, Fall}
 use Rattle.flow_paths.specs.Instructions as instruction
 use Rattle.flow_paths.specs.Objects.{Typing, object_at, sub_at}

@@ -1,16 +1,16 @@
 -- The words of a run: what stands in one, how the words of a type lie, and which values a type has
 -- (docs/RUN.md, "Words").
 use Rattle.std.specs.Prelude.{ℕ, zero, suc, ◌+◌, Bool, true, ◌&&◌, List, [], ◌∷◌, ◌++◌, map, flat_map, take, get_or, sum, nat_eq, nat_le, ℤ, pos, int_le, if◌then◌else◌}
-use Rattle.place_names.specs.declared.selector.Sel.{Sel}
-use Rattle.place_names.specs.declared.selector.Sel.TheVariants as sel
-use Rattle.type_definitions.specs.declared.table.Component.{Component}
-use Rattle.type_definitions.specs.declared.table.Shape.{Shape}
-use Rattle.type_definitions.specs.declared.table.Shape.TheVariants as shape
-use Rattle.type_definitions.specs.declared.judgement.View.{View}
-use Rattle.type_definitions.specs.declared.judgement.View.TheVariants as view
-use Rattle.type_definitions.specs.Types.{Table, shape_found, shape_of, full, fields, span, words, parts}
+use Rattle.flow_paths.specs.place_names.declared.selector.Sel.{Sel}
+use Rattle.flow_paths.specs.place_names.declared.selector.Sel.TheVariants as sel
+use Rattle.flow_paths.specs.type_definitions.declared.table.Component.{Component}
+use Rattle.flow_paths.specs.type_definitions.declared.table.Shape.{Shape}
+use Rattle.flow_paths.specs.type_definitions.declared.table.Shape.TheVariants as shape
+use Rattle.flow_paths.specs.type_definitions.declared.judgement.View.{View}
+use Rattle.flow_paths.specs.type_definitions.declared.judgement.View.TheVariants as view
+use Rattle.flow_paths.specs.type_definitions.Types.{Table, shape_found, shape_of, full, fields, span, words, parts}
 use Rattle.std.specs.Prelude.{slice_get, length}
-use Rattle.type_definitions.specs.Entries.{integer}
+use Rattle.flow_paths.specs.type_definitions.Entries.{integer}
 
 -- What stands in a word: a value of Integer, one of an enumeration by its position, or an access
 -- value, which is null or the number of a cell.

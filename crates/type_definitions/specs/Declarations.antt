@@ -1,9 +1,9 @@
 -- The sentences on declarations, and on the code of a program as a whole (docs/LANGUAGE.md,
 -- "Types"; Ada 2012, 3 and 6).
 use Rattle.std.specs.Prelude.{ℕ, zero, suc, ◌+◌, Bool, true, false, not, ◌&&◌, ◌||◌, List, [], ◌∷◌, ◌++◌, length, nat_eq, slice_get, Option, Some, None, is_none, is_some, int_lt, int_le, if◌then◌else◌}
-use Rattle.spark_base.specs.declared.position.Pos.{Pos}
-use Rattle.place_names.specs.declared.act.Mode.{Mode}
-use Rattle.place_names.specs.declared.act.Mode.TheVariants as mode
+use Rattle.resolved_tree.specs.spark_base.declared.position.Pos.{Pos}
+use Rattle.resolved_tree.specs.place_names.declared.act.Mode.{Mode}
+use Rattle.resolved_tree.specs.place_names.declared.act.Mode.TheVariants as mode
 use Rattle.resolved_tree.specs.declared.node.Mark.{Mark}
 use Rattle.resolved_tree.specs.Trees.{Tree, Named, Argument, NoMore, More, position, nowhere, Code, Plain, Anonymous, Bounds, Marked, Constrained, RangeOf, Enumeration, Record, Components, Array, Access, TypeDecl, Subtype, ConstrainedSubtype, Objects, Numbers, Instance, Formals, Front, SubDecl, SubBody, Package, PackageBody, Assign, Call, Exit, Return, If, Branch, Case, When, Loop, While, For, Block, code_items}
 use Rattle.type_definitions.specs.declared.table.Component.{Component}

@@ -6,9 +6,9 @@
 -- the use of that type: where it denotes no type, and it is asked which fault is told, nothing that
 -- follows from it is listed.
 use Rattle.std.specs.Prelude.{ℕ, ◌+◌, Bool, true, false, not, ◌&&◌, ◌||◌, List, [], ◌∷◌, ◌++◌, map, length, get_or, nat_eq, nat_le, Option, Some, None, is_some, if◌then◌else◌}
-use Rattle.spark_base.specs.declared.position.Pos.{Pos}
-use Rattle.place_names.specs.declared.act.Mode.{Mode}
-use Rattle.place_names.specs.declared.act.Mode.TheVariants as mode
+use Rattle.resolved_tree.specs.spark_base.declared.position.Pos.{Pos}
+use Rattle.resolved_tree.specs.place_names.declared.act.Mode.{Mode}
+use Rattle.resolved_tree.specs.place_names.declared.act.Mode.TheVariants as mode
 use Rattle.resolved_tree.specs.declared.node.Mark.{Mark}
 use Rattle.resolved_tree.specs.declared.operator.Operator.{Operator}
 use Rattle.resolved_tree.specs.declared.operator.Operator.TheVariants as operator

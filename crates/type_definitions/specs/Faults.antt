@@ -1,6 +1,6 @@
 -- Faults: a position and the number of the sentence that is broken there.
 use Rattle.std.specs.Prelude.{ℕ, Bool, true, false, not, ◌&&◌, ◌||◌, nat_lt, nat_eq, List, [], ◌∷◌, Option, Some, None, if◌then◌else◌}
-use Rattle.spark_base.specs.declared.position.Pos.{Pos}
+use Rattle.resolved_tree.specs.spark_base.declared.position.Pos.{Pos}
 use Rattle.type_definitions.specs.declared.judgement.Fault.{Fault}
 
 -- One position is before another, in the order of files, lines and columns.

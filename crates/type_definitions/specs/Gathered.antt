@@ -3,8 +3,8 @@
 -- 2012, 3 and 6.1). A full type takes the place of the incomplete or private type that it
 -- completes.
 use Rattle.std.specs.Prelude.{ℕ, ◌+◌, ◌-◌, Bool, true, false, not, ◌&&◌, ◌||◌, List, [], ◌∷◌, ◌++◌, length, set, nat_eq, Option, Some, None, is_none, ℤ, pos, negsuc, if◌then◌else◌}
-use Rattle.spark_base.specs.declared.position.Pos.{Pos}
-use Rattle.place_names.specs.declared.act.Mode.{Mode}
+use Rattle.resolved_tree.specs.spark_base.declared.position.Pos.{Pos}
+use Rattle.resolved_tree.specs.place_names.declared.act.Mode.{Mode}
 use Rattle.resolved_tree.specs.Trees.{Tree, Named, Argument, NoMore, More, nowhere, Code, Declared, Plain, Anonymous, Bounds, Marked, Constrained, Enumeration, Record, Components, Array, Access, Incomplete, Private, TypeDecl, Subtype, ConstrainedSubtype, Objects, Numbers, Instance, Formals, Front, SubDecl, SubBody, Package, PackageBody, If, Branch, Case, When, Loop, While, For, Block}
 use Rattle.type_definitions.specs.declared.table.Component.{Component}
 use Rattle.type_definitions.specs.declared.table.Shape.{Shape}

@@ -1,6 +1,6 @@
 -- What a refusal says of the first broken sentence.
 use Rattle.std.specs.Prelude.{◌≡◌, ℕ, nat_eq, if◌then◌else◌, Option, None, Some, Result, Ok, Err}
-use Rattle.spark_base.specs.declared.position.Pos.{Pos}
+use Rattle.resolved_tree.specs.spark_base.declared.position.Pos.{Pos}
 use Rattle.type_definitions.specs.declared.refusal.TypeRefusal.{TypeRefusal}
 use Rattle.type_definitions.specs.declared.refusal.TypeRefusal.TheVariants.{TooLarge, TooManyParts, NoElements, WrongType, NotVariable, WrongProfile, BadChoices, OwningPlace, AnonymousPlace, NotStatic, PackageValue, Memory}
 use Rattle.type_definitions.specs.Whole.{TypeFault, Size, Sentence}

@@ -1,6 +1,6 @@
 -- The sentences on statements (docs/LANGUAGE.md, "Types"; Ada 2012, 5 and 6.5).
 use Rattle.std.specs.Prelude.{ℕ, Bool, true, false, not, ◌&&◌, ◌||◌, List, [], ◌∷◌, ◌++◌, flat_map, map, codes, Option, Some, None, is_none, is_some, ℤ, pos, ◌+ℤ◌, int_le, if◌then◌else◌}
-use Rattle.spark_base.specs.declared.position.Pos.{Pos}
+use Rattle.resolved_tree.specs.spark_base.declared.position.Pos.{Pos}
 use Rattle.resolved_tree.specs.declared.node.Mark.{Mark}
 use Rattle.resolved_tree.specs.Trees.{Tree, Null, Named, Parens, New, Applied, Argument, NoMore, More, position, Code, Bounds, Marked, Constrained, RangeOf, Value, Interval, OthersChoice}
 use Rattle.type_definitions.specs.declared.table.Kind.{Kind}

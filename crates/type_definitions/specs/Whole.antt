@@ -1,7 +1,7 @@
 -- The first fault of a program (docs/LANGUAGE.md, "Types").
 use Rattle.std.specs.Prelude.{ℕ, ◌-◌, Bool, true, false, not, ◌&&◌, ◌||◌, List, [], ◌∷◌, ◌++◌, flat_map, length, replicate, codes, nat_eq, nat_le, Option, Some, None, ℤ, pos, negsuc, int_lt, if◌then◌else◌}
-use Rattle.spark_base.specs.declared.position.Pos.{Pos}
-use Rattle.place_names.specs.declared.selector.Sel.{Sel}
+use Rattle.resolved_tree.specs.spark_base.declared.position.Pos.{Pos}
+use Rattle.resolved_tree.specs.place_names.declared.selector.Sel.{Sel}
 use Rattle.resolved_tree.specs.Trees.{Code, TypeDecl, Subtype, ConstrainedSubtype, Front, SubBody, Package, PackageBody, If, Branch, Case, When, Loop, While, For, Block, More, Program}
 use Rattle.type_definitions.specs.declared.table.Info.{Info}
 use Rattle.type_definitions.specs.declared.table.Shape.TheVariants as shape

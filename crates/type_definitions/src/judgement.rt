@@ -1,6 +1,6 @@
 //! What typing says of names and expressions: small values that code and definitions share.
 
-use spark_base::Pos;
+use resolved_tree::Pos;
 
 /// A broken sentence: where, and its number among K1 to K8 or Y1 to Y3.
 #[derive(Clone, Copy)]

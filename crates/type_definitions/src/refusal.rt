@@ -2,7 +2,7 @@
 ghost use Rattle.std.specs.Prelude.{◌≡◌};
 ghost use Rattle.type_definitions.specs.declared.refusal.TypeRefusal.TheVariants.{Memory};
 
-use spark_base::Pos;
+use resolved_tree::Pos;
 use std::alloc::{AllocError, AllocFailed};
 use thiserror::Error;
 

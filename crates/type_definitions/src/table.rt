@@ -1,9 +1,7 @@
 //! Types and declarations, as typing knows them. A type is named by the number of its declaration,
 //! and an anonymous access type by that of the object, formal or function that it belongs to.
 
-use ada_tree::Word;
-use place_names::Mode;
-use spark_base::{Listed, Pos};
+use resolved_tree::{Listed, Mode, Pos, Word};
 
 /// A component of a record (Ada 2012, 3.8).
 #[derive(Drop)]

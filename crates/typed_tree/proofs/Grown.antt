@@ -3,7 +3,7 @@ use Rattle.std.proofs.Common.{◌≡◌, ℕ, zero, suc, ◌+◌, ◌<◌, ◌�
 use Rattle.std.proofs.lemmas.Grind.{common_steps}
 use Rattle.std.proofs.lemmas.List.{get_or_append_left}
 use Rattle.std.proofs.Math.Seq.{get_or-append_seam}
-use Rattle.resolved_tree.specs.Nodes.{grown, are_below}
+use Rattle.type_definitions.specs.resolved_tree.Nodes.{grown, are_below}
 use Rattle.typed_tree.specs.declared.node.TypedNode.{TypedNode}
 use Rattle.typed_tree.specs.declared.node.TypedNode.TheVariants as node
 use Rattle.typed_tree.specs.declared.code_node.TypedCodeNode.{TypedCodeNode}

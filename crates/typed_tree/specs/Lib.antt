@@ -7,3 +7,8 @@ pub mod Statements
 pub mod Programs
 -- names of places as text
 pub mod Printed
+-- libraries that the crates above name through this one
+pub use Rattle.type_definitions.specs as type_definitions
+pub use Rattle.type_definitions.specs.place_names
+pub use Rattle.type_definitions.specs.spark_base
+pub use Rattle.type_definitions.specs.resolved_tree

@@ -1,7 +1,7 @@
 -- The typed trees and the typed code that nodes in rows stand for.
 use Rattle.std.specs.Prelude.{◌≡◌, ◌<◌, ◌≤◌, ℕ, Bool, true, ◌&&◌, List, [], map, length, nat_lt, get_or}
 use Rattle.std.specs.List.{All as Each}
-use Rattle.resolved_tree.specs.Nodes.{grown, are_below}
+use Rattle.type_definitions.specs.resolved_tree.Nodes.{grown, are_below}
 use Rattle.typed_tree.specs.declared.node.TypedNode.{TypedNode}
 use Rattle.typed_tree.specs.declared.node.TypedNode.TheVariants as node
 use Rattle.typed_tree.specs.declared.code_node.TypedCodeNode.{TypedCodeNode}

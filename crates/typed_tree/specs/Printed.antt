@@ -1,8 +1,8 @@
 -- Names as text (docs/RULES.md, "Names of places").
 use Rattle.std.specs.Prelude.{ℕ, List, [], ◌∷◌, ◌++◌, codes, get_or, slice_get, Option, Some, None}
-use Rattle.place_names.specs.declared.selector.Sel.{Sel}
-use Rattle.place_names.specs.declared.selector.Sel.TheVariants.{Field, Elem, Deref}
-use Rattle.place_names.specs.Names.{Name}
+use Rattle.type_definitions.specs.place_names.declared.selector.Sel.{Sel}
+use Rattle.type_definitions.specs.place_names.declared.selector.Sel.TheVariants.{Field, Elem, Deref}
+use Rattle.type_definitions.specs.place_names.Names.{Name}
 use Rattle.type_definitions.specs.declared.table.Shape.{Shape}
 use Rattle.type_definitions.specs.declared.table.Shape.TheVariants as shape
 use Rattle.type_definitions.specs.declared.table.Info.{Info}

@@ -1,10 +1,10 @@
 -- Typed programs (docs/LANGUAGE.md, "Typed programs"): objects, scopes and subprograms with their
 -- numbers, all in the order of the text.
 use Rattle.std.specs.Prelude.{ℕ, ◌+◌, List, [], ◌∷◌, ◌++◌, map, flat_map, codes, nat_eq, Option, Some, None, if◌then◌else◌}
-use Rattle.spark_base.specs.declared.position.Pos.{Pos}
-use Rattle.place_names.specs.declared.act.Mode.{Mode}
-use Rattle.place_names.specs.declared.act.Mode.TheVariants as mode
-use Rattle.resolved_tree.specs.Trees.{More, Code, Objects, Numbers, Formals, Front, SubBody, Package, PackageBody, If, Branch, Case, When, Loop, While, For, Block, code_items}
+use Rattle.type_definitions.specs.spark_base.declared.position.Pos.{Pos}
+use Rattle.type_definitions.specs.place_names.declared.act.Mode.{Mode}
+use Rattle.type_definitions.specs.place_names.declared.act.Mode.TheVariants as mode
+use Rattle.type_definitions.specs.resolved_tree.Trees.{More, Code, Objects, Numbers, Formals, Front, SubBody, Package, PackageBody, If, Branch, Case, When, Loop, While, For, Block, code_items}
 use Rattle.type_definitions.specs.declared.table.Kind.{Kind}
 use Rattle.type_definitions.specs.declared.table.Kind.TheVariants as kind
 use Rattle.type_definitions.specs.declared.table.Entry.{Entry}

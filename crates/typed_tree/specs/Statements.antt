@@ -2,8 +2,8 @@
 -- statements and declarations that break no sentence. Declarations of objects are statements;
 -- others leave nothing.
 use Rattle.std.specs.Prelude.{ℕ, ◌+◌, true, false, List, [], ◌∷◌, ◌++◌, map, Option, Some, None}
-use Rattle.spark_base.specs.declared.position.Pos.{Pos}
-use Rattle.resolved_tree.specs.Trees.{Tree, Named, More, position, Code, Bounds, Marked, Constrained, RangeOf, Objects, Numbers, SubBody, Package, PackageBody, Skip, Assign, Call, Exit, Return, If, Branch, Case, Value, Interval, When, Loop, While, For, Block, code_items}
+use Rattle.type_definitions.specs.spark_base.declared.position.Pos.{Pos}
+use Rattle.type_definitions.specs.resolved_tree.Trees.{Tree, Named, More, position, Code, Bounds, Marked, Constrained, RangeOf, Objects, Numbers, SubBody, Package, PackageBody, Skip, Assign, Call, Exit, Return, If, Branch, Case, Value, Interval, When, Loop, While, For, Block, code_items}
 use Rattle.type_definitions.specs.declared.table.Predefined.{Predefined}
 use Rattle.type_definitions.specs.declared.table.Predefined.TheVariants as predefined
 use Rattle.type_definitions.specs.declared.table.Entry.{Entry}

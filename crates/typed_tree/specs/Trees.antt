@@ -1,9 +1,9 @@
 -- Typed programs (docs/LANGUAGE.md, "Typed programs"). Types have the numbers of their
 -- declarations; objects and subprograms have numbers of their own, in the order of the text.
 use Rattle.std.specs.Prelude.{ℕ, Bool, List, [], ◌∷◌, ℤ}
-use Rattle.spark_base.specs.declared.position.Pos.{Pos}
-use Rattle.resolved_tree.specs.declared.operator.Operator.{Operator}
-use Rattle.resolved_tree.specs.declared.operator.UnaryOperator.{UnaryOperator}
+use Rattle.type_definitions.specs.spark_base.declared.position.Pos.{Pos}
+use Rattle.type_definitions.specs.resolved_tree.declared.operator.Operator.{Operator}
+use Rattle.type_definitions.specs.resolved_tree.declared.operator.UnaryOperator.{UnaryOperator}
 use Rattle.typed_tree.specs.declared.node.ShortCircuit.{ShortCircuit}
 
 -- Expressions, the steps of names, and lists of these.

@@ -1,7 +1,7 @@
 //! Nodes of typed statements. A part of a node is named by its number: among the nodes of
 //! expressions where it is an expression or a list of expressions, else among these.
 
-use spark_base::Pos;
+use type_definitions::Pos;
 
 /// A node of a typed statement, a part of it, or a list of these.
 #[derive(Clone, Copy)]

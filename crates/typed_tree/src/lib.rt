@@ -22,3 +22,4 @@ pub use node::{ShortCircuit, TypedNode};
 pub use object::{Object, ObjectKind};
 pub use print::print_name;
 pub use rows::TypedRows;
+pub use type_definitions::{Fact, Listed, PlaceName, Placed, Pos, Rule, State};

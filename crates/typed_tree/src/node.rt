@@ -1,8 +1,6 @@
 //! Nodes of typed expressions. A part of a node is named by its number.
 
-use ada_tree::Word;
-use resolved_tree::{Operator, UnaryOperator};
-use spark_base::Pos;
+use type_definitions::{Operator, Pos, UnaryOperator, Word};
 
 /// A short circuit (Ada 2012, 4.5.1).
 #[derive(Clone, Copy, PartialEq, Eq)]

@@ -1,7 +1,6 @@
 //! Objects, as a typed program numbers them.
 
-use ada_tree::Word;
-use place_names::Mode;
+use type_definitions::{Mode, Word};
 
 /// What an object is.
 #[derive(Clone, Copy)]

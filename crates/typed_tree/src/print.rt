@@ -4,10 +4,8 @@ ghost use Rattle.type_definitions.specs.Types.{meant_type};
 ghost use Rattle.typed_tree.specs.Printed.{package_text, part_text, part_type, printed, selected_text, selected_type, selectors_text};
 
 use crate::object::Object;
-use ada_tree::Word;
-use place_names::{PlaceName, Sel};
 use std::alloc::{AllocError, Global};
-use type_definitions::{Info, Shape};
+use type_definitions::{Info, PlaceName, Sel, Shape, Word};
 
 /// The declaration of Integer.
 const INTEGER: u32 = 0;
