@@ -1,0 +1,8 @@
+-- what is told of a run may be taken apart
+pub mod Codes
+-- what may come of runs
+pub mod Same
+-- where runs start
+pub mod Started
+-- what is told of them
+pub mod Told

@@ -1,0 +1,36 @@
+-- Where the runs of a program start.
+use Rattle.std.proofs.Common.{◌≡◌, ℕ, List, Bool, true, false, Option, Some, sym, ap, ◌∙◌}
+use Rattle.flow_paths.specs.Laid.{flow_typing}
+use Rattle.machine.specs.Run.{main_of}
+use Rattle.laid_program.specs.declared.laid.Laid.{Laid}
+use Rattle.laid_program.specs.Programs as laid_programs
+use Rattle.run_codes.specs.Points.{is_declaring}
+use Rattle.code_rows.specs.declared.codes.Codes.{Codes}
+use Rattle.code_rows.specs.Points.{program_of}
+use Rattle.slot_heap.specs.Heaps.{Heap}
+use Rattle.handled_steps.specs.Runs.{state_at_start}
+use Rattle.slot_executor.specs.Executes.{IsStarted, IsUnfit, fits, setting_of}
+use Rattle.slot_runs.specs.Turns.{Setting}
+use Rattle.slot_running.specs.Runs.{Running, IsAtStart, RunStands, running_setting, running_untold}
+use Rattle.slot_execute.specs.Executes.{IsReady}
+
+module _ (laid : Laid) (codes : Codes) (ready : IsReady laid codes) where
+  -- The first frames fit, and a run is made.
+  pub started : {R : Type 0} (Means : R → Heap → Type 0) (input : List ℕ) (declares : Bool) (r : Running R) → fits (program_of codes) (main_of laid.main) ≡ true
+      → declares ≡ is_declaring (laid_programs.program_of laid) → IsAtStart Means laid.table (program_of codes) input declares r
+      → IsStarted laid (running_setting r) (running_untold r) (RunStands Means r)
+  started Means input declares r fit first is = record {
+    points = program_of codes;
+    lowered = ready.lowered;
+    main = ready.main;
+    has = ready.has;
+    fit = ap (λ (o : Option ℕ). fits (program_of codes) (main_of o)) (sym ready.has) ∙ fit;
+    setting = is.setting ∙ ap (setting_of (laid_programs.program_of laid) (program_of codes)) (sym (ap (λ (c : Setting). c.input) is.setting));
+    inside = is.inside;
+    stands = is.stands;
+    start = is.start ∙ ap (state_at_start (flow_typing (laid_programs.program_of laid)).table (program_of codes)) first;
+  }
+
+  -- They don't.
+  pub unfit : (main : ℕ) → laid.main ≡ Some main → fits (program_of codes) main ≡ false → IsUnfit laid main
+  unfit main has none = record { points = program_of codes; lowered = ready.lowered; has = has; unfit = none }

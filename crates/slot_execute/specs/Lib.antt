@@ -1,0 +1,3 @@
+-- what a run answers
+pub mod Results
+pub mod Executes

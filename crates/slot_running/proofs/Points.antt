@@ -1,0 +1,59 @@
+-- The step of a point as a turn of a run.
+use Rattle.std.proofs.Common.{◌≡◌, ◌-◌, ◌+◌, ℕ, true, false, Ok, Err, Some, None, refl}
+use Rattle.type_definitions.specs.Types.{Table}
+use Rattle.slot_heap.specs.Heaps.{Heap}
+use Rattle.code_rows.specs.declared.point.Point.{Point as PointRow}
+use Rattle.code_rows.specs.declared.codes.Codes.{Codes}
+use Rattle.code_rows.specs.Points.{point_of}
+use Rattle.run_codes.specs.Codes.{Point}
+use Rattle.run_results.specs.declared.ran.Ending.TheVariants as ending
+use Rattle.slot_memory.specs.Memory.{IsKnown}
+use Rattle.slot_runs.specs.Turns.{Setting}
+use Rattle.slot_turns.specs.declared.halt.Halt.{Halt}
+use Rattle.slot_turns.specs.declared.overs.Over.{Over}
+use Rattle.slot_turns.specs.Steps.{DoneAt}
+use Rattle.slot_turns.specs.Overs.{IsCounted}
+use Rattle.slot_turns.proofs.Ended.{ended_over, halts_over, counted_freed}
+use Rattle.slot_parts.specs.declared.parts.Parts.{Parts}
+use Rattle.slot_parts.specs.Stages.{between_of, setting_of, IsAt}
+use Rattle.slot_parts.specs.Steps.{StepsOf}
+use Rattle.slot_running.specs.Points.{IsPointTurn}
+
+module _ {R : Type 0} (Means : R → Heap → Type 0) (codes : Codes) (table : Table) (point : PointRow) (k : ℕ) (old new : Parts R) (at : IsAt Means codes table point k old) where
+  abbrev c : Setting
+  c = setting_of codes table old.memory.input
+
+  abbrev p : Point
+  p = point_of codes point
+
+  pub known_at : IsKnown Means old.memory
+  known_at = (at.can.ghosts, at.can.stands.memory)
+
+  -- The run goes on.
+  pub on_turn : StepsOf Means codes table point (Ok true) old new → IsPointTurn Means codes table point None old new
+  on_turn is =
+      let x = is.steps.steps at.can.ghosts at.can.stands at.can.fine in
+      record { turns = is.steps.steps; kept = (is.left, (x.ghosts, x.stands.memory)) }
+
+  -- It is over after the end of the main procedure.
+  pub end_known : StepsOf Means codes table point (Ok false) old new → IsKnown Means new.memory
+  end_known is =
+      let x = is.steps.steps at.can.ghosts at.can.stands at.can.fine in (x.ghosts, x.stands.memory)
+
+  pub end_turn : (over : Over) → StepsOf Means codes table point (Ok false) old new → over.ending ≡ ending.Normal → over.made ≡ new.memory.heap.made
+      → over.freed ≡ new.memory.heap.freed → IsPointTurn Means codes table point (Some over) old new
+  end_turn over is normal made freed = record {
+    turns = λ g stands fine. ended_over Means (DoneAt c p (between_of old) g) (between_of new) over (is.steps.steps g stands fine) normal made freed;
+    kept = tt;
+  }
+
+  -- It is over where the point raises.
+  pub halt_turn : (h : Halt) (made freed : ℕ) (over : Over) → StepsOf Means codes table point (Err h) old new → made ≡ old.memory.heap.made
+      → freed ≡ old.memory.heap.freed + (old.memory.heap.made - made) → IsCounted h point.pos made freed over
+      → IsPointTurn Means codes table point (Some over) old new
+  halt_turn h made freed over is made_is freed_is counted = record {
+    turns = λ g stands fine.
+        halts_over c p point.pos (between_of old) (between_of new) g h made freed over refl (is.steps.steps g stands fine) made_is
+        (counted_freed old.memory.heap.freed old.memory.heap.made made freed made_is freed_is) counted;
+    kept = tt;
+  }
