@@ -7,12 +7,12 @@ use Rattle.spark_base.specs.declared.limits.TheConstants.{INPUT_BYTES}
 use Rattle.spark_base.specs.Outside.{AppendsPrefix}
 use Rattle.flow_paths.specs.Laid.{FlowProgram}
 use Rattle.machine.specs.Run.{Run, run}
-use Rattle.executor.specs.declared.ran.Ran.{Ran}
-use Rattle.executor.specs.Results.{ending_of}
 use Rattle.run_results.specs.Lines.{leak_lines}
 use Rattle.run_results.proofs.Fronts.{none_front, all_front, front_more, front_after}
-use Rattle.whole_runs.specs.Tellings.{Sinks, HaveFronts}
-use Rattle.executor.specs.Executes.{IsExecuted}
+use Rattle.slot_runs.specs.Tellings.{Sinks, HaveFronts}
+use Rattle.slot_execute.specs.declared.ran.Ran.{Ran}
+use Rattle.slot_execute.specs.Results.{ending_of}
+use Rattle.slot_execute.specs.Executes.{IsExecuted}
 use Rattle.run_command.specs.Answers.{Tells, TellsFront}
 use Rattle.run_command.specs.Endings.{ending_line, ending_status}
 use Rattle.run_command.specs.Inputs.{IsWithin}

@@ -6,4 +6,4 @@ pub mod Runs
 pub mod Inputs
 pub mod Faults
 -- libraries that the crates above name through this one
-pub use Rattle.executor.specs as executor
+pub use Rattle.slot_execute.specs as slot_execute

@@ -4,31 +4,34 @@ ghost use Rattle.std.specs.Io.KnownBytes.{Appends, IsAtEnd, Keeps};
 ghost use Rattle.spark_base.specs.Outside.{Rose, AppendsPrefix};
 ghost use Rattle.laid_program.specs.Programs.{program_of};
 ghost use Rattle.machine.specs.Run.{run};
+ghost use Rattle.slot_heap.specs.Heaps.{no_heap};
 ghost use Rattle.run_command.specs.Answers.{Grows, Tells, TellsFront};
 ghost use Rattle.run_command.specs.Runs.{IsEnded, run_answer, told, too_large_line};
 
 use crate::ending::{ending_line, ending_status};
 use crate::fault::RunFault;
 use crate::input::read_input;
-use executor::execute;
 use path_check::AcceptedProgram;
-use reuse_heap::TrapStore;
 use run_results::write_all;
+use slot_execute::execute;
+use slot_heap::Store;
 use spark_base::{INPUT_BYTES, STEPS, Sink, Source};
 use std::alloc::Global;
 
 /// Runs a program on these bytes, and writes the line of its ending.
-fn run_on<K: Sink>(
+fn run_on<R: Store, K: Sink>(
     alloc: Global,
     program: &AcceptedProgram,
     input: &[u8],
     steps: u64,
+    store: &mut R,
     out: &mut K,
     err: &mut K,
 ) -> Result<u8, RunFault>
     requires main { IsSome program.now.laid.main }
     requires few { length input.now ≤ INPUT_BYTES }
     requires steps { steps ≤ STEPS }
+    requires store { R.Means store.old no_heap }
     ensures told { IfOk result (λ status.
         Tells (told (map string_bytes program.now.laid.names.items) steps (run (program_of program.now.laid) input.now steps))
         (K.written out.old) (K.written out.new) (K.written err.old) (K.written err.new) status) }
@@ -40,8 +43,7 @@ fn run_on<K: Sink>(
     ensures no_read { result ≢ Err RunFault.Read }
     ensures no_fault { result ≢ Err RunFault.Write → (K.faults out.new ≡ K.faults out.old) × (K.faults err.new ≡ K.faults err.old) }
 {
-    let mut store = TrapStore::new(alloc);
-    let ran = execute(alloc, program, &mut store, input, steps, out, err)?;
+    let ran = execute(alloc, program, store, input, steps, out, err)?;
     let line = ending_line(alloc, program.laid().names.as_slice(), steps, ran.ending)?;
     write_all(&line, err)?;
     Ok(ending_status(&ran))
@@ -61,17 +63,20 @@ fn refuse_input<K: Sink>(err: &mut K) -> Result<u8, RunFault>
 
 /// Runs an accepted program on all of the input, within a budget of steps, and gives the status
 /// (`docs/TOOL.md`, "Order of work"): 0 or 5 at the end of the main procedure, 3 at an exception, 4
-/// where the steps are spent, and 10 where the input is too large and nothing is run.
-pub fn run_program<S: Source, K: Sink>(
+/// where the steps are spent, and 10 where the input is too large and nothing is run. The cells of
+/// the run stand in the store, which has no live handle and no slots before it.
+pub fn run_program<S: Source, R: Store, K: Sink>(
     alloc: Global,
     program: &AcceptedProgram,
     steps: u64,
     input: &mut S,
+    store: &mut R,
     out: &mut K,
     err: &mut K,
 ) -> Result<u8, RunFault>
     requires main { IsSome program.now.laid.main }
     requires steps { steps ≤ STEPS }
+    requires store { R.Means store.old no_heap }
 
     // What is defined, where the input tells its bytes.
     ensures answer { IfOk result (λ status. (bytes : List ℕ) → S.left input.old ≡ Some bytes
@@ -83,6 +88,10 @@ pub fn run_program<S: Source, K: Sink>(
         → TellsFront (run_answer (map string_bytes program.now.laid.names.items) (program_of program.now.laid) bytes steps)
         (K.written out.old) (K.written out.new) (K.written err.old) (K.written err.new)) }
     ensures grows { Grows (K.written out.old) (K.written out.new) × Grows (K.written err.old) (K.written err.new) }
+
+    // Where nothing is run, the store stays as it was.
+    ensures refused_store { IfOk result (λ status. status ≡ 10 → store.new ≡ store.old) }
+    ensures unrun_store { result ≡ Err RunFault.Read → store.new ≡ store.old }
 
     // What ran has read the input to its end; and what is refused has written nothing to `out`.
     ensures ended { IfOk result (λ status. (status ≡ 10) ⊎ (IsEnded status × IfSome (S.left input.old) (λ bytes. IsAtEnd (S.left input.new)))) }
@@ -99,7 +108,7 @@ pub fn run_program<S: Source, K: Sink>(
     ensures no_write_fault { result ≢ Err RunFault.Write → (K.faults out.new ≡ K.faults out.old) × (K.faults err.new ≡ K.faults err.old) }
 {
     match read_input(alloc, input)? {
-        Some(text) => Ok(run_on(alloc, program, &text, steps, out, err)?),
+        Some(text) => Ok(run_on(alloc, program, &text, steps, store, out, err)?),
         None => Ok(refuse_input(err)?),
     }
 }

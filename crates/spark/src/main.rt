@@ -1,7 +1,7 @@
 //! The program `spark`: the tool over real files, standard input and the two outputs.
 //!
-//! `main` takes the words after the program's name, makes the real objects of `real_outside`, calls
-//! `run_tool` and ends with its answer. Words that aren't UTF-8 are a usage fault, as no words are.
+//! `main` takes the words after the program's name, makes the real objects of `real_outside` and a
+//! store without cells, calls `run_tool` and ends with its answer. Words that aren't UTF-8 are a usage fault, as no words are.
 #![tactic(auto)]
 
 ghost use Rattle.spark_tool.specs.Promises.{IsStatus};
@@ -11,6 +11,7 @@ use spark_tool::run_tool;
 use std::io::{ErrorKind, Stderr, Stdout};
 use std::process::ExitCode;
 use std::{env, io};
+use word_heap::WordStore;
 
 /// The status where memory runs out (`docs/TOOL.md`, "Statuses").
 const OUT_OF_MEMORY: u8 = 9;
@@ -27,7 +28,7 @@ fn words_after_name(rt: &HostRuntime) -> io::Result<Vec<String>> {
 /// An output of the process as a sink.
 type Outgoing = Writing<Output<Stdout, Stderr>>;
 
-/// Runs the tool on the real objects.
+/// Runs the tool on the real objects, with the cells of a run in one list of numbers.
 fn run_really(rt: &HostRuntime, words: &[String]) -> u8
     ensures { IsStatus result }
 {
@@ -35,11 +36,13 @@ fn run_really(rt: &HostRuntime, words: &[String]) -> u8
     let mut input = Reading::new(rt.stdin());
     let mut out: Outgoing = Writing::new(Output::Out(rt.stdout()));
     let mut err: Outgoing = Writing::new(Output::Err(rt.stderr()));
+    let mut store = WordStore::new(rt.alloc());
     run_tool(
         rt.alloc(),
         words,
         &mut files,
         &mut input,
+        &mut store,
         &mut out,
         &mut err,
     )

@@ -6,6 +6,7 @@ use crate::head::Head;
 use spark_base::{MemFiles, MemSink, MemSource};
 use spark_tool::run_tool;
 use std::alloc::{AllocError, Global};
+use word_heap::WordStore;
 
 /// How the tool responded: its status, and what it wrote to both outputs.
 #[derive(Drop)]
@@ -39,22 +40,24 @@ fn copy_words(alloc: Global, words: &[String]) -> Result<Vec<String>, AllocError
     Ok(copy)
 }
 
-/// Runs the command of a head, over a store with these files.
+/// Runs the command of a head, over these files.
 pub(crate) fn response_to(
     alloc: Global,
     head: &Head,
     files: Vec<(String, Vec<u8>)>,
 ) -> Result<Response, AllocError> {
     let words = copy_words(alloc, &head.words)?;
-    let mut store = MemFiles::new(words, files, Vec::new(alloc));
+    let mut stored = MemFiles::new(words, files, Vec::new(alloc));
     let mut input = MemSource::new(Vec::from_slice(alloc, &head.input)?, Vec::new(alloc));
     let mut out = MemSink::new(alloc, Vec::new(alloc));
     let mut err = MemSink::new(alloc, Vec::new(alloc));
+    let mut cells = WordStore::new(alloc);
     let status = run_tool(
         alloc,
         &head.words,
-        &mut store,
+        &mut stored,
         &mut input,
+        &mut cells,
         &mut out,
         &mut err,
     );

@@ -1,5 +1,5 @@
 -- What is written and answered, by what a command does.
-use Rattle.std.proofs.Common.{◌≡◌, ◌≢◌, ◌⊎◌, ◌<◌, inl, inr, ℕ, Bool, true, refl, sym, subst, List, [], ◌∷◌, Option, None, Some, Result, Ok, Err, IfSome, IfOk, OnErr, arith}
+use Rattle.std.proofs.Common.{◌≡◌, ◌≢◌, ◌⊎◌, ◌<◌, inl, inr, ℕ, Bool, true, false, refl, sym, subst, List, [], ◌∷◌, Option, None, Some, Result, Ok, Err, IfSome, IfOk, OnErr, arith}
 use Rattle.spark_base.specs.Lists.{Has}
 use Rattle.command_words.specs.Words.{Command, Check, Run, Leaks, Make, Selftest}
 use Rattle.answered_runs.specs.run_command.Answers.{Answer, Tells}
@@ -7,7 +7,7 @@ use Rattle.spark_tool.specs.declared.finding.Outcome.{Outcome}
 use Rattle.spark_tool.specs.declared.stop.Stop.{Stop}
 use Rattle.spark_tool.specs.declared.stop.Stop.TheVariants.{Read, Write, Memory}
 use Rattle.spark_tool.specs.Answers.{answer_for}
-use Rattle.answered_runs.specs.tool_answers.Commands.{reads_files, runs}
+use Rattle.answered_runs.specs.tool_answers.Commands.{reads_files, runs, uses_store}
 use Rattle.answered_runs.specs.tool_answers.Product.{Answers, Product}
 use Rattle.spark_tool.specs.Promises.{IsUnrun, HasInput, Delivers}
 use Rattle.spark_tool.specs.Refusals.{Gives}
@@ -84,6 +84,21 @@ run_reads (Some (Run names budget stats)) is = refl
 run_reads (Some (Leaks names)) is = absurd (cc)
 run_reads (Some (Make n)) is = absurd (cc)
 run_reads (Some (Selftest n)) is = absurd (cc)
+
+-- a store is used for it
+pub run_uses : (command : Option Command) → runs command ≡ true → uses_store command ≡ true
+run_uses None is = absurd (cc)
+run_uses (Some (Check names)) is = absurd (cc)
+run_uses (Some (Run names budget stats)) is = refl
+run_uses (Some (Leaks names)) is = absurd (cc)
+run_uses (Some (Make n)) is = absurd (cc)
+run_uses (Some (Selftest n)) is = absurd (cc)
+
+pub not_run : (command : Option Command) → runs command ≡ true → runs command ≡ false → ⊥
+not_run command is other = cc
+
+pub not_used : (command : Option Command) → uses_store command ≡ true → uses_store command ≡ false → ⊥
+not_used command is other = cc
 
 -- ---- statuses of stops
 

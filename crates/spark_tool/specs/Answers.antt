@@ -11,7 +11,8 @@ use Rattle.spark_tool.specs.declared.finding.Finding as held_finding
 use Rattle.spark_tool.specs.declared.finding.Finding.TheVariants as found
 use Rattle.spark_tool.specs.declared.finding.Outcome.{Outcome}
 use Rattle.spark_tool.specs.declared.finding.Outcome.TheVariants as outcome
-use Rattle.answered_runs.specs.tool_answers.Product.{Finding, Ends, Rejects, Passes}
+use Rattle.answered_runs.specs.self_test.Summaries.{test_line}
+use Rattle.answered_runs.specs.tool_answers.Product.{Finding, Ends, Rejects, Passes, tested}
 
 abbrev pub answer_to : Stream → List ℕ → ℕ → Answer
 answer_to stream.Out text status = record { out = text; err = []; status = status }
@@ -33,3 +34,4 @@ names_of program = map string_bytes program.laid.names.items
 abbrev pub answer_for : List ℕ → Outcome → Answer
 answer_for input (outcome.Answers answer) = answer_of answer
 answer_for input (outcome.Runs program budget) = run_answer (names_of program) (laid.program_of program.laid) input budget
+answer_for input (outcome.Tests program n) = tested (test_line n (laid.program_of program.laid))

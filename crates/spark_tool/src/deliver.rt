@@ -1,7 +1,8 @@
 //! Writes an answer.
-ghost use Rattle.std.specs.Prelude.{◌≡◌, ◌≢◌, ◌⊎◌, ◌≤◌, Err, OnOk, OnErr};
+ghost use Rattle.std.specs.Prelude.{◌≡◌, ◌≢◌, ◌⊎◌, ◌≤◌, Err, IfOk, OnOk, OnErr};
 ghost use Rattle.std.specs.Io.KnownBytes.{Appends, Keeps};
 ghost use Rattle.spark_base.specs.Outside.{Rose, AppendsPrefix};
+ghost use Rattle.answered_runs.specs.run_command.Answers.{Tells, TellsFront};
 ghost use Rattle.spark_tool.specs.Answers.{answer_of};
 
 use crate::answer::{Answer, Stream};
@@ -42,4 +43,18 @@ pub(crate) fn deliver<K: Sink>(answer: &Answer, out: &mut K, err: &mut K) -> Res
         Stream::Out => write_text(out, &answer.text),
         Stream::Err => write_text(err, &answer.text),
     }
+}
+
+/// Writes an answer, and gives its status.
+pub(crate) fn write_answer<K: Sink>(answer: &Answer, out: &mut K, err: &mut K) -> Result<u8, Stop>
+    ensures told { IfOk result (Tells (answer_of answer.now) (K.written out.old) (K.written out.new) (K.written err.old) (K.written err.new)) }
+    ensures status { IfOk result (λ status. status ≡ answer.now.status) }
+    ensures front { OnErr result (TellsFront (answer_of answer.now) (K.written out.old) (K.written out.new) (K.written err.old) (K.written err.new)) }
+    ensures memory { result ≡ Err Stop.Memory → Keeps (K.written out.old) (K.written out.new) × Keeps (K.written err.old) (K.written err.new) }
+    ensures fault { result ≡ Err Stop.Write → Rose (K.faults out.old) (K.faults out.new) ⊎ Rose (K.faults err.old) (K.faults err.new) }
+    ensures no_fault { result ≢ Err Stop.Write → (K.faults out.new ≡ K.faults out.old) × (K.faults err.new ≡ K.faults err.old) }
+    ensures no_read { result ≢ Err Stop.Read }
+{
+    deliver(answer, out, err)?;
+    Ok(answer.status)
 }

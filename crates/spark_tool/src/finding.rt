@@ -21,4 +21,6 @@ pub(crate) enum Outcome {
     Answers(Answer),
     /// It runs this program, in at most so many steps.
     Runs(AcceptedProgram, u64),
+    /// It runs this program, which is made for this number, to test what was built.
+    Tests(AcceptedProgram, u32),
 }

@@ -1,15 +1,14 @@
 //! What `selftest` does.
-ghost use Rattle.std.specs.Prelude.{◌≡◌, ◌≢◌, ℕ, List, Option, Err, false, IfOk, length, map, string_bytes};
+ghost use Rattle.std.specs.Prelude.{◌≡◌, ◌≢◌, ℕ, List, Option, Err, false, true, IfOk, length, map, string_bytes};
 ghost use Rattle.command_words.specs.Words as grammar;
 ghost use Rattle.laid_program.specs.Programs.{program_of};
 ghost use Rattle.spark_tool.specs.Answers.{answer_for, finding_of};
-ghost use Rattle.answered_runs.specs.tool_answers.Commands.{runs};
+ghost use Rattle.answered_runs.specs.tool_answers.Commands.{runs, uses_store};
 ghost use Rattle.answered_runs.specs.tool_answers.Product.{Checks, Passes, made_names, made_source, test_answer};
 ghost use Rattle.answered_runs.specs.tool_answers.Product as product;
 ghost use Rattle.spark_tool.specs.Reading.{IsWhole, sources_of};
 ghost use Rattle.spark_tool.specs.Refusals.{IsChecked, IsFor, IsReady};
 
-use crate::answer::tested_answer;
 use crate::check::check_sources;
 use crate::command::{refuse, reject};
 use crate::finding::{Finding, Outcome};
@@ -20,7 +19,6 @@ use path_check::AcceptedProgram;
 use prog_maker::make_program;
 use spark_base::SOURCE_BYTES;
 use std::alloc::{AllocError, Global};
-use std::mem::ManuallyDrop;
 
 /// The name of the program that is made.
 fn made_name(alloc: Global) -> Result<Vec<String>, AllocError>
@@ -46,58 +44,56 @@ fn made_text(alloc: Global, n: u32) -> Result<Gathered, AllocError>
     Ok(Gathered::All(texts))
 }
 
-/// What is done with it where nothing is reported of it. It is leaked, as by `check`.
+/// What is done with it where nothing is reported of it.
 fn tested(
     alloc: Global,
     names: &[String],
     n: u32,
     program: AcceptedProgram,
-) -> Result<Outcome, Stop>
+) -> Result<Outcome, AllocError>
     requires { map string_bytes names.now ≡ made_names }
     ensures answer { IfOk result (λ made. (input : List ℕ) → answer_for input made ≡ test_answer n (Passes (program_of program.laid))) }
     ensures ready { IfOk result IsReady }
-    ensures only { IfOk result (λ made. (command : Option grammar.Command) → runs command ≡ false → IsFor command made) }
-    ensures no_read { result ≢ Err Stop.Read }
-    ensures nothing_written { result ≢ Err Stop.Write }
+    ensures only { IfOk result (λ made. (command : Option grammar.Command) → runs command ≡ false → uses_store command ≡ true → IsFor command made) }
 {
-    let program = ManuallyDrop::new(program);
-    if program.laid().main.is_none() {
-        return Ok(refuse(alloc, names)?);
-    }
-    match self_test(alloc, &program, n) {
-        Ok(line) => Ok(Outcome::Answers(tested_answer(line))),
-        Err(_) => Err(Stop::Memory),
+    if program.laid().main.is_some() {
+        Ok(Outcome::Tests(program, n))
+    } else {
+        refuse(alloc, names)
     }
 }
 
 /// What is done with it, by what is found of it.
-fn test_outcome(alloc: Global, names: &[String], n: u32, finding: Finding) -> Result<Outcome, Stop>
+fn test_outcome(
+    alloc: Global,
+    names: &[String],
+    n: u32,
+    finding: Finding,
+) -> Result<Outcome, AllocError>
     requires checked { IsChecked (finding_of finding) }
     requires named { map string_bytes names.now ≡ made_names }
     ensures answer { IfOk result (λ made. (input : List ℕ) → answer_for input made ≡ test_answer n (finding_of finding)) }
     ensures ready { IfOk result IsReady }
-    ensures only { IfOk result (λ made. (command : Option grammar.Command) → runs command ≡ false → IsFor command made) }
-    ensures no_read { result ≢ Err Stop.Read }
-    ensures nothing_written { result ≢ Err Stop.Write }
+    ensures only { IfOk result (λ made. (command : Option grammar.Command) → runs command ≡ false → uses_store command ≡ true → IsFor command made) }
 {
     match finding {
         Finding::Ends(answer) => Ok(Outcome::Answers(answer)),
-        Finding::Rejects(has_main, lines) => Ok(reject(alloc, names, has_main, lines)?),
+        Finding::Rejects(has_main, lines) => reject(alloc, names, has_main, lines),
         Finding::Passes(program) => tested(alloc, names, n, program),
     }
 }
 
-/// What `selftest` does: it checks the program that is made, and runs it.
+/// What `selftest` does: it checks the program that is made, and then runs it.
 pub(crate) fn selftest(alloc: Global, n: u32) -> Result<Outcome, Stop>
     ensures gives { IfOk result (λ made. (finding : product.Finding) × (Checks made_names (made_source n) finding
         × ((input : List ℕ) → answer_for input made ≡ test_answer n finding))) }
     ensures ready { IfOk result IsReady }
-    ensures only { IfOk result (λ made. (command : Option grammar.Command) → runs command ≡ false → IsFor command made) }
+    ensures only { IfOk result (λ made. (command : Option grammar.Command) → runs command ≡ false → uses_store command ≡ true → IsFor command made) }
     ensures no_read { result ≢ Err Stop.Read }
     ensures nothing_written { result ≢ Err Stop.Write }
 {
     let names = made_name(alloc)?;
     let gathered = made_text(alloc, n)?;
     let finding = check_sources(alloc, names.as_slice(), gathered)?;
-    test_outcome(alloc, names.as_slice(), n, finding)
+    Ok(test_outcome(alloc, names.as_slice(), n, finding)?)
 }

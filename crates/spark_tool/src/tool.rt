@@ -3,20 +3,21 @@ ghost use Rattle.std.specs.Prelude.{◌≡◌, ◌≢◌, ◌<◌, ◌⊎◌, �
 ghost use Rattle.std.specs.Io.KnownBytes.{IsAtEnd, Keeps};
 ghost use Rattle.spark_base.specs.Lists.{Has};
 ghost use Rattle.spark_base.specs.Outside.{Rose};
+ghost use Rattle.slot_heap.specs.Heaps.{no_heap};
 ghost use Rattle.answered_runs.specs.run_command.Answers.{Grows, Tells, TellsFront};
-ghost use Rattle.spark_tool.specs.Answers.{answer_of};
-ghost use Rattle.answered_runs.specs.tool_answers.Commands.{command_of, reads_files, runs};
+ghost use Rattle.answered_runs.specs.tool_answers.Commands.{command_of, reads_files, runs, uses_store};
 ghost use Rattle.answered_runs.specs.tool_answers.Product.{Product, fixed_answer, unread};
 ghost use Rattle.spark_tool.specs.Promises.{IsStatus, IsRegular, IsUnrun, HasInput, Delivers, DeliversFront, DeliversNoMore};
 ghost use Rattle.spark_tool.specs.Refusals.{Gives, IsFor, IsMade, IsReady};
 
-use crate::answer::{Answer, usage_answer};
+use crate::answer::usage_answer;
 use crate::command::command_outcome;
-use crate::deliver::deliver;
+use crate::deliver::write_answer;
 use crate::finding::Outcome;
-use crate::start::start;
+use crate::start::{start, test};
 use crate::stop::Stop;
 use command_words::{WordFault, read_words};
+use slot_heap::Store;
 use spark_base::{FileStore, Sink, Source};
 use std::alloc::Global;
 
@@ -45,30 +46,18 @@ fn words_outcome<F: FileStore>(
     }
 }
 
-/// Writes an answer, and gives its status.
-fn write_answer<K: Sink>(answer: &Answer, out: &mut K, err: &mut K) -> Result<u8, Stop>
-    ensures told { IfOk result (Tells (answer_of answer.now) (K.written out.old) (K.written out.new) (K.written err.old) (K.written err.new)) }
-    ensures status { IfOk result (λ status. status ≡ answer.now.status) }
-    ensures front { OnErr result (TellsFront (answer_of answer.now) (K.written out.old) (K.written out.new) (K.written err.old) (K.written err.new)) }
-    ensures memory { result ≡ Err Stop.Memory → Keeps (K.written out.old) (K.written out.new) × Keeps (K.written err.old) (K.written err.new) }
-    ensures fault { result ≡ Err Stop.Write → Rose (K.faults out.old) (K.faults out.new) ⊎ Rose (K.faults err.old) (K.faults err.new) }
-    ensures no_fault { result ≢ Err Stop.Write → (K.faults out.new ≡ K.faults out.old) × (K.faults err.new ≡ K.faults err.old) }
-    ensures no_read { result ≢ Err Stop.Read }
-{
-    deliver(answer, out, err)?;
-    Ok(answer.status)
-}
-
 /// Writes the answer or runs the program, or says why nothing is answered.
-fn carry_out<F: FileStore, S: Source, K: Sink>(
+fn carry_out<F: FileStore, S: Source, R: Store, K: Sink>(
     alloc: Global,
     words: &[String],
     files: &mut F,
     input: &mut S,
+    store: &mut R,
     out: &mut K,
     err: &mut K,
 ) -> Result<u8, Stop>
-    requires { F.words files.old ≡ map string_bytes words.now }
+    requires files { F.words files.old ≡ map string_bytes words.now }
+    requires store { R.Means store.old no_heap }
     ensures answered { IfOk result (λ status. IfSome (F.stored files.old)
         (λ stored. (bytes : List ℕ) → HasInput (runs (command_of (map string_bytes words.now))) (S.left input.old) bytes
         → Delivers stored bytes (map string_bytes words.now)
@@ -85,6 +74,9 @@ fn carry_out<F: FileStore, S: Source, K: Sink>(
         → IfOk result (λ status. IsUnrun status ⊎ IfSome (S.left input.old) (λ bytes. IsAtEnd (S.left input.new))) }
     ensures input { runs (command_of (map string_bytes words.now)) ≡ false → input.new ≡ input.old }
     ensures early { IfOk result (λ status. Has (1 ∷ 2 ∷ 6 ∷ []) status → input.new ≡ input.old) }
+    ensures unrun_store { IfOk result (λ status. IsUnrun status → store.new ≡ store.old) }
+    ensures unread_store { result ≡ Err Stop.Read → store.new ≡ store.old }
+    ensures idle_store { uses_store (command_of (map string_bytes words.now)) ≡ false → store.new ≡ store.old }
     ensures read { result ≡ Err Stop.Read → Rose (F.faults files.old) (F.faults files.new)
         ⊎ ((runs (command_of (map string_bytes words.now)) ≡ true) × Rose (S.faults input.old) (S.faults input.new))
         ⊎ IsSomeAnd (F.stored files.old) (λ stored. (bytes : List ℕ) → Product stored bytes (map string_bytes words.now) unread) }
@@ -108,23 +100,27 @@ fn carry_out<F: FileStore, S: Source, K: Sink>(
 {
     match words_outcome(alloc, words, files)? {
         Outcome::Answers(answer) => write_answer(&answer, out, err),
-        Outcome::Runs(program, steps) => start(alloc, &program, steps, input, out, err),
+        Outcome::Runs(program, steps) => start(alloc, &program, steps, input, store, out, err),
+        Outcome::Tests(program, number) => test(alloc, program, number, store, out, err),
     }
 }
 
 /// Runs the command that the words give (`docs/TOOL.md`). `check` reads the files that they name,
 /// checks the sources, and writes the reports, a refusal or that there is nothing to report. `run`
 /// does the same, and then runs the program on the input. `make` writes a program. The words are
-/// those after the program's name. The answer is the status of the program.
-pub fn run_tool<F: FileStore, S: Source, K: Sink>(
+/// those after the program's name. The cells of a run stand in the store, which has no live handle
+/// and no slots before it. The answer is the status of the program.
+pub fn run_tool<F: FileStore, S: Source, R: Store, K: Sink>(
     alloc: Global,
     words: &[String],
     files: &mut F,
     input: &mut S,
+    store: &mut R,
     out: &mut K,
     err: &mut K,
 ) -> u8
-    requires { F.words files.old ≡ map string_bytes words.now }
+    requires files { F.words files.old ≡ map string_bytes words.now }
+    requires store { R.Means store.old no_heap }
 
     ensures status { IsStatus result }
 
@@ -193,11 +189,15 @@ pub fn run_tool<F: FileStore, S: Source, K: Sink>(
     ensures input { runs (command_of (map string_bytes words.now)) ≡ false → input.new ≡ input.old }
     ensures early { Has (1 ∷ 2 ∷ 6 ∷ []) result → input.new ≡ input.old }
 
+    // Where nothing is run, the store stays as it was.
+    ensures unrun_store { IsUnrun result → store.new ≡ store.old }
+    ensures idle_store { uses_store (command_of (map string_bytes words.now)) ≡ false → store.new ≡ store.old }
+
     // A count that isn't the cause of the answer stays.
     ensures no_read_fault { result ≢ 7 → (F.faults files.new ≡ F.faults files.old) × (S.faults input.new ≡ S.faults input.old) }
     ensures no_write_fault { result ≢ 8 → (K.faults out.new ≡ K.faults out.old) × (K.faults err.new ≡ K.faults err.old) }
 {
-    match carry_out(alloc, words, files, input, out, err) {
+    match carry_out(alloc, words, files, input, store, out, err) {
         Ok(status) => status,
         Err(stop) => stop.status(),
     }

@@ -24,6 +24,15 @@ reads_files (Some (Leaks names)) = true
 reads_files (Some (Make n)) = false
 reads_files (Some (Selftest n)) = false
 
+-- Whether a store is for it, for the cells of a program that is run.
+abbrev pub uses_store : Option Command → Bool
+uses_store None = false
+uses_store (Some (Check names)) = false
+uses_store (Some (Run names steps stats)) = true
+uses_store (Some (Leaks names)) = false
+uses_store (Some (Make n)) = false
+uses_store (Some (Selftest n)) = true
+
 -- Whether a program is run for it, on the input. The program that is made runs on none.
 abbrev pub runs : Option Command → Bool
 runs None = false

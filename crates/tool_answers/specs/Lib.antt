@@ -5,3 +5,4 @@ pub mod Parsing
 pub mod Product
 -- libraries that the crates above name through this one
 pub use Rattle.self_test.specs.run_command as run_command
+pub use Rattle.self_test.specs as self_test

@@ -1,9 +1,12 @@
 //! Runs of the tool over the outside in memory.
 ghost use Rattle.std.specs.Prelude.{◌≡◌, IfOk, map, string_bytes};
+ghost use Rattle.slot_heap.specs.Heaps.{no_heap};
 
+use slot_heap::Store;
 use spark_base::{MemFiles, MemSink, MemSource};
 use spark_tool::run_tool;
 use std::alloc::{AllocError, Global};
+use word_heap::WordStore;
 
 /// The number of a call that fails, of the files, of the first output and of the second.
 pub(crate) type Faults = (u64, u64, u64);
@@ -73,11 +76,26 @@ pub(crate) fn run_on(
     input: &mut MemSource,
     faults: Faults,
 ) -> Result<Response, AllocError> {
+    let mut store = WordStore::new(alloc);
+    run_over(alloc, words, stored, input, &mut store, faults)
+}
+
+/// What they do with the cells of a run in this store.
+pub(crate) fn run_over<R: Store>(
+    alloc: Global,
+    words: &[String],
+    stored: Vec<(String, Vec<u8>)>,
+    input: &mut MemSource,
+    store: &mut R,
+    faults: Faults,
+) -> Result<Response, AllocError>
+    requires { R.Means store.old no_heap }
+{
     let mut out = sink(alloc, faults.1)?;
     let mut err = sink(alloc, faults.2)?;
     let fails = Vec::from_slice(alloc, &[faults.0])?;
     let mut files = MemFiles::new(copied(alloc, words)?, stored, fails);
-    let status = run_tool(alloc, words, &mut files, input, &mut out, &mut err);
+    let status = run_tool(alloc, words, &mut files, input, store, &mut out, &mut err);
     Ok(Response { out, err, status })
 }
 

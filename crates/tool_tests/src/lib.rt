@@ -11,6 +11,8 @@ mod calls;
 #[cfg(test)]
 mod command;
 #[cfg(test)]
+mod counting;
+#[cfg(test)]
 mod faults;
 #[cfg(test)]
 mod limits;
@@ -24,5 +26,7 @@ mod run_limits;
 mod runs;
 #[cfg(test)]
 mod statements;
+#[cfg(test)]
+mod stores;
 #[cfg(test)]
 mod words;

@@ -1,9 +1,9 @@
 use Rattle.std.proofs.Common.{rules, ◌≡◌, map, string_bytes, refl, sym, ap, ◌∙◌}
 use Rattle.machine.specs.Run.{Run, run}
 use Rattle.laid_program.specs.Programs.{program_of}
-use Rattle.executor.specs.Results.{ending_of}
+use Rattle.slot_execute.specs.Results.{ending_of}
 use Rattle.run_results.proofs.Fronts.{none_front}
-use Rattle.whole_runs.specs.Tellings.{Sinks}
+use Rattle.slot_runs.specs.Tellings.{Sinks}
 use Rattle.run_command.specs.Endings.{ending_line}
 use Rattle.run_command.proofs.Fronts.{at_err, cut_told, ended_told, ended_tells}
 use Rattle.run_command.proofs.run.run_on.Goals as goal

@@ -2,16 +2,17 @@ use Rattle.std.proofs.Common.{◌≡◌, subst, map, string_bytes, true, List, �
 use Rattle.std.proofs.KnownBytes.{Keeps-refl}
 use Rattle.laid_program.specs.Programs.{program_of}
 use Rattle.answered_runs.specs.run_command.Answers.{Answer, Tells, TellsFront}
+use Rattle.answered_runs.specs.self_test.Summaries.{test_line}
 use Rattle.spark_tool.specs.declared.stop.Stop.TheVariants.{Write, Memory}
 use Rattle.answered_runs.specs.run_command.Runs.{run_answer}
 use Rattle.spark_tool.specs.declared.finding.Outcome.{Outcome}
 use Rattle.spark_tool.specs.declared.finding.Outcome.TheVariants as outcome
 use Rattle.spark_tool.specs.Answers.{answer_of, names_of}
 use Rattle.answered_runs.specs.tool_answers.Commands.{command_of, runs}
-use Rattle.answered_runs.specs.tool_answers.Product.{fixed_answer}
+use Rattle.answered_runs.specs.tool_answers.Product.{fixed_answer, tested}
 use Rattle.spark_tool.specs.Refusals.{IsFor, IsMade, IsReady}
 use Rattle.spark_tool.proofs.Complete.{answer_delivers_front, run_delivers_front, no_more, nothing_more, fixed_tells_front}
-use Rattle.spark_tool.proofs.Outcomes.{gives_this, ok_delivers, ok_fixed, ok_unrun, at_stop, run_ok_delivers, no_fixed, ok_no_fixed, run_reads}
+use Rattle.spark_tool.proofs.Outcomes.{gives_this, ok_delivers, ok_fixed, ok_unrun, at_stop, run_ok_delivers, no_fixed, ok_no_fixed, run_reads, run_uses, not_run, not_used}
 use Rattle.spark_tool.proofs.tool.carry_out.Goals as goal
 
 pub returns-in_err-answer-clause-memory : goal.returns-in_err-answer-clause-memory
@@ -74,6 +75,62 @@ returns-in-Answers-clause-fixed_front g c stopped =
     (g.K.Sink.written c.args.err.now) (g.K.Sink.written c.write_answer.new.err)
     (subst (λ (o : Outcome). IfSome fixed (λ told. IsMade told o)) c.in-Answers.is c.in_ok-answer.ensures.fixed)
     (at_stop c.write_answer.result Write _ stopped c.write_answer.ensures.front)
+
+pub returns-in-Tests-clause-answered : goal.returns-in-Tests-clause-answered
+returns-in-Tests-clause-answered g c =
+    let words : List (List ℕ) = map string_bytes c.args.words.now in
+    ok_delivers c.test.result (g.F.FileStore.stored c.args.files.now) (runs (command_of words)) (g.S.Source.left c.args.input.now) words
+    (tested (test_line c.in-Tests.number (program_of c.in-Tests.program.laid))) (g.K.Sink.written c.args.out.now) (g.K.Sink.written c.test.new.out)
+    (g.K.Sink.written c.args.err.now) (g.K.Sink.written c.test.new.err)
+    (gives_this (g.F.FileStore.stored c.args.files.now) (command_of words) c.in_ok-answer.field-0 (outcome.Tests c.in-Tests.program c.in-Tests.number) c.in-Tests.is
+    c.in_ok-answer.ensures.gives) c.test.ensures.told
+
+pub returns-in-Tests-clause-fixed : goal.returns-in-Tests-clause-fixed
+returns-in-Tests-clause-fixed g c =
+    let fixed : Option Answer = fixed_answer (command_of (map string_bytes c.args.words.now)) in
+    ok_no_fixed c.test.result fixed
+    (λ status told. Tells told (g.K.Sink.written c.args.out.now) (g.K.Sink.written c.test.new.out) (g.K.Sink.written c.args.err.now) (g.K.Sink.written c.test.new.err) status)
+    (subst (λ (o : Outcome). IfSome fixed (λ told. IsMade told o)) c.in-Tests.is c.in_ok-answer.ensures.fixed)
+
+pub returns-in-Tests-clause-all_read : goal.returns-in-Tests-clause-all_read
+returns-in-Tests-clause-all_read g c run =
+    absurd (not_run (command_of (map string_bytes c.args.words.now)) run
+    (subst (IsFor (command_of (map string_bytes c.args.words.now))) c.in-Tests.is c.in_ok-answer.ensures.only).0)
+
+pub returns-in-Tests-clause-front : goal.returns-in-Tests-clause-front
+returns-in-Tests-clause-front g c stopped =
+    let words : List (List ℕ) = map string_bytes c.args.words.now in
+    answer_delivers_front (g.F.FileStore.stored c.args.files.now) (runs (command_of words)) (g.S.Source.left c.args.input.now) words
+    (tested (test_line c.in-Tests.number (program_of c.in-Tests.program.laid))) (g.K.Sink.written c.args.out.now) (g.K.Sink.written c.test.new.out)
+    (g.K.Sink.written c.args.err.now) (g.K.Sink.written c.test.new.err)
+    (gives_this (g.F.FileStore.stored c.args.files.now) (command_of words) c.in_ok-answer.field-0 (outcome.Tests c.in-Tests.program c.in-Tests.number) c.in-Tests.is
+    c.in_ok-answer.ensures.gives)
+    (at_stop c.test.result Write _ stopped c.test.ensures.front)
+
+pub returns-in-Tests-clause-memory : goal.returns-in-Tests-clause-memory
+returns-in-Tests-clause-memory g c stopped =
+    let words : List (List ℕ) = map string_bytes c.args.words.now in
+    nothing_more (g.F.FileStore.stored c.args.files.now) (runs (command_of words)) (g.S.Source.left c.args.input.now) words
+    (g.K.Sink.written c.args.out.now) (g.K.Sink.written c.test.new.out) (g.K.Sink.written c.args.err.now) (g.K.Sink.written c.test.new.err)
+    (c.test.ensures.memory stopped).0 (c.test.ensures.memory stopped).1
+
+pub returns-in-Tests-clause-fixed_front : goal.returns-in-Tests-clause-fixed_front
+returns-in-Tests-clause-fixed_front g c stopped =
+    let fixed : Option Answer = fixed_answer (command_of (map string_bytes c.args.words.now)) in
+    no_fixed fixed
+    (λ told. TellsFront told (g.K.Sink.written c.args.out.now) (g.K.Sink.written c.test.new.out) (g.K.Sink.written c.args.err.now) (g.K.Sink.written c.test.new.err))
+    (subst (λ (o : Outcome). IfSome fixed (λ told. IsMade told o)) c.in-Tests.is c.in_ok-answer.ensures.fixed)
+
+pub returns-in-Tests-clause-idle_store : goal.returns-in-Tests-clause-idle_store
+returns-in-Tests-clause-idle_store g c idle =
+    absurd (not_used (command_of (map string_bytes c.args.words.now))
+    (subst (IsFor (command_of (map string_bytes c.args.words.now))) c.in-Tests.is c.in_ok-answer.ensures.only).1 idle)
+
+pub returns-in-Runs-clause-idle_store : goal.returns-in-Runs-clause-idle_store
+returns-in-Runs-clause-idle_store g c idle =
+    absurd (not_used (command_of (map string_bytes c.args.words.now))
+    (run_uses (command_of (map string_bytes c.args.words.now))
+    (subst (IsFor (command_of (map string_bytes c.args.words.now))) c.in-Runs.is c.in_ok-answer.ensures.only)) idle)
 
 pub returns-in-Runs-clause-front : goal.returns-in-Runs-clause-front
 returns-in-Runs-clause-front g c stopped =
