@@ -4,3 +4,5 @@
 //! as many tokens as there is room for (`Rooms`). It passes the tests of `run_ready`, too, however it
 //! is laid out in rows (`Runnable`). Nothing here runs.
 #![tactic(auto)]
+
+pub use tested_files::lower_ready;

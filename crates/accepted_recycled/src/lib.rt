@@ -6,3 +6,5 @@
 //! (`accepted_lowered`). So what such a run gives is what the machine's run gives, or memory is out
 //! (`specs/Runs.antt`, `proofs/Main.antt`). Nothing here runs.
 #![tactic(auto)]
+
+pub use accepted_lowered::lower_ready;

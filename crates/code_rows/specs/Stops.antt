@@ -1,7 +1,5 @@
 -- What the enums of the code stand for.
 use Rattle.std.specs.Prelude.{ℤ, Result, Ok, Err}
-use Rattle.reuse_heap.specs.declared.trap.Trap.TheVariants as trap
-use Rattle.reuse_heap.specs.declared.trap.Trap.{Trap}
 use Rattle.machine.specs.Evaluate as machine
 use Rattle.run_codes.specs.Flat as flat
 use Rattle.run_codes.specs.Flat.{Got, Given, Stops}
@@ -17,13 +15,8 @@ exception_of exception.StorageError = machine.StorageError
 exception_of exception.DataError = machine.DataError
 exception_of exception.EndError = machine.EndError
 
-abbrev pub trap_of : Trap → machine.Trap
-trap_of trap.Touched = machine.Touched
-trap_of trap.Twice = machine.Twice
-
 abbrev pub stop_of : Stop → flat.Stop
 stop_of (stop.Raises e) = flat.Raises (exception_of e)
-stop_of (stop.Traps t) = flat.Traps (trap_of t)
 stop_of stop.Memory = flat.Memory
 
 -- What a function that reads answers.

@@ -1,7 +1,6 @@
 //! Why a step isn't done.
 ghost use Rattle.std.specs.Prelude.{◌≡◌};
 
-use reuse_heap::Trap;
 use std::alloc::{AllocError, AllocFailed};
 
 /// A predefined exception (Ada 2012, 11.1 and A.13).
@@ -19,8 +18,6 @@ pub enum Exception {
 pub enum Stop {
     /// An exception is raised.
     Raises(Exception),
-    /// A freed cell was touched, or freed again.
-    Traps(Trap),
     /// There is too little memory.
     Memory,
 }

@@ -6,7 +6,7 @@ use Rattle.run_values.specs.declared.value.Kind.{Kind}
 use Rattle.run_values.specs.declared.value.Kind.TheVariants as sort
 use Rattle.machine.specs.Words.{access_offsets}
 use Rattle.machine.specs.Evaluate.{StorageError, heap_words}
-use Rattle.reuse_heap.specs.Cells.{Cell}
+use Rattle.kept_cells.specs.Cells.{Cell}
 use Rattle.run_codes.specs.Codes.{Fill, Checked, Pointer, MovedPointer, Copied, Moved, Waited, New, Default, Repeated, Both, Empty}
 use Rattle.run_codes.specs.Flat.{Flat, Got, Given, Stops, Broken, Raises, Memory, and_then, access, checked, some_words, most_cells, touched, kinds, word, Spot, InStack, InCell, spot, held, moved_out, front, are_pointers, are_in, all_gone, values_gone, spliced, with_stack, with_words, with_cell, values, are_words, Made, Done, Halted, Failed, made, made_then, reads, filled}
 use Rattle.run_codes.specs.Flat as flat

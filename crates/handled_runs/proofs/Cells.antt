@@ -7,8 +7,8 @@ use Rattle.run_values.specs.declared.value.Value.TheVariants as value
 use Rattle.run_values.specs.declared.value.Kind.{Kind}
 use Rattle.run_values.specs.declared.value.Kind.TheVariants as sort
 use Rattle.machine.specs.Evaluate.{StorageError, heap_words}
-use Rattle.reuse_heap.specs.Cells as numbered
-use Rattle.reuse_heap.specs.Cells.{Cell}
+use Rattle.kept_cells.specs.Cells as numbered
+use Rattle.kept_cells.specs.Cells.{Cell}
 use Rattle.slot_heap.specs.Heaps.{Heap, words_at, written, allocated}
 use Rattle.run_codes.specs.Flat.{Flat, Got, Given, Stops, Broken, Memory, Raises, spliced, gone_from, most_cells, values, is_word, are_words, are_in, have_kinds, most_offsets, touched, with_words, with_cell, made, Made, Done, Halted, Failed, InCell}
 use Rattle.run_codes.specs.Flat as flat

@@ -2,7 +2,7 @@
 use Rattle.std.proofs.Common.{◌≡◌, refl, sym, ap, subst, ℕ, zero, suc, ◌<◌, arith, false, List, [], ◌∷◌, append-nil, length, slice_get, Some, ℤ}
 use mathlib.Core.Logic.{inl, inr}
 use Rattle.run_values.specs.declared.value.Kind.{Kind}
-use Rattle.reuse_heap.specs.Cells.{Cell}
+use Rattle.kept_cells.specs.Cells.{Cell}
 use Rattle.run_codes.specs.Codes.{Place}
 use Rattle.run_codes.specs.Flat.{Flat, Made, Done, Halted, Got, Given, Stops, Broken, Stop, Raises, Traps, Memory, Spot, InStack, InCell, touched, moved_out}
 use Rattle.run_codes.specs.Flat as flat

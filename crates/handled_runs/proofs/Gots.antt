@@ -2,7 +2,7 @@
 use Rattle.std.proofs.Common.{◌≡◌, refl, sym, ap, subst, Bool, true, false, List, Option, Some, None, if◌then◌else◌}
 use Rattle.run_values.specs.declared.value.Value.{Value}
 use Rattle.machine.specs.Evaluate.{Touched}
-use Rattle.reuse_heap.specs.Cells.{Cell}
+use Rattle.kept_cells.specs.Cells.{Cell}
 use Rattle.run_codes.specs.Flat.{Got, Given, Stops, Broken, Stop, Raises, Traps, Memory, and_then, touched}
 use Rattle.handled_runs.specs.Beside.{IsSilent, GotsAlike, mapped}
 

@@ -9,8 +9,8 @@ use Rattle.run_values.specs.declared.value.Kind.{Kind}
 use Rattle.run_values.specs.declared.value.Kind.TheVariants as sort
 use Rattle.run_values.specs.Values.{kind}
 use Rattle.machine.specs.Memory.{at_number}
-use Rattle.reuse_heap.specs.Cells as numbered
-use Rattle.reuse_heap.specs.Cells.{Cell}
+use Rattle.kept_cells.specs.Cells as numbered
+use Rattle.kept_cells.specs.Cells.{Cell}
 use Rattle.slot_heap.specs.Heaps.{words_at as handle_words}
 use Rattle.numbered_cells.specs.Follows.{IsThere}
 use Rattle.run_codes.specs.Flat.{Flat, Got, Given, Stops, Broken, Traps, and_then, gone_from, most_cells, is_word, are_words, as_fresh, all_fresh, as_gone, all_gone, word_of, value_of, values, value_gone, values_gone, is_pointer, are_pointers, are_in, have_kinds, most_offsets, touched, with_words, with_cell, spliced, Spot, InStack, InCell, moved_out}

@@ -5,7 +5,7 @@ use Rattle.run_values.specs.declared.value.Value.TheVariants as value
 use Rattle.run_values.specs.declared.value.Kind.{Kind}
 use Rattle.run_values.specs.declared.value.Kind.TheVariants as sort
 use Rattle.run_values.specs.Values.{kind}
-use Rattle.reuse_heap.specs.Cells.{Cell}
+use Rattle.kept_cells.specs.Cells.{Cell}
 use Rattle.run_codes.specs.Flat.{Flat, Got, Given, Stops, Broken, found, most_cells, most_offsets, gone_from, same_kind, word_of, value_word, touched, is_zero}
 use Rattle.run_codes.specs.Flat as flat
 use Rattle.numbered_cells.specs.Follows.{handled}

@@ -6,7 +6,7 @@ use Rattle.run_values.specs.declared.value.Value.TheVariants as value
 use Rattle.run_values.specs.declared.value.Kind.{Kind}
 use Rattle.run_values.specs.declared.value.Kind.TheVariants as sort
 use Rattle.run_values.specs.Values.{kind}
-use Rattle.reuse_heap.specs.Cells.{Cell}
+use Rattle.kept_cells.specs.Cells.{Cell}
 use Rattle.run_codes.specs.Codes.{Code, Number, Local, Global, Via, Scaled, Plus, Unary, Binary, Short, IsNull, Waiting, EndOfFile, Nothing}
 use Rattle.run_codes.specs.Flat.{Flat, Got, Given, Stops, Broken, and_then, found, gone_from, word_of, words_in, same_kind, have_kinds, most_cells, most_offsets, touched, value_word, behind_at, front_of_cell, InCell}
 use Rattle.run_codes.specs.Flat as flat

@@ -3,7 +3,7 @@ use Rattle.std.proofs.Common.{◌≡◌, refl, sym, ap, ◌∙◌, ℕ, zero, su
 use Rattle.std.specs.Prelude.{unsigned_abs}
 use Rattle.run_values.specs.declared.value.Kind.{Kind}
 use Rattle.run_values.specs.declared.value.Kind.TheVariants as sort
-use Rattle.reuse_heap.specs.Cells.{Cell}
+use Rattle.kept_cells.specs.Cells.{Cell}
 use Rattle.run_codes.specs.Codes.{Place, InFrame, InPackages, Behind}
 use Rattle.run_codes.specs.Flat.{Flat, Given, Broken, and_then, most_cells, most_offsets, touched, InStack, InCell}
 use Rattle.run_codes.specs.Flat as flat

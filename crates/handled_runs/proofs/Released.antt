@@ -9,8 +9,8 @@ use Rattle.run_values.specs.declared.value.Kind.TheVariants as sort
 use Rattle.machine.specs.Words.{access_offsets}
 use Rattle.machine.specs.Evaluate.{Touched, Twice}
 use Rattle.slot_heap.specs.Heaps.{words_at}
-use Rattle.reuse_heap.specs.Cells as numbered
-use Rattle.reuse_heap.specs.Cells.{Cell}
+use Rattle.kept_cells.specs.Cells as numbered
+use Rattle.kept_cells.specs.Cells.{Cell}
 use Rattle.numbered_cells.specs.Follows.{handled, IsThere}
 use Rattle.run_codes.specs.Codes.{Place}
 use Rattle.run_codes.specs.Flat.{Flat, Got, Given, Stops, Broken, Traps, and_then, kinds, most_cells, are_pointers, are_words, are_in, touched, with_words, values, spliced, Spot, InStack, InCell}

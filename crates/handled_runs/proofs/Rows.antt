@@ -3,8 +3,8 @@ use Rattle.std.proofs.Common.{◌≡◌, ◌⊎◌, inl, inr, refl, sym, ap, ◌
 use Rattle.std.proofs.lemmas.Bool.Decides.{nat_tests}
 use Rattle.std.proofs.lemmas.List.{get_or_append_left}
 use Rattle.run_values.specs.declared.value.Value.{Value}
-use Rattle.reuse_heap.specs.Cells as numbered
-use Rattle.reuse_heap.specs.Cells.{Cell, allocated}
+use Rattle.kept_cells.specs.Cells as numbered
+use Rattle.kept_cells.specs.Cells.{Cell, allocated}
 use Rattle.slot_heap.specs.Heaps.{Heap, words_at}
 use Rattle.numbered_cells.specs.Follows.{handled, IsThere, Follows}
 use Rattle.handled_runs.specs.Changes.{row_with}

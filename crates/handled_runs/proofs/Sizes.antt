@@ -1,8 +1,8 @@
 -- The sizes of the cells that were made stay what they are.
 use Rattle.std.proofs.Common.{◌≡◌, refl, sym, ap, ◌∙◌, ℕ, zero, suc, ◌+◌, ◌≤◌, List, [], ◌∷◌, ◌++◌, length, slice_get, Some}
 use Rattle.run_values.specs.declared.value.Value.{Value}
-use Rattle.reuse_heap.specs.Cells as numbered
-use Rattle.reuse_heap.specs.Cells.{Cell}
+use Rattle.kept_cells.specs.Cells as numbered
+use Rattle.kept_cells.specs.Cells.{Cell}
 use Rattle.run_codes.specs.Flat.{spliced}
 use Rattle.handled_runs.specs.Beside.{sizes_of}
 use Rattle.handled_runs.specs.Marks.{ValuesUnmarked, CellsUnmarked}

@@ -7,7 +7,7 @@ use Rattle.run_values.specs.declared.value.Kind.TheVariants as sort
 use Rattle.run_values.specs.Values.{kind}
 use Rattle.run_values.specs.Items.{at_end}
 use Rattle.machine.specs.Evaluate.{Touched}
-use Rattle.reuse_heap.specs.Cells.{Cell}
+use Rattle.kept_cells.specs.Cells.{Cell}
 use Rattle.run_codes.specs.Codes.{Code, Number, Local, Global, Via, Scaled, Plus, Unary, Binary, Short, IsNull, Waiting, EndOfFile, Nothing, Place, InFrame, InPackages, Behind}
 use Rattle.run_codes.specs.Flat.{Flat, Got, Given, Stops, Broken, Traps, and_then, found, truth, is_zero, access, operated, operated_alone, decides, offset, scaled, is_word, as_fresh, all_fresh, word_of, words_in, same_kind, have_kinds, most_cells, most_offsets, touched, value_word, behind, behind_at, are_in, front_of_cell, word, indexes, Spot, InStack, InCell, spot, stack_spot, cell_spot, words_at, held}
 use Rattle.run_codes.specs.Flat as flat

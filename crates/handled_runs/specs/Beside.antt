@@ -4,7 +4,7 @@ use Rattle.run_values.specs.declared.value.Value.{Value}
 use Rattle.run_values.specs.declared.value.Kind.{Kind}
 use Rattle.run_values.specs.declared.value.Kind.TheVariants as sort
 use Rattle.run_codes.specs.Flat.{Flat, Got, Given, Stops, Broken, Stop, Raises, Traps, Memory, Spot, InStack, InCell}
-use Rattle.reuse_heap.specs.Cells.{Cell}
+use Rattle.kept_cells.specs.Cells.{Cell}
 use Rattle.numbered_cells.specs.Follows.{IsThere, Follows}
 use Rattle.handled_runs.specs.Fits.{AreSmall}
 use Rattle.handled_runs.specs.Slots.{Slots}

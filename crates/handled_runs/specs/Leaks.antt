@@ -5,7 +5,7 @@ use Rattle.type_definitions.specs.Types.{Table}
 use Rattle.run_values.specs.declared.value.Value.{Value}
 use Rattle.machine.specs.Words.{access_offsets}
 use Rattle.machine.specs.States.{Leak}
-use Rattle.reuse_heap.specs.Cells.{Cell}
+use Rattle.kept_cells.specs.Cells.{Cell}
 use Rattle.run_codes.specs.Flat.{Got, Given, and_then, kinds, Spot}
 use Rattle.numbered_cells.specs.Follows.{IsThere}
 use Rattle.handled_runs.specs.Slots.{Slots, held}

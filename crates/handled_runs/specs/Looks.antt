@@ -6,7 +6,7 @@ use Rattle.run_values.specs.declared.value.Kind.{Kind}
 use Rattle.run_values.specs.declared.value.Kind.TheVariants as sort
 use Rattle.run_codes.specs.Codes.{Code, Number, Local, Global, Via, Scaled, Plus, Unary, Binary, Short, IsNull, Waiting, EndOfFile, Nothing, Place, InFrame, InPackages, Behind}
 use Rattle.run_values.specs.Values.{kind}
-use Rattle.reuse_heap.specs.Cells.{Cell}
+use Rattle.kept_cells.specs.Cells.{Cell}
 use Rattle.run_codes.specs.Flat.{Flat, Given, word, words_in}
 
 -- A kind of words that name no cell.

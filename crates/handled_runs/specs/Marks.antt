@@ -4,7 +4,7 @@ use Rattle.std.specs.Prelude.{◌≡◌, ◌≤◌, ◌<◌, ℕ, List, [], ◌�
 use Rattle.run_values.specs.declared.value.Value.{Value}
 use Rattle.run_values.specs.declared.value.Kind.{Kind}
 use Rattle.run_values.specs.Values.{kind}
-use Rattle.reuse_heap.specs.Cells.{Cell}
+use Rattle.kept_cells.specs.Cells.{Cell}
 use Rattle.run_codes.specs.Flat.{Flat, Given, Spot, InStack, InCell, as_fresh, all_fresh, word_of, moved_out}
 use Rattle.handled_runs.specs.Slots.{Slots, Move}
 use Rattle.handled_runs.specs.Beside.{spot_renamed, Beside}

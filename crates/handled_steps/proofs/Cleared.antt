@@ -6,7 +6,7 @@ use Rattle.run_values.specs.declared.value.Value.{Value}
 use Rattle.run_values.specs.declared.value.Value.TheVariants as value
 use Rattle.run_values.specs.declared.value.Kind.{Kind}
 use Rattle.run_values.specs.declared.value.Kind.TheVariants as sort
-use Rattle.reuse_heap.specs.Cells.{Cell}
+use Rattle.kept_cells.specs.Cells.{Cell}
 use Rattle.slot_heap.specs.Heaps.{Heap}
 use Rattle.numbered_cells.specs.Follows.{handled, IsThere, Names, AllName, one_there, there_count, Follows}
 use Rattle.run_codes.specs.Flat.{Flat, gone_from}

@@ -4,7 +4,7 @@ use Rattle.std.proofs.lemmas.List.{get_or_append_left, length-map, map-append}
 use Rattle.run_values.specs.declared.value.Value.{Value}
 use Rattle.run_values.specs.declared.value.Value.TheVariants as value
 use Rattle.run_values.specs.declared.value.Kind.{Kind}
-use Rattle.reuse_heap.specs.Cells.{Cell}
+use Rattle.kept_cells.specs.Cells.{Cell}
 use Rattle.slot_heap.specs.Heaps.{Heap, words_at}
 use Rattle.run_codes.specs.Flat.{Flat, gone_from}
 use Rattle.run_codes.specs.Points.{as_freed}

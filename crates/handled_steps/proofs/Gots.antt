@@ -2,7 +2,7 @@
 use Rattle.std.proofs.Common.{◌≡◌, sym, ap, ◌∙◌, subst, ℕ, zero, suc, ◌+◌, arith, ◌&&◌, nat_lt, Bool, true, false, nat_le, List, [], drop, length, slice_get, Some, ℤ, if◌then◌else◌}
 use Rattle.std.specs.Prelude.{unsigned_abs}
 use Rattle.run_values.specs.declared.value.Kind.{Kind}
-use Rattle.reuse_heap.specs.Cells.{Cell}
+use Rattle.kept_cells.specs.Cells.{Cell}
 use Rattle.run_codes.specs.Codes.{Code, Place, InFrame, InPackages, Behind}
 use Rattle.run_codes.specs.Flat.{Flat, Got, Given, Stops, Broken, Stop, and_then, found, most_cells, most_offsets, touched, spliced, Spot, InStack, InCell}
 use Rattle.run_codes.specs.Flat as flat

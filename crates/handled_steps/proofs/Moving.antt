@@ -4,7 +4,7 @@ use Rattle.type_definitions.specs.declared.judgement.View.{View}
 use Rattle.type_definitions.specs.declared.judgement.View.TheVariants as view
 use Rattle.type_definitions.specs.Types.{Table, full}
 use Rattle.run_values.specs.declared.value.Kind.{Kind}
-use Rattle.reuse_heap.specs.Cells.{Cell}
+use Rattle.kept_cells.specs.Cells.{Cell}
 use Rattle.run_codes.specs.Flat.{Flat, Given, Stops, Stop, touched, Spot, InStack, InCell}
 use Rattle.run_codes.specs.Points.{within_bounds, fits}
 use Rattle.run_codes.specs.Points as points

@@ -6,7 +6,7 @@ use Rattle.run_values.specs.declared.value.Kind.{Kind}
 use Rattle.run_values.specs.declared.value.Kind.TheVariants as sort
 use Rattle.machine.specs.Evaluate.{Twice}
 use Rattle.machine.specs.States.{Leak}
-use Rattle.reuse_heap.specs.Cells.{Cell}
+use Rattle.kept_cells.specs.Cells.{Cell}
 use Rattle.run_codes.specs.Codes.{Place}
 use Rattle.run_codes.specs.Flat.{Flat, Got, Given, Stops, Broken, Traps, and_then, found, kinds, most_cells, default_words, Spot, InStack, InCell}
 use Rattle.run_codes.specs.Flat as flat

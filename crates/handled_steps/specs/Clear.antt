@@ -8,7 +8,7 @@ use Rattle.run_values.specs.declared.value.Kind.{Kind}
 use Rattle.run_values.specs.declared.value.Kind.TheVariants as sort
 use Rattle.machine.specs.Evaluate.{StorageError}
 use Rattle.machine.specs.States.{Raised, Spent, stack_words}
-use Rattle.reuse_heap.specs.Cells.{Cell}
+use Rattle.kept_cells.specs.Cells.{Cell}
 use Rattle.run_codes.specs.Flat.{Flat, gone_from}
 use Rattle.run_codes.specs.Points.{State, Outcome, Goes, Ends, then_on, step, sub_at, state_at_start}
 use Rattle.run_codes.specs.Programs.{Program}

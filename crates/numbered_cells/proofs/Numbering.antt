@@ -6,8 +6,8 @@ use Rattle.std.proofs.lemmas.List.{get_or_append_left, get_or_push, length-map}
 use Rattle.run_values.specs.declared.value.Value.{Value}
 use Rattle.run_values.specs.declared.value.Value.TheVariants as value
 use Rattle.run_values.specs.Values.{kind}
-use Rattle.reuse_heap.specs.Cells as numbered
-use Rattle.reuse_heap.specs.Cells.{Cell}
+use Rattle.kept_cells.specs.Cells as numbered
+use Rattle.kept_cells.specs.Cells.{Cell}
 use Rattle.run_codes.specs.Flat.{gone_from}
 use Rattle.slot_heap.specs.Heaps.{Heap, no_heap, words_at, allocated, written, released, without, changed, live_count, IsOfSize, HasWord, Holds}
 use Rattle.slot_heap.proofs.Heaps.{words_at-changed_same, words_at-changed_other, words_at-without_other, words_at-without_same, IsOnce-changed, IsOnce-without, live_count-changed, live_count-without_same, live_count-without_other}

@@ -2,7 +2,7 @@
 use Rattle.std.specs.Prelude.{◌≡◌, ℕ, ◌+◌, ◌<◌, ⊤, true, false, Some, List, [], ◌∷◌, map, length, get_or, slice_get, nat_lt, ◌==◌, if◌then◌else◌}
 use Rattle.run_values.specs.declared.value.Value.{Value}
 use Rattle.run_values.specs.declared.value.Value.TheVariants as value
-use Rattle.reuse_heap.specs.Cells.{Cell}
+use Rattle.kept_cells.specs.Cells.{Cell}
 use Rattle.run_codes.specs.Flat.{gone_from}
 use Rattle.slot_heap.specs.Heaps.{Heap, words_at, live_count}
 use Rattle.slot_heap.specs.Runs.{IsOnce}

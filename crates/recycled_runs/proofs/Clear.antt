@@ -11,7 +11,7 @@ use Rattle.machine.specs.Words.{Word}
 use Rattle.machine.specs.Typed.{Sort, Whole, Position, Pointer, sorts}
 use Rattle.machine.specs.Memory.{fresh}
 use Rattle.machine.specs.States.{Waiting}
-use Rattle.reuse_heap.specs.Cells.{Cell}
+use Rattle.kept_cells.specs.Cells.{Cell}
 use Rattle.run_codes.specs.Codes.{Point}
 use Rattle.run_codes.specs.Flat.{Flat, gone_from, kind_of, kinds, word_of, words_in}
 use Rattle.run_codes.specs.Points.{Held, Frame, State}

@@ -8,7 +8,7 @@ use Rattle.run_values.specs.declared.value.Kind.TheVariants as sort
 use Rattle.run_values.specs.declared.items.Item.{Item}
 use Rattle.run_values.specs.declared.items.Item.TheVariants as item
 use Rattle.run_values.specs.Items.{next_item}
-use Rattle.reuse_heap.specs.Cells.{Cell}
+use Rattle.kept_cells.specs.Cells.{Cell}
 use Rattle.machine.specs.Evaluate.{ProgramError, StorageError, DataError, EndError, Twice}
 use Rattle.machine.specs.States.{Normal, Leak, stack_words}
 use Rattle.run_codes.specs.Codes.{Code, Place, Fill, Actual, Sub, Point, Does, Go, Put, Store, Assign, Call, Output, Input, Release, Test, Choose, Start, Next, EvaluateLeft, EvaluateRight, Hold, EndPointer, EndScope, Finish, Fall}

@@ -8,7 +8,7 @@ use Rattle.run_values.specs.declared.value.Kind.{Kind}
 use Rattle.run_values.specs.declared.value.Kind.TheVariants as sort
 use Rattle.machine.specs.Words.{access_offsets}
 use Rattle.machine.specs.Evaluate.{StorageError, heap_words}
-use Rattle.reuse_heap.specs.Cells.{Cell, allocated}
+use Rattle.kept_cells.specs.Cells.{Cell, allocated}
 use Rattle.run_codes.specs.Codes.{Place, Fill, Checked, Pointer as LookedAt, MovedPointer, Copied, Moved, Waited, New, Default, Repeated, Both, Empty, Actual, ByValue, From, To}
 use Rattle.run_codes.specs.Flat.{Flat, Got, Given, Stops, Broken, Raises, Memory, and_then, gone_from, most_cells, is_word, are_words, as_fresh, all_fresh, value_of, values, word_of, checked, constraint, access, kinds, word, Spot, spot, held, moved_out, Made, Done, Halted, Failed, made_then, reads, with_cell, made, some_words, default_words, repeated, filled}
 use Rattle.run_codes.specs.Points.{Passed, Value as PassedValue, FromSpot, ToSpot, passed, fits}

@@ -4,7 +4,7 @@ use Rattle.type_definitions.specs.Types.{Table}
 use Rattle.run_values.specs.declared.value.Value.{Value}
 use Rattle.run_values.specs.declared.value.Kind.{Kind}
 use Rattle.run_values.specs.declared.value.Kind.TheVariants as sort
-use Rattle.reuse_heap.specs.Cells.{Cell}
+use Rattle.kept_cells.specs.Cells.{Cell}
 use Rattle.run_codes.specs.Codes.{Place}
 use Rattle.run_codes.specs.Flat.{Flat, Got, Given, Stops, Broken, touched, as_fresh, all_fresh, have_kinds, are_in, front_of_cell, most_offsets, words_in, Spot, InStack, InCell, spot, words_at}
 use Rattle.run_codes.specs.Flat as flat

@@ -22,7 +22,7 @@ use Rattle.null_places.specs.Cleared as null_places
 use Rattle.null_places.specs.Agrees.{AgreeSlot, AgreeSlots, Agrees, SameState}
 use Rattle.null_places.proofs.Memories.{clear_agrees, cell_agree, slots_agree, count_agree, room_agree, freed_count}
 use Rattle.null_places.proofs.Only.{IsGone, OnlyOwners}
-use Rattle.reuse_heap.specs.Cells.{Cell}
+use Rattle.kept_cells.specs.Cells.{Cell}
 use Rattle.run_codes.specs.Flat.{Flat, most_cells, gone_from, kind_of, kinds, word_of, words_in}
 use Rattle.run_codes.specs.Points.{State}
 use Rattle.run_codes.specs.Programs.{Program}

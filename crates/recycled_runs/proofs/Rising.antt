@@ -11,7 +11,7 @@ use Rattle.machine.specs.States as machine
 use Rattle.machine.specs.Step as machine_step
 use Rattle.machine.specs.Run.{no_point, step}
 use Rattle.machine.specs.Run as machine_run
-use Rattle.reuse_heap.specs.Cells.{Cell}
+use Rattle.kept_cells.specs.Cells.{Cell}
 use Rattle.slot_heap.specs.Heaps.{live_count, slot_count}
 use Rattle.numbered_cells.specs.Peaks.{peak_of}
 use Rattle.numbered_cells.specs.Follows.{there_count}

@@ -40,7 +40,7 @@ use Rattle.handled_steps.specs.Rises.{AreUnder, RisesTo}
 use Rattle.handled_steps.proofs.Rises.{step_rises}
 use Rattle.numbered_cells.specs.Peaks.{peak_of}
 use Rattle.slot_heap.specs.Heaps.{live_count}
-use Rattle.reuse_heap.specs.Cells.{Cell}
+use Rattle.kept_cells.specs.Cells.{Cell}
 use Rattle.std.proofs.lemmas.List.{length-map}
 use Rattle.handled_steps.specs.Runs.{NeverTraps, RunsWithin, RunOf, given, ran_with, state_at_start, first_kinds}
 use Rattle.handled_steps.proofs.Cleared.{cleared_alike}

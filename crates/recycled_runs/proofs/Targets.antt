@@ -33,7 +33,7 @@ use Rattle.machine.specs.Evaluate.{Use, AsView, cell_place, place_of}
 use Rattle.machine.specs.States as machine
 use Rattle.null_places.specs.Agrees.{SameState}
 use Rattle.null_places.proofs.Memories.{cell_agree}
-use Rattle.reuse_heap.specs.Cells.{Cell as StoredCell}
+use Rattle.kept_cells.specs.Cells.{Cell as StoredCell}
 use Rattle.run_codes.specs.Codes.{Place, Fill, Checked, Pointer as LookedAt, Does, Put, Store, Point, Actual, From, To, InFrame, InPackages, Behind, Number}
 use Rattle.run_codes.specs.Codes as codes
 use Rattle.run_codes.specs.Flat.{Flat, Got, Given, Stops, Broken, Made, Done, kinds, kind_of, is_word, touched, front_of_cell, are_in, words_in, and_then, Spot as FlatSpot, InStack, InCell, spot, words_at, all_fresh, filled}

@@ -1,5 +1,5 @@
 //! Frames that are entered and left, with the values that wait in them.
-use run_frames::{Frame, Frames, Wait};
+use slot_frames::{Frame, Frames, Wait};
 use std::test::Fail;
 
 /// A frame whose own values and places begin there.

@@ -4,7 +4,7 @@ use Rattle.std.specs.Prelude.{◌==◌}
 use Rattle.std.proofs.lemmas.List.{length-map}
 use Rattle.std.proofs.lemmas.List.Sums.{sum_by-cons}
 use Rattle.run_values.specs.declared.value.Value.{Value}
-use Rattle.reuse_heap.specs.Cells.{Cell as StoredCell, changed}
+use Rattle.kept_cells.specs.Cells.{Cell as StoredCell, changed}
 use Rattle.type_definitions.specs.Types.{Table}
 use Rattle.flow_paths.specs.Objects.{Typing}
 use Rattle.machine.specs.Words.{Word}

@@ -4,7 +4,7 @@ use Rattle.std.specs.Prelude.{unsigned_abs}
 use Rattle.std.proofs.lemmas.List.{length-map}
 use Rattle.std.proofs.lemmas.List.Sums.{sum_by-cons}
 use Rattle.std.proofs.lemmas.Bool.{cases_lt}
-use Rattle.reuse_heap.specs.Cells.{Cell as StoredCell}
+use Rattle.kept_cells.specs.Cells.{Cell as StoredCell}
 use Rattle.type_definitions.specs.Types.{Table}
 use Rattle.type_definitions.specs.Entries.{integer}
 use Rattle.flow_paths.specs.Objects.{Typing}

@@ -18,7 +18,7 @@ use Rattle.run_values.specs.declared.value.Kind.TheVariants as sort
 use Rattle.run_values.specs.Values.{kind}
 use Rattle.run_values.specs.Arithmetic.{is_integer, sum, difference, product, quotient, modulus, remainder, negation, absolute}
 use Rattle.run_values.specs.Items.{at_end}
-use Rattle.reuse_heap.specs.Cells.{Cell, allocated, changed, released}
+use Rattle.kept_cells.specs.Cells.{Cell, allocated, changed, released}
 use Rattle.machine.specs.Words as machine
 use Rattle.machine.specs.Words.{default, access_offsets}
 use Rattle.machine.specs.Memory.{at_number}

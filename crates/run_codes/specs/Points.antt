@@ -13,7 +13,7 @@ use Rattle.run_values.specs.declared.items.Item.{Item}
 use Rattle.run_values.specs.declared.items.Item.TheVariants as item
 use Rattle.run_values.specs.Images.{image}
 use Rattle.run_values.specs.Items.{next_item}
-use Rattle.reuse_heap.specs.Cells.{Cell}
+use Rattle.kept_cells.specs.Cells.{Cell}
 use Rattle.machine.specs.Words.{access_offsets}
 use Rattle.machine.specs.Evaluate.{ProgramError, StorageError, DataError, EndError, Twice, literals}
 use Rattle.machine.specs.States.{Leak, Ending, Normal, Raised, Spent, Trapped, stack_words}

@@ -6,7 +6,7 @@ use Rattle.spark_base.specs.Lists.{Has}
 use Rattle.run_values.specs.declared.value.Value.{Value}
 use Rattle.run_values.specs.Values.{kind}
 use Rattle.run_values.specs.Arithmetic.{is_integer}
-use Rattle.reuse_heap.specs.Cells.{Cell as StoredCell}
+use Rattle.kept_cells.specs.Cells.{Cell as StoredCell}
 use Rattle.type_definitions.specs.declared.table.Shape.TheVariants as shape
 use Rattle.type_definitions.specs.declared.table.Component.{Component}
 use Rattle.type_definitions.specs.Types.{Table, shape_of, span, words}

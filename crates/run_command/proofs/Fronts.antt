@@ -10,9 +10,9 @@ use Rattle.machine.specs.Run.{Run, run}
 use Rattle.run_results.specs.Lines.{leak_lines}
 use Rattle.run_results.proofs.Fronts.{none_front, all_front, front_more, front_after}
 use Rattle.slot_runs.specs.Tellings.{Sinks, HaveFronts}
-use Rattle.slot_execute.specs.declared.ran.Ran.{Ran}
-use Rattle.slot_execute.specs.Results.{ending_of}
-use Rattle.slot_execute.specs.Executes.{IsExecuted}
+use Rattle.run_results.specs.declared.ran.Ran.{Ran}
+use Rattle.run_results.specs.Results.{ending_of}
+use Rattle.slot_executor.specs.Executes.{IsExecuted}
 use Rattle.run_command.specs.Answers.{Tells, TellsFront}
 use Rattle.run_command.specs.Endings.{ending_line, ending_status}
 use Rattle.run_command.specs.Inputs.{IsWithin}

@@ -2,12 +2,12 @@
 ghost use Rattle.std.specs.Prelude.{◌≡◌, ◌++◌, [], ◌∷◌, codes, IfOk, map, string_bytes};
 ghost use Rattle.std.specs.Fmt.{decimal};
 ghost use Rattle.code_rows.specs.Stops.{exception_of};
-ghost use Rattle.slot_execute.specs.Results.{ending_of};
+ghost use Rattle.run_results.specs.Results.{ending_of};
 ghost use Rattle.spark_base.specs.Positions as positions;
 ghost use Rattle.run_command.specs.Endings as spec;
 
 use code_rows::Exception;
-use slot_execute::{Ending, Ran};
+use run_results::{Ending, Ran};
 use spark_base::Pos;
 use std::alloc::{AllocError, Global};
 

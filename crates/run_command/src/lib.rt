@@ -18,4 +18,5 @@ pub use ending::{ending_line, ending_status};
 pub use fault::RunFault;
 pub use input::read_input;
 pub use run::run_program;
-pub use slot_execute::{Ending, Ran, execute};
+pub use run_results::{Ending, Ran};
+pub use slot_execute::execute;

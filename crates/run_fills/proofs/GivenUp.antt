@@ -2,7 +2,7 @@
 use Rattle.std.proofs.Common.{◌≡◌, inl, inr, ℕ, zero, suc, ◌+◌, ◌-◌, ◌<◌, ◌≤◌, true, false, Bool, not, List, [], ◌∷◌, ◌++◌, map, filter, length, drop, get_or, sum, refl, sym, ap, subst, ◌∙◌, arith, Some, slice_get, if◌then◌else◌, length-append}
 use Rattle.std.proofs.lemmas.List.{length-map, map-append, length-drop}
 use Rattle.std.proofs.lemmas.Bool.{cases_lt}
-use Rattle.reuse_heap.specs.Cells.{Cell as StoredCell}
+use Rattle.kept_cells.specs.Cells.{Cell as StoredCell}
 use Rattle.flow_paths.specs.Objects.{Typing}
 use Rattle.machine.specs.Memory.{Memory, HeapCell, OfVariable, no_cell, cell, cell_words, live_cells, slots_at, as_freed, given_up}
 use Rattle.run_codes.specs.Flat.{Flat, most_cells}

@@ -5,7 +5,7 @@ use Rattle.run_values.specs.declared.value.Value.{Value}
 use Rattle.run_values.specs.declared.value.Value.TheVariants as value
 use Rattle.run_values.specs.declared.value.Kind.TheVariants as sort
 use Rattle.run_values.specs.Values.{kind}
-use Rattle.reuse_heap.specs.Cells.{Cell as StoredCell}
+use Rattle.kept_cells.specs.Cells.{Cell as StoredCell}
 use Rattle.type_definitions.specs.Types.{Table}
 use Rattle.machine.specs.Typed.{Sort, Pointer, sorts}
 use Rattle.machine.specs.Memory.{Slot, HeapCell, at_number, gone_at}

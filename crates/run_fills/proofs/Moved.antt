@@ -3,7 +3,7 @@ use Rattle.std.proofs.Common.{◌≡◌, ℕ, zero, suc, ◌+◌, true, ◌&&◌
 use Rattle.std.proofs.lemmas.List.{length-map}
 use Rattle.run_values.specs.declared.value.Value.{Value}
 use Rattle.run_values.specs.declared.value.Kind.{Kind}
-use Rattle.reuse_heap.specs.Cells.{Cell as StoredCell}
+use Rattle.kept_cells.specs.Cells.{Cell as StoredCell}
 use Rattle.type_definitions.specs.Types.{words, is_owning}
 use Rattle.machine.specs.Words.{Word, access_offsets, fits_type}
 use Rattle.machine.specs.Typed.{Sort, sorts, same_sorts}

@@ -10,7 +10,7 @@ use Rattle.machine.specs.Evaluate.{Exception, Trap, Evaluated}
 use Rattle.machine.specs.States.{Raised, Trapped}
 use Rattle.machine.specs.States as machine
 use Rattle.machine.specs.Step as machine_step
-use Rattle.reuse_heap.specs.Cells.{Cell}
+use Rattle.kept_cells.specs.Cells.{Cell}
 use Rattle.run_codes.specs.Codes.{Does, Finish}
 use Rattle.run_codes.specs.Flat.{Flat, Got, Given, Stops, Broken, Stop, Raises, Traps}
 use Rattle.run_codes.specs.Flat as flat

@@ -2,7 +2,7 @@
 use Rattle.std.proofs.Common.{◌≡◌, ℕ, zero, suc, ◌+◌, ◌<◌, ◌≤◌, true, false, Bool, not, List, [], ◌∷◌, ◌++◌, map, filter, length, take, drop, get_or, sum, refl, sym, ap, subst, ◌∙◌, arith, Some, slice_get, if◌then◌else◌}
 use Rattle.std.specs.Prelude.{◌==◌}
 use Rattle.std.proofs.lemmas.List.Sums.{sum_by-cons}
-use Rattle.reuse_heap.specs.Cells.{Cell as StoredCell, changed}
+use Rattle.kept_cells.specs.Cells.{Cell as StoredCell, changed}
 use Rattle.flow_paths.specs.Objects.{Typing}
 use Rattle.machine.specs.Words.{Word}
 use Rattle.machine.specs.Memory.{Memory, Slot, HeapCell, Base, Place, OfVariable, OfCell, no_cell, cell, at_number, cell_words, live_cells, fresh, slots_at, put, stored, as_freed, freed}

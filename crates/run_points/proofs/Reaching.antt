@@ -2,7 +2,7 @@
 use Rattle.std.proofs.Common.{◌≡◌, inl, inr, ℕ, suc, ◌+◌, ◌<◌, List, ◌++◌, length, drop, refl, sym, ap, subst, ◌∙◌, arith, ℤ}
 use Rattle.std.proofs.lemmas.List.{length-map, drop-drop}
 use Rattle.run_values.specs.declared.value.Value.{Value}
-use Rattle.reuse_heap.specs.Cells.{Cell as StoredCell}
+use Rattle.kept_cells.specs.Cells.{Cell as StoredCell}
 use Rattle.machine.specs.Typed.{Sort, sorts}
 use Rattle.machine.specs.Memory.{Memory, HeapCell, Place, OfVariable, cell, slots_at}
 use Rattle.machine.specs.Evaluate.{Done}

@@ -2,7 +2,7 @@
 use Rattle.std.proofs.Common.{◌≡◌, refl, sym, ap, ◌∙◌, ℕ, suc, ◌<◌, arith, List, [], ◌∷◌, map, length, get_or, slice_get, Some}
 use Rattle.flow_paths.specs.Objects.{Typing}
 use Rattle.machine.specs.Memory.{Memory, HeapCell, no_cell, cell_words}
-use Rattle.reuse_heap.specs.Cells.{Cell}
+use Rattle.kept_cells.specs.Cells.{Cell}
 use Rattle.run_codes.specs.Flat.{Flat}
 use Rattle.run_codes.specs.Related.{Lying, Related}
 

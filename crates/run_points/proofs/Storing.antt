@@ -3,7 +3,7 @@ use Rattle.std.proofs.Common.{◌≡◌, inl, inr, ℕ, suc, ◌+◌, ◌<◌, �
 use Rattle.std.proofs.lemmas.List.{length-map}
 use Rattle.spark_base.specs.Lists.{Has}
 use Rattle.run_values.specs.declared.value.Kind.{Kind}
-use Rattle.reuse_heap.specs.Cells.{Cell as StoredCell}
+use Rattle.kept_cells.specs.Cells.{Cell as StoredCell}
 use Rattle.flow_paths.specs.Objects.{Typing}
 use Rattle.flow_paths.specs.Laid.{flow_typing}
 use Rattle.machine.specs.Words.{Word}

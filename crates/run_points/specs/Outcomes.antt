@@ -4,7 +4,7 @@ use Rattle.machine.specs.Memory.{HeapCell, cell_words}
 use Rattle.machine.specs.States.{Ending}
 use Rattle.machine.specs.States as machine
 use Rattle.machine.specs.Run.{Run}
-use Rattle.reuse_heap.specs.Cells.{Cell}
+use Rattle.kept_cells.specs.Cells.{Cell}
 use Rattle.run_codes.specs.Points.{State, Outcome, Goes, Ends, Wants, Fails, Ran, ran_of}
 
 -- The output, the leaks, the counts and the sizes of cells of a state are the machine's.

@@ -4,7 +4,7 @@ use Rattle.spark_base.specs.declared.outside.SinkFault.{SinkFault}
 use Rattle.spark_base.specs.declared.outside.SinkFault.TheVariants as sink
 use Rattle.machine.specs.States as machine
 use Rattle.run_codes.specs.Points as points
-use Rattle.code_rows.specs.Stops.{exception_of, trap_of}
+use Rattle.code_rows.specs.Stops.{exception_of}
 use Rattle.run_results.specs.declared.ran.Ending.{Ending}
 use Rattle.run_results.specs.declared.ran.Ending.TheVariants as ending
 use Rattle.run_results.specs.declared.ran.Ran.{Ran}
@@ -16,7 +16,6 @@ abbrev pub ending_of : Ending → machine.Ending
 ending_of ending.Normal = machine.Normal
 ending_of (ending.Raised e p) = machine.Raised (exception_of e) p
 ending_of ending.Spent = machine.Spent
-ending_of (ending.Trapped t p) = machine.Trapped (trap_of t) p
 
 abbrev pub leak_of : Leak → machine.Leak
 leak_of l = record { number = l.number; pos = l.pos }

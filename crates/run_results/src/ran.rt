@@ -4,7 +4,6 @@ ghost use Rattle.run_results.specs.declared.ran.ExecFault.TheVariants as fault;
 ghost use Rattle.run_results.specs.Results.{fault_of};
 
 use code_rows::Exception;
-use reuse_heap::Trap;
 use spark_base::{Pos, SinkFault};
 use std::alloc::{AllocError, AllocFailed};
 
@@ -17,8 +16,6 @@ pub enum Ending {
     Raised { exception: Exception, pos: Pos },
     /// As many steps were taken as were allowed.
     Spent,
-    /// The point there touches a freed cell, or frees it again.
-    Trapped(Trap, Pos),
 }
 
 /// What a run gives beside its output and its leak lines.

@@ -12,8 +12,8 @@ use Rattle.slot_memory.specs.Memory.{Kept, Elsewhere, ghosts_of, elsewhere}
 use Rattle.slot_frames.specs.declared.rows.Return.{Return}
 use Rattle.slot_frames.specs.Stacks.{Stacked}
 use Rattle.slot_frames.specs.Frames.{word_at}
-use Rattle.slot_calls.specs.declared.actuals.Pass.{Pass}
-use Rattle.slot_calls.specs.Calls.{passed_of}
+use Rattle.slot_formals.specs.slot_calls.declared.actuals.Pass.{Pass}
+use Rattle.slot_formals.specs.slot_calls.Calls.{passed_of}
 use Rattle.slot_entries.specs.Entries.{entered_kept, entered_stacked}
 use Rattle.slot_formals.specs.Formals.{framed, Begins, returned}
 use Rattle.slot_formals.specs.Leads.{Gives}

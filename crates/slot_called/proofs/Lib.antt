@@ -8,3 +8,5 @@ pub mod Called
 pub mod Parts
 -- the step
 pub mod Steps
+-- libraries that the crates above name through this one
+pub use Rattle.slot_held.proofs as slot_held

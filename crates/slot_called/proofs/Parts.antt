@@ -24,9 +24,9 @@ use Rattle.slot_runs.specs.Turns.{is_failing}
 use Rattle.slot_stages.specs.Stages.{Stage, running}
 use Rattle.slot_entries.specs.Entries.{stacked_words}
 use Rattle.slot_entries.proofs.Entries.{words_in, words_first, words_last}
-use Rattle.slot_calls.specs.declared.actuals.Pass.{Pass}
-use Rattle.slot_calls.specs.declared.actuals.Pass.TheVariants as pass
-use Rattle.slot_calls.specs.Calls.{passed_of}
+use Rattle.slot_formals.specs.slot_calls.declared.actuals.Pass.{Pass}
+use Rattle.slot_formals.specs.slot_calls.declared.actuals.Pass.TheVariants as pass
+use Rattle.slot_formals.specs.slot_calls.Calls.{passed_of}
 use Rattle.slot_formals.specs.Formals.{framed, rows_of, returned}
 use Rattle.slot_words.proofs.Never.{Never, given_of, never_given, never_then, held_never, leaks_never, stored_never, settled_never}
 use Rattle.slot_called.specs.Calls.{has_room, tested, on_passes, PassesTested}

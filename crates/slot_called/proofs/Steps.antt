@@ -20,7 +20,7 @@ use Rattle.slot_stages.proofs.Goes.{cut_is, at_is}
 use Rattle.slot_stages.proofs.Frames.{enters}
 use Rattle.slot_stages.proofs.Calls.{called, called_on}
 use Rattle.slot_entries.specs.Entries.{stacked_words}
-use Rattle.slot_calls.specs.Calls.{passed_of, IsStopped}
+use Rattle.slot_formals.specs.slot_calls.Calls.{passed_of, IsStopped}
 use Rattle.slot_formals.specs.Formals.{Begun, returned}
 use Rattle.slot_formals.proofs.Leading.{same_given}
 use Rattle.slot_held.proofs.Laws.{settled_moves}

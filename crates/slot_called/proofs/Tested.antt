@@ -18,7 +18,7 @@ use Rattle.code_rows.proofs.Kept.{all_some, all_actuals, rows_none}
 use Rattle.handled_runs.specs.Slots.{Slots}
 use Rattle.handled_steps.specs.Steps.{Passes, Stopping, Failing, PassesAll}
 use Rattle.slot_memory.specs.Memory.{Kept, slots}
-use Rattle.slot_calls.specs.Calls.{PassableAll, PassedAll}
+use Rattle.slot_formals.specs.slot_calls.Calls.{PassableAll, PassedAll}
 use Rattle.slot_called.specs.Calls.{has_room, PassesTested, PassedTested, Callable}
 
 -- ---- rows

@@ -16,8 +16,8 @@ use Rattle.handled_runs.specs.Slots.{Slots}
 use Rattle.handled_steps.specs.Steps.{Passing, Passes, Stopping, Failing, PassesAll}
 use Rattle.slot_memory.specs.Memory.{Kept, Ghosts, Stands, Shows, slots, elsewhere}
 use Rattle.slot_frames.specs.Stacks.{Stacked}
-use Rattle.slot_calls.specs.declared.actuals.Pass.{Pass}
-use Rattle.slot_calls.specs.Calls.{passed_of, IsStopped, AnswersAll}
+use Rattle.slot_formals.specs.slot_calls.declared.actuals.Pass.{Pass}
+use Rattle.slot_formals.specs.slot_calls.Calls.{passed_of, IsStopped, AnswersAll}
 use Rattle.slot_entries.specs.Entries.{entered_kept, entered_stacked}
 use Rattle.slot_formals.specs.Formals.{Begun, framed, returned}
 

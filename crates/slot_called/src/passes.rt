@@ -3,11 +3,11 @@ ghost use Rattle.std.specs.Prelude.{◌≡◌, ◌+◌, length, map, nat_le, IsT
 ghost use Rattle.machine.specs.States.{stack_words};
 ghost use Rattle.code_rows.specs.Points.{actuals_of, is_range, sub_of, AreSound};
 ghost use Rattle.slot_memory.specs.Memory.{elsewhere};
-ghost use Rattle.slot_calls.specs.Calls.{passed_of, AreWithin, PassableAll, PassedAll};
+ghost use Rattle.slot_formals.specs.slot_calls.Calls.{passed_of, AreWithin, PassableAll, PassedAll};
 ghost use Rattle.slot_called.specs.Calls.{Callable, PassedTested};
 
 use code_rows::{Codes, Exception, Range, Rows, Stop, Sub};
-use slot_calls::{Pass, pass_actuals};
+use slot_formals::{Pass, pass_actuals};
 use slot_hand::Hand;
 use slot_heap::Store;
 use slot_memory::Memory;

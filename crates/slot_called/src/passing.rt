@@ -1,7 +1,7 @@
 //! What is at hand while a call is made.
 
 use run_values::Kind;
-use slot_calls::Pass;
+use slot_formals::Pass;
 use std::alloc::Global;
 
 /// What is passed, the types of formals, and the kinds of the words of one.

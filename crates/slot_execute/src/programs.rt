@@ -6,17 +6,16 @@ ghost use Rattle.laid_program.specs.Programs.{program_of};
 ghost use Rattle.code_rows.specs.Points.{program_of as rows_program};
 ghost use Rattle.slot_heap.specs.Heaps.{no_heap};
 ghost use Rattle.slot_runs.specs.Tellings.{HaveFronts};
-ghost use Rattle.slot_executor.specs.Executes as executes;
-ghost use Rattle.accepted_runs.specs.Headline.{IsSoundRun};
-ghost use Rattle.slot_execute.specs.Executes.{IsExecuted, IsReady};
+ghost use Rattle.slot_executor.specs.Executes.{IsExecuted, AreSame, fits as fits_first};
+ghost use Rattle.accepted_recycled.specs.accepted_runs.Headline.{IsSoundRun};
+ghost use Rattle.slot_execute.specs.Executes.{IsReady};
 
-use crate::ran::{Ran, told};
 use crate::starts::{fits, is_declaring};
 use code_rows::Codes;
 use laid_program::Laid;
 use path_check::AcceptedProgram;
-use run_ready::lower_ready;
-use run_results::{ExecFault, Ran as Went};
+use accepted_recycled::lower_ready;
+use run_results::{ExecFault, Ran};
 use slot_executor::{run_started, run_unfit};
 use slot_heap::Store;
 use slot_running::Run;
@@ -33,12 +32,12 @@ fn run_fitting<R: Store, K: Sink>(
     steps: u64,
     out: &mut K,
     err: &mut K,
-) -> Result<Went, ExecFault>
+) -> Result<Ran, ExecFault>
     requires ready { IsReady laid.now codes }
-    requires fits { executes.fits (rows_program codes) (main_of laid.now.main) ≡ true }
-    requires same { executes.AreSame (program_of laid.now) input.now }
+    requires fits { fits_first (rows_program codes) (main_of laid.now.main) ≡ true }
+    requires same { AreSame (program_of laid.now) input.now }
     requires store { R.Means store.old no_heap }
-    ensures executed { IfOk result (λ ran. executes.IsExecuted (map string_bytes laid.now.names.items) (run (program_of laid.now) input.now steps) ran
+    ensures executed { IfOk result (λ ran. IsExecuted (map string_bytes laid.now.names.items) (run (program_of laid.now) input.now steps) ran
         (record { output = K.written out.old; lines = K.written err.old }) (record { output = K.written out.new; lines = K.written err.new })) }
     ensures fronts { OnErr result (HaveFronts (map string_bytes laid.now.names.items)
         (record { output = K.written out.old; lines = K.written err.old }) (record { output = K.written out.new; lines = K.written err.new })
@@ -68,12 +67,12 @@ fn run_codes<R: Store, K: Sink>(
     steps: u64,
     out: &mut K,
     err: &mut K,
-) -> Result<Went, ExecFault>
+) -> Result<Ran, ExecFault>
     requires ready { IsReady laid.now codes }
     requires main { laid.now.main ≡ Some main }
-    requires same { executes.AreSame (program_of laid.now) input.now }
+    requires same { AreSame (program_of laid.now) input.now }
     requires store { R.Means store.old no_heap }
-    ensures executed { IfOk result (λ ran. executes.IsExecuted (map string_bytes laid.now.names.items) (run (program_of laid.now) input.now steps) ran
+    ensures executed { IfOk result (λ ran. IsExecuted (map string_bytes laid.now.names.items) (run (program_of laid.now) input.now steps) ran
         (record { output = K.written out.old; lines = K.written err.old }) (record { output = K.written out.new; lines = K.written err.new })) }
     ensures fronts { OnErr result (HaveFronts (map string_bytes laid.now.names.items)
         (record { output = K.written out.old; lines = K.written err.old }) (record { output = K.written out.new; lines = K.written err.new })
@@ -128,8 +127,5 @@ pub fn execute<R: Store, K: Sink>(
     let Ok(codes) = lower_ready(alloc, laid) else {
         return Err(ExecFault::Memory);
     };
-    match run_codes(alloc, laid, codes, main, store, input, steps, out, err) {
-        Ok(went) => Ok(told(went)),
-        Err(fault) => Err(fault),
-    }
+    run_codes(alloc, laid, codes, main, store, input, steps, out, err)
 }

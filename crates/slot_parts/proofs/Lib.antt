@@ -4,3 +4,5 @@ pub mod Sights
 pub mod Leads
 -- where a run begins
 pub mod Begun
+-- libraries that the crates above name through this one
+pub use Rattle.slot_leads.proofs as slot_leads

@@ -14,9 +14,9 @@ use Rattle.slot_turns.specs.declared.overs.Over.{Over}
 use Rattle.slot_turns.specs.Steps.{DoneAt}
 use Rattle.slot_turns.specs.Overs.{IsCounted}
 use Rattle.slot_turns.proofs.Ended.{ended_over, halts_over, counted_freed}
-use Rattle.slot_parts.specs.declared.parts.Parts.{Parts}
-use Rattle.slot_parts.specs.Stages.{between_of, setting_of, IsAt}
-use Rattle.slot_parts.specs.Steps.{StepsOf}
+use Rattle.slot_steps.specs.slot_parts.declared.parts.Parts.{Parts}
+use Rattle.slot_steps.specs.slot_parts.Stages.{between_of, setting_of, IsAt}
+use Rattle.slot_steps.specs.slot_parts.Steps.{StepsOf}
 use Rattle.slot_running.specs.Points.{IsPointTurn}
 
 module _ {R : Type 0} (Means : R → Heap → Type 0) (codes : Codes) (table : Table) (point : PointRow) (k : ℕ) (old new : Parts R) (at : IsAt Means codes table point k old) where

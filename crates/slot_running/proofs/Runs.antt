@@ -18,9 +18,9 @@ use Rattle.slot_turns.specs.declared.overs.Over.{Over}
 use Rattle.slot_turns.specs.Betweens.{Between, stage_of, untold_of}
 use Rattle.slot_turns.specs.Runs.{IsInside, StandsWith, turned}
 use Rattle.slot_turns.proofs.Turned.{over_rests}
-use Rattle.slot_parts.specs.declared.parts.Parts.{Parts}
-use Rattle.slot_parts.specs.Stages.{between_of, setting_of}
-use Rattle.slot_parts.specs.Begins.{IsBegun}
+use Rattle.slot_steps.specs.slot_parts.declared.parts.Parts.{Parts}
+use Rattle.slot_steps.specs.slot_parts.Stages.{between_of, setting_of}
+use Rattle.slot_steps.specs.slot_parts.Begins.{IsBegun}
 use Rattle.slot_running.specs.Runs.{Running, running_setting, running_untold, RunStands, AreKept, IsAtStart, CanTurn, IsTurn}
 
 -- ---- the start

@@ -23,8 +23,8 @@ use Rattle.slot_turns.specs.Steps.{DoneAt}
 use Rattle.slot_turns.specs.Overs.{IsOver}
 use Rattle.slot_turns.specs.Runs.{IsInside, IsCountedAs, turned}
 use Rattle.slot_turns.proofs.Turned.{point_there, taking_stands, taking_between, can_do, turns_to}
-use Rattle.slot_parts.specs.declared.parts.Parts.{Parts}
-use Rattle.slot_parts.specs.Stages.{between_of, setting_of, IsAt}
+use Rattle.slot_steps.specs.slot_parts.declared.parts.Parts.{Parts}
+use Rattle.slot_steps.specs.slot_parts.Stages.{between_of, setting_of, IsAt}
 use Rattle.slot_running.specs.Runs.{CanTurn, IsTurn}
 use Rattle.slot_running.specs.Points.{IsPointTurn}
 

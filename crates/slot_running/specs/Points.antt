@@ -11,9 +11,9 @@ use Rattle.slot_turns.specs.declared.overs.Over.{Over}
 use Rattle.slot_turns.specs.Betweens.{StandAt}
 use Rattle.slot_turns.specs.Steps.{DoneAt}
 use Rattle.slot_turns.specs.Overs.{TurnsTo}
-use Rattle.slot_parts.specs.declared.parts.Parts.{Parts}
-use Rattle.slot_parts.specs.Stages.{between_of, setting_of}
-use Rattle.slot_parts.specs.Steps.{AreLeft}
+use Rattle.slot_steps.specs.slot_parts.declared.parts.Parts.{Parts}
+use Rattle.slot_steps.specs.slot_parts.Stages.{between_of, setting_of}
+use Rattle.slot_steps.specs.slot_parts.Steps.{AreLeft}
 
 -- What is kept where the run goes on.
 abbrev pub KeptBy : {R : Type 0} → (R → Heap → Type 0) → Option Over → Parts R → Parts R → Type 0

@@ -11,8 +11,8 @@ use Rattle.slot_entries.specs.Entries.{stacked_words}
 use Rattle.slot_turns.specs.declared.overs.Over.{Over}
 use Rattle.slot_turns.specs.Betweens.{Between, untold_of}
 use Rattle.slot_turns.specs.Runs.{IsInside, StandsWith, turned}
-use Rattle.slot_parts.specs.declared.parts.Parts.{Parts}
-use Rattle.slot_parts.specs.Stages.{between_of, setting_of}
+use Rattle.slot_steps.specs.slot_parts.declared.parts.Parts.{Parts}
+use Rattle.slot_steps.specs.slot_parts.Stages.{between_of, setting_of}
 
 -- What is run, what is kept of it, and where it is over.
 pub record Running (R : Type 0) : Type 0 where

@@ -7,9 +7,9 @@ ghost use Rattle.slot_running.specs.Runs.{IsAtStart, RunStands, running_setting,
 use crate::turns::{ended, turn};
 use code_rows::Codes;
 use run_results::{Ending, Leak};
-use slot_called::Passing;
+use slot_steps::Passing;
 use slot_heap::Store;
-use slot_parts::{Parts, begin};
+use slot_steps::{Parts, begin};
 use slot_runs::{Stepping, Turn};
 use slot_turns::Over;
 use std::alloc::{AllocError, Global};
@@ -30,7 +30,7 @@ pub struct Run<'r, R: Store> {
 
 impl<'r, R: Store> Model for Run<'r, R> {
     ghost use Rattle.code_rows.specs.Points.{IsWhole};
-    ghost use Rattle.slot_parts.specs.Stages.{between_of};
+    ghost use Rattle.slot_steps.specs.slot_parts.Stages.{between_of};
     ghost use Rattle.slot_running.specs.Runs.{Running, AreKept};
 
     ghost Value = { Running R };

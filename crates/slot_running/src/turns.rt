@@ -3,15 +3,15 @@ ghost use Rattle.std.specs.Prelude.{◌≡◌, IfOk};
 ghost use Rattle.code_rows.specs.Points.{IsWhole};
 ghost use Rattle.slot_memory.specs.Memory.{IsKnown};
 ghost use Rattle.slot_entries.specs.Entries.{stacked_words};
-ghost use Rattle.slot_parts.specs.Stages.{IsAt};
+ghost use Rattle.slot_steps.specs.slot_parts.Stages.{IsAt};
 ghost use Rattle.slot_running.specs.Runs.{CanTurn, IsTurn};
 ghost use Rattle.slot_running.specs.Points.{IsPointTurn};
 
 use code_rows::{Codes, Point};
 use run_results::Ending;
-use slot_called::Passing;
+use slot_steps::Passing;
 use slot_heap::Store;
-use slot_parts::Parts;
+use slot_steps::Parts;
 use slot_steps::step_point;
 use slot_turns::{Over, point_at, stopped, take};
 use std::alloc::{AllocError, Global};

@@ -19,11 +19,11 @@ use Rattle.slot_runs.specs.Turns.{Setting}
 use Rattle.slot_called.specs.Calls.{Callable, Calling}
 use Rattle.slot_called.proofs.Steps.{can_call, call_on, call_left, call_off}
 use Rattle.slot_turns.specs.declared.halt.Halt.{Halt}
-use Rattle.slot_parts.specs.declared.parts.Parts.{Parts}
-use Rattle.slot_parts.specs.Stages.{between_of, setting_of, IsAt}
-use Rattle.slot_parts.specs.Steps.{StepsOf, as_going}
-use Rattle.slot_parts.proofs.Sights.{does_at}
-use Rattle.slot_parts.proofs.Leads.{leads_by}
+use Rattle.slot_tells.specs.slot_parts.declared.parts.Parts.{Parts}
+use Rattle.slot_tells.specs.slot_parts.Stages.{between_of, setting_of, IsAt}
+use Rattle.slot_tells.specs.slot_parts.Steps.{StepsOf, as_going}
+use Rattle.slot_tells.proofs.slot_parts.Sights.{does_at}
+use Rattle.slot_tells.proofs.slot_parts.Leads.{leads_by}
 
 module _ {R : Type 0} (Means : R → Heap → Type 0) (codes : Codes) (table : Table) (point : PointRow) (k : ℕ) (old : Parts R) (at : IsAt Means codes table point k old)
     (sub : ℕ) (actuals : Range) (next : ℕ) (does : point.does ≡ row.Call sub actuals next) where

@@ -17,10 +17,10 @@ use Rattle.slot_memory.specs.Memory.{Ghosts, slots}
 use Rattle.slot_runs.specs.Turns.{Setting}
 use Rattle.slot_turns.specs.Betweens.{StandAt}
 use Rattle.slot_turns.specs.Steps.{turn_at, DoneAt}
-use Rattle.slot_parts.specs.declared.parts.Parts.{Parts}
-use Rattle.slot_parts.specs.Stages.{between_of, setting_of, IsAt}
-use Rattle.slot_parts.specs.Ways.{MayHalt}
-use Rattle.slot_parts.proofs.Sights.{start_now}
+use Rattle.slot_tells.specs.slot_parts.declared.parts.Parts.{Parts}
+use Rattle.slot_tells.specs.slot_parts.Stages.{between_of, setting_of, IsAt}
+use Rattle.slot_tells.specs.slot_parts.Ways.{MayHalt}
+use Rattle.slot_tells.proofs.slot_parts.Sights.{start_now}
 
 module _ {R : Type 0} (Means : R → Heap → Type 0) (codes : Codes) (table : Table) (point : PointRow) (k : ℕ) (old : Parts R) (at : IsAt Means codes table point k old)
     (is : point.does ≡ does.Fall) (g : Ghosts) (stands : StandAt Means (between_of old) g) where

@@ -15,9 +15,9 @@ use Rattle.slot_runs.specs.Turns.{Setting}
 use Rattle.slot_finished.specs.Ends.{IsFinished}
 use Rattle.slot_finished.proofs.Steps.{can_finish, finish_on, finish_left, finish_off}
 use Rattle.slot_turns.specs.declared.halt.Halt.{Halt}
-use Rattle.slot_parts.specs.declared.parts.Parts.{Parts}
-use Rattle.slot_parts.specs.Stages.{between_of, setting_of, IsAt}
-use Rattle.slot_parts.specs.Steps.{AreLeft, LeftBy, StepsOf}
+use Rattle.slot_tells.specs.slot_parts.declared.parts.Parts.{Parts}
+use Rattle.slot_tells.specs.slot_parts.Stages.{between_of, setting_of, IsAt}
+use Rattle.slot_tells.specs.slot_parts.Steps.{AreLeft, LeftBy, StepsOf}
 
 module _ {R : Type 0} (Means : R → Heap → Type 0) (codes : Codes) (table : Table) (point : PointRow) (k : ℕ) (old : Parts R) (at : IsAt Means codes table point k old)
     (does : point.does ≡ row.Finish) where

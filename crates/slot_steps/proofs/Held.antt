@@ -19,16 +19,16 @@ use Rattle.slot_memory.specs.Memory.{Kept, Ghosts, Stands, Shows, Elsewhere, slo
 use Rattle.slot_runs.specs.Turns.{Setting, NeverFails, bare}
 use Rattle.slot_stages.specs.Stages.{Stage, IsStage, state_of}
 use Rattle.slot_entries.specs.Entries.{stacked_words}
-use Rattle.slot_held.specs.Holds.{Holdable, Holding, IsHeld}
-use Rattle.slot_held.proofs.Laws as held
+use Rattle.slot_called.specs.slot_held.Holds.{Holdable, Holding, IsHeld}
+use Rattle.slot_called.proofs.slot_held.Laws as held
 use Rattle.slot_turns.specs.declared.halt.Halt.{Halt}
 use Rattle.slot_turns.specs.Betweens.{stage_of, StandAt}
 use Rattle.slot_turns.specs.Steps.{turn_at, DoneAt}
-use Rattle.slot_parts.specs.declared.parts.Parts.{Parts}
-use Rattle.slot_parts.specs.Stages.{between_of, setting_of, IsAt}
-use Rattle.slot_parts.specs.Steps.{AreLeft, StepsOf}
-use Rattle.slot_parts.proofs.Sights.{does_at, stage_at}
-use Rattle.slot_parts.proofs.Leads.{halts_by}
+use Rattle.slot_tells.specs.slot_parts.declared.parts.Parts.{Parts}
+use Rattle.slot_tells.specs.slot_parts.Stages.{between_of, setting_of, IsAt}
+use Rattle.slot_tells.specs.slot_parts.Steps.{AreLeft, StepsOf}
+use Rattle.slot_tells.proofs.slot_parts.Sights.{does_at, stage_at}
+use Rattle.slot_tells.proofs.slot_parts.Leads.{halts_by}
 
 -- What the memory stands for has as many cells made.
 pub shown_made : {R : Type 0} (Means : R → Heap → Type 0) (m : Kept R) (s : Slots) → Shows Means m s → s.made ≡ m.heap.made

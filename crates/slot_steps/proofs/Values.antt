@@ -29,13 +29,13 @@ use Rattle.slot_goings.specs.Groups.{group_of}
 use Rattle.slot_goings.specs.Changes.{Change, Leads, Halts, Fails, ValuesChange, CanChange, Changing}
 use Rattle.slot_goings.proofs.ValuesCome.{leading, values_come}
 use Rattle.slot_goings.proofs.Moves.{leads_settled, values_settled}
-use Rattle.slot_parts.specs.declared.parts.Parts.{Parts}
-use Rattle.slot_parts.specs.Stages.{between_of, setting_of, IsAt}
-use Rattle.slot_parts.specs.Steps.{StepsOf, as_going}
-use Rattle.slot_parts.specs.Goes.{IsLed}
-use Rattle.slot_parts.specs.Ways.{MayTell, MayHalt}
-use Rattle.slot_parts.proofs.Sights.{start_now, taken_below, below_by}
-use Rattle.slot_parts.proofs.Leads.{leads_by, tells_by}
+use Rattle.slot_tells.specs.slot_parts.declared.parts.Parts.{Parts}
+use Rattle.slot_tells.specs.slot_parts.Stages.{between_of, setting_of, IsAt}
+use Rattle.slot_tells.specs.slot_parts.Steps.{StepsOf, as_going}
+use Rattle.slot_tells.specs.slot_parts.Goes.{IsLed}
+use Rattle.slot_tells.specs.slot_parts.Ways.{MayTell, MayHalt}
+use Rattle.slot_tells.proofs.slot_parts.Sights.{start_now, taken_below, below_by}
+use Rattle.slot_tells.proofs.slot_parts.Leads.{leads_by, tells_by}
 use Rattle.slot_steps.proofs.Held.{shown_made}
 
 module _ {R : Type 0} (Means : R → Heap → Type 0) (codes : Codes) (table : Table) (point : PointRow) (k : ℕ) (old : Parts R) (at : IsAt Means codes table point k old)

@@ -21,10 +21,10 @@ use Rattle.slot_goings.specs.Groups.{group_of}
 use Rattle.slot_goings.specs.Changes.{words_changed}
 use Rattle.slot_goings.proofs.WordsCome.{led_on, words_come}
 use Rattle.slot_goings.proofs.Moves.{words_kept}
-use Rattle.slot_parts.specs.declared.parts.Parts.{Parts}
-use Rattle.slot_parts.specs.Stages.{between_of, setting_of, IsAt}
-use Rattle.slot_parts.specs.Ways.{MayGo, MayHalt}
-use Rattle.slot_parts.proofs.Sights.{sound_at, start_now}
+use Rattle.slot_tells.specs.slot_parts.declared.parts.Parts.{Parts}
+use Rattle.slot_tells.specs.slot_parts.Stages.{between_of, setting_of, IsAt}
+use Rattle.slot_tells.specs.slot_parts.Ways.{MayGo, MayHalt}
+use Rattle.slot_tells.proofs.slot_parts.Sights.{sound_at, start_now}
 
 -- What doesn't fail isn't broken.
 pub got_fine : {A : Type 0} (t : Turn) (s : Slots) (g : Got A) (f : A → Outcome) → is_failing (on_got t s g f) ≡ false → is_broken g ≡ false

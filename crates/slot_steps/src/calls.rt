@@ -1,13 +1,13 @@
 //! Calls and their ends.
 ghost use Rattle.std.specs.Prelude.{◌≡◌};
-ghost use Rattle.slot_parts.specs.Stages.{IsAt};
-ghost use Rattle.slot_parts.specs.Steps.{Leads, StepsOf};
+ghost use Rattle.slot_tells.specs.slot_parts.Stages.{IsAt};
+ghost use Rattle.slot_tells.specs.slot_parts.Steps.{Leads, StepsOf};
 
 use code_rows::{Codes, Does, Exception, Point, Range, Stop};
 use slot_called::{Passing, call};
 use slot_finished::finish;
 use slot_heap::Store;
-use slot_parts::{Parts, tell};
+use slot_tells::{Parts, tell};
 use slot_turns::Halt;
 use type_table::TypeTable;
 

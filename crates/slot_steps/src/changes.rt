@@ -1,13 +1,13 @@
 //! Points that change the memory alone.
 ghost use Rattle.std.specs.Prelude.{◌≡◌};
 ghost use Rattle.slot_goings.specs.Groups.{group_of};
-ghost use Rattle.slot_parts.specs.Stages.{IsAt};
-ghost use Rattle.slot_parts.specs.Steps.{Leads};
+ghost use Rattle.slot_tells.specs.slot_parts.Stages.{IsAt};
+ghost use Rattle.slot_tells.specs.slot_parts.Steps.{Leads};
 
 use code_rows::{Codes, Point};
 use slot_goings::{Group, change_values, change_words};
 use slot_heap::Store;
-use slot_parts::{Parts, go, tell};
+use slot_tells::{Parts, go, tell};
 use slot_turns::Halt;
 use type_table::TypeTable;
 

@@ -1,12 +1,12 @@
 //! Results of functions.
 ghost use Rattle.std.specs.Prelude.{◌≡◌};
-ghost use Rattle.slot_parts.specs.Stages.{IsAt};
-ghost use Rattle.slot_parts.specs.Steps.{Leads};
+ghost use Rattle.slot_tells.specs.slot_parts.Stages.{IsAt};
+ghost use Rattle.slot_tells.specs.slot_parts.Steps.{Leads};
 
 use code_rows::{Codes, Does, Point};
 use slot_heap::Store;
-use slot_held::hold;
-use slot_parts::Parts;
+use slot_called::hold;
+use slot_tells::Parts;
 use slot_turns::Halt;
 use type_table::TypeTable;
 

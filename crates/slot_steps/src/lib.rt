@@ -10,4 +10,6 @@ mod changes;
 mod holds;
 mod points;
 
+pub use slot_tells::{Parts, begin};
+pub use slot_called::Passing;
 pub use points::step_point;

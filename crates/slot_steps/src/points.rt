@@ -1,8 +1,8 @@
 //! The step of a point.
 ghost use Rattle.std.specs.Prelude.{◌≡◌};
 ghost use Rattle.slot_goings.specs.Groups.{group_of};
-ghost use Rattle.slot_parts.specs.Stages.{IsAt};
-ghost use Rattle.slot_parts.specs.Steps.{StepsOf, as_going};
+ghost use Rattle.slot_tells.specs.slot_parts.Stages.{IsAt};
+ghost use Rattle.slot_tells.specs.slot_parts.Steps.{StepsOf, as_going};
 
 use crate::calls::{step_call, step_fall, step_finish};
 use crate::changes::{step_values, step_words};
@@ -11,7 +11,7 @@ use code_rows::{Codes, Does, Point};
 use slot_called::Passing;
 use slot_goings::{Group, grouped};
 use slot_heap::Store;
-use slot_parts::Parts;
+use slot_tells::Parts;
 use slot_tells::{step_input, step_left, step_output, step_right};
 use slot_turns::{Halt, no_memory};
 use std::alloc::Global;

@@ -27,7 +27,7 @@ use Rattle.slot_stages.specs.Leads.{LeadsTo}
 use Rattle.slot_stages.proofs.Leads.{IsLed as IsLedStage, led_stage, led_on}
 use Rattle.slot_turns.specs.Betweens.{Between, stage_of, StandAt}
 use Rattle.slot_turns.specs.Steps.{turn_at, DoneAt, GoesOn}
-use Rattle.slot_leads.proofs.Led.{led_stands, led_between, led_bytes}
+use Rattle.slot_parts.proofs.slot_leads.Led.{led_stands, led_between, led_bytes}
 use Rattle.slot_points.specs.Changing.{Whole, With, IsDone, Done}
 use Rattle.slot_points.specs.Steps.{item_read}
 use Rattle.slot_points.proofs.Points.{read_to, input_is}

@@ -23,7 +23,7 @@ use Rattle.slot_stages.specs.Leads.{LeadsTo}
 use Rattle.slot_stages.proofs.Leads.{led_stage, led_on, writing_on}
 use Rattle.slot_turns.specs.Betweens.{stage_of, StandAt}
 use Rattle.slot_turns.specs.Steps.{turn_at, DoneAt}
-use Rattle.slot_leads.proofs.Led.{led_stands, led_between, led_bytes}
+use Rattle.slot_parts.proofs.slot_leads.Led.{led_stands, led_between, led_bytes}
 use Rattle.slot_points.specs.Changing.{Whole, Added}
 use Rattle.slot_points.specs.Steps.{line_end, text_in, written}
 use Rattle.slot_points.proofs.Points.{output_is}

@@ -9,5 +9,6 @@
 mod tells;
 mod waits;
 
+pub use slot_parts::{Parts, begin, go, tell};
 pub use tells::{step_input, step_output};
 pub use waits::{step_left, step_right};

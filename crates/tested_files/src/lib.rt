@@ -4,3 +4,5 @@
 //! of each subprogram ascend (`proofs/Formals.antt`), and what is called is there (`proofs/Subs.antt`,
 //! `proofs/Rows.antt`). Nothing here runs.
 #![tactic(auto)]
+
+pub use run_ready::lower_ready;

@@ -1,7 +1,7 @@
 use Rattle.std.proofs.Common.{rules, ◌≡◌, map, string_bytes, refl, sym, ap, ◌∙◌}
 use Rattle.machine.specs.Run.{Run, run}
 use Rattle.laid_program.specs.Programs.{program_of}
-use Rattle.slot_execute.specs.Results.{ending_of}
+use Rattle.run_results.specs.Results.{ending_of}
 use Rattle.run_results.proofs.Fronts.{none_front}
 use Rattle.slot_runs.specs.Tellings.{Sinks}
 use Rattle.run_command.specs.Endings.{ending_line}

@@ -3,8 +3,8 @@ use Rattle.run_codes.specs.Codes.{Sub, Actual}
 use Rattle.run_codes.specs.Points.{sub_at}
 use Rattle.code_rows.specs.Points.{actuals_of, program_of, sub_of}
 use Rattle.run_results.specs.Results.{leaks_of}
-use Rattle.slot_calls.specs.declared.actuals.Pass.{Pass}
-use Rattle.slot_calls.specs.Calls.{passed_of, AreWithin}
+use Rattle.slot_formals.specs.slot_calls.declared.actuals.Pass.{Pass}
+use Rattle.slot_formals.specs.slot_calls.Calls.{passed_of, AreWithin}
 use Rattle.slot_formals.specs.Formals.{framed}
 use Rattle.slot_formals.specs.Leads.{Gives}
 use Rattle.slot_called.specs.Calls.{PassedTested}

@@ -1,6 +1,6 @@
 use Rattle.std.proofs.Common.{refl, ap}
 use Rattle.run_results.specs.Results.{leaks_of}
-use Rattle.slot_parts.proofs.Sights.{taken_below}
+use Rattle.slot_tells.proofs.slot_parts.Sights.{taken_below}
 use Rattle.slot_steps.proofs.Called.{call_there, call_can, call_goes, call_halts}
 use Rattle.slot_steps.proofs.calls.step_call.Goals as goal
 

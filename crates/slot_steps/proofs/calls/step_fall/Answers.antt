@@ -1,7 +1,7 @@
 use Rattle.std.proofs.Common.{refl}
 use Rattle.code_rows.specs.declared.stop.Stop.TheVariants as stop
 use Rattle.code_rows.specs.declared.stop.Exception.TheVariants as exception
-use Rattle.slot_parts.proofs.Leads.{halts_by}
+use Rattle.slot_tells.proofs.slot_parts.Leads.{halts_by}
 use Rattle.slot_steps.proofs.Falls.{fall_halts}
 use Rattle.slot_steps.proofs.calls.step_fall.Goals as goal
 

@@ -1,6 +1,6 @@
 use Rattle.std.proofs.Common.{refl}
-use Rattle.slot_parts.proofs.Sights.{sound_at, does_at}
-use Rattle.slot_parts.proofs.Leads.{halts_by}
+use Rattle.slot_tells.proofs.slot_parts.Sights.{sound_at, does_at}
+use Rattle.slot_tells.proofs.slot_parts.Leads.{halts_by}
 use Rattle.slot_steps.proofs.Values.{values_can, values_halt, values_steps, waits_told, words_told}
 use Rattle.slot_steps.proofs.changes.step_values.Goals as goal
 

@@ -1,8 +1,8 @@
 use Rattle.std.proofs.Common.{refl}
 use Rattle.code_rows.specs.Points.{next_of, program_of}
-use Rattle.slot_parts.specs.Goes.{IsLed}
-use Rattle.slot_parts.proofs.Sights.{does_at, taken_below, below_by}
-use Rattle.slot_parts.proofs.Leads.{goes_by, halts_by, leads_by}
+use Rattle.slot_tells.specs.slot_parts.Goes.{IsLed}
+use Rattle.slot_tells.proofs.slot_parts.Sights.{does_at, taken_below, below_by}
+use Rattle.slot_tells.proofs.slot_parts.Leads.{goes_by, halts_by, leads_by}
 use Rattle.slot_steps.proofs.Words.{words_whole, words_go, words_halt}
 use Rattle.slot_steps.proofs.changes.step_words.Goals as goal
 

@@ -1,5 +1,5 @@
 use Rattle.std.proofs.Common.{refl}
-use Rattle.slot_parts.proofs.Sights.{within_at, taken_below}
+use Rattle.slot_tells.proofs.slot_parts.Sights.{within_at, taken_below}
 use Rattle.slot_steps.proofs.Held.{hold_there, hold_can, hold_goes, hold_halts}
 use Rattle.slot_steps.proofs.holds.step_hold.Goals as goal
 

@@ -1,2 +1,0 @@
--- what calls and their ends answer
-pub mod Calls

@@ -1,2 +1,0 @@
--- what is kept, part by part
-pub mod Stages

@@ -1,3 +1,0 @@
--- what a run answers
-pub mod Results
-pub mod Executes

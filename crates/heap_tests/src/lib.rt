@@ -1,8 +1,0 @@
-//! Tests of `reuse_heap`, over its public names.
-//!
-//! They stand in a crate of their own, so that no library is proved a second time for its tests.
-//! Each expected answer was worked out by hand. Nothing here is for other crates.
-#![tactic(auto)]
-
-#[cfg(test)]
-mod cells;

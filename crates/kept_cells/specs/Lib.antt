@@ -1,0 +1,2 @@
+-- what the definitions of runs rest on
+pub mod Cells

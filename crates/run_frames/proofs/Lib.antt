@@ -1,4 +1,0 @@
--- values that wait, one after the other
-pub mod Waits
--- frames that are entered and left
-pub mod Nested

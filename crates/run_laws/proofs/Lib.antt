@@ -1,2 +1,0 @@
--- whole runs of what is lowered
-pub mod Whole

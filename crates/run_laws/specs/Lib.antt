@@ -1,2 +1,0 @@
--- how a lowered program is run
-pub mod Settings

@@ -1,3 +1,0 @@
-pub mod Lists
-pub mod Counted
-pub mod Stands

@@ -1,6 +1,0 @@
--- what the public contracts rest on
-pub mod Memory
-pub mod Spots
-pub mod Cells
-pub mod Answers
-pub mod Changes

@@ -1,2 +1,0 @@
--- what is kept of a run between two steps
-pub mod Stages
