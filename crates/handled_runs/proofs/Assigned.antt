@@ -1,15 +1,15 @@
 -- The law: values go to places alike over both heaps.
 use Rattle.std.proofs.Common.{◌≡◌, refl, sym, subst, ℕ, true, List, length, Option, Some, None, ℤ}
-use Rattle.spark_base.specs.declared.position.Pos.{Pos}
-use Rattle.type_definitions.specs.Types.{Table}
-use Rattle.run_values.specs.declared.value.Kind.{Kind}
-use Rattle.machine.specs.Words.{access_offsets}
-use Rattle.machine.specs.States.{Leak}
-use Rattle.run_codes.specs.Codes.{Place, Fill}
-use Rattle.run_codes.specs.Flat.{Flat, Got, Given, Stops, Broken, and_then, kinds, are_pointers, Spot}
-use Rattle.run_codes.specs.Flat as flat
-use Rattle.run_codes.specs.Points as points
-use Rattle.run_codes.specs.Points.{Turn, Outcome, on_made, on_got, leaking_goes}
+use Rattle.numbered_cells.specs.spark_base.declared.position.Pos.{Pos}
+use Rattle.numbered_cells.specs.type_definitions.Types.{Table}
+use Rattle.numbered_cells.specs.run_values.declared.value.Kind.{Kind}
+use Rattle.numbered_cells.specs.machine.Words.{access_offsets}
+use Rattle.numbered_cells.specs.machine.States.{Leak}
+use Rattle.numbered_cells.specs.run_codes.Codes.{Place, Fill}
+use Rattle.numbered_cells.specs.run_codes.Flat.{Flat, Got, Given, Stops, Broken, and_then, kinds, are_pointers, Spot}
+use Rattle.numbered_cells.specs.run_codes.Flat as flat
+use Rattle.numbered_cells.specs.run_codes.Points as points
+use Rattle.numbered_cells.specs.run_codes.Points.{Turn, Outcome, on_made, on_got, leaking_goes}
 use Rattle.handled_runs.specs.Slots.{Slots}
 use Rattle.handled_runs.specs.Slots as slots
 use Rattle.handled_runs.specs.Changes.{stored, settled}

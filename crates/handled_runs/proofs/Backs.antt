@@ -1,10 +1,10 @@
 -- What is copied back as a call ends. Over numbers the formals are marked, and the marks are given back with their frame.
 use Rattle.std.proofs.Common.{◌≡◌, refl, sym, ap, ◌∙◌, subst, ℕ, zero, suc, ◌+◌, ◌≤◌, arith, Bool, true, false, ◌&&◌, List, [], ◌∷◌, take, drop, length, slice_get, Option, Some, None, ℤ, if◌then◌else◌}
-use Rattle.run_values.specs.declared.value.Kind.{Kind}
-use Rattle.machine.specs.Evaluate.{Touched}
-use Rattle.kept_cells.specs.Cells.{Cell}
-use Rattle.run_codes.specs.Flat.{Flat, Got, Given, Stops, Broken, Stop, Traps, and_then, all_fresh, all_gone, are_words, are_in, touched, with_words, values, spliced, Spot, InStack, InCell, moved_out, stored, held}
-use Rattle.run_codes.proofs.Places.{given_on}
+use Rattle.numbered_cells.specs.run_values.declared.value.Kind.{Kind}
+use Rattle.numbered_cells.specs.machine.Evaluate.{Touched}
+use Rattle.numbered_cells.specs.kept_cells.Cells.{Cell}
+use Rattle.numbered_cells.specs.run_codes.Flat.{Flat, Got, Given, Stops, Broken, Stop, Traps, and_then, all_fresh, all_gone, are_words, are_in, touched, with_words, values, spliced, Spot, InStack, InCell, moved_out, stored, held}
+use Rattle.numbered_cells.proofs.run_codes.Places.{given_on}
 use Rattle.handled_runs.specs.Slots.{Slots}
 use Rattle.handled_runs.specs.Slots as slots
 use Rattle.handled_runs.specs.Changes as changes

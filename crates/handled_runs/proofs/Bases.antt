@@ -1,15 +1,15 @@
 -- Values leave the frame where it is, and the stack as long as it is.
 use Rattle.std.proofs.Common.{◌≡◌, refl, sym, ap, ◌∙◌, subst, ℕ, zero, suc, ◌+◌, ◌≤◌, arith, Bool, true, false, not, ◌&&◌, nat_le, nat_lt, List, [], ◌∷◌, ◌++◌, take, drop, length, slice_get, ℤ, pos, if◌then◌else◌}
-use Rattle.type_definitions.specs.Types.{Table}
-use Rattle.run_values.specs.declared.value.Value.{Value}
-use Rattle.run_values.specs.declared.value.Kind.{Kind}
-use Rattle.run_values.specs.declared.value.Kind.TheVariants as sort
-use Rattle.machine.specs.Words.{access_offsets}
-use Rattle.machine.specs.Evaluate.{StorageError, heap_words}
-use Rattle.kept_cells.specs.Cells.{Cell}
-use Rattle.run_codes.specs.Codes.{Fill, Checked, Pointer, MovedPointer, Copied, Moved, Waited, New, Default, Repeated, Both, Empty}
-use Rattle.run_codes.specs.Flat.{Flat, Got, Given, Stops, Broken, Raises, Memory, and_then, access, checked, some_words, most_cells, touched, kinds, word, Spot, InStack, InCell, spot, held, moved_out, front, are_pointers, are_in, all_gone, values_gone, spliced, with_stack, with_words, with_cell, values, are_words, Made, Done, Halted, Failed, made, made_then, reads, filled}
-use Rattle.run_codes.specs.Flat as flat
+use Rattle.numbered_cells.specs.type_definitions.Types.{Table}
+use Rattle.numbered_cells.specs.run_values.declared.value.Value.{Value}
+use Rattle.numbered_cells.specs.run_values.declared.value.Kind.{Kind}
+use Rattle.numbered_cells.specs.run_values.declared.value.Kind.TheVariants as sort
+use Rattle.numbered_cells.specs.machine.Words.{access_offsets}
+use Rattle.numbered_cells.specs.machine.Evaluate.{StorageError, heap_words}
+use Rattle.numbered_cells.specs.kept_cells.Cells.{Cell}
+use Rattle.numbered_cells.specs.run_codes.Codes.{Fill, Checked, Pointer, MovedPointer, Copied, Moved, Waited, New, Default, Repeated, Both, Empty}
+use Rattle.numbered_cells.specs.run_codes.Flat.{Flat, Got, Given, Stops, Broken, Raises, Memory, and_then, access, checked, some_words, most_cells, touched, kinds, word, Spot, InStack, InCell, spot, held, moved_out, front, are_pointers, are_in, all_gone, values_gone, spliced, with_stack, with_words, with_cell, values, are_words, Made, Done, Halted, Failed, made, made_then, reads, filled}
+use Rattle.numbered_cells.specs.run_codes.Flat as flat
 use Rattle.handled_runs.proofs.Gots.{there_of}
 use Rattle.handled_runs.proofs.Lists.{spliced_is, replaced_long, gone_long, front_within}
 

@@ -2,16 +2,16 @@
 use Rattle.std.proofs.Common.{◌≡◌, refl, sym, ap, ◌∙◌, subst, ℕ, zero, suc, ◌+◌, ◌-◌, ◌<◌, ◌≤◌, arith, Bool, true, false, true≢false, not, ◌&&◌, nat_lt, nat_le, List, [], ◌∷◌, ◌++◌, map, drop, length, get_or, slice_get, slice_set, length-append, Some, None, ℤ, pos, negsuc, if◌then◌else◌}
 use Rattle.std.proofs.lemmas.Bool.Decides.{nat_tests}
 use Rattle.std.proofs.lemmas.List.{get_or_append_left, length-map}
-use Rattle.run_values.specs.declared.value.Value.{Value}
-use Rattle.run_values.specs.declared.value.Value.TheVariants as value
-use Rattle.run_values.specs.declared.value.Kind.{Kind}
-use Rattle.run_values.specs.declared.value.Kind.TheVariants as sort
-use Rattle.machine.specs.Evaluate.{StorageError, heap_words}
-use Rattle.kept_cells.specs.Cells as numbered
-use Rattle.kept_cells.specs.Cells.{Cell}
-use Rattle.slot_heap.specs.Heaps.{Heap, words_at, written, allocated}
-use Rattle.run_codes.specs.Flat.{Flat, Got, Given, Stops, Broken, Memory, Raises, spliced, gone_from, most_cells, values, is_word, are_words, are_in, have_kinds, most_offsets, touched, with_words, with_cell, made, Made, Done, Halted, Failed, InCell}
-use Rattle.run_codes.specs.Flat as flat
+use Rattle.numbered_cells.specs.run_values.declared.value.Value.{Value}
+use Rattle.numbered_cells.specs.run_values.declared.value.Value.TheVariants as value
+use Rattle.numbered_cells.specs.run_values.declared.value.Kind.{Kind}
+use Rattle.numbered_cells.specs.run_values.declared.value.Kind.TheVariants as sort
+use Rattle.numbered_cells.specs.machine.Evaluate.{StorageError, heap_words}
+use Rattle.numbered_cells.specs.kept_cells.Cells as numbered
+use Rattle.numbered_cells.specs.kept_cells.Cells.{Cell}
+use Rattle.numbered_cells.specs.slot_heap.Heaps.{Heap, words_at, written, allocated}
+use Rattle.numbered_cells.specs.run_codes.Flat.{Flat, Got, Given, Stops, Broken, Memory, Raises, spliced, gone_from, most_cells, values, is_word, are_words, are_in, have_kinds, most_offsets, touched, with_words, with_cell, made, Made, Done, Halted, Failed, InCell}
+use Rattle.numbered_cells.specs.run_codes.Flat as flat
 use Rattle.numbered_cells.specs.Follows.{handled, IsThere, Names, AllName, Follows}
 use Rattle.numbered_cells.proofs.Numbering.{follows-freed, follows-allocated, follows-written}
 use Rattle.handled_runs.specs.Fits.{most_handles, are_slot_words}

@@ -1,11 +1,11 @@
 -- Outcomes that are alike in the course of a point: what is read, copied and moved.
 use Rattle.std.proofs.Common.{◌≡◌, refl, sym, ap, subst, ℕ, zero, suc, ◌<◌, arith, false, List, [], ◌∷◌, append-nil, length, slice_get, Some, ℤ}
 use mathlib.Core.Logic.{inl, inr}
-use Rattle.run_values.specs.declared.value.Kind.{Kind}
-use Rattle.kept_cells.specs.Cells.{Cell}
-use Rattle.run_codes.specs.Codes.{Place}
-use Rattle.run_codes.specs.Flat.{Flat, Made, Done, Halted, Got, Given, Stops, Broken, Stop, Raises, Traps, Memory, Spot, InStack, InCell, touched, moved_out}
-use Rattle.run_codes.specs.Flat as flat
+use Rattle.numbered_cells.specs.run_values.declared.value.Kind.{Kind}
+use Rattle.numbered_cells.specs.kept_cells.Cells.{Cell}
+use Rattle.numbered_cells.specs.run_codes.Codes.{Place}
+use Rattle.numbered_cells.specs.run_codes.Flat.{Flat, Made, Done, Halted, Got, Given, Stops, Broken, Stop, Raises, Traps, Memory, Spot, InStack, InCell, touched, moved_out}
+use Rattle.numbered_cells.specs.run_codes.Flat as flat
 use Rattle.handled_runs.specs.Slots.{Slots}
 use Rattle.handled_runs.specs.Slots as slots
 use Rattle.handled_runs.specs.Changes.{moving}

@@ -1,13 +1,13 @@
 -- The law: values give the same over both heaps, but for the names of cells.
 use Rattle.std.proofs.Common.{◌≡◌, refl, sym, ap, ◌∙◌, subst, ℕ, zero, suc, ◌≤◌, arith, Bool, true, false, nat_le, List, [], ◌∷◌, ◌++◌, take, drop, length, ℤ, pos, negsuc, if◌then◌else◌}
 use Rattle.std.proofs.lemmas.Bool.Decides.{nat_tests}
-use Rattle.type_definitions.specs.Types.{Table}
-use Rattle.run_values.specs.declared.value.Kind.{Kind}
-use Rattle.run_values.specs.declared.value.Kind.TheVariants as sort
-use Rattle.machine.specs.Words.{access_offsets}
-use Rattle.run_codes.specs.Codes.{Code, Fill, Checked, Pointer, MovedPointer, Copied, Moved, Waited, New, Default, Repeated, Both, Empty}
-use Rattle.run_codes.specs.Flat.{Flat, Made, Done, Halted, Failed, Got, Given, Stops, Broken, Raises, Traps, Memory, and_then, access, checked, is_word, kinds, default_words, some_words, repeated, made_then, filled}
-use Rattle.run_codes.specs.Flat as flat
+use Rattle.numbered_cells.specs.type_definitions.Types.{Table}
+use Rattle.numbered_cells.specs.run_values.declared.value.Kind.{Kind}
+use Rattle.numbered_cells.specs.run_values.declared.value.Kind.TheVariants as sort
+use Rattle.numbered_cells.specs.machine.Words.{access_offsets}
+use Rattle.numbered_cells.specs.run_codes.Codes.{Code, Fill, Checked, Pointer, MovedPointer, Copied, Moved, Waited, New, Default, Repeated, Both, Empty}
+use Rattle.numbered_cells.specs.run_codes.Flat.{Flat, Made, Done, Halted, Failed, Got, Given, Stops, Broken, Raises, Traps, Memory, and_then, access, checked, is_word, kinds, default_words, some_words, repeated, made_then, filled}
+use Rattle.numbered_cells.specs.run_codes.Flat as flat
 use Rattle.handled_runs.specs.Slots.{Slots}
 use Rattle.handled_runs.specs.Slots as slots
 use Rattle.handled_runs.specs.Values.{Outcome, Gives, Ends, Fails, reads, Then, Makes, Fills}

@@ -1,10 +1,10 @@
 -- Words that are renamed fit their kinds, and kinds that stand in a cell stand in it over handles.
 use Rattle.std.proofs.Common.{◌≡◌, refl, ap, ◌∙◌, ℕ, zero, suc, ◌<◌, arith, Bool, true, false, ◌&&◌, List, [], ◌∷◌, ◌++◌, map, drop, get_or, ℤ, pos, negsuc}
 use Rattle.std.proofs.lemmas.Bool.Decides.{nat_tests}
-use Rattle.run_values.specs.declared.value.Value.{Value}
-use Rattle.run_values.specs.declared.value.Kind.{Kind}
-use Rattle.run_values.specs.declared.value.Kind.TheVariants as sort
-use Rattle.run_codes.specs.Flat.{is_word, are_words, have_kinds}
+use Rattle.numbered_cells.specs.run_values.declared.value.Value.{Value}
+use Rattle.numbered_cells.specs.run_values.declared.value.Kind.{Kind}
+use Rattle.numbered_cells.specs.run_values.declared.value.Kind.TheVariants as sort
+use Rattle.numbered_cells.specs.run_codes.Flat.{is_word, are_words, have_kinds}
 use Rattle.numbered_cells.specs.Follows.{handled}
 use Rattle.handled_runs.specs.Fits.{most_handles, AreSmall, is_slot_word, are_slot_words}
 use Rattle.handled_runs.specs.Beside.{renamed, all_renamed}

@@ -1,10 +1,10 @@
 -- What is pushed on the stack and stored there in the course of a point, beside what it moves.
 use Rattle.std.proofs.Common.{◌≡◌, refl, sym, ap, ◌∙◌, subst, ℕ, zero, suc, ◌+◌, ◌≤◌, arith, Bool, true, false, ◌&&◌, nat_le, List, [], ◌∷◌, ◌++◌, length-append, take, drop, length, slice_get, ℤ, if◌then◌else◌}
 use Rattle.std.proofs.lemmas.Bool.Decides.{nat_tests}
-use Rattle.run_values.specs.declared.value.Kind.{Kind}
-use Rattle.kept_cells.specs.Cells.{Cell}
-use Rattle.run_codes.specs.Flat.{Flat, Got, Given, Stops, Broken, and_then, is_word, as_fresh, all_fresh, all_gone, values_gone, are_pointers, are_in, touched, with_stack, with_words, spliced, Spot, InStack, InCell, moved_out, stored}
-use Rattle.run_codes.specs.Flat as flat
+use Rattle.numbered_cells.specs.run_values.declared.value.Kind.{Kind}
+use Rattle.numbered_cells.specs.kept_cells.Cells.{Cell}
+use Rattle.numbered_cells.specs.run_codes.Flat.{Flat, Got, Given, Stops, Broken, and_then, is_word, as_fresh, all_fresh, all_gone, values_gone, are_pointers, are_in, touched, with_stack, with_words, spliced, Spot, InStack, InCell, moved_out, stored}
+use Rattle.numbered_cells.specs.run_codes.Flat as flat
 use Rattle.handled_runs.specs.Slots.{Slots, Move}
 use Rattle.handled_runs.specs.Changes as changes
 use Rattle.handled_runs.specs.Beside.{all_renamed, NameWords, Beside}

@@ -1,9 +1,9 @@
 -- What is read over both heaps, one after the other.
 use Rattle.std.proofs.Common.{◌≡◌, refl, sym, ap, subst, Bool, true, false, List, Option, Some, None, if◌then◌else◌}
-use Rattle.run_values.specs.declared.value.Value.{Value}
-use Rattle.machine.specs.Evaluate.{Touched}
-use Rattle.kept_cells.specs.Cells.{Cell}
-use Rattle.run_codes.specs.Flat.{Got, Given, Stops, Broken, Stop, Raises, Traps, Memory, and_then, touched}
+use Rattle.numbered_cells.specs.run_values.declared.value.Value.{Value}
+use Rattle.numbered_cells.specs.machine.Evaluate.{Touched}
+use Rattle.numbered_cells.specs.kept_cells.Cells.{Cell}
+use Rattle.numbered_cells.specs.run_codes.Flat.{Got, Given, Stops, Broken, Stop, Raises, Traps, Memory, and_then, touched}
 use Rattle.handled_runs.specs.Beside.{IsSilent, GotsAlike, mapped}
 
 pub gots_mapped : {A B : Type 0} (f : A → B) (x : Got A) (y : Got B) → y ≡ mapped f x → GotsAlike (λ a b. b ≡ f a) x y

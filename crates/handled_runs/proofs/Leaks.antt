@@ -1,16 +1,16 @@
 -- Leak checks tell the same over both heaps.
 use Rattle.std.proofs.Common.{◌≡◌, refl, ap, ◌∙◌, subst, ℕ, zero, suc, Bool, true, false, ◌&&◌, List, [], ◌∷◌, ◌++◌, drop, length, get_or, slice_get, ℤ, pos, negsuc}
-use Rattle.spark_base.specs.declared.position.Pos.{Pos}
-use Rattle.type_definitions.specs.Types.{Table}
-use Rattle.run_values.specs.declared.value.Kind.{Kind}
-use Rattle.run_values.specs.declared.value.Kind.TheVariants as sort
-use Rattle.machine.specs.Words.{access_offsets}
-use Rattle.run_codes.specs.Flat.{Flat, Got, Given, Stops, Broken, Stop, and_then, kinds, is_pointer, are_pointers, Spot, InStack, InCell}
-use Rattle.run_codes.specs.Flat as flat
-use Rattle.run_codes.specs.Points as points
+use Rattle.numbered_cells.specs.spark_base.declared.position.Pos.{Pos}
+use Rattle.numbered_cells.specs.type_definitions.Types.{Table}
+use Rattle.numbered_cells.specs.run_values.declared.value.Kind.{Kind}
+use Rattle.numbered_cells.specs.run_values.declared.value.Kind.TheVariants as sort
+use Rattle.numbered_cells.specs.machine.Words.{access_offsets}
+use Rattle.numbered_cells.specs.run_codes.Flat.{Flat, Got, Given, Stops, Broken, Stop, and_then, kinds, is_pointer, are_pointers, Spot, InStack, InCell}
+use Rattle.numbered_cells.specs.run_codes.Flat as flat
+use Rattle.numbered_cells.specs.run_codes.Points as points
 use Rattle.handled_runs.specs.Slots.{Slots}
 use Rattle.handled_runs.specs.Leaks.{leak, leaks_in, leaks_at, IsLeaked, AreLeaked}
-use Rattle.machine.specs.States.{Leak}
+use Rattle.numbered_cells.specs.machine.States.{Leak}
 use Rattle.handled_runs.specs.Beside.{IsSilent, GotsAlike, handle_word, all_renamed, spot_renamed, Beside}
 use Rattle.handled_runs.specs.Alike.{StandAt}
 use Rattle.handled_runs.proofs.Standing.{stack_words, cell_words_same, front_long}

@@ -43,3 +43,7 @@ pub mod Leaks
 pub mod Assigned
 -- cells that are released
 pub mod Released
+-- libraries that the crates above name through this one
+pub use Rattle.numbered_cells.proofs.run_codes
+pub use Rattle.numbered_cells.proofs as numbered_cells
+pub use Rattle.numbered_cells.proofs.slot_heap

@@ -1,10 +1,10 @@
 -- Words of lists that are replaced.
 use Rattle.std.proofs.Common.{◌≡◌, refl, sym, ap, ◌∙◌, subst, ℕ, zero, suc, ◌+◌, ◌≤◌, arith, Bool, true, false, ◌&&◌, List, [], ◌∷◌, ◌++◌, take, drop, length, slice_get, ℤ, pos, negsuc, if◌then◌else◌}
-use Rattle.run_values.specs.declared.value.Kind.{Kind}
-use Rattle.run_values.specs.declared.value.Kind.TheVariants as sort
-use Rattle.machine.specs.Memory.{at_number}
-use Rattle.run_codes.specs.Flat.{Got, Given, Stops, Broken, and_then, spliced, as_gone, all_gone, is_pointer, are_pointers, is_word}
-use Rattle.run_codes.specs.Flat as flat
+use Rattle.numbered_cells.specs.run_values.declared.value.Kind.{Kind}
+use Rattle.numbered_cells.specs.run_values.declared.value.Kind.TheVariants as sort
+use Rattle.numbered_cells.specs.machine.Memory.{at_number}
+use Rattle.numbered_cells.specs.run_codes.Flat.{Got, Given, Stops, Broken, and_then, spliced, as_gone, all_gone, is_pointer, are_pointers, is_word}
+use Rattle.numbered_cells.specs.run_codes.Flat as flat
 use Rattle.handled_runs.specs.Beside.{handle_word, renamed, all_renamed, NamesWord, NameWords}
 use Rattle.handled_runs.specs.Changes.{all_null}
 use Rattle.handled_runs.specs.Looks.{IsFront}

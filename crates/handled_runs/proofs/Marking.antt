@@ -3,18 +3,18 @@ use Rattle.std.proofs.Common.{◌≡◌, refl, sym, ap, ◌∙◌, subst, ℕ, z
 use Rattle.std.specs.Prelude.{unsigned_abs, neg_ℤ}
 use Rattle.std.proofs.lemmas.Bool.Decides.{nat_tests}
 use Rattle.std.proofs.lemmas.List.{map-append, get_or_append_left}
-use Rattle.run_values.specs.declared.value.Value.{Value}
-use Rattle.run_values.specs.declared.value.Value.TheVariants as value
-use Rattle.run_values.specs.declared.value.Kind.{Kind}
-use Rattle.run_values.specs.declared.value.Kind.TheVariants as sort
-use Rattle.run_values.specs.Values.{kind}
-use Rattle.machine.specs.Memory.{at_number}
-use Rattle.kept_cells.specs.Cells as numbered
-use Rattle.kept_cells.specs.Cells.{Cell}
-use Rattle.slot_heap.specs.Heaps.{words_at as handle_words}
+use Rattle.numbered_cells.specs.run_values.declared.value.Value.{Value}
+use Rattle.numbered_cells.specs.run_values.declared.value.Value.TheVariants as value
+use Rattle.numbered_cells.specs.run_values.declared.value.Kind.{Kind}
+use Rattle.numbered_cells.specs.run_values.declared.value.Kind.TheVariants as sort
+use Rattle.numbered_cells.specs.run_values.Values.{kind}
+use Rattle.numbered_cells.specs.machine.Memory.{at_number}
+use Rattle.numbered_cells.specs.kept_cells.Cells as numbered
+use Rattle.numbered_cells.specs.kept_cells.Cells.{Cell}
+use Rattle.numbered_cells.specs.slot_heap.Heaps.{words_at as handle_words}
 use Rattle.numbered_cells.specs.Follows.{IsThere}
-use Rattle.run_codes.specs.Flat.{Flat, Got, Given, Stops, Broken, Traps, and_then, gone_from, most_cells, is_word, are_words, as_fresh, all_fresh, as_gone, all_gone, word_of, value_of, values, value_gone, values_gone, is_pointer, are_pointers, are_in, have_kinds, most_offsets, touched, with_words, with_cell, spliced, Spot, InStack, InCell, moved_out}
-use Rattle.run_codes.specs.Flat as flat
+use Rattle.numbered_cells.specs.run_codes.Flat.{Flat, Got, Given, Stops, Broken, Traps, and_then, gone_from, most_cells, is_word, are_words, as_fresh, all_fresh, as_gone, all_gone, word_of, value_of, values, value_gone, values_gone, is_pointer, are_pointers, are_in, have_kinds, most_offsets, touched, with_words, with_cell, spliced, Spot, InStack, InCell, moved_out}
+use Rattle.numbered_cells.specs.run_codes.Flat as flat
 use Rattle.handled_runs.specs.Fits.{most_handles}
 use Rattle.handled_runs.specs.Slots.{Slots, Move}
 use Rattle.handled_runs.specs.Changes.{moving, all_emptied, settled, emptied}

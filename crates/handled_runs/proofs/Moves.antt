@@ -1,16 +1,16 @@
 -- What is moved out of a cell is so over both heaps: a name that is gone over numbers is null over handles.
 use Rattle.std.proofs.Common.{◌≡◌, refl, sym, ap, ◌∙◌, subst, ℕ, zero, suc, ◌+◌, ◌<◌, ◌≤◌, arith, Bool, true, false, true≢false, ◌&&◌, nat_lt, List, [], ◌∷◌, map, take, drop, length, get_or, slice_get, slice_set, Some, if◌then◌else◌}
-use Rattle.run_values.specs.declared.value.Value.{Value}
-use Rattle.run_values.specs.declared.value.Value.TheVariants as value
-use Rattle.run_values.specs.declared.value.Kind.{Kind}
-use Rattle.run_values.specs.declared.value.Kind.TheVariants as sort
-use Rattle.run_values.specs.Values.{kind}
-use Rattle.machine.specs.Memory.{at_number}
-use Rattle.kept_cells.specs.Cells as numbered
-use Rattle.kept_cells.specs.Cells.{Cell}
-use Rattle.slot_heap.specs.Heaps.{Heap, written}
-use Rattle.run_codes.specs.Flat.{Flat, Got, Given, Broken, gone_from, value_gone, values_gone, is_pointer, are_pointers, are_in, have_kinds, most_offsets, touched, with_words, spliced, InCell}
-use Rattle.run_codes.specs.Flat as flat
+use Rattle.numbered_cells.specs.run_values.declared.value.Value.{Value}
+use Rattle.numbered_cells.specs.run_values.declared.value.Value.TheVariants as value
+use Rattle.numbered_cells.specs.run_values.declared.value.Kind.{Kind}
+use Rattle.numbered_cells.specs.run_values.declared.value.Kind.TheVariants as sort
+use Rattle.numbered_cells.specs.run_values.Values.{kind}
+use Rattle.numbered_cells.specs.machine.Memory.{at_number}
+use Rattle.numbered_cells.specs.kept_cells.Cells as numbered
+use Rattle.numbered_cells.specs.kept_cells.Cells.{Cell}
+use Rattle.numbered_cells.specs.slot_heap.Heaps.{Heap, written}
+use Rattle.numbered_cells.specs.run_codes.Flat.{Flat, Got, Given, Broken, gone_from, value_gone, values_gone, is_pointer, are_pointers, are_in, have_kinds, most_offsets, touched, with_words, spliced, InCell}
+use Rattle.numbered_cells.specs.run_codes.Flat as flat
 use Rattle.numbered_cells.specs.Follows.{handled, IsThere, Names, Follows}
 use Rattle.numbered_cells.proofs.Numbering.{follows-written}
 use Rattle.handled_runs.specs.Slots.{Slots}

@@ -1,17 +1,17 @@
 -- Words with handles in place of numbers.
 use Rattle.std.proofs.Common.{◌≡◌, refl, sym, ap, ◌∙◌, ℕ, zero, suc, ◌-◌, ◌==◌, ◌&&◌, arith, Bool, true, false, nat_lt, List, [], ◌∷◌, map, length, get_or, slice_get, option_and_then, Some, ℤ, pos, negsuc, if◌then◌else◌}
-use Rattle.run_values.specs.declared.value.Value.{Value}
-use Rattle.run_values.specs.declared.value.Value.TheVariants as value
-use Rattle.run_values.specs.declared.value.Kind.{Kind}
-use Rattle.run_values.specs.declared.value.Kind.TheVariants as sort
-use Rattle.run_values.specs.Values.{kind}
-use Rattle.kept_cells.specs.Cells.{Cell}
-use Rattle.run_codes.specs.Flat.{Flat, Got, Given, Stops, Broken, found, most_cells, most_offsets, gone_from, same_kind, word_of, value_word, touched, is_zero}
-use Rattle.run_codes.specs.Flat as flat
+use Rattle.numbered_cells.specs.run_values.declared.value.Value.{Value}
+use Rattle.numbered_cells.specs.run_values.declared.value.Value.TheVariants as value
+use Rattle.numbered_cells.specs.run_values.declared.value.Kind.{Kind}
+use Rattle.numbered_cells.specs.run_values.declared.value.Kind.TheVariants as sort
+use Rattle.numbered_cells.specs.run_values.Values.{kind}
+use Rattle.numbered_cells.specs.kept_cells.Cells.{Cell}
+use Rattle.numbered_cells.specs.run_codes.Flat.{Flat, Got, Given, Stops, Broken, found, most_cells, most_offsets, gone_from, same_kind, word_of, value_word, touched, is_zero}
+use Rattle.numbered_cells.specs.run_codes.Flat as flat
 use Rattle.numbered_cells.specs.Follows.{handled}
 use Rattle.handled_runs.specs.Slots.{Slots, slot_word, of_kind}
 use Rattle.handled_runs.specs.Slots as slots
-use Rattle.slot_heap.specs.Heaps.{word_at}
+use Rattle.numbered_cells.specs.slot_heap.Heaps.{word_at}
 use Rattle.handled_runs.specs.Beside.{GotsAlike, handle_word, renamed, all_renamed, mapped, Beside}
 use Rattle.handled_runs.specs.Looks.{IsData, IsKept}
 use Rattle.handled_runs.proofs.Gots.{gots_mapped, touched_gots}

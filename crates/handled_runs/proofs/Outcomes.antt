@@ -1,11 +1,11 @@
 -- Outcomes that are alike, one after the other.
 use Rattle.std.proofs.Common.{◌≡◌, refl, sym, ap, ◌∙◌, subst, ℕ, zero, suc, ◌+◌, arith, Bool, true, false, true≢false, not, nat_lt, nat_le, List, [], ◌∷◌, ◌++◌, append_assoc, length-append, length, get_or, ℤ, pos, if◌then◌else◌}
 use mathlib.Core.Logic.{inl, inr}
-use Rattle.run_values.specs.declared.value.Kind.{Kind}
-use Rattle.run_values.specs.declared.value.Kind.TheVariants as sort
-use Rattle.machine.specs.Evaluate.{StorageError, heap_words}
-use Rattle.run_codes.specs.Flat.{Flat, Made, Done, Halted, Failed, Stop, Raises, Memory, made_then, are_words, values, with_cell, most_cells, repeated}
-use Rattle.run_codes.specs.Flat as flat
+use Rattle.numbered_cells.specs.run_values.declared.value.Kind.{Kind}
+use Rattle.numbered_cells.specs.run_values.declared.value.Kind.TheVariants as sort
+use Rattle.numbered_cells.specs.machine.Evaluate.{StorageError, heap_words}
+use Rattle.numbered_cells.specs.run_codes.Flat.{Flat, Made, Done, Halted, Failed, Stop, Raises, Memory, made_then, are_words, values, with_cell, most_cells, repeated}
+use Rattle.numbered_cells.specs.run_codes.Flat as flat
 use Rattle.handled_runs.specs.Slots.{Slots}
 use Rattle.handled_runs.specs.Values.{Outcome, Gives, Ends, Fails, Then, MakesCell, MakesWhere, Makes}
 use Rattle.handled_runs.specs.Beside.{renamed, all_renamed, NameWords}

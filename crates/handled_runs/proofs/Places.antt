@@ -1,15 +1,15 @@
 -- Places lead to the same spots over both heaps, but for the names of cells.
 use Rattle.std.proofs.Common.{◌≡◌, refl, sym, ap, ◌∙◌, ℕ, zero, suc, subst, ◌+◌, ◌&&◌, Bool, true, false, nat_le, nat_lt, List, length, get_or, slice_get, ℤ, pos, negsuc, if◌then◌else◌}
 use Rattle.std.specs.Prelude.{unsigned_abs}
-use Rattle.run_values.specs.declared.value.Kind.{Kind}
-use Rattle.run_values.specs.declared.value.Kind.TheVariants as sort
-use Rattle.kept_cells.specs.Cells.{Cell}
-use Rattle.run_codes.specs.Codes.{Place, InFrame, InPackages, Behind}
-use Rattle.run_codes.specs.Flat.{Flat, Given, Broken, and_then, most_cells, most_offsets, touched, InStack, InCell}
-use Rattle.run_codes.specs.Flat as flat
+use Rattle.numbered_cells.specs.run_values.declared.value.Kind.{Kind}
+use Rattle.numbered_cells.specs.run_values.declared.value.Kind.TheVariants as sort
+use Rattle.numbered_cells.specs.kept_cells.Cells.{Cell}
+use Rattle.numbered_cells.specs.run_codes.Codes.{Place, InFrame, InPackages, Behind}
+use Rattle.numbered_cells.specs.run_codes.Flat.{Flat, Given, Broken, and_then, most_cells, most_offsets, touched, InStack, InCell}
+use Rattle.numbered_cells.specs.run_codes.Flat as flat
 use Rattle.handled_runs.specs.Slots.{Slots, live_spot}
 use Rattle.handled_runs.specs.Slots as slots
-use Rattle.slot_heap.specs.Heaps.{words_at}
+use Rattle.numbered_cells.specs.slot_heap.Heaps.{words_at}
 use Rattle.handled_runs.specs.Beside.{GotsAlike, handle_word, spot_renamed, Beside}
 use Rattle.handled_runs.specs.Looks.{IsKept, LooksAt, IsClear}
 use Rattle.handled_runs.proofs.Kept.{word_kept}

@@ -1,21 +1,21 @@
 -- The law: cells are released alike over both heaps.
 use Rattle.std.proofs.Common.{◌≡◌, refl, sym, ap, ◌∙◌, subst, ℕ, zero, suc, ◌+◌, Bool, true, false, ◌&&◌, nat_le, nat_lt, List, [], ◌∷◌, map, length, get_or, slice_get, Option, Some, None, ℤ, pos, negsuc, if◌then◌else◌}
 use Rattle.std.proofs.lemmas.List.{length-map}
-use Rattle.spark_base.specs.declared.position.Pos.{Pos}
-use Rattle.type_definitions.specs.Types.{Table}
-use Rattle.run_values.specs.declared.value.Value.{Value}
-use Rattle.run_values.specs.declared.value.Kind.{Kind}
-use Rattle.run_values.specs.declared.value.Kind.TheVariants as sort
-use Rattle.machine.specs.Words.{access_offsets}
-use Rattle.machine.specs.Evaluate.{Touched, Twice}
-use Rattle.slot_heap.specs.Heaps.{words_at}
-use Rattle.kept_cells.specs.Cells as numbered
-use Rattle.kept_cells.specs.Cells.{Cell}
+use Rattle.numbered_cells.specs.spark_base.declared.position.Pos.{Pos}
+use Rattle.numbered_cells.specs.type_definitions.Types.{Table}
+use Rattle.numbered_cells.specs.run_values.declared.value.Value.{Value}
+use Rattle.numbered_cells.specs.run_values.declared.value.Kind.{Kind}
+use Rattle.numbered_cells.specs.run_values.declared.value.Kind.TheVariants as sort
+use Rattle.numbered_cells.specs.machine.Words.{access_offsets}
+use Rattle.numbered_cells.specs.machine.Evaluate.{Touched, Twice}
+use Rattle.numbered_cells.specs.slot_heap.Heaps.{words_at}
+use Rattle.numbered_cells.specs.kept_cells.Cells as numbered
+use Rattle.numbered_cells.specs.kept_cells.Cells.{Cell}
 use Rattle.numbered_cells.specs.Follows.{handled, IsThere}
-use Rattle.run_codes.specs.Codes.{Place}
-use Rattle.run_codes.specs.Flat.{Flat, Got, Given, Stops, Broken, Traps, and_then, kinds, most_cells, are_pointers, are_words, are_in, touched, with_words, values, spliced, Spot, InStack, InCell}
-use Rattle.run_codes.specs.Flat as flat
-use Rattle.run_codes.specs.Points as points
+use Rattle.numbered_cells.specs.run_codes.Codes.{Place}
+use Rattle.numbered_cells.specs.run_codes.Flat.{Flat, Got, Given, Stops, Broken, Traps, and_then, kinds, most_cells, are_pointers, are_words, are_in, touched, with_words, values, spliced, Spot, InStack, InCell}
+use Rattle.numbered_cells.specs.run_codes.Flat as flat
+use Rattle.numbered_cells.specs.run_codes.Points as points
 use Rattle.handled_runs.specs.Slots.{Slots}
 use Rattle.handled_runs.specs.Slots as slots
 use Rattle.handled_runs.specs.Changes.{stored, without_cell}

@@ -2,10 +2,10 @@
 use Rattle.std.proofs.Common.{◌≡◌, ◌⊎◌, inl, inr, refl, sym, ap, ◌∙◌, ℕ, zero, suc, ◌<◌, arith, Bool, true, false, true≢false, ◌==◌, List, [], ◌∷◌, ◌++◌, map, length, get_or, Option, Some, None, if◌then◌else◌}
 use Rattle.std.proofs.lemmas.Bool.Decides.{nat_tests}
 use Rattle.std.proofs.lemmas.List.{get_or_append_left}
-use Rattle.run_values.specs.declared.value.Value.{Value}
-use Rattle.kept_cells.specs.Cells as numbered
-use Rattle.kept_cells.specs.Cells.{Cell, allocated}
-use Rattle.slot_heap.specs.Heaps.{Heap, words_at}
+use Rattle.numbered_cells.specs.run_values.declared.value.Value.{Value}
+use Rattle.numbered_cells.specs.kept_cells.Cells as numbered
+use Rattle.numbered_cells.specs.kept_cells.Cells.{Cell, allocated}
+use Rattle.numbered_cells.specs.slot_heap.Heaps.{Heap, words_at}
 use Rattle.numbered_cells.specs.Follows.{handled, IsThere, Follows}
 use Rattle.handled_runs.specs.Changes.{row_with}
 use Rattle.handled_runs.specs.Beside.{Numbers}

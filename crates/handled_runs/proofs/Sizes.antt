@@ -1,9 +1,9 @@
 -- The sizes of the cells that were made stay what they are.
 use Rattle.std.proofs.Common.{◌≡◌, refl, sym, ap, ◌∙◌, ℕ, zero, suc, ◌+◌, ◌≤◌, List, [], ◌∷◌, ◌++◌, length, slice_get, Some}
-use Rattle.run_values.specs.declared.value.Value.{Value}
-use Rattle.kept_cells.specs.Cells as numbered
-use Rattle.kept_cells.specs.Cells.{Cell}
-use Rattle.run_codes.specs.Flat.{spliced}
+use Rattle.numbered_cells.specs.run_values.declared.value.Value.{Value}
+use Rattle.numbered_cells.specs.kept_cells.Cells as numbered
+use Rattle.numbered_cells.specs.kept_cells.Cells.{Cell}
+use Rattle.numbered_cells.specs.run_codes.Flat.{spliced}
 use Rattle.handled_runs.specs.Beside.{sizes_of}
 use Rattle.handled_runs.specs.Marks.{ValuesUnmarked, CellsUnmarked}
 use Rattle.handled_runs.proofs.Lists.{spliced_is, replaced_long}

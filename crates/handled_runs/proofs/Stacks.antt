@@ -1,9 +1,9 @@
 -- What is stored in the stack, and moved out of it, is so over both heaps.
 use Rattle.std.proofs.Common.{◌≡◌, refl, sym, ap, ◌∙◌, subst, ℕ, ◌+◌, ◌≤◌, arith, Bool, true, false, nat_le, List, [], ◌∷◌, zero, suc, drop, length, ℤ, if◌then◌else◌}
 use Rattle.std.proofs.lemmas.Bool.Decides.{nat_tests}
-use Rattle.run_values.specs.declared.value.Kind.{Kind}
-use Rattle.run_codes.specs.Flat.{Flat, Got, Given, Stops, Broken, and_then, spliced, all_gone, are_pointers, InStack}
-use Rattle.run_codes.specs.Flat as flat
+use Rattle.numbered_cells.specs.run_values.declared.value.Kind.{Kind}
+use Rattle.numbered_cells.specs.run_codes.Flat.{Flat, Got, Given, Stops, Broken, and_then, spliced, all_gone, are_pointers, InStack}
+use Rattle.numbered_cells.specs.run_codes.Flat as flat
 use Rattle.handled_runs.specs.Slots.{Slots}
 use Rattle.handled_runs.specs.Slots as slots
 use Rattle.handled_runs.specs.Changes.{stored, emptied, all_null}

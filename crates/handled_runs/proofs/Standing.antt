@@ -1,11 +1,11 @@
 -- What stands at a spot is the same over both heaps, but for the names of cells.
 use Rattle.std.proofs.Common.{◌≡◌, refl, sym, ap, ◌∙◌, subst, ℕ, zero, suc, ◌+◌, Bool, true, false, ◌&&◌, nat_lt, List, [], ◌∷◌, map, length, drop, get_or, ℤ, pos, negsuc, if◌then◌else◌}
-use Rattle.run_values.specs.declared.value.Value.{Value}
-use Rattle.run_values.specs.declared.value.Kind.{Kind}
-use Rattle.run_values.specs.declared.value.Kind.TheVariants as sort
-use Rattle.run_values.specs.Values.{kind}
-use Rattle.run_codes.specs.Flat.{Flat, Got, Given, Stops, Broken, and_then, most_offsets, same_kind, have_kinds, is_word, word_of, words_in, as_fresh, all_fresh, touched, front_of_cell, InStack, InCell}
-use Rattle.run_codes.specs.Flat as flat
+use Rattle.numbered_cells.specs.run_values.declared.value.Value.{Value}
+use Rattle.numbered_cells.specs.run_values.declared.value.Kind.{Kind}
+use Rattle.numbered_cells.specs.run_values.declared.value.Kind.TheVariants as sort
+use Rattle.numbered_cells.specs.run_values.Values.{kind}
+use Rattle.numbered_cells.specs.run_codes.Flat.{Flat, Got, Given, Stops, Broken, and_then, most_offsets, same_kind, have_kinds, is_word, word_of, words_in, as_fresh, all_fresh, touched, front_of_cell, InStack, InCell}
+use Rattle.numbered_cells.specs.run_codes.Flat as flat
 use Rattle.numbered_cells.specs.Follows.{handled, IsThere}
 use Rattle.handled_runs.specs.Slots.{Slots, slot_word, cell_words}
 use Rattle.handled_runs.specs.Slots as slots

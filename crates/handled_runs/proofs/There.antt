@@ -1,13 +1,13 @@
 -- What is held at a spot, stored there and moved from there is alike over both heaps.
 use Rattle.std.proofs.Common.{◌≡◌, refl, sym, ap, ◌∙◌, subst, ℕ, zero, suc, ◌+◌, ◌≤◌, arith, Option, Some, None, get_or, ◌++◌, Bool, true, false, ◌&&◌, nat_le, nat_lt, List, [], ◌∷◌, take, drop, length, slice_get, ℤ, if◌then◌else◌}
-use Rattle.run_values.specs.declared.value.Value.{Value}
-use Rattle.run_values.specs.declared.value.Kind.{Kind}
-use Rattle.machine.specs.Evaluate.{Touched}
-use Rattle.kept_cells.specs.Cells as numbered
-use Rattle.kept_cells.specs.Cells.{Cell}
+use Rattle.numbered_cells.specs.run_values.declared.value.Value.{Value}
+use Rattle.numbered_cells.specs.run_values.declared.value.Kind.{Kind}
+use Rattle.numbered_cells.specs.machine.Evaluate.{Touched}
+use Rattle.numbered_cells.specs.kept_cells.Cells as numbered
+use Rattle.numbered_cells.specs.kept_cells.Cells.{Cell}
 use Rattle.numbered_cells.specs.Follows.{IsThere}
-use Rattle.run_codes.specs.Flat.{Flat, Made, Done, Halted, Got, Given, Stops, Broken, Stop, Raises, Traps, Memory, Spot, InStack, InCell, and_then, is_word, all_fresh, words_in, have_kinds, most_offsets, touched, front_of_cell, are_words, are_pointers, are_in, all_gone, with_words, values, values_gone, spliced}
-use Rattle.run_codes.specs.Flat as flat
+use Rattle.numbered_cells.specs.run_codes.Flat.{Flat, Made, Done, Halted, Got, Given, Stops, Broken, Stop, Raises, Traps, Memory, Spot, InStack, InCell, and_then, is_word, all_fresh, words_in, have_kinds, most_offsets, touched, front_of_cell, are_words, are_pointers, are_in, all_gone, with_words, values, values_gone, spliced}
+use Rattle.numbered_cells.specs.run_codes.Flat as flat
 use Rattle.handled_runs.specs.Slots.{Slots}
 use Rattle.handled_runs.specs.Slots as slots
 use Rattle.handled_runs.specs.Changes.{cell_stored, stored, emptied}

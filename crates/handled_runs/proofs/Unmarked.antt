@@ -1,16 +1,16 @@
 -- Without its marks a memory gives the same, but for the marks.
 use Rattle.std.proofs.Common.{◌≡◌, refl, sym, ap, ◌∙◌, subst, ℕ, zero, suc, ◌+◌, Bool, true, false, not, ◌&&◌, nat_le, nat_lt, List, [], ◌∷◌, map, drop, length, slice_get, Some, ℤ, pos, negsuc, if◌then◌else◌}
 use Rattle.std.specs.Prelude.{unsigned_abs}
-use Rattle.run_values.specs.declared.value.Value.{Value}
-use Rattle.run_values.specs.declared.value.Kind.{Kind}
-use Rattle.run_values.specs.declared.value.Kind.TheVariants as sort
-use Rattle.run_values.specs.Values.{kind}
-use Rattle.run_values.specs.Items.{at_end}
-use Rattle.machine.specs.Evaluate.{Touched}
-use Rattle.kept_cells.specs.Cells.{Cell}
-use Rattle.run_codes.specs.Codes.{Code, Number, Local, Global, Via, Scaled, Plus, Unary, Binary, Short, IsNull, Waiting, EndOfFile, Nothing, Place, InFrame, InPackages, Behind}
-use Rattle.run_codes.specs.Flat.{Flat, Got, Given, Stops, Broken, Traps, and_then, found, truth, is_zero, access, operated, operated_alone, decides, offset, scaled, is_word, as_fresh, all_fresh, word_of, words_in, same_kind, have_kinds, most_cells, most_offsets, touched, value_word, behind, behind_at, are_in, front_of_cell, word, indexes, Spot, InStack, InCell, spot, stack_spot, cell_spot, words_at, held}
-use Rattle.run_codes.specs.Flat as flat
+use Rattle.numbered_cells.specs.run_values.declared.value.Value.{Value}
+use Rattle.numbered_cells.specs.run_values.declared.value.Kind.{Kind}
+use Rattle.numbered_cells.specs.run_values.declared.value.Kind.TheVariants as sort
+use Rattle.numbered_cells.specs.run_values.Values.{kind}
+use Rattle.numbered_cells.specs.run_values.Items.{at_end}
+use Rattle.numbered_cells.specs.machine.Evaluate.{Touched}
+use Rattle.numbered_cells.specs.kept_cells.Cells.{Cell}
+use Rattle.numbered_cells.specs.run_codes.Codes.{Code, Number, Local, Global, Via, Scaled, Plus, Unary, Binary, Short, IsNull, Waiting, EndOfFile, Nothing, Place, InFrame, InPackages, Behind}
+use Rattle.numbered_cells.specs.run_codes.Flat.{Flat, Got, Given, Stops, Broken, Traps, and_then, found, truth, is_zero, access, operated, operated_alone, decides, offset, scaled, is_word, as_fresh, all_fresh, word_of, words_in, same_kind, have_kinds, most_cells, most_offsets, touched, value_word, behind, behind_at, are_in, front_of_cell, word, indexes, Spot, InStack, InCell, spot, stack_spot, cell_spot, words_at, held}
+use Rattle.numbered_cells.specs.run_codes.Flat as flat
 use Rattle.handled_runs.specs.Beside.{mapped}
 use Rattle.handled_runs.specs.Looks.{IsData, Looks, LooksAt, IsFront, IsKeptAs, AreKept, IsClear}
 use Rattle.handled_runs.specs.Alike.{StandAt}

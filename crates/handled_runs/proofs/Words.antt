@@ -1,12 +1,12 @@
 -- The law: codes give the same over both heaps, but for the names of cells.
 use Rattle.std.proofs.Common.{◌≡◌, refl, sym, ap, ◌∙◌, subst, ℕ, ◌+◌, Bool, true, false, not, List, slice_get, Some, ℤ, if◌then◌else◌}
 use Rattle.std.specs.Prelude.{unsigned_abs}
-use Rattle.run_values.specs.declared.value.Kind.{Kind}
-use Rattle.run_values.specs.declared.value.Kind.TheVariants as sort
-use Rattle.run_values.specs.Items.{at_end}
-use Rattle.run_codes.specs.Codes.{Code, Number, Local, Global, Via, Scaled, Plus, Unary, Binary, Short, IsNull, Waiting, EndOfFile, Nothing}
-use Rattle.run_codes.specs.Flat.{Flat, Got, Given, and_then, found, truth, is_zero, operated, operated_alone, decides, offset, scaled}
-use Rattle.run_codes.specs.Flat as flat
+use Rattle.numbered_cells.specs.run_values.declared.value.Kind.{Kind}
+use Rattle.numbered_cells.specs.run_values.declared.value.Kind.TheVariants as sort
+use Rattle.numbered_cells.specs.run_values.Items.{at_end}
+use Rattle.numbered_cells.specs.run_codes.Codes.{Code, Number, Local, Global, Via, Scaled, Plus, Unary, Binary, Short, IsNull, Waiting, EndOfFile, Nothing}
+use Rattle.numbered_cells.specs.run_codes.Flat.{Flat, Got, Given, and_then, found, truth, is_zero, operated, operated_alone, decides, offset, scaled}
+use Rattle.numbered_cells.specs.run_codes.Flat as flat
 use Rattle.handled_runs.specs.Slots.{Slots}
 use Rattle.handled_runs.specs.Slots as slots
 use Rattle.handled_runs.specs.Beside.{GotsAlike, handle_word, renamed, Beside}

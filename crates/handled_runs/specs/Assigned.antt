@@ -1,14 +1,14 @@
 -- What stores and releases change: over numbers, as points do it, and over a heap that uses its slots again.
 use Rattle.std.specs.Prelude.{◌≡◌, ℕ, List, [], Option, Some, None, ℤ}
-use Rattle.spark_base.specs.declared.position.Pos.{Pos}
-use Rattle.type_definitions.specs.Types.{Table}
-use Rattle.run_values.specs.declared.value.Kind.{Kind}
-use Rattle.machine.specs.Words.{access_offsets}
-use Rattle.machine.specs.States.{Leak}
-use Rattle.run_codes.specs.Codes.{Place}
-use Rattle.run_codes.specs.Flat.{Flat, Got, Given, Stops, Broken, Stop, Traps, and_then, kinds, are_pointers, most_cells, Spot, InStack, InCell}
-use Rattle.run_codes.specs.Flat as flat
-use Rattle.run_codes.specs.Points as points
+use Rattle.numbered_cells.specs.spark_base.declared.position.Pos.{Pos}
+use Rattle.numbered_cells.specs.type_definitions.Types.{Table}
+use Rattle.numbered_cells.specs.run_values.declared.value.Kind.{Kind}
+use Rattle.numbered_cells.specs.machine.Words.{access_offsets}
+use Rattle.numbered_cells.specs.machine.States.{Leak}
+use Rattle.numbered_cells.specs.run_codes.Codes.{Place}
+use Rattle.numbered_cells.specs.run_codes.Flat.{Flat, Got, Given, Stops, Broken, Stop, Traps, and_then, kinds, are_pointers, most_cells, Spot, InStack, InCell}
+use Rattle.numbered_cells.specs.run_codes.Flat as flat
+use Rattle.numbered_cells.specs.run_codes.Points as points
 use Rattle.handled_runs.specs.Slots.{Slots, spot}
 use Rattle.handled_runs.specs.Changes.{stored, settled}
 use Rattle.handled_runs.specs.Leaks.{leaks_at, AreLeaked}

@@ -1,10 +1,10 @@
 -- How words over a heap that uses its slots again follow those over numbers that are never used again.
 use Rattle.std.specs.Prelude.{◌≡◌, ◌<◌, ℕ, zero, suc, List, [], ◌∷◌, map, length, get_or, ℤ, pos, negsuc}
-use Rattle.run_values.specs.declared.value.Value.{Value}
-use Rattle.run_values.specs.declared.value.Kind.{Kind}
-use Rattle.run_values.specs.declared.value.Kind.TheVariants as sort
-use Rattle.run_codes.specs.Flat.{Flat, Got, Given, Stops, Broken, Stop, Raises, Traps, Memory, Spot, InStack, InCell}
-use Rattle.kept_cells.specs.Cells.{Cell}
+use Rattle.numbered_cells.specs.run_values.declared.value.Value.{Value}
+use Rattle.numbered_cells.specs.run_values.declared.value.Kind.{Kind}
+use Rattle.numbered_cells.specs.run_values.declared.value.Kind.TheVariants as sort
+use Rattle.numbered_cells.specs.run_codes.Flat.{Flat, Got, Given, Stops, Broken, Stop, Raises, Traps, Memory, Spot, InStack, InCell}
+use Rattle.numbered_cells.specs.kept_cells.Cells.{Cell}
 use Rattle.numbered_cells.specs.Follows.{IsThere, Follows}
 use Rattle.handled_runs.specs.Fits.{AreSmall}
 use Rattle.handled_runs.specs.Slots.{Slots}

@@ -1,12 +1,12 @@
 -- What changes in words over a heap that uses its slots again.
 use Rattle.std.specs.Prelude.{ℕ, zero, suc, ◌+◌, ◌-◌, ◌==◌, ◌&&◌, List, [], ◌∷◌, ◌++◌, drop, length, nat_le, Option, Some, None, ℤ, pos, unsigned_abs, if◌then◌else◌}
-use Rattle.run_values.specs.declared.value.Value.{Value}
-use Rattle.run_values.specs.declared.value.Value.TheVariants as value
-use Rattle.run_values.specs.declared.value.Kind.{Kind}
-use Rattle.run_values.specs.declared.value.Kind.TheVariants as sort
-use Rattle.machine.specs.Memory.{Peak, at_number, greatest}
-use Rattle.slot_heap.specs.Heaps.{Heap, words_at, live_count, allocated, written, released}
-use Rattle.run_codes.specs.Flat.{Got, Given, Broken, and_then, spliced, have_kinds, are_pointers, Spot, InStack, InCell}
+use Rattle.numbered_cells.specs.run_values.declared.value.Value.{Value}
+use Rattle.numbered_cells.specs.run_values.declared.value.Value.TheVariants as value
+use Rattle.numbered_cells.specs.run_values.declared.value.Kind.{Kind}
+use Rattle.numbered_cells.specs.run_values.declared.value.Kind.TheVariants as sort
+use Rattle.numbered_cells.specs.machine.Memory.{Peak, at_number, greatest}
+use Rattle.numbered_cells.specs.slot_heap.Heaps.{Heap, words_at, live_count, allocated, written, released}
+use Rattle.numbered_cells.specs.run_codes.Flat.{Got, Given, Broken, and_then, spliced, have_kinds, are_pointers, Spot, InStack, InCell}
 use Rattle.handled_runs.specs.Fits.{are_slot_words}
 use Rattle.handled_runs.specs.Slots.{Move, Slots, front}
 

@@ -1,8 +1,8 @@
 -- Words that fit their kinds.
 use Rattle.std.specs.Prelude.{◌<◌, ℕ, Bool, true, false, ◌&&◌, List, [], ◌∷◌, get_or, nat_le, ℤ, pos, unsigned_abs, int_le}
-use Rattle.run_values.specs.declared.value.Kind.{Kind}
-use Rattle.run_values.specs.declared.value.Kind.TheVariants as sort
-use Rattle.run_values.specs.Arithmetic.{is_integer}
+use Rattle.numbered_cells.specs.run_values.declared.value.Kind.{Kind}
+use Rattle.numbered_cells.specs.run_values.declared.value.Kind.TheVariants as sort
+use Rattle.numbered_cells.specs.run_values.Arithmetic.{is_integer}
 
 -- Handles stay below this.
 abbrev pub most_handles : ℕ

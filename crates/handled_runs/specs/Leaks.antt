@@ -1,12 +1,12 @@
 -- Leak checks over a heap that uses its slots again. They tell the number of a handle.
 use Rattle.std.specs.Prelude.{ℕ, zero, suc, List, [], ◌∷◌, flat_map, get_or, ℤ, pos, negsuc}
-use Rattle.spark_base.specs.declared.position.Pos.{Pos}
-use Rattle.type_definitions.specs.Types.{Table}
-use Rattle.run_values.specs.declared.value.Value.{Value}
-use Rattle.machine.specs.Words.{access_offsets}
-use Rattle.machine.specs.States.{Leak}
-use Rattle.kept_cells.specs.Cells.{Cell}
-use Rattle.run_codes.specs.Flat.{Got, Given, and_then, kinds, Spot}
+use Rattle.numbered_cells.specs.spark_base.declared.position.Pos.{Pos}
+use Rattle.numbered_cells.specs.type_definitions.Types.{Table}
+use Rattle.numbered_cells.specs.run_values.declared.value.Value.{Value}
+use Rattle.numbered_cells.specs.machine.Words.{access_offsets}
+use Rattle.numbered_cells.specs.machine.States.{Leak}
+use Rattle.numbered_cells.specs.kept_cells.Cells.{Cell}
+use Rattle.numbered_cells.specs.run_codes.Flat.{Got, Given, and_then, kinds, Spot}
 use Rattle.numbered_cells.specs.Follows.{IsThere}
 use Rattle.handled_runs.specs.Slots.{Slots, held}
 

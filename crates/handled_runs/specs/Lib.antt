@@ -17,3 +17,12 @@ pub mod Leaks
 pub mod Assigned
 -- cells that are released
 pub mod Released
+-- libraries that the crates above name through this one
+pub use Rattle.numbered_cells.specs.run_codes
+pub use Rattle.numbered_cells.specs as numbered_cells
+pub use Rattle.numbered_cells.specs.slot_heap
+pub use Rattle.numbered_cells.specs.kept_cells
+pub use Rattle.numbered_cells.specs.run_values
+pub use Rattle.numbered_cells.specs.type_definitions
+pub use Rattle.numbered_cells.specs.machine
+pub use Rattle.numbered_cells.specs.spark_base

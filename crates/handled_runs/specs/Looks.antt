@@ -2,12 +2,12 @@
 --
 -- Each word that it reads has the kind that the code is of, and none of a memory is gone.
 use Rattle.std.specs.Prelude.{◌≡◌, ◌+◌, ℕ, List, [], ◌∷◌, map, slice_get, Some, ℤ, pos, negsuc, unsigned_abs}
-use Rattle.run_values.specs.declared.value.Kind.{Kind}
-use Rattle.run_values.specs.declared.value.Kind.TheVariants as sort
-use Rattle.run_codes.specs.Codes.{Code, Number, Local, Global, Via, Scaled, Plus, Unary, Binary, Short, IsNull, Waiting, EndOfFile, Nothing, Place, InFrame, InPackages, Behind}
-use Rattle.run_values.specs.Values.{kind}
-use Rattle.kept_cells.specs.Cells.{Cell}
-use Rattle.run_codes.specs.Flat.{Flat, Given, word, words_in}
+use Rattle.numbered_cells.specs.run_values.declared.value.Kind.{Kind}
+use Rattle.numbered_cells.specs.run_values.declared.value.Kind.TheVariants as sort
+use Rattle.numbered_cells.specs.run_codes.Codes.{Code, Number, Local, Global, Via, Scaled, Plus, Unary, Binary, Short, IsNull, Waiting, EndOfFile, Nothing, Place, InFrame, InPackages, Behind}
+use Rattle.numbered_cells.specs.run_values.Values.{kind}
+use Rattle.numbered_cells.specs.kept_cells.Cells.{Cell}
+use Rattle.numbered_cells.specs.run_codes.Flat.{Flat, Given, word, words_in}
 
 -- A kind of words that name no cell.
 abbrev pub IsData : Kind → Type 0

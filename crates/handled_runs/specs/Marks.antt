@@ -1,11 +1,11 @@
 -- Memories in the course of a point: over numbers with marks of what it has moved so far, over a heap that uses its
 -- slots again with notes of it.
 use Rattle.std.specs.Prelude.{◌≡◌, ◌≤◌, ◌<◌, ℕ, List, [], ◌∷◌, map, drop, length}
-use Rattle.run_values.specs.declared.value.Value.{Value}
-use Rattle.run_values.specs.declared.value.Kind.{Kind}
-use Rattle.run_values.specs.Values.{kind}
-use Rattle.kept_cells.specs.Cells.{Cell}
-use Rattle.run_codes.specs.Flat.{Flat, Given, Spot, InStack, InCell, as_fresh, all_fresh, word_of, moved_out}
+use Rattle.numbered_cells.specs.run_values.declared.value.Value.{Value}
+use Rattle.numbered_cells.specs.run_values.declared.value.Kind.{Kind}
+use Rattle.numbered_cells.specs.run_values.Values.{kind}
+use Rattle.numbered_cells.specs.kept_cells.Cells.{Cell}
+use Rattle.numbered_cells.specs.run_codes.Flat.{Flat, Given, Spot, InStack, InCell, as_fresh, all_fresh, word_of, moved_out}
 use Rattle.handled_runs.specs.Slots.{Slots, Move}
 use Rattle.handled_runs.specs.Beside.{spot_renamed, Beside}
 use Rattle.handled_runs.specs.Looks.{IsFront, AreKept}

@@ -1,18 +1,18 @@
 -- What a release changes: over numbers, as points do it, and over a heap that uses its slots again.
 use Rattle.std.specs.Prelude.{◌≡◌, ℕ, zero, suc, List, [], ◌∷◌, length, nat_lt, slice_get, Option, Some, None, ℤ, pos, negsuc, unsigned_abs, if◌then◌else◌}
-use Rattle.spark_base.specs.declared.position.Pos.{Pos}
-use Rattle.type_definitions.specs.Types.{Table}
-use Rattle.run_values.specs.declared.value.Value.{Value}
-use Rattle.run_values.specs.declared.value.Kind.{Kind}
-use Rattle.run_values.specs.declared.value.Kind.TheVariants as sort
-use Rattle.machine.specs.Words.{access_offsets}
-use Rattle.machine.specs.Evaluate.{Twice}
-use Rattle.slot_heap.specs.Heaps.{words_at}
-use Rattle.kept_cells.specs.Cells.{Cell}
-use Rattle.run_codes.specs.Codes.{Place}
-use Rattle.run_codes.specs.Flat.{Flat, Got, Given, Stops, Broken, Traps, and_then, kinds, most_cells, Spot, InCell}
-use Rattle.run_codes.specs.Flat as flat
-use Rattle.run_codes.specs.Points as points
+use Rattle.numbered_cells.specs.spark_base.declared.position.Pos.{Pos}
+use Rattle.numbered_cells.specs.type_definitions.Types.{Table}
+use Rattle.numbered_cells.specs.run_values.declared.value.Value.{Value}
+use Rattle.numbered_cells.specs.run_values.declared.value.Kind.{Kind}
+use Rattle.numbered_cells.specs.run_values.declared.value.Kind.TheVariants as sort
+use Rattle.numbered_cells.specs.machine.Words.{access_offsets}
+use Rattle.numbered_cells.specs.machine.Evaluate.{Twice}
+use Rattle.numbered_cells.specs.slot_heap.Heaps.{words_at}
+use Rattle.numbered_cells.specs.kept_cells.Cells.{Cell}
+use Rattle.numbered_cells.specs.run_codes.Codes.{Place}
+use Rattle.numbered_cells.specs.run_codes.Flat.{Flat, Got, Given, Stops, Broken, Traps, and_then, kinds, most_cells, Spot, InCell}
+use Rattle.numbered_cells.specs.run_codes.Flat as flat
+use Rattle.numbered_cells.specs.run_codes.Points as points
 use Rattle.handled_runs.specs.Slots.{Slots, spot, held}
 use Rattle.handled_runs.specs.Changes.{stored, without_cell}
 use Rattle.handled_runs.specs.Leaks.{leaks_at, AreLeaked}

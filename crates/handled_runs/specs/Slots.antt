@@ -4,15 +4,15 @@
 -- place that an access value was moved from holds null. What a point moves is noted until its last check is made: so
 -- it reads what stood there before, and one that stops has nothing to put back.
 use Rattle.std.specs.Prelude.{ℕ, zero, suc, ◌+◌, not, List, [], ◌∷◌, drop, length, map, slice_get, nat_lt, nat_le, Option, Some, None, ℤ, pos, unsigned_abs, if◌then◌else◌}
-use Rattle.run_values.specs.declared.value.Value.{Value}
-use Rattle.run_values.specs.declared.value.Value.TheVariants as value
-use Rattle.run_values.specs.declared.value.Kind.{Kind}
-use Rattle.run_values.specs.Values.{kind}
-use Rattle.run_values.specs.Items.{at_end}
-use Rattle.machine.specs.Memory.{Peak}
-use Rattle.slot_heap.specs.Heaps.{Heap, word_at, words_at}
-use Rattle.run_codes.specs.Codes.{Code, Number, Local, Global, Via, Scaled, Plus, Unary, Binary, Short, IsNull, Waiting, EndOfFile, Nothing, Place, InFrame, InPackages, Behind}
-use Rattle.run_codes.specs.Flat.{Got, Given, Stops, Broken, and_then, found, same_kind, have_kinds, most_offsets, constraint, truth, is_zero, operated, operated_alone, decides, offset, scaled, Spot, InStack, InCell}
+use Rattle.numbered_cells.specs.run_values.declared.value.Value.{Value}
+use Rattle.numbered_cells.specs.run_values.declared.value.Value.TheVariants as value
+use Rattle.numbered_cells.specs.run_values.declared.value.Kind.{Kind}
+use Rattle.numbered_cells.specs.run_values.Values.{kind}
+use Rattle.numbered_cells.specs.run_values.Items.{at_end}
+use Rattle.numbered_cells.specs.machine.Memory.{Peak}
+use Rattle.numbered_cells.specs.slot_heap.Heaps.{Heap, word_at, words_at}
+use Rattle.numbered_cells.specs.run_codes.Codes.{Code, Number, Local, Global, Via, Scaled, Plus, Unary, Binary, Short, IsNull, Waiting, EndOfFile, Nothing, Place, InFrame, InPackages, Behind}
+use Rattle.numbered_cells.specs.run_codes.Flat.{Got, Given, Stops, Broken, and_then, found, same_kind, have_kinds, most_offsets, constraint, truth, is_zero, operated, operated_alone, decides, offset, scaled, Spot, InStack, InCell}
 
 -- Words of these kinds stand at a spot, and the access values at some offsets are moved from there.
 pub record Move : Type 0 where

@@ -3,14 +3,14 @@
 -- Which handle a new cell gets, and whether there is memory for it, the heap decides. So this says of each outcome
 -- whether it may come.
 use Rattle.std.specs.Prelude.{◌≡◌, ◌<◌, ℕ, suc, ◌+◌, Bool, true, false, List, [], ◌∷◌, ◌++◌, drop, length, nat_le, nat_lt, None, ℤ, pos}
-use Rattle.type_definitions.specs.Types.{Table}
-use Rattle.run_values.specs.declared.value.Kind.{Kind}
-use Rattle.run_values.specs.declared.value.Kind.TheVariants as sort
-use Rattle.machine.specs.Words.{access_offsets}
-use Rattle.machine.specs.Evaluate.{StorageError, heap_words}
-use Rattle.slot_heap.specs.Heaps.{words_at}
-use Rattle.run_codes.specs.Codes.{Fill, Checked, Pointer, MovedPointer, Copied, Moved, Waited, New, Default, Repeated, Both, Empty}
-use Rattle.run_codes.specs.Flat.{Got, Given, Stops, Broken, Stop, Spot, Raises, Memory, and_then, most_cells, kinds, checked, default_words, repeated, some_words}
+use Rattle.numbered_cells.specs.type_definitions.Types.{Table}
+use Rattle.numbered_cells.specs.run_values.declared.value.Kind.{Kind}
+use Rattle.numbered_cells.specs.run_values.declared.value.Kind.TheVariants as sort
+use Rattle.numbered_cells.specs.machine.Words.{access_offsets}
+use Rattle.numbered_cells.specs.machine.Evaluate.{StorageError, heap_words}
+use Rattle.numbered_cells.specs.slot_heap.Heaps.{words_at}
+use Rattle.numbered_cells.specs.run_codes.Codes.{Fill, Checked, Pointer, MovedPointer, Copied, Moved, Waited, New, Default, Repeated, Both, Empty}
+use Rattle.numbered_cells.specs.run_codes.Flat.{Got, Given, Stops, Broken, Stop, Spot, Raises, Memory, and_then, most_cells, kinds, checked, default_words, repeated, some_words}
 use Rattle.handled_runs.specs.Fits.{most_handles, are_slot_words}
 use Rattle.handled_runs.specs.Slots.{Slots, word, spot, held}
 use Rattle.handled_runs.specs.Changes.{moving, made}

@@ -2,17 +2,17 @@
 use Rattle.std.proofs.Common.{◌≡◌, refl, sym, ap, ◌∙◌, subst, ℕ, zero, suc, ◌+◌, ◌≤◌, arith, Bool, true, false, nat_le, List, [], ◌∷◌, ◌++◌, take, drop, length, Option, Some, None, ℤ, if◌then◌else◌}
 use Rattle.std.specs.Prelude.{sum}
 use mathlib.Core.Logic.{inl, inr}
-use Rattle.type_definitions.specs.Types.{Table, full}
-use Rattle.run_values.specs.declared.value.Kind.{Kind}
-use Rattle.machine.specs.Words.{access_offsets}
-use Rattle.machine.specs.Evaluate.{StorageError}
-use Rattle.machine.specs.States.{Leak, stack_words}
-use Rattle.run_codes.specs.Codes.{Actual, Sub}
-use Rattle.run_codes.specs.Flat.{Flat, Got, Given, Stops, Broken, Raises, Stop, Made, Done, Halted, Failed, and_then, kinds, Spot, InStack, InCell}
-use Rattle.run_codes.specs.Flat as flat
-use Rattle.run_codes.proofs.Places.{given_on}
-use Rattle.run_codes.specs.Points.{Return, Frame, Passed, Value, FromSpot, ToSpot, frames_words, return_of, returns_of, sub_at}
-use Rattle.run_codes.specs.Points as points
+use Rattle.handled_runs.specs.type_definitions.Types.{Table, full}
+use Rattle.handled_runs.specs.run_values.declared.value.Kind.{Kind}
+use Rattle.handled_runs.specs.machine.Words.{access_offsets}
+use Rattle.handled_runs.specs.machine.Evaluate.{StorageError}
+use Rattle.handled_runs.specs.machine.States.{Leak, stack_words}
+use Rattle.handled_runs.specs.run_codes.Codes.{Actual, Sub}
+use Rattle.handled_runs.specs.run_codes.Flat.{Flat, Got, Given, Stops, Broken, Raises, Stop, Made, Done, Halted, Failed, and_then, kinds, Spot, InStack, InCell}
+use Rattle.handled_runs.specs.run_codes.Flat as flat
+use Rattle.handled_runs.proofs.run_codes.Places.{given_on}
+use Rattle.handled_runs.specs.run_codes.Points.{Return, Frame, Passed, Value, FromSpot, ToSpot, frames_words, return_of, returns_of, sub_at}
+use Rattle.handled_runs.specs.run_codes.Points as points
 use Rattle.handled_runs.specs.Slots.{Slots, Move}
 use Rattle.handled_runs.specs.Slots as slots
 use Rattle.handled_runs.specs.Changes.{stored, moving}

@@ -1,14 +1,14 @@
 -- Points that choose what comes next, over both heaps.
 use Rattle.std.proofs.Common.{◌≡◌, refl, sym, ap, subst, ℕ, Bool, List, [], ◌∷◌, ◌++◌, length, drop, Option, Some, None, ℤ}
-use Rattle.type_definitions.specs.Types.{Table}
-use Rattle.type_definitions.specs.Entries.{boolean}
-use Rattle.run_values.specs.declared.value.Kind.{Kind}
-use Rattle.machine.specs.Evaluate.{ProgramError}
-use Rattle.run_codes.specs.Codes.{Code, Choice}
-use Rattle.run_codes.specs.Flat.{Flat, Given, Raises, and_then, constraint, kinds}
-use Rattle.run_codes.specs.Flat as flat
-use Rattle.run_codes.specs.Points.{Held, chosen, truth_held}
-use Rattle.run_codes.specs.Points as points
+use Rattle.handled_runs.specs.type_definitions.Types.{Table}
+use Rattle.handled_runs.specs.type_definitions.Entries.{boolean}
+use Rattle.handled_runs.specs.run_values.declared.value.Kind.{Kind}
+use Rattle.handled_runs.specs.machine.Evaluate.{ProgramError}
+use Rattle.handled_runs.specs.run_codes.Codes.{Code, Choice}
+use Rattle.handled_runs.specs.run_codes.Flat.{Flat, Given, Raises, and_then, constraint, kinds}
+use Rattle.handled_runs.specs.run_codes.Flat as flat
+use Rattle.handled_runs.specs.run_codes.Points.{Held, chosen, truth_held}
+use Rattle.handled_runs.specs.run_codes.Points as points
 use Rattle.handled_runs.specs.Slots.{Slots}
 use Rattle.handled_runs.specs.Slots as slots
 use Rattle.handled_runs.specs.Beside.{all_renamed, NameWords, Beside}

@@ -1,16 +1,16 @@
 -- Over a heap that uses its slots again nothing changes where null stands for what is gone.
 use Rattle.std.proofs.Common.{◌≡◌, refl, sym, ap, ◌∙◌, subst, ℕ, zero, suc, ◌+◌, Bool, true, false, ◌==◌, nat_lt, List, [], ◌∷◌, map, length, get_or, Some, ℤ, pos, negsuc, if◌then◌else◌}
 use Rattle.std.proofs.lemmas.List.{length-map}
-use Rattle.type_definitions.specs.Types.{Table}
-use Rattle.run_values.specs.declared.value.Value.{Value}
-use Rattle.run_values.specs.declared.value.Value.TheVariants as value
-use Rattle.run_values.specs.declared.value.Kind.{Kind}
-use Rattle.run_values.specs.declared.value.Kind.TheVariants as sort
-use Rattle.kept_cells.specs.Cells.{Cell}
-use Rattle.slot_heap.specs.Heaps.{Heap}
-use Rattle.numbered_cells.specs.Follows.{handled, IsThere, Names, AllName, one_there, there_count, Follows}
-use Rattle.run_codes.specs.Flat.{Flat, gone_from}
-use Rattle.run_codes.specs.Points as points
+use Rattle.handled_runs.specs.type_definitions.Types.{Table}
+use Rattle.handled_runs.specs.run_values.declared.value.Value.{Value}
+use Rattle.handled_runs.specs.run_values.declared.value.Value.TheVariants as value
+use Rattle.handled_runs.specs.run_values.declared.value.Kind.{Kind}
+use Rattle.handled_runs.specs.run_values.declared.value.Kind.TheVariants as sort
+use Rattle.handled_runs.specs.kept_cells.Cells.{Cell}
+use Rattle.handled_runs.specs.slot_heap.Heaps.{Heap}
+use Rattle.handled_runs.specs.numbered_cells.Follows.{handled, IsThere, Names, AllName, one_there, there_count, Follows}
+use Rattle.handled_runs.specs.run_codes.Flat.{Flat, gone_from}
+use Rattle.handled_runs.specs.run_codes.Points as points
 use Rattle.handled_runs.specs.Slots.{Slots}
 use Rattle.handled_runs.specs.Beside.{renamed, all_renamed, NamesWord, NameWords, sizes_of, Beside}
 use Rattle.handled_steps.specs.States.{State}

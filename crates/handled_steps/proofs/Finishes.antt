@@ -1,13 +1,13 @@
 -- The ends of calls, over both heaps.
 use Rattle.std.proofs.Common.{◌≡◌, refl, sym, ap, ◌∙◌, subst, ℕ, suc, ◌+◌, Bool, true, false, List, [], ◌∷◌, ◌++◌, arith, take, length, ℤ, if◌then◌else◌}
-use Rattle.type_definitions.specs.Types.{Table}
-use Rattle.run_values.specs.declared.value.Kind.{Kind}
-use Rattle.machine.specs.Words.{access_offsets}
-use Rattle.machine.specs.States.{Normal}
-use Rattle.run_codes.specs.Flat.{Flat, Got, Given, Stops, Broken, Made, Halted, and_then, constraint, kinds, reads, Spot, InStack}
-use Rattle.run_codes.specs.Flat as flat
-use Rattle.run_codes.specs.Points.{Return, Frame, fits}
-use Rattle.run_codes.specs.Points as points
+use Rattle.handled_runs.specs.type_definitions.Types.{Table}
+use Rattle.handled_runs.specs.run_values.declared.value.Kind.{Kind}
+use Rattle.handled_runs.specs.machine.Words.{access_offsets}
+use Rattle.handled_runs.specs.machine.States.{Normal}
+use Rattle.handled_runs.specs.run_codes.Flat.{Flat, Got, Given, Stops, Broken, Made, Halted, and_then, constraint, kinds, reads, Spot, InStack}
+use Rattle.handled_runs.specs.run_codes.Flat as flat
+use Rattle.handled_runs.specs.run_codes.Points.{Return, Frame, fits}
+use Rattle.handled_runs.specs.run_codes.Points as points
 use Rattle.handled_runs.specs.Slots.{Slots}
 use Rattle.handled_runs.specs.Slots as slots
 use Rattle.handled_runs.specs.Changes.{with_stack, stored}

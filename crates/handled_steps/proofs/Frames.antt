@@ -1,11 +1,11 @@
 -- Frames that are pushed and given back, over both heaps.
 use Rattle.std.proofs.Common.{◌≡◌, refl, sym, ap, ◌∙◌, ℕ, zero, suc, List, [], ◌∷◌, ◌++◌, take, length, ℤ}
-use Rattle.type_definitions.specs.Types.{Table}
-use Rattle.run_values.specs.declared.value.Kind.{Kind}
-use Rattle.run_codes.specs.Codes.{Sub}
-use Rattle.run_codes.specs.Flat.{Flat}
-use Rattle.run_codes.specs.Points.{template}
-use Rattle.run_codes.specs.Points as points
+use Rattle.handled_runs.specs.type_definitions.Types.{Table}
+use Rattle.handled_runs.specs.run_values.declared.value.Kind.{Kind}
+use Rattle.handled_runs.specs.run_codes.Codes.{Sub}
+use Rattle.handled_runs.specs.run_codes.Flat.{Flat}
+use Rattle.handled_runs.specs.run_codes.Points.{template}
+use Rattle.handled_runs.specs.run_codes.Points as points
 use Rattle.handled_runs.specs.Slots.{Slots}
 use Rattle.handled_runs.specs.Changes.{with_stack}
 use Rattle.handled_runs.specs.Beside.{all_renamed, Beside}

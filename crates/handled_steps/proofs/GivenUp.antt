@@ -1,15 +1,15 @@
 -- What a step that stops leaves is alike over both heaps.
 use Rattle.std.proofs.Common.{◌≡◌, refl, sym, ap, ◌∙◌, ℕ, zero, suc, ◌+◌, ◌-◌, ◌<◌, ◌≤◌, arith, Bool, true, false, true≢false, nat_lt, List, [], ◌∷◌, ◌++◌, map, drop, length, length-append, get_or, Some, if◌then◌else◌}
 use Rattle.std.proofs.lemmas.List.{get_or_append_left, length-map, map-append}
-use Rattle.run_values.specs.declared.value.Value.{Value}
-use Rattle.run_values.specs.declared.value.Value.TheVariants as value
-use Rattle.run_values.specs.declared.value.Kind.{Kind}
-use Rattle.kept_cells.specs.Cells.{Cell}
-use Rattle.slot_heap.specs.Heaps.{Heap, words_at}
-use Rattle.run_codes.specs.Flat.{Flat, gone_from}
-use Rattle.run_codes.specs.Points.{as_freed}
-use Rattle.run_codes.specs.Points as points
-use Rattle.numbered_cells.specs.Follows.{handled, IsThere, Names, AllName, there_count, Back, Follows}
+use Rattle.handled_runs.specs.run_values.declared.value.Value.{Value}
+use Rattle.handled_runs.specs.run_values.declared.value.Value.TheVariants as value
+use Rattle.handled_runs.specs.run_values.declared.value.Kind.{Kind}
+use Rattle.handled_runs.specs.kept_cells.Cells.{Cell}
+use Rattle.handled_runs.specs.slot_heap.Heaps.{Heap, words_at}
+use Rattle.handled_runs.specs.run_codes.Flat.{Flat, gone_from}
+use Rattle.handled_runs.specs.run_codes.Points.{as_freed}
+use Rattle.handled_runs.specs.run_codes.Points as points
+use Rattle.handled_runs.specs.numbered_cells.Follows.{handled, IsThere, Names, AllName, there_count, Back, Follows}
 use Rattle.handled_runs.specs.Slots.{Slots}
 use Rattle.handled_runs.specs.Marks.{During}
 use Rattle.handled_runs.proofs.Copies.{unmarked_long}

@@ -1,12 +1,12 @@
 -- What is read and stored is alike over both heaps.
 use Rattle.std.proofs.Common.{◌≡◌, sym, ap, ◌∙◌, subst, ℕ, zero, suc, ◌+◌, arith, ◌&&◌, nat_lt, Bool, true, false, nat_le, List, [], drop, length, slice_get, Some, ℤ, if◌then◌else◌}
 use Rattle.std.specs.Prelude.{unsigned_abs}
-use Rattle.run_values.specs.declared.value.Kind.{Kind}
-use Rattle.kept_cells.specs.Cells.{Cell}
-use Rattle.run_codes.specs.Codes.{Code, Place, InFrame, InPackages, Behind}
-use Rattle.run_codes.specs.Flat.{Flat, Got, Given, Stops, Broken, Stop, and_then, found, most_cells, most_offsets, touched, spliced, Spot, InStack, InCell}
-use Rattle.run_codes.specs.Flat as flat
-use Rattle.run_codes.specs.Points as points
+use Rattle.handled_runs.specs.run_values.declared.value.Kind.{Kind}
+use Rattle.handled_runs.specs.kept_cells.Cells.{Cell}
+use Rattle.handled_runs.specs.run_codes.Codes.{Code, Place, InFrame, InPackages, Behind}
+use Rattle.handled_runs.specs.run_codes.Flat.{Flat, Got, Given, Stops, Broken, Stop, and_then, found, most_cells, most_offsets, touched, spliced, Spot, InStack, InCell}
+use Rattle.handled_runs.specs.run_codes.Flat as flat
+use Rattle.handled_runs.specs.run_codes.Points as points
 use Rattle.handled_runs.specs.Slots.{Slots}
 use Rattle.handled_runs.specs.Slots as slots
 use Rattle.handled_runs.specs.Changes.{stored}

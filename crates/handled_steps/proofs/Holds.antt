@@ -1,10 +1,10 @@
 -- Points that hand a result to the caller, over both heaps.
 use Rattle.std.proofs.Common.{refl, ap, ℕ, suc, List, [], ◌∷◌, ◌++◌, take, Option, Some, None, ℤ}
-use Rattle.run_values.specs.declared.value.Kind.{Kind}
-use Rattle.run_codes.specs.Codes.{Fill}
-use Rattle.run_codes.specs.Flat.{Flat, kinds}
-use Rattle.run_codes.specs.Points.{Held, Frame, given_to}
-use Rattle.run_codes.specs.Points as points
+use Rattle.handled_runs.specs.run_values.declared.value.Kind.{Kind}
+use Rattle.handled_runs.specs.run_codes.Codes.{Fill}
+use Rattle.handled_runs.specs.run_codes.Flat.{Flat, kinds}
+use Rattle.handled_runs.specs.run_codes.Points.{Held, Frame, given_to}
+use Rattle.handled_runs.specs.run_codes.Points as points
 use Rattle.handled_runs.specs.Slots.{Slots}
 use Rattle.handled_runs.specs.Beside.{all_renamed, Beside}
 use Rattle.handled_runs.specs.Alike.{LooksFill}

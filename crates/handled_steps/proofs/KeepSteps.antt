@@ -1,19 +1,19 @@
 -- The law: what changes over the heap keep of counts, steps keep.
 use Rattle.std.proofs.Common.{◌≡◌, refl, sym, subst, ℕ, ◌+◌, Bool, true, false, not, ◌&&◌, nat_le, List, [], ◌∷◌, ◌++◌, take, drop, length, slice_get, Option, Some, None, ℤ, pos, if◌then◌else◌}
 use Rattle.std.specs.Prelude.{int_le}
-use Rattle.type_definitions.specs.Types.{Table}
-use Rattle.run_values.specs.declared.value.Kind.{Kind}
-use Rattle.run_values.specs.declared.value.Kind.TheVariants as sort
-use Rattle.run_values.specs.declared.items.Item.{Item}
-use Rattle.run_values.specs.declared.items.Item.TheVariants as item
-use Rattle.run_values.specs.Items.{next_item}
-use Rattle.machine.specs.Words.{access_offsets}
-use Rattle.machine.specs.Evaluate.{ProgramError, StorageError, DataError, EndError}
-use Rattle.machine.specs.States.{Leak, stack_words}
-use Rattle.run_codes.specs.Codes.{Fill, Actual, ByValue, From, To, Place, Does, Go, Put, Store, Assign, Call, Output, Input, Release, Test, Choose, Start, Next, EvaluateLeft, EvaluateRight, Hold, EndPointer, EndScope, Finish, Fall, Point, Sub}
-use Rattle.run_codes.specs.Flat.{Got, Given, Stops, Broken, Stop, Raises, Traps, Memory, and_then, found, kinds, constraint, default_words, is_between, is_zero, Spot, InStack}
-use Rattle.run_codes.specs.Points.{Held, Return, Frame, Passed, Value, FromSpot, ToSpot, fits, frames_words, sub_at, chosen, truth_held, given_to, next_value}
-use Rattle.run_codes.specs.Programs.{Program}
+use Rattle.handled_runs.specs.type_definitions.Types.{Table}
+use Rattle.handled_runs.specs.run_values.declared.value.Kind.{Kind}
+use Rattle.handled_runs.specs.run_values.declared.value.Kind.TheVariants as sort
+use Rattle.handled_runs.specs.run_values.declared.items.Item.{Item}
+use Rattle.handled_runs.specs.run_values.declared.items.Item.TheVariants as item
+use Rattle.handled_runs.specs.run_values.Items.{next_item}
+use Rattle.handled_runs.specs.machine.Words.{access_offsets}
+use Rattle.handled_runs.specs.machine.Evaluate.{ProgramError, StorageError, DataError, EndError}
+use Rattle.handled_runs.specs.machine.States.{Leak, stack_words}
+use Rattle.handled_runs.specs.run_codes.Codes.{Fill, Actual, ByValue, From, To, Place, Does, Go, Put, Store, Assign, Call, Output, Input, Release, Test, Choose, Start, Next, EvaluateLeft, EvaluateRight, Hold, EndPointer, EndScope, Finish, Fall, Point, Sub}
+use Rattle.handled_runs.specs.run_codes.Flat.{Got, Given, Stops, Broken, Stop, Raises, Traps, Memory, and_then, found, kinds, constraint, default_words, is_between, is_zero, Spot, InStack}
+use Rattle.handled_runs.specs.run_codes.Points.{Held, Return, Frame, Passed, Value, FromSpot, ToSpot, fits, frames_words, sub_at, chosen, truth_held, given_to, next_value}
+use Rattle.handled_runs.specs.run_codes.Programs.{Program}
 use Rattle.handled_runs.specs.Slots.{Slots, word, spot, held}
 use Rattle.handled_runs.specs.Changes.{with_stack, stored, moving, settled}
 use Rattle.handled_runs.specs.Values as values

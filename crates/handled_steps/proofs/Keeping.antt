@@ -1,19 +1,19 @@
 -- What changes over the heap keeps, of counts of cells and slots.
 use Rattle.std.proofs.Common.{◌≡◌, refl, sym, subst, ℕ, zero, suc, ◌+◌, ◌&&◌, Bool, true, false, nat_le, List, [], ◌∷◌, ◌++◌, drop, length, Option, Some, None, ℤ, pos, if◌then◌else◌}
 use Rattle.std.specs.Prelude.{unsigned_abs}
-use Rattle.spark_base.specs.declared.position.Pos.{Pos}
-use Rattle.type_definitions.specs.Types.{Table}
-use Rattle.run_values.specs.declared.value.Value.{Value}
-use Rattle.run_values.specs.declared.value.Value.TheVariants as value
-use Rattle.run_values.specs.declared.value.Kind.{Kind}
-use Rattle.run_values.specs.declared.value.Kind.TheVariants as sort
-use Rattle.machine.specs.Words.{access_offsets}
-use Rattle.machine.specs.Evaluate.{heap_words}
-use Rattle.machine.specs.States.{Leak}
-use Rattle.machine.specs.Memory.{Peak}
-use Rattle.slot_heap.specs.Heaps.{Heap, words_at, written, allocated, released as freed}
-use Rattle.run_codes.specs.Codes.{Place, Fill, Checked, Pointer, MovedPointer, Copied, Moved, Waited, New, Default, Repeated, Both, Empty}
-use Rattle.run_codes.specs.Flat.{Got, Given, Stops, Broken, and_then, checked, some_words, repeated, kinds, spliced, have_kinds, are_pointers, Spot, InStack, InCell}
+use Rattle.handled_runs.specs.spark_base.declared.position.Pos.{Pos}
+use Rattle.handled_runs.specs.type_definitions.Types.{Table}
+use Rattle.handled_runs.specs.run_values.declared.value.Value.{Value}
+use Rattle.handled_runs.specs.run_values.declared.value.Value.TheVariants as value
+use Rattle.handled_runs.specs.run_values.declared.value.Kind.{Kind}
+use Rattle.handled_runs.specs.run_values.declared.value.Kind.TheVariants as sort
+use Rattle.handled_runs.specs.machine.Words.{access_offsets}
+use Rattle.handled_runs.specs.machine.Evaluate.{heap_words}
+use Rattle.handled_runs.specs.machine.States.{Leak}
+use Rattle.handled_runs.specs.machine.Memory.{Peak}
+use Rattle.handled_runs.specs.slot_heap.Heaps.{Heap, words_at, written, allocated, released as freed}
+use Rattle.handled_runs.specs.run_codes.Codes.{Place, Fill, Checked, Pointer, MovedPointer, Copied, Moved, Waited, New, Default, Repeated, Both, Empty}
+use Rattle.handled_runs.specs.run_codes.Flat.{Got, Given, Stops, Broken, and_then, checked, some_words, repeated, kinds, spliced, have_kinds, are_pointers, Spot, InStack, InCell}
 use Rattle.handled_runs.specs.Fits.{are_slot_words}
 use Rattle.handled_runs.specs.Slots.{Move, Slots, word, spot, held, front}
 use Rattle.handled_runs.specs.Changes.{slot_values, written_all, cell_stored, stored, nulled, cell_emptied, emptied, all_null, with_peak, without_cell, with_stack, moving, all_emptied, settled}

@@ -1,13 +1,13 @@
 -- Points of `for` loops, over both heaps.
 use Rattle.std.proofs.Common.{◌≡◌, refl, sym, ap, ◌∙◌, subst, ℕ, zero, suc, ◌+◌, arith, Bool, true, false, not, ◌&&◌, nat_le, List, [], ◌∷◌, ◌++◌, drop, length, slice_get, Option, Some, None, ℤ, pos, if◌then◌else◌}
 use Rattle.std.specs.Prelude.{int_le}
-use Rattle.run_values.specs.declared.value.Kind.{Kind}
-use Rattle.run_values.specs.declared.value.Kind.TheVariants as sort
-use Rattle.run_codes.specs.Codes.{Code}
-use Rattle.run_codes.specs.Flat.{Flat, Got, Given, Stops, Broken, and_then, found, constraint, is_between, spliced, InStack}
-use Rattle.run_codes.specs.Flat as flat
-use Rattle.run_codes.specs.Points.{next_value}
-use Rattle.run_codes.specs.Points as points
+use Rattle.handled_runs.specs.run_values.declared.value.Kind.{Kind}
+use Rattle.handled_runs.specs.run_values.declared.value.Kind.TheVariants as sort
+use Rattle.handled_runs.specs.run_codes.Codes.{Code}
+use Rattle.handled_runs.specs.run_codes.Flat.{Flat, Got, Given, Stops, Broken, and_then, found, constraint, is_between, spliced, InStack}
+use Rattle.handled_runs.specs.run_codes.Flat as flat
+use Rattle.handled_runs.specs.run_codes.Points.{next_value}
+use Rattle.handled_runs.specs.run_codes.Points as points
 use Rattle.handled_runs.specs.Slots.{Slots}
 use Rattle.handled_runs.specs.Slots as slots
 use Rattle.handled_runs.specs.Beside.{GotsAlike, Beside}

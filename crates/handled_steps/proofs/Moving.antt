@@ -1,13 +1,13 @@
 -- Spots that are reached, and bounds of values, over both heaps.
 use Rattle.std.proofs.Common.{◌≡◌, refl, sym, ap, ◌∙◌, subst, ℕ, List, [], ◌∷◌, length, slice_get, ℤ}
-use Rattle.type_definitions.specs.declared.judgement.View.{View}
-use Rattle.type_definitions.specs.declared.judgement.View.TheVariants as view
-use Rattle.type_definitions.specs.Types.{Table, full}
-use Rattle.run_values.specs.declared.value.Kind.{Kind}
-use Rattle.kept_cells.specs.Cells.{Cell}
-use Rattle.run_codes.specs.Flat.{Flat, Given, Stops, Stop, touched, Spot, InStack, InCell}
-use Rattle.run_codes.specs.Points.{within_bounds, fits}
-use Rattle.run_codes.specs.Points as points
+use Rattle.handled_runs.specs.type_definitions.declared.judgement.View.{View}
+use Rattle.handled_runs.specs.type_definitions.declared.judgement.View.TheVariants as view
+use Rattle.handled_runs.specs.type_definitions.Types.{Table, full}
+use Rattle.handled_runs.specs.run_values.declared.value.Kind.{Kind}
+use Rattle.handled_runs.specs.kept_cells.Cells.{Cell}
+use Rattle.handled_runs.specs.run_codes.Flat.{Flat, Given, Stops, Stop, touched, Spot, InStack, InCell}
+use Rattle.handled_runs.specs.run_codes.Points.{within_bounds, fits}
+use Rattle.handled_runs.specs.run_codes.Points as points
 use Rattle.handled_runs.specs.Beside.{IsSilent, all_renamed}
 use Rattle.handled_runs.proofs.Gots.{there_of, touch_silent}
 use Rattle.handled_runs.proofs.Words.{data_renamed}

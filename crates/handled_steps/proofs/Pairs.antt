@@ -3,9 +3,9 @@ use Rattle.std.proofs.Common.{◌≡◌, refl, sym, ap, ◌∙◌, subst, ℕ, z
 use Rattle.std.specs.Prelude.{flat_map}
 use Rattle.std.proofs.lemmas.List.{get_or_append_left}
 use mathlib.Core.List.{reverse, reverse-cons}
-use Rattle.type_definitions.specs.Types.{Table}
-use Rattle.run_codes.specs.Flat.{Spot, InStack, InCell, kinds}
-use Rattle.run_codes.specs.Points.{Held, Return, Frame}
+use Rattle.handled_runs.specs.type_definitions.Types.{Table}
+use Rattle.handled_runs.specs.run_codes.Flat.{Spot, InStack, InCell, kinds}
+use Rattle.handled_runs.specs.run_codes.Points.{Held, Return, Frame}
 use Rattle.handled_runs.specs.Beside.{all_renamed, spot_renamed, NameWords, NamesSpot}
 use Rattle.handled_runs.proofs.Cells.{words_on, names_on}
 use Rattle.handled_runs.proofs.Outcomes.{renamed_append, names_append}

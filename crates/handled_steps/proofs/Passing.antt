@@ -1,13 +1,13 @@
 -- Actuals that are passed, over both heaps.
 use Rattle.std.proofs.Common.{◌≡◌, refl, sym, ap, ◌∙◌, subst, ℕ, arith, Bool, true, false, List, [], ◌∷◌, ◌++◌, append_assoc, append-nil, length, ℤ, if◌then◌else◌}
 use mathlib.Core.Logic.{◌⊎◌, inl, inr}
-use Rattle.type_definitions.specs.Types.{Table, full}
-use Rattle.run_values.specs.declared.value.Kind.{Kind}
-use Rattle.run_codes.specs.Codes.{Place, Actual, ByValue, From, To}
-use Rattle.run_codes.specs.Flat.{Flat, Got, Given, Stops, Broken, Stop, Raises, Traps, Memory, Made, Done, Halted, Failed, made_then, constraint, kinds, filled, Spot, InStack, InCell}
-use Rattle.run_codes.specs.Flat as flat
-use Rattle.run_codes.specs.Points.{Passed, Value, FromSpot, ToSpot, fits}
-use Rattle.run_codes.specs.Points as points
+use Rattle.handled_runs.specs.type_definitions.Types.{Table, full}
+use Rattle.handled_runs.specs.run_values.declared.value.Kind.{Kind}
+use Rattle.handled_runs.specs.run_codes.Codes.{Place, Actual, ByValue, From, To}
+use Rattle.handled_runs.specs.run_codes.Flat.{Flat, Got, Given, Stops, Broken, Stop, Raises, Traps, Memory, Made, Done, Halted, Failed, made_then, constraint, kinds, filled, Spot, InStack, InCell}
+use Rattle.handled_runs.specs.run_codes.Flat as flat
+use Rattle.handled_runs.specs.run_codes.Points.{Passed, Value, FromSpot, ToSpot, fits}
+use Rattle.handled_runs.specs.run_codes.Points as points
 use Rattle.handled_runs.specs.Slots.{Slots}
 use Rattle.handled_runs.specs.Slots as slots
 use Rattle.handled_runs.specs.Values as values

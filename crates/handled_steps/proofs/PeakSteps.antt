@@ -1,11 +1,11 @@
 -- The laws: steps and runs over the heap keep the slots as the greatest counts.
 use Rattle.std.proofs.Common.{sym, subst, ℕ, zero, suc, List}
-use Rattle.type_definitions.specs.Types.{Table}
-use Rattle.slot_heap.proofs.Greatest.{enough-written, enough-released, enough-allocated}
-use Rattle.numbered_cells.specs.Peaks.{ArePeaks}
-use Rattle.numbered_cells.proofs.Peaks.{peaks-allocated}
-use Rattle.run_codes.specs.Points.{Frame}
-use Rattle.run_codes.specs.Programs.{Program}
+use Rattle.handled_runs.specs.type_definitions.Types.{Table}
+use Rattle.handled_runs.proofs.slot_heap.Greatest.{enough-written, enough-released, enough-allocated}
+use Rattle.handled_runs.specs.numbered_cells.Peaks.{ArePeaks}
+use Rattle.handled_runs.proofs.numbered_cells.Peaks.{peaks-allocated}
+use Rattle.handled_runs.specs.run_codes.Points.{Frame}
+use Rattle.handled_runs.specs.run_codes.Programs.{Program}
 use Rattle.handled_runs.specs.Slots.{Slots}
 use Rattle.handled_steps.specs.States.{State, Outcome, Goes, Ends, Wants, Fails}
 use Rattle.handled_steps.specs.Steps.{Stepped, Then, Within}

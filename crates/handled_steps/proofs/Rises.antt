@@ -3,17 +3,17 @@ use Rattle.std.proofs.Common.{◌≡◌, refl, sym, ap, ◌∙◌, subst, ℕ, z
 use Rattle.std.proofs.lemmas.Bool.{cases_eq}
 use Rattle.std.proofs.lemmas.Bool.Decides.{nat_tests}
 use Rattle.std.proofs.Math.Seq.{drop-append_seam, drop-length}
-use Rattle.type_definitions.specs.Types.{Table}
-use Rattle.run_values.specs.declared.value.Value.{Value}
-use Rattle.machine.specs.Memory.{Peak}
-use Rattle.slot_heap.specs.Heaps.{Heap, live_count, slot_count, written, allocated, released}
-use Rattle.slot_heap.proofs.Heaps.{live_count-changed}
-use Rattle.slot_heap.proofs.Made.{live_count-new_same, live_count-new_other}
-use Rattle.slot_heap.proofs.Greatest.{live_count-without}
-use Rattle.numbered_cells.specs.Peaks.{peak_of}
-use Rattle.numbered_cells.proofs.Peaks.{greatest_same, greatest_other}
-use Rattle.run_codes.specs.Points.{Frame}
-use Rattle.run_codes.specs.Programs.{Program}
+use Rattle.handled_runs.specs.type_definitions.Types.{Table}
+use Rattle.handled_runs.specs.run_values.declared.value.Value.{Value}
+use Rattle.handled_runs.specs.machine.Memory.{Peak}
+use Rattle.handled_runs.specs.slot_heap.Heaps.{Heap, live_count, slot_count, written, allocated, released}
+use Rattle.handled_runs.proofs.slot_heap.Heaps.{live_count-changed}
+use Rattle.handled_runs.proofs.slot_heap.Made.{live_count-new_same, live_count-new_other}
+use Rattle.handled_runs.proofs.slot_heap.Greatest.{live_count-without}
+use Rattle.handled_runs.specs.numbered_cells.Peaks.{peak_of}
+use Rattle.handled_runs.proofs.numbered_cells.Peaks.{greatest_same, greatest_other}
+use Rattle.handled_runs.specs.run_codes.Points.{Frame}
+use Rattle.handled_runs.specs.run_codes.Programs.{Program}
 use Rattle.handled_runs.specs.Slots.{Slots}
 use Rattle.handled_runs.specs.Changes.{with_peak}
 use Rattle.handled_steps.specs.States.{State, Outcome, Goes, Ends, Wants, Fails}

@@ -1,18 +1,18 @@
 -- The laws: whole runs are alike over both heaps, and what they give is the same.
 use Rattle.std.proofs.Common.{◌≡◌, refl, sym, ap, ◌∙◌, subst, ℕ, ◌+◌, arith, Bool, true, false, nat_le, List, [], ◌∷◌, ◌++◌, length, Option, Some, None, if◌then◌else◌}
 use mathlib.Core.Logic.{◌⊎◌, inl, inr}
-use Rattle.spark_base.specs.declared.position.Pos.{Pos}
-use Rattle.type_definitions.specs.Types.{Table}
-use Rattle.run_values.specs.declared.value.Kind.{Kind}
-use Rattle.machine.specs.Evaluate.{StorageError}
-use Rattle.machine.specs.States.{Ending, Normal, Raised, Spent, Trapped, stack_words}
-use Rattle.run_codes.specs.Flat.{Flat}
-use Rattle.run_codes.specs.Points.{Frame, Ran, sub_at, run_with, run_of, run_given, is_declaring, lowered_run}
-use Rattle.run_codes.specs.Points as points
-use Rattle.run_codes.specs.Programs.{Program}
-use Rattle.slot_heap.proofs.Greatest.{enough-none}
-use Rattle.numbered_cells.proofs.Numbering.{follows-none}
-use Rattle.numbered_cells.proofs.Peaks.{peaks-none}
+use Rattle.handled_runs.specs.spark_base.declared.position.Pos.{Pos}
+use Rattle.handled_runs.specs.type_definitions.Types.{Table}
+use Rattle.handled_runs.specs.run_values.declared.value.Kind.{Kind}
+use Rattle.handled_runs.specs.machine.Evaluate.{StorageError}
+use Rattle.handled_runs.specs.machine.States.{Ending, Normal, Raised, Spent, Trapped, stack_words}
+use Rattle.handled_runs.specs.run_codes.Flat.{Flat}
+use Rattle.handled_runs.specs.run_codes.Points.{Frame, Ran, sub_at, run_with, run_of, run_given, is_declaring, lowered_run}
+use Rattle.handled_runs.specs.run_codes.Points as points
+use Rattle.handled_runs.specs.run_codes.Programs.{Program}
+use Rattle.handled_runs.proofs.slot_heap.Greatest.{enough-none}
+use Rattle.handled_runs.proofs.numbered_cells.Numbering.{follows-none}
+use Rattle.handled_runs.proofs.numbered_cells.Peaks.{peaks-none}
 use Rattle.handled_runs.specs.Slots.{Slots}
 use Rattle.handled_runs.specs.Beside.{Beside}
 use Rattle.handled_runs.proofs.Places.{as_long}

@@ -1,16 +1,16 @@
 -- Points that release a cell, and the ends of scopes, over both heaps.
 use Rattle.std.proofs.Common.{◌≡◌, refl, sym, ap, ◌∙◌, subst, ℕ, zero, suc, ◌+◌, Bool, true, false, nat_lt, append-nil, List, [], ◌∷◌, ◌++◌, drop, length, slice_get, Option, Some, None, ℤ, pos, if◌then◌else◌}
 use Rattle.std.specs.Prelude.{unsigned_abs}
-use Rattle.spark_base.specs.declared.position.Pos.{Pos}
-use Rattle.run_values.specs.declared.value.Kind.{Kind}
-use Rattle.run_values.specs.declared.value.Kind.TheVariants as sort
-use Rattle.machine.specs.Evaluate.{Twice}
-use Rattle.machine.specs.States.{Leak}
-use Rattle.kept_cells.specs.Cells.{Cell}
-use Rattle.run_codes.specs.Codes.{Place}
-use Rattle.run_codes.specs.Flat.{Flat, Got, Given, Stops, Broken, Traps, and_then, found, kinds, most_cells, default_words, Spot, InStack, InCell}
-use Rattle.run_codes.specs.Flat as flat
-use Rattle.run_codes.specs.Points as points
+use Rattle.handled_runs.specs.spark_base.declared.position.Pos.{Pos}
+use Rattle.handled_runs.specs.run_values.declared.value.Kind.{Kind}
+use Rattle.handled_runs.specs.run_values.declared.value.Kind.TheVariants as sort
+use Rattle.handled_runs.specs.machine.Evaluate.{Twice}
+use Rattle.handled_runs.specs.machine.States.{Leak}
+use Rattle.handled_runs.specs.kept_cells.Cells.{Cell}
+use Rattle.handled_runs.specs.run_codes.Codes.{Place}
+use Rattle.handled_runs.specs.run_codes.Flat.{Flat, Got, Given, Stops, Broken, Traps, and_then, found, kinds, most_cells, default_words, Spot, InStack, InCell}
+use Rattle.handled_runs.specs.run_codes.Flat as flat
+use Rattle.handled_runs.specs.run_codes.Points as points
 use Rattle.handled_runs.specs.Slots.{Slots}
 use Rattle.handled_runs.specs.Leaks.{leak, leaks_at, IsLeaked}
 use Rattle.handled_runs.specs.Assigned.{Left, AreLeft}

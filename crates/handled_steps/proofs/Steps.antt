@@ -1,12 +1,12 @@
 -- The laws: steps and runs are alike over both heaps.
 use Rattle.std.proofs.Common.{◌≡◌, refl, sym, subst, ℕ, zero, suc, Bool, true, false, List, [], ◌∷◌, ◌++◌, append_assoc, append-nil, slice_get, Option, Some, None, if◌then◌else◌}
-use Rattle.type_definitions.specs.Types.{Table}
-use Rattle.run_values.specs.declared.value.Kind.{Kind}
-use Rattle.machine.specs.States.{Ending, Normal, Raised, Spent, Trapped}
-use Rattle.run_codes.specs.Codes.{Does, Go, Put, Store, Assign, Call, Output, Input, Release, Test, Choose, Start, Next, EvaluateLeft, EvaluateRight, Hold, EndPointer, EndScope, Finish, Fall, Point}
-use Rattle.run_codes.specs.Points.{Frame}
-use Rattle.run_codes.specs.Points as points
-use Rattle.run_codes.specs.Programs.{Program}
+use Rattle.handled_runs.specs.type_definitions.Types.{Table}
+use Rattle.handled_runs.specs.run_values.declared.value.Kind.{Kind}
+use Rattle.handled_runs.specs.machine.States.{Ending, Normal, Raised, Spent, Trapped}
+use Rattle.handled_runs.specs.run_codes.Codes.{Does, Go, Put, Store, Assign, Call, Output, Input, Release, Test, Choose, Start, Next, EvaluateLeft, EvaluateRight, Hold, EndPointer, EndScope, Finish, Fall, Point}
+use Rattle.handled_runs.specs.run_codes.Points.{Frame}
+use Rattle.handled_runs.specs.run_codes.Points as points
+use Rattle.handled_runs.specs.run_codes.Programs.{Program}
 use Rattle.handled_steps.specs.States.{State, Outcome, Goes, Ends, Wants, Fails, Turn, are_taken}
 use Rattle.handled_steps.specs.Steps.{Done, Turned, SteppedAt, Stepped, Then, Within}
 use Rattle.handled_steps.specs.Alike.{Paired, FrameAlike, StatesAlike, EndsAlike, OutcomesAlike, kinds_after}

@@ -1,11 +1,11 @@
 -- Points that store a value, over both heaps.
 use Rattle.std.proofs.Common.{◌≡◌, refl, sym, subst, ℕ, ◌+◌, List, [], ◌∷◌, ◌++◌, drop, Option, ℤ}
-use Rattle.spark_base.specs.declared.position.Pos.{Pos}
-use Rattle.run_values.specs.declared.value.Kind.{Kind}
-use Rattle.run_codes.specs.Codes.{Place, Fill}
-use Rattle.run_codes.specs.Flat.{Flat, Given, Done, Spot, kinds}
-use Rattle.run_codes.specs.Flat as flat
-use Rattle.run_codes.specs.Points as points
+use Rattle.handled_runs.specs.spark_base.declared.position.Pos.{Pos}
+use Rattle.handled_runs.specs.run_values.declared.value.Kind.{Kind}
+use Rattle.handled_runs.specs.run_codes.Codes.{Place, Fill}
+use Rattle.handled_runs.specs.run_codes.Flat.{Flat, Given, Done, Spot, kinds}
+use Rattle.handled_runs.specs.run_codes.Flat as flat
+use Rattle.handled_runs.specs.run_codes.Points as points
 use Rattle.handled_runs.specs.Slots.{Slots}
 use Rattle.handled_runs.specs.Slots as slots
 use Rattle.handled_runs.specs.Changes.{stored}

@@ -2,19 +2,19 @@
 use Rattle.std.proofs.Common.{refl, sym, subst, ℕ, zero, suc, List, [], ◌∷◌, ◌++◌, map, length, slice_get, ℤ}
 use Rattle.std.specs.Prelude.{flat_map}
 use Rattle.std.proofs.lemmas.List.{map-append}
-use Rattle.type_definitions.specs.declared.table.Component.{Component}
-use Rattle.type_definitions.specs.declared.table.Shape.{Shape}
-use Rattle.type_definitions.specs.declared.table.Shape.TheVariants as shape
-use Rattle.type_definitions.specs.Types.{Table, shape_found, span}
-use Rattle.run_values.specs.declared.value.Kind.{Kind}
-use Rattle.machine.specs.Words.{Word, access_offsets, default, default_of, default_within}
-use Rattle.machine.specs.Words as machine
-use Rattle.machine.specs.Typed.{Sort, sorts, sorts_of, sorts_within, repeated_sorts}
-use Rattle.run_codes.specs.Codes.{Room, Object, Counter, Sub}
-use Rattle.run_codes.specs.Flat.{kind_of, kinds, untagged, default_words}
-use Rattle.run_codes.specs.Points.{room_words, template}
-use Rattle.run_codes.specs.Related.{IsTable}
-use Rattle.run_codes.proofs.Moves.{pointers_there}
+use Rattle.handled_runs.specs.type_definitions.declared.table.Component.{Component}
+use Rattle.handled_runs.specs.type_definitions.declared.table.Shape.{Shape}
+use Rattle.handled_runs.specs.type_definitions.declared.table.Shape.TheVariants as shape
+use Rattle.handled_runs.specs.type_definitions.Types.{Table, shape_found, span}
+use Rattle.handled_runs.specs.run_values.declared.value.Kind.{Kind}
+use Rattle.handled_runs.specs.machine.Words.{Word, access_offsets, default, default_of, default_within}
+use Rattle.handled_runs.specs.machine.Words as machine
+use Rattle.handled_runs.specs.machine.Typed.{Sort, sorts, sorts_of, sorts_within, repeated_sorts}
+use Rattle.handled_runs.specs.run_codes.Codes.{Room, Object, Counter, Sub}
+use Rattle.handled_runs.specs.run_codes.Flat.{kind_of, kinds, untagged, default_words}
+use Rattle.handled_runs.specs.run_codes.Points.{room_words, template}
+use Rattle.handled_runs.specs.run_codes.Related.{IsTable}
+use Rattle.handled_runs.proofs.run_codes.Moves.{pointers_there}
 use Rattle.handled_runs.specs.Alike.{AreNumbers}
 use Rattle.handled_steps.specs.Alike.{room_kinds, frame_kinds}
 use Rattle.handled_steps.specs.Looks.{HavePointers}

@@ -2,18 +2,18 @@
 use Rattle.std.proofs.Common.{◌≡◌, refl, sym, ap, ◌∙◌, subst, ℕ, Bool, true, false, List, [], ◌∷◌, ◌++◌, map, get_or, Option, ℤ, if◌then◌else◌}
 use Rattle.std.specs.Prelude.{unsigned_abs}
 use Rattle.std.specs.Char.{to_ascii_uppercase}
-use Rattle.type_definitions.specs.Types.{shape_of}
-use Rattle.run_values.specs.declared.value.Kind.{Kind}
-use Rattle.run_values.specs.declared.value.Kind.TheVariants as sort
-use Rattle.run_values.specs.declared.items.Item.{Item}
-use Rattle.run_values.specs.declared.items.Item.TheVariants as item
-use Rattle.run_values.specs.Images.{image}
-use Rattle.run_values.specs.Items.{next_item}
-use Rattle.machine.specs.Evaluate.{DataError, EndError, literals}
-use Rattle.run_codes.specs.Codes.{Code, Place, Piece, Bytes, NumberImage, LiteralImage}
-use Rattle.run_codes.specs.Flat.{Flat, Got, Given, Raises, and_then, constraint, is_between, Spot}
-use Rattle.run_codes.specs.Flat as flat
-use Rattle.run_codes.specs.Points as points
+use Rattle.handled_runs.specs.type_definitions.Types.{shape_of}
+use Rattle.handled_runs.specs.run_values.declared.value.Kind.{Kind}
+use Rattle.handled_runs.specs.run_values.declared.value.Kind.TheVariants as sort
+use Rattle.handled_runs.specs.run_values.declared.items.Item.{Item}
+use Rattle.handled_runs.specs.run_values.declared.items.Item.TheVariants as item
+use Rattle.handled_runs.specs.run_values.Images.{image}
+use Rattle.handled_runs.specs.run_values.Items.{next_item}
+use Rattle.handled_runs.specs.machine.Evaluate.{DataError, EndError, literals}
+use Rattle.handled_runs.specs.run_codes.Codes.{Code, Place, Piece, Bytes, NumberImage, LiteralImage}
+use Rattle.handled_runs.specs.run_codes.Flat.{Flat, Got, Given, Raises, and_then, constraint, is_between, Spot}
+use Rattle.handled_runs.specs.run_codes.Flat as flat
+use Rattle.handled_runs.specs.run_codes.Points as points
 use Rattle.handled_runs.specs.Slots.{Slots}
 use Rattle.handled_runs.specs.Slots as slots
 use Rattle.handled_runs.specs.Changes.{stored}

@@ -2,14 +2,14 @@
 use Rattle.std.proofs.Common.{◌≡◌, refl, sym, ap, subst, ℕ, zero, suc, ◌==◌, List, [], ◌∷◌, ◌++◌, append-nil, take, drop, length, Option, Some, None, ℤ}
 use Rattle.std.specs.Cmp.Lexicographic.{pointwise}
 use mathlib.Core.Logic.{inl, inr}
-use Rattle.type_definitions.specs.Types.{Table}
-use Rattle.run_values.specs.declared.value.Kind.{Kind}
-use Rattle.machine.specs.States.{Leak, Normal, Raised, Spent, Trapped}
-use Rattle.run_codes.specs.Codes.{Point}
-use Rattle.run_codes.specs.Flat.{Flat, Got, Given, Stops, Broken, Stop, Raises, Traps, Memory, Made, Done, Halted, Failed}
-use Rattle.run_codes.specs.Points.{Held, Frame, sub_at}
-use Rattle.run_codes.specs.Points as points
-use Rattle.run_codes.specs.Programs.{Program}
+use Rattle.handled_runs.specs.type_definitions.Types.{Table}
+use Rattle.handled_runs.specs.run_values.declared.value.Kind.{Kind}
+use Rattle.handled_runs.specs.machine.States.{Leak, Normal, Raised, Spent, Trapped}
+use Rattle.handled_runs.specs.run_codes.Codes.{Point}
+use Rattle.handled_runs.specs.run_codes.Flat.{Flat, Got, Given, Stops, Broken, Stop, Raises, Traps, Memory, Made, Done, Halted, Failed}
+use Rattle.handled_runs.specs.run_codes.Points.{Held, Frame, sub_at}
+use Rattle.handled_runs.specs.run_codes.Points as points
+use Rattle.handled_runs.specs.run_codes.Programs.{Program}
 use Rattle.handled_runs.specs.Slots.{Slots}
 use Rattle.handled_runs.specs.Values as values
 use Rattle.handled_runs.specs.Beside.{IsSilent, GotsAlike, Beside}

@@ -1,13 +1,13 @@
 -- States over both heaps that are alike, but for the names of cells.
 use Rattle.std.specs.Prelude.{◌≡◌, ℕ, ◌+◌, Bool, List, [], ◌∷◌, ◌++◌, length, flat_map, take, slice_get, Option, Some, None, ℤ, if◌then◌else◌}
-use Rattle.type_definitions.specs.Types.{Table}
-use Rattle.run_values.specs.declared.value.Kind.{Kind}
-use Rattle.run_values.specs.declared.value.Kind.TheVariants as sort
-use Rattle.machine.specs.States.{Ending, Normal, Raised, Spent, Trapped}
-use Rattle.run_codes.specs.Codes.{Room, Object, Counter, Sub, Does, Go, Put, Store, Assign, Call, Output, Input, Release, Test, Choose, Start, Next, EvaluateLeft, EvaluateRight, Hold, EndPointer, EndScope, Finish, Fall}
-use Rattle.run_codes.specs.Flat.{Got, Given, Stops, Broken, and_then, found, is_zero, word, kinds}
-use Rattle.run_codes.specs.Points.{Held, Return, Frame, sub_at, next_value}
-use Rattle.run_codes.specs.Points as points
+use Rattle.handled_runs.specs.type_definitions.Types.{Table}
+use Rattle.handled_runs.specs.run_values.declared.value.Kind.{Kind}
+use Rattle.handled_runs.specs.run_values.declared.value.Kind.TheVariants as sort
+use Rattle.handled_runs.specs.machine.States.{Ending, Normal, Raised, Spent, Trapped}
+use Rattle.handled_runs.specs.run_codes.Codes.{Room, Object, Counter, Sub, Does, Go, Put, Store, Assign, Call, Output, Input, Release, Test, Choose, Start, Next, EvaluateLeft, EvaluateRight, Hold, EndPointer, EndScope, Finish, Fall}
+use Rattle.handled_runs.specs.run_codes.Flat.{Got, Given, Stops, Broken, and_then, found, is_zero, word, kinds}
+use Rattle.handled_runs.specs.run_codes.Points.{Held, Return, Frame, sub_at, next_value}
+use Rattle.handled_runs.specs.run_codes.Points as points
 use Rattle.handled_runs.specs.Beside.{all_renamed, spot_renamed, NameWords, NamesSpot, Beside}
 use Rattle.handled_steps.specs.Backs.{LookBack}
 use Rattle.handled_steps.specs.States.{State, Outcome, Goes, Ends, Wants, Fails}

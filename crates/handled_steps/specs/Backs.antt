@@ -1,11 +1,11 @@
 -- What is asked of what is copied back as calls end: the kinds of words.
 use Rattle.std.specs.Prelude.{◌≡◌, ◌+◌, ℕ, List, [], ◌∷◌, take}
-use Rattle.type_definitions.specs.declared.judgement.View.{View}
-use Rattle.type_definitions.specs.declared.judgement.View.TheVariants as view
-use Rattle.type_definitions.specs.Types.{Table, full}
-use Rattle.run_values.specs.declared.value.Kind.{Kind}
-use Rattle.run_codes.specs.Flat.{InStack, kinds}
-use Rattle.run_codes.specs.Points.{Return, Frame}
+use Rattle.handled_runs.specs.type_definitions.declared.judgement.View.{View}
+use Rattle.handled_runs.specs.type_definitions.declared.judgement.View.TheVariants as view
+use Rattle.handled_runs.specs.type_definitions.Types.{Table, full}
+use Rattle.handled_runs.specs.run_values.declared.value.Kind.{Kind}
+use Rattle.handled_runs.specs.run_codes.Flat.{InStack, kinds}
+use Rattle.handled_runs.specs.run_codes.Points.{Return, Frame}
 use Rattle.handled_runs.specs.Looks.{IsData}
 use Rattle.handled_runs.specs.Marks.{Stands}
 

@@ -1,17 +1,17 @@
 -- Runs over numbers after each step of which null stands where it moved.
 use Rattle.std.specs.Prelude.{◌≡◌, ℕ, zero, suc, ◌+◌, Bool, List, [], ◌∷◌, map, nat_lt, nat_le, ℤ, pos, negsuc, if◌then◌else◌}
-use Rattle.spark_base.specs.declared.position.Pos.{Pos}
-use Rattle.type_definitions.specs.Types.{Table}
-use Rattle.run_values.specs.declared.value.Value.{Value}
-use Rattle.run_values.specs.declared.value.Value.TheVariants as value
-use Rattle.run_values.specs.declared.value.Kind.{Kind}
-use Rattle.run_values.specs.declared.value.Kind.TheVariants as sort
-use Rattle.machine.specs.Evaluate.{StorageError}
-use Rattle.machine.specs.States.{Raised, Spent, stack_words}
-use Rattle.kept_cells.specs.Cells.{Cell}
-use Rattle.run_codes.specs.Flat.{Flat, gone_from}
-use Rattle.run_codes.specs.Points.{State, Outcome, Goes, Ends, then_on, step, sub_at, state_at_start}
-use Rattle.run_codes.specs.Programs.{Program}
+use Rattle.handled_runs.specs.spark_base.declared.position.Pos.{Pos}
+use Rattle.handled_runs.specs.type_definitions.Types.{Table}
+use Rattle.handled_runs.specs.run_values.declared.value.Value.{Value}
+use Rattle.handled_runs.specs.run_values.declared.value.Value.TheVariants as value
+use Rattle.handled_runs.specs.run_values.declared.value.Kind.{Kind}
+use Rattle.handled_runs.specs.run_values.declared.value.Kind.TheVariants as sort
+use Rattle.handled_runs.specs.machine.Evaluate.{StorageError}
+use Rattle.handled_runs.specs.machine.States.{Raised, Spent, stack_words}
+use Rattle.handled_runs.specs.kept_cells.Cells.{Cell}
+use Rattle.handled_runs.specs.run_codes.Flat.{Flat, gone_from}
+use Rattle.handled_runs.specs.run_codes.Points.{State, Outcome, Goes, Ends, then_on, step, sub_at, state_at_start}
+use Rattle.handled_runs.specs.run_codes.Programs.{Program}
 use Rattle.handled_steps.specs.Looks.{LooksStep, step_kinds}
 use Rattle.handled_steps.specs.Runs.{first_kinds}
 

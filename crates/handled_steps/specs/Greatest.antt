@@ -1,7 +1,7 @@
 -- The slots of a run number the greatest counts of live cells.
 use Rattle.std.specs.Prelude.{◌≤◌, ℕ}
-use Rattle.slot_heap.specs.Heaps.{Heap, live_count, slot_count}
-use Rattle.numbered_cells.specs.Peaks.{ArePeaks}
+use Rattle.handled_runs.specs.slot_heap.Heaps.{Heap, live_count, slot_count}
+use Rattle.handled_runs.specs.numbered_cells.Peaks.{ArePeaks}
 use Rattle.handled_runs.specs.Slots.{Slots}
 use Rattle.handled_steps.specs.States.{Outcome, Goes, Ends, Wants, Fails}
 

@@ -2,16 +2,16 @@
 --
 -- Words have the kinds that the code is of, and none is gone as the step begins. What a leak check names is there.
 use Rattle.std.specs.Prelude.{◌≡◌, ◌≤◌, ℕ, ◌+◌, true, List, [], ◌∷◌, ◌++◌, drop, length, flat_map, slice_get, Option, Some, None, ℤ}
-use Rattle.type_definitions.specs.Types.{Table, full}
-use Rattle.type_definitions.specs.Entries.{boolean}
-use Rattle.run_values.specs.declared.value.Kind.{Kind}
-use Rattle.run_values.specs.declared.value.Kind.TheVariants as sort
-use Rattle.machine.specs.Words.{access_offsets}
-use Rattle.run_codes.specs.Codes.{Code, Actual, ByValue, From, To, Piece, Bytes, NumberImage, LiteralImage, Does, Go, Put, Store, Assign, Call, Output, Input, Release, Test, Choose, Start, Next, EvaluateLeft, EvaluateRight, Hold, EndPointer, EndScope, Finish, Fall, Point}
-use Rattle.run_codes.specs.Flat.{Flat, Given, Spot, InStack, Done, kinds, are_pointers, words_at, filled}
-use Rattle.run_codes.specs.Points.{Held, Return, Frame, Passed, ToSpot, all_passed, sub_at, taken, start, are_taken}
-use Rattle.run_codes.specs.Points as points
-use Rattle.run_codes.specs.Programs.{Program}
+use Rattle.handled_runs.specs.type_definitions.Types.{Table, full}
+use Rattle.handled_runs.specs.type_definitions.Entries.{boolean}
+use Rattle.handled_runs.specs.run_values.declared.value.Kind.{Kind}
+use Rattle.handled_runs.specs.run_values.declared.value.Kind.TheVariants as sort
+use Rattle.handled_runs.specs.machine.Words.{access_offsets}
+use Rattle.handled_runs.specs.run_codes.Codes.{Code, Actual, ByValue, From, To, Piece, Bytes, NumberImage, LiteralImage, Does, Go, Put, Store, Assign, Call, Output, Input, Release, Test, Choose, Start, Next, EvaluateLeft, EvaluateRight, Hold, EndPointer, EndScope, Finish, Fall, Point}
+use Rattle.handled_runs.specs.run_codes.Flat.{Flat, Given, Spot, InStack, Done, kinds, are_pointers, words_at, filled}
+use Rattle.handled_runs.specs.run_codes.Points.{Held, Return, Frame, Passed, ToSpot, all_passed, sub_at, taken, start, are_taken}
+use Rattle.handled_runs.specs.run_codes.Points as points
+use Rattle.handled_runs.specs.run_codes.Programs.{Program}
 use Rattle.handled_runs.specs.Looks.{IsData, Looks, IsFront, IsClear}
 use Rattle.handled_runs.specs.Marks.{Stands}
 use Rattle.handled_runs.specs.Leaks.{IsLeaked, AreLeaked}

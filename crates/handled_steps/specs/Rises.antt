@@ -1,7 +1,7 @@
 -- The greatest counts after a step, by what was there before it.
 use Rattle.std.specs.Prelude.{◌≡◌, ◌≤◌, ℕ, ◌+◌, List, drop, length, nat_le, if◌then◌else◌}
-use Rattle.slot_heap.specs.Heaps.{live_count, slot_count}
-use Rattle.numbered_cells.specs.Peaks.{peak_of}
+use Rattle.handled_runs.specs.slot_heap.Heaps.{live_count, slot_count}
+use Rattle.handled_runs.specs.numbered_cells.Peaks.{peak_of}
 use Rattle.handled_runs.specs.Slots.{Slots}
 use Rattle.handled_steps.specs.States.{Outcome, Goes, Ends, Wants, Fails}
 

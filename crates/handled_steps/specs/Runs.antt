@@ -1,13 +1,13 @@
 -- Runs from their start over a heap that uses its slots again, and what they give.
 use Rattle.std.specs.Prelude.{◌≡◌, ℕ, ◌+◌, Bool, true, false, List, [], ◌∷◌, ◌++◌, length, nat_le, Option, Some, None}
-use Rattle.spark_base.specs.declared.position.Pos.{Pos}
-use Rattle.type_definitions.specs.Types.{Table}
-use Rattle.run_values.specs.declared.value.Kind.{Kind}
-use Rattle.machine.specs.Evaluate.{StorageError, Trap}
-use Rattle.machine.specs.States.{Ending, Raised, Spent, Trapped, stack_words}
-use Rattle.slot_heap.specs.Heaps.{no_heap}
-use Rattle.run_codes.specs.Points.{Frame, Ran, sub_at}
-use Rattle.run_codes.specs.Programs.{Program}
+use Rattle.handled_runs.specs.spark_base.declared.position.Pos.{Pos}
+use Rattle.handled_runs.specs.type_definitions.Types.{Table}
+use Rattle.handled_runs.specs.run_values.declared.value.Kind.{Kind}
+use Rattle.handled_runs.specs.machine.Evaluate.{StorageError, Trap}
+use Rattle.handled_runs.specs.machine.States.{Ending, Raised, Spent, Trapped, stack_words}
+use Rattle.handled_runs.specs.slot_heap.Heaps.{no_heap}
+use Rattle.handled_runs.specs.run_codes.Points.{Frame, Ran, sub_at}
+use Rattle.handled_runs.specs.run_codes.Programs.{Program}
 use Rattle.handled_runs.specs.Slots.{Slots}
 use Rattle.handled_steps.specs.States.{State, Outcome, Goes, Ends, Wants, Fails, with_frame, frame_of}
 use Rattle.handled_steps.specs.Steps.{Within}

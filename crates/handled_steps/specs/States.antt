@@ -1,12 +1,12 @@
 -- States of runs over a heap that uses its slots again, and what points change in them.
 use Rattle.std.specs.Prelude.{ℕ, suc, ◌+◌, ◌-◌, Bool, ◌==◌, List, [], ◌∷◌, ◌++◌, map, flat_map, reverse, take, drop, length, Option, Some, None, ℤ}
 use Rattle.std.specs.Cmp.Lexicographic.{pointwise}
-use Rattle.type_definitions.specs.Types.{Table}
-use Rattle.machine.specs.States.{Leak, Ending, Raised, Trapped}
-use Rattle.run_codes.specs.Codes.{Point, Sub}
-use Rattle.run_codes.specs.Flat.{Got, Given, Stops, Broken, Stop, Raises, Traps, Memory}
-use Rattle.run_codes.specs.Points.{Held, Return, Frame, template, sub_at}
-use Rattle.run_codes.specs.Programs.{Program}
+use Rattle.handled_runs.specs.type_definitions.Types.{Table}
+use Rattle.handled_runs.specs.machine.States.{Leak, Ending, Raised, Trapped}
+use Rattle.handled_runs.specs.run_codes.Codes.{Point, Sub}
+use Rattle.handled_runs.specs.run_codes.Flat.{Got, Given, Stops, Broken, Stop, Raises, Traps, Memory}
+use Rattle.handled_runs.specs.run_codes.Points.{Held, Return, Frame, template, sub_at}
+use Rattle.handled_runs.specs.run_codes.Programs.{Program}
 use Rattle.handled_runs.specs.Slots.{Slots}
 use Rattle.handled_runs.specs.Changes.{with_stack}
 use Rattle.handled_runs.specs.Values as values

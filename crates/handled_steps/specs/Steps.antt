@@ -4,21 +4,21 @@
 -- whether it may come.
 use Rattle.std.specs.Prelude.{◌≡◌, ℕ, zero, suc, ◌+◌, Bool, true, false, not, ◌&&◌, List, [], ◌∷◌, ◌++◌, map, take, drop, length, get_or, slice_get, nat_le, Option, Some, None, ℤ, pos, unsigned_abs, int_le, if◌then◌else◌}
 use Rattle.std.specs.Char.{to_ascii_uppercase}
-use Rattle.spark_base.specs.declared.position.Pos.{Pos}
-use Rattle.type_definitions.specs.Types.{Table, shape_of}
-use Rattle.run_values.specs.declared.value.Kind.{Kind}
-use Rattle.run_values.specs.declared.value.Kind.TheVariants as sort
-use Rattle.run_values.specs.declared.items.Item.{Item}
-use Rattle.run_values.specs.declared.items.Item.TheVariants as item
-use Rattle.run_values.specs.Images.{image}
-use Rattle.run_values.specs.Items.{next_item}
-use Rattle.machine.specs.Words.{access_offsets}
-use Rattle.machine.specs.Evaluate.{ProgramError, StorageError, DataError, EndError, literals}
-use Rattle.machine.specs.States.{Leak, Normal, Spent, stack_words}
-use Rattle.run_codes.specs.Codes.{Code, Place, Fill, Actual, ByValue, From, To, Piece, Bytes, NumberImage, LiteralImage, Choice, Does, Go, Put, Store, Assign, Call, Output, Input, Release, Test, Choose, Start, Next, EvaluateLeft, EvaluateRight, Hold, EndPointer, EndScope, Finish, Fall, Point, Sub}
-use Rattle.run_codes.specs.Flat.{Got, Given, Stops, Broken, Stop, Raises, and_then, found, kinds, constraint, is_zero, is_between, default_words, Spot, InStack}
-use Rattle.run_codes.specs.Points.{Return, Frame, Passed, Value, FromSpot, ToSpot, fits, returns_of, frames_words, chosen, truth_held, next_value, given_to, sub_at}
-use Rattle.run_codes.specs.Programs.{Program}
+use Rattle.handled_runs.specs.spark_base.declared.position.Pos.{Pos}
+use Rattle.handled_runs.specs.type_definitions.Types.{Table, shape_of}
+use Rattle.handled_runs.specs.run_values.declared.value.Kind.{Kind}
+use Rattle.handled_runs.specs.run_values.declared.value.Kind.TheVariants as sort
+use Rattle.handled_runs.specs.run_values.declared.items.Item.{Item}
+use Rattle.handled_runs.specs.run_values.declared.items.Item.TheVariants as item
+use Rattle.handled_runs.specs.run_values.Images.{image}
+use Rattle.handled_runs.specs.run_values.Items.{next_item}
+use Rattle.handled_runs.specs.machine.Words.{access_offsets}
+use Rattle.handled_runs.specs.machine.Evaluate.{ProgramError, StorageError, DataError, EndError, literals}
+use Rattle.handled_runs.specs.machine.States.{Leak, Normal, Spent, stack_words}
+use Rattle.handled_runs.specs.run_codes.Codes.{Code, Place, Fill, Actual, ByValue, From, To, Piece, Bytes, NumberImage, LiteralImage, Choice, Does, Go, Put, Store, Assign, Call, Output, Input, Release, Test, Choose, Start, Next, EvaluateLeft, EvaluateRight, Hold, EndPointer, EndScope, Finish, Fall, Point, Sub}
+use Rattle.handled_runs.specs.run_codes.Flat.{Got, Given, Stops, Broken, Stop, Raises, and_then, found, kinds, constraint, is_zero, is_between, default_words, Spot, InStack}
+use Rattle.handled_runs.specs.run_codes.Points.{Return, Frame, Passed, Value, FromSpot, ToSpot, fits, returns_of, frames_words, chosen, truth_held, next_value, given_to, sub_at}
+use Rattle.handled_runs.specs.run_codes.Programs.{Program}
 use Rattle.handled_runs.specs.Slots.{Slots, word, spot, held}
 use Rattle.handled_runs.specs.Changes.{with_stack, stored, moving, settled}
 use Rattle.handled_runs.specs.Values as values

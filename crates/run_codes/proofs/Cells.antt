@@ -2,11 +2,11 @@
 use Rattle.std.proofs.Common.{◌≡◌, ℕ, zero, suc, ◌+◌, ◌-◌, ◌<◌, ◌≤◌, true, false, List, [], ◌∷◌, ◌++◌, map, length, drop, get_or, refl, sym, ap, subst, ◌∙◌, arith, Some, slice_get, ℤ, pos, negsuc, nat_lt, if◌then◌else◌}
 use Rattle.std.specs.Prelude.{◌==◌}
 use Rattle.std.proofs.lemmas.List.{length-map}
-use Rattle.run_values.specs.declared.value.Value.{Value}
-use Rattle.run_values.specs.declared.value.Kind.TheVariants as sort
-use Rattle.run_values.specs.Values.{kind}
+use Rattle.kept_cells.specs.run_values.declared.value.Value.{Value}
+use Rattle.kept_cells.specs.run_values.declared.value.Kind.TheVariants as sort
+use Rattle.kept_cells.specs.run_values.Values.{kind}
 use Rattle.kept_cells.specs.Cells.{Cell as StoredCell, changed}
-use Rattle.type_definitions.specs.Types.{Table}
+use Rattle.machine.specs.type_definitions.Types.{Table}
 use Rattle.machine.specs.Words.{Word}
 use Rattle.machine.specs.Typed.{Sort, Whole, Position, Pointer}
 use Rattle.machine.specs.Memory.{HeapCell, no_cell, at_number, fresh}

@@ -2,21 +2,21 @@
 use Rattle.std.proofs.Common.{◌≡◌, inl, inr, ℕ, ◌+◌, ◌*◌, ◌<◌, ◌≤◌, true, false, Bool, not, ◌&&◌, IsTrue, List, [], ◌∷◌, length, drop, refl, sym, ap, subst, ◌∙◌, arith, Option, Some, None, ℤ, pos, nat_lt, if◌then◌else◌}
 use Rattle.std.specs.Prelude.{option_and_then, unsigned_abs, ◌-ℤ◌, nat_le, ◌==◌}
 use Rattle.std.specs.Ordering.{int_eq}
-use Rattle.resolved_tree.specs.declared.operator.Operator.{Operator}
-use Rattle.resolved_tree.specs.declared.operator.UnaryOperator.{UnaryOperator}
-use Rattle.typed_tree.specs.declared.node.ShortCircuit.{ShortCircuit}
-use Rattle.run_values.specs.declared.value.Kind.TheVariants as sort
-use Rattle.run_values.specs.Arithmetic.{is_integer}
-use Rattle.run_values.specs.Items.{at_end}
-use Rattle.type_definitions.specs.declared.table.Shape.{Shape}
-use Rattle.type_definitions.specs.declared.table.Shape.TheVariants as shape
-use Rattle.type_definitions.specs.declared.table.Component.{Component}
-use Rattle.type_definitions.specs.Types.{Table, shape_of, words, is_owning}
-use Rattle.type_definitions.specs.Entries.{boolean}
-use Rattle.typed_tree.specs.Trees.{TypedTree, Name, Component as IntoComponent, Designated, Element, Call, EndOfFile, Parens, NoMore}
-use Rattle.typed_tree.specs.Trees as typed
-use Rattle.flow_paths.specs.Objects.{object_at, sub_at, is_package_object}
-use Rattle.flow_paths.specs.Names.{has_call, waiting}
+use Rattle.machine.specs.resolved_tree.declared.operator.Operator.{Operator}
+use Rattle.machine.specs.resolved_tree.declared.operator.UnaryOperator.{UnaryOperator}
+use Rattle.machine.specs.typed_tree.declared.node.ShortCircuit.{ShortCircuit}
+use Rattle.kept_cells.specs.run_values.declared.value.Kind.TheVariants as sort
+use Rattle.kept_cells.specs.run_values.Arithmetic.{is_integer}
+use Rattle.kept_cells.specs.run_values.Items.{at_end}
+use Rattle.machine.specs.type_definitions.declared.table.Shape.{Shape}
+use Rattle.machine.specs.type_definitions.declared.table.Shape.TheVariants as shape
+use Rattle.machine.specs.type_definitions.declared.table.Component.{Component}
+use Rattle.machine.specs.type_definitions.Types.{Table, shape_of, words, is_owning}
+use Rattle.machine.specs.type_definitions.Entries.{boolean}
+use Rattle.machine.specs.typed_tree.Trees.{TypedTree, Name, Component as IntoComponent, Designated, Element, Call, EndOfFile, Parens, NoMore}
+use Rattle.machine.specs.typed_tree.Trees as typed
+use Rattle.machine.specs.flow_paths.Objects.{object_at, sub_at, is_package_object}
+use Rattle.machine.specs.flow_paths.Names.{has_call, waiting}
 use Rattle.machine.specs.Words.{Word, Int, Enumerated, component_type, words_before, element_type}
 use Rattle.machine.specs.Typed.{Sort, Whole, Position, Pointer, sorts, takes_whole, takes_truth, compares_words, is_not, field_count, is_record, has_bounds, designates}
 use Rattle.machine.specs.Memory.{Place, OfVariable, slots_at, words_of, moved_out}

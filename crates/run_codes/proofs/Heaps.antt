@@ -3,10 +3,10 @@ use Rattle.std.proofs.Common.{◌≡◌, ℕ, zero, suc, ◌+◌, ◌<◌, ◌�
 use Rattle.std.specs.Prelude.{◌==◌}
 use Rattle.std.proofs.lemmas.List.{length-map}
 use Rattle.std.proofs.lemmas.List.Sums.{sum_by-cons}
-use Rattle.run_values.specs.declared.value.Value.{Value}
+use Rattle.kept_cells.specs.run_values.declared.value.Value.{Value}
 use Rattle.kept_cells.specs.Cells.{Cell as StoredCell, changed}
-use Rattle.type_definitions.specs.Types.{Table}
-use Rattle.flow_paths.specs.Objects.{Typing}
+use Rattle.machine.specs.type_definitions.Types.{Table}
+use Rattle.machine.specs.flow_paths.Objects.{Typing}
 use Rattle.machine.specs.Words.{Word}
 use Rattle.machine.specs.Typed.{Sort, sorts}
 use Rattle.machine.specs.Memory.{Memory, Slot, HeapCell, Place, OfVariable, OfCell, no_cell, cell, at_number, cell_words, live_cells, fresh, slots_at, put, stored}

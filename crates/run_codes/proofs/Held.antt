@@ -2,11 +2,11 @@
 use Rattle.std.proofs.Common.{◌≡◌, ℕ, zero, suc, ◌+◌, ◌<◌, ◌≤◌, true, false, ◌&&◌, List, [], ◌∷◌, map, length, take, drop, refl, sym, ap, subst, ◌∙◌, arith, ℤ, pos, negsuc, nat_lt, if◌then◌else◌}
 use Rattle.std.specs.Prelude.{unsigned_abs, int_le, nat_le}
 use Rattle.std.proofs.lemmas.List.{length-map}
-use Rattle.run_values.specs.declared.value.Value.{Value}
-use Rattle.run_values.specs.declared.value.Kind.{Kind}
-use Rattle.run_values.specs.declared.value.Kind.TheVariants as sort
+use Rattle.kept_cells.specs.run_values.declared.value.Value.{Value}
+use Rattle.kept_cells.specs.run_values.declared.value.Kind.{Kind}
+use Rattle.kept_cells.specs.run_values.declared.value.Kind.TheVariants as sort
 use Rattle.kept_cells.specs.Cells.{Cell as StoredCell}
-use Rattle.type_definitions.specs.Types.{Table, words}
+use Rattle.machine.specs.type_definitions.Types.{Table, words}
 use Rattle.machine.specs.Words.{Word}
 use Rattle.machine.specs.Typed.{Sort, Whole, Position, Pointer, sorts}
 use Rattle.machine.specs.Memory.{Slot, HeapCell, Place, fresh, slots_at, words_of}

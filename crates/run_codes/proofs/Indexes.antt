@@ -1,8 +1,8 @@
 -- Indexes of places: where a name leads on, they are evaluated as before, and one more after them.
 use Rattle.std.proofs.Common.{◌≡◌, ℕ, zero, ◌+◌, ◌<◌, ◌≤◌, true, ◌&&◌, refl, ap, ◌∙◌, arith, ℤ, pos, nat_lt, if◌then◌else◌}
 use Rattle.std.specs.Prelude.{unsigned_abs, int_le, ◌-ℤ◌, slice_get}
-use Rattle.run_values.specs.declared.value.Kind.{Kind}
-use Rattle.type_definitions.specs.Types.{span}
+use Rattle.kept_cells.specs.run_values.declared.value.Kind.{Kind}
+use Rattle.machine.specs.type_definitions.Types.{span}
 use Rattle.run_codes.specs.Codes.{Code, Number, Local, Global, Via, Scaled, Plus, Unary, Binary, Short, IsNull, Waiting, EndOfFile, Nothing, InFrame, InPackages, Behind}
 use Rattle.run_codes.specs.Codes as codes
 use Rattle.run_codes.specs.Flat.{Flat, Got, Given, Stops, Broken, Stop, and_then, found, behind, offset, most_offsets, word, indexes}

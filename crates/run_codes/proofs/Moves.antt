@@ -1,7 +1,7 @@
 -- What is moved out of an object is gone on both sides.
 use Rattle.std.proofs.Common.{◌≡◌, inl, inr, ℕ, zero, suc, true, ◌&&◌, List, [], ◌∷◌, map, length, take, drop, refl, sym, ap, subst, ◌∙◌, Some, slice_get, ℤ, pos, negsuc, if◌then◌else◌}
-use Rattle.spark_base.specs.Lists.{Has}
-use Rattle.type_definitions.specs.Types.{Table, words}
+use Rattle.machine.specs.spark_base.Lists.{Has}
+use Rattle.machine.specs.type_definitions.Types.{Table, words}
 use Rattle.machine.specs.Words.{access_offsets}
 use Rattle.machine.specs.Typed.{Sort, Pointer, sorts}
 use Rattle.machine.specs.Memory.{Slot, Place, at_number, gone_at, slots_at, slots_of, with_slots}

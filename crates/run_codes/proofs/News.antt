@@ -5,9 +5,9 @@ use Rattle.std.proofs.lemmas.List.{length-map}
 use Rattle.std.proofs.lemmas.List.Sums.{sum_by-cons}
 use Rattle.std.proofs.lemmas.Bool.{cases_lt}
 use Rattle.kept_cells.specs.Cells.{Cell as StoredCell}
-use Rattle.type_definitions.specs.Types.{Table}
-use Rattle.type_definitions.specs.Entries.{integer}
-use Rattle.flow_paths.specs.Objects.{Typing}
+use Rattle.machine.specs.type_definitions.Types.{Table}
+use Rattle.machine.specs.type_definitions.Entries.{integer}
+use Rattle.machine.specs.flow_paths.Objects.{Typing}
 use Rattle.machine.specs.Words.{Word}
 use Rattle.machine.specs.Typed.{Sort, Whole, Position, Pointer, sorts}
 use Rattle.machine.specs.Memory.{Memory, Slot, HeapCell, OfVariable, no_cell, cell, cell_words, live_cells, live_words, fresh, slots_at, with_new_cell}

@@ -1,15 +1,15 @@
 -- What operators give over words without tags is what they give on the machine.
 use Rattle.std.proofs.Common.{◌≡◌, ℕ, zero, suc, true, false, Bool, not, ◌&&◌, ◌||◌, IsTrue, List, [], ◌∷◌, refl, sym, ap, subst, ◌∙◌, arith, Option, Some, None, ℤ, pos, if◌then◌else◌}
 use Rattle.std.specs.Prelude.{unsigned_abs, int_le, int_lt, int_div, int_rem, ◌+ℤ◌, ◌-ℤ◌, ◌*ℤ◌, neg_ℤ, ◌==◌}
-use Rattle.resolved_tree.specs.declared.operator.Operator.{Operator}
-use Rattle.resolved_tree.specs.declared.operator.Operator.TheVariants as operator
-use Rattle.resolved_tree.specs.declared.operator.UnaryOperator.{UnaryOperator}
-use Rattle.resolved_tree.specs.declared.operator.UnaryOperator.TheVariants as unary
-use Rattle.typed_tree.specs.declared.node.ShortCircuit.{ShortCircuit}
-use Rattle.typed_tree.specs.declared.node.ShortCircuit.TheVariants as short
-use Rattle.run_values.specs.Arithmetic.{is_integer, fits, int_mod, sum, difference, product, quotient, modulus, remainder, negation, absolute}
-use Rattle.type_definitions.specs.Entries.{integer, boolean}
-use Rattle.type_definitions.specs.Statics as statics
+use Rattle.machine.specs.resolved_tree.declared.operator.Operator.{Operator}
+use Rattle.machine.specs.resolved_tree.declared.operator.Operator.TheVariants as operator
+use Rattle.machine.specs.resolved_tree.declared.operator.UnaryOperator.{UnaryOperator}
+use Rattle.machine.specs.resolved_tree.declared.operator.UnaryOperator.TheVariants as unary
+use Rattle.machine.specs.typed_tree.declared.node.ShortCircuit.{ShortCircuit}
+use Rattle.machine.specs.typed_tree.declared.node.ShortCircuit.TheVariants as short
+use Rattle.kept_cells.specs.run_values.Arithmetic.{is_integer, fits, int_mod, sum, difference, product, quotient, modulus, remainder, negation, absolute}
+use Rattle.machine.specs.type_definitions.Entries.{integer, boolean}
+use Rattle.machine.specs.type_definitions.Statics as statics
 use Rattle.machine.specs.Words.{Word, Int, Enumerated}
 use Rattle.machine.specs.Typed.{Sort, Whole, Position, Pointer, takes_whole, takes_truth, compares_words, is_not}
 use Rattle.machine.specs.Evaluate.{Now, Evaluated, Done, followed_by, operated, operated_alone, given, truth, is_null, decides, is_true}

@@ -2,11 +2,11 @@
 use Rattle.std.proofs.Common.{◌≡◌, ℕ, zero, suc, ◌+◌, ◌*◌, ◌<◌, ◌≤◌, List, [], ◌∷◌, ◌++◌, map, flat_map, length, get_or, take, drop, sum, refl, sym, ap, subst, ◌∙◌, arith, length-append, append-nil, Some, slice_get, ℤ}
 use Rattle.std.proofs.lemmas.List.{drop-drop}
 use Rattle.std.proofs.lemmas.List.Sums.{sum_by-cons}
-use Rattle.run_values.specs.declared.value.Value.{Value}
-use Rattle.type_definitions.specs.declared.table.Component.{Component}
-use Rattle.type_definitions.specs.declared.table.Shape.{Shape}
-use Rattle.type_definitions.specs.declared.table.Shape.TheVariants as shape
-use Rattle.type_definitions.specs.Types.{Table, shape_found, span, words, words_of, words_within}
+use Rattle.kept_cells.specs.run_values.declared.value.Value.{Value}
+use Rattle.machine.specs.type_definitions.declared.table.Component.{Component}
+use Rattle.machine.specs.type_definitions.declared.table.Shape.{Shape}
+use Rattle.machine.specs.type_definitions.declared.table.Shape.TheVariants as shape
+use Rattle.machine.specs.type_definitions.Types.{Table, shape_found, span, words, words_of, words_within}
 use Rattle.machine.specs.Words.{no_component}
 use Rattle.machine.specs.Typed.{Sort, sorts, sorts_of, sorts_within, repeated_sorts}
 use Rattle.machine.specs.Memory.{Slot}

@@ -3,17 +3,17 @@
 use Rattle.std.proofs.Common.{◌≡◌, ℕ, zero, suc, ◌+◌, ◌*◌, ◌<◌, ◌≤◌, true, false, Bool, ◌&&◌, List, [], ◌∷◌, map, length, get_or, take, drop, sum, refl, sym, ap, subst, ◌∙◌, arith, Option, Some, None, slice_get, ℤ, pos, nat_lt, if◌then◌else◌}
 use Rattle.std.specs.Prelude.{unsigned_abs}
 use Rattle.std.proofs.lemmas.List.{drop-drop, length-map}
-use Rattle.run_values.specs.declared.value.Value.{Value}
-use Rattle.run_values.specs.declared.value.Kind.{Kind}
-use Rattle.run_values.specs.declared.value.Kind.TheVariants as sort
-use Rattle.run_values.specs.Values.{kind}
+use Rattle.kept_cells.specs.run_values.declared.value.Value.{Value}
+use Rattle.kept_cells.specs.run_values.declared.value.Kind.{Kind}
+use Rattle.kept_cells.specs.run_values.declared.value.Kind.TheVariants as sort
+use Rattle.kept_cells.specs.run_values.Values.{kind}
 use Rattle.kept_cells.specs.Cells.{Cell as StoredCell}
-use Rattle.type_definitions.specs.declared.table.Shape.{Shape}
-use Rattle.type_definitions.specs.declared.table.Shape.TheVariants as shape
-use Rattle.type_definitions.specs.declared.table.Component.{Component}
-use Rattle.type_definitions.specs.Types.{Table, shape_of, components_of, view_of, span, words}
-use Rattle.type_definitions.specs.Entries.{integer}
-use Rattle.flow_paths.specs.Objects.{Typing, object_at, designated, designated_of}
+use Rattle.machine.specs.type_definitions.declared.table.Shape.{Shape}
+use Rattle.machine.specs.type_definitions.declared.table.Shape.TheVariants as shape
+use Rattle.machine.specs.type_definitions.declared.table.Component.{Component}
+use Rattle.machine.specs.type_definitions.Types.{Table, shape_of, components_of, view_of, span, words}
+use Rattle.machine.specs.type_definitions.Entries.{integer}
+use Rattle.machine.specs.flow_paths.Objects.{Typing, object_at, designated, designated_of}
 use Rattle.machine.specs.Words.{Word, Cell, component_type, words_before, no_component, element_type, element_of}
 use Rattle.machine.specs.Typed.{Sort, Pointer, sorts, repeated_sorts, designates}
 use Rattle.machine.specs.Memory.{Memory, Slot, HeapCell, Place, no_cell, cell, slots_at, words_of}

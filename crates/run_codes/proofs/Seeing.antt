@@ -2,15 +2,15 @@
 -- finds keeps that.
 use Rattle.std.proofs.Common.{◌≡◌, inl, inr, ℕ, ◌+◌, ◌≤◌, true, List, [], ◌∷◌, ◌++◌, length, take, drop, get_or, sym, ap, subst, arith, Some, slice_get, ℤ, if◌then◌else◌}
 use Rattle.std.specs.Prelude.{nat_le}
-use Rattle.spark_base.specs.Lists.{Has}
-use Rattle.type_definitions.specs.Types.{Table, words}
-use Rattle.flow_paths.specs.Objects.{Typing}
+use Rattle.machine.specs.spark_base.Lists.{Has}
+use Rattle.machine.specs.type_definitions.Types.{Table, words}
+use Rattle.machine.specs.flow_paths.Objects.{Typing}
 use Rattle.machine.specs.Words.{Word}
 use Rattle.machine.specs.Typed.{Sort, sorts}
 use Rattle.machine.specs.Memory.{Memory, Slot, Place, OfVariable, fresh, declared}
 use Rattle.machine.specs.Memory as machine
 use Rattle.machine.specs.Evaluate.{Evaluated}
-use Rattle.run_values.specs.declared.value.Kind.{Kind}
+use Rattle.kept_cells.specs.run_values.declared.value.Kind.{Kind}
 use Rattle.run_codes.specs.Flat.{Flat, Got, Given, Broken, spliced, with_stack, InStack}
 use Rattle.run_codes.specs.Flat as flat
 use Rattle.run_codes.specs.Lowered.{words_before_value}

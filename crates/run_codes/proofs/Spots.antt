@@ -1,9 +1,9 @@
 -- The spot of a place that is lowered is that of the machine's place.
 use Rattle.std.proofs.Common.{◌≡◌, ℕ, zero, suc, ◌+◌, ◌≤◌, true, false, Bool, ◌&&◌, length, drop, refl, sym, ap, subst, ◌∙◌, arith, Some, None, slice_get, ℤ, pos, nat_lt, if◌then◌else◌}
 use Rattle.std.specs.Prelude.{nat_le, option_and_then, unsigned_abs, ◌==◌}
-use Rattle.typed_tree.specs.Trees.{TypedTree, Name}
-use Rattle.flow_paths.specs.Names.{waiting}
-use Rattle.flow_paths.specs.Objects.{object_at}
+use Rattle.machine.specs.typed_tree.Trees.{TypedTree, Name}
+use Rattle.machine.specs.flow_paths.Names.{waiting}
+use Rattle.machine.specs.flow_paths.Objects.{object_at}
 use Rattle.machine.specs.Typed.{sorts}
 use Rattle.machine.specs.Memory.{Place}
 use Rattle.machine.specs.Evaluate.{Evaluated, Done, followed_by, Touched, steps_of, walked, variable_place, place_of}

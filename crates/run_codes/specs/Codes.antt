@@ -1,10 +1,10 @@
 -- What is run: expressions, values and points, with offsets, kinds and bounds in place.
 use Rattle.std.specs.Prelude.{ℕ, Bool, List, Option, ℤ}
-use Rattle.spark_base.specs.declared.position.Pos.{Pos}
-use Rattle.resolved_tree.specs.declared.operator.Operator.{Operator}
-use Rattle.resolved_tree.specs.declared.operator.UnaryOperator.{UnaryOperator}
-use Rattle.typed_tree.specs.declared.node.ShortCircuit.{ShortCircuit}
-use Rattle.run_values.specs.declared.value.Kind.{Kind}
+use Rattle.machine.specs.spark_base.declared.position.Pos.{Pos}
+use Rattle.machine.specs.resolved_tree.declared.operator.Operator.{Operator}
+use Rattle.machine.specs.resolved_tree.declared.operator.UnaryOperator.{UnaryOperator}
+use Rattle.machine.specs.typed_tree.declared.node.ShortCircuit.{ShortCircuit}
+use Rattle.kept_cells.specs.run_values.declared.value.Kind.{Kind}
 
 -- ---- words
 

@@ -4,20 +4,20 @@
 -- from 1. Where an access value was moved away, the number stands with a minus.
 use Rattle.std.specs.Prelude.{ℕ, zero, suc, ◌+◌, ◌-◌, ◌*◌, Bool, true, false, not, ◌&&◌, ◌||◌, ◌==◌, List, [], ◌∷◌, ◌++◌, map, length, take, drop, slice_get, nat_lt, nat_le, Option, Some, None, ℤ, pos, negsuc, ◌-ℤ◌, unsigned_abs, neg_ℤ, int_lt, int_le, if◌then◌else◌}
 use Rattle.std.specs.List.{list_all}
-use Rattle.resolved_tree.specs.declared.operator.Operator.{Operator}
-use Rattle.resolved_tree.specs.declared.operator.Operator.TheVariants as operator
-use Rattle.resolved_tree.specs.declared.operator.UnaryOperator.{UnaryOperator}
-use Rattle.resolved_tree.specs.declared.operator.UnaryOperator.TheVariants as unary
-use Rattle.typed_tree.specs.declared.node.ShortCircuit.{ShortCircuit}
-use Rattle.typed_tree.specs.declared.node.ShortCircuit.TheVariants as short
-use Rattle.type_definitions.specs.Types.{Table}
-use Rattle.run_values.specs.declared.value.Value.{Value}
-use Rattle.run_values.specs.declared.value.Value.TheVariants as value
-use Rattle.run_values.specs.declared.value.Kind.{Kind}
-use Rattle.run_values.specs.declared.value.Kind.TheVariants as sort
-use Rattle.run_values.specs.Values.{kind}
-use Rattle.run_values.specs.Arithmetic.{is_integer, sum, difference, product, quotient, modulus, remainder, negation, absolute}
-use Rattle.run_values.specs.Items.{at_end}
+use Rattle.machine.specs.resolved_tree.declared.operator.Operator.{Operator}
+use Rattle.machine.specs.resolved_tree.declared.operator.Operator.TheVariants as operator
+use Rattle.machine.specs.resolved_tree.declared.operator.UnaryOperator.{UnaryOperator}
+use Rattle.machine.specs.resolved_tree.declared.operator.UnaryOperator.TheVariants as unary
+use Rattle.machine.specs.typed_tree.declared.node.ShortCircuit.{ShortCircuit}
+use Rattle.machine.specs.typed_tree.declared.node.ShortCircuit.TheVariants as short
+use Rattle.machine.specs.type_definitions.Types.{Table}
+use Rattle.kept_cells.specs.run_values.declared.value.Value.{Value}
+use Rattle.kept_cells.specs.run_values.declared.value.Value.TheVariants as value
+use Rattle.kept_cells.specs.run_values.declared.value.Kind.{Kind}
+use Rattle.kept_cells.specs.run_values.declared.value.Kind.TheVariants as sort
+use Rattle.kept_cells.specs.run_values.Values.{kind}
+use Rattle.kept_cells.specs.run_values.Arithmetic.{is_integer, sum, difference, product, quotient, modulus, remainder, negation, absolute}
+use Rattle.kept_cells.specs.run_values.Items.{at_end}
 use Rattle.kept_cells.specs.Cells.{Cell, allocated, changed, released}
 use Rattle.machine.specs.Words as machine
 use Rattle.machine.specs.Words.{default, access_offsets}

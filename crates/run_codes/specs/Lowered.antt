@@ -1,19 +1,19 @@
 -- From typed expressions to codes. What isn't typed has none.
 use Rattle.std.specs.Prelude.{ℕ, suc, zero, ◌+◌, Bool, true, false, ◌&&◌, ◌||◌, ◌==◌, List, [], ◌∷◌, map, sum, take, slice_get, nat_lt, nat_le, Option, Some, None, is_some, option_and_then, ℤ, pos, if◌then◌else◌}
-use Rattle.resolved_tree.specs.declared.operator.Operator.{Operator}
-use Rattle.resolved_tree.specs.declared.operator.UnaryOperator.{UnaryOperator}
-use Rattle.typed_tree.specs.declared.node.ShortCircuit.{ShortCircuit}
-use Rattle.run_values.specs.declared.value.Kind.{Kind}
-use Rattle.run_values.specs.declared.value.Kind.TheVariants as sort
-use Rattle.run_values.specs.Arithmetic.{is_integer}
-use Rattle.type_definitions.specs.declared.table.Shape.{Shape}
-use Rattle.type_definitions.specs.declared.table.Shape.TheVariants as shape
-use Rattle.type_definitions.specs.Types.{Table, shape_of, words, is_owning}
-use Rattle.type_definitions.specs.Entries.{boolean}
-use Rattle.typed_tree.specs.Trees.{TypedTree, Name, Component as IntoComponent, Designated, Element, Call, EndOfFile, Parens, Aggregate, Alike, New, NoMore, More}
-use Rattle.typed_tree.specs.Trees as typed
-use Rattle.flow_paths.specs.Objects.{Typing, object_at, sub_at, is_package_object}
-use Rattle.flow_paths.specs.Names.{has_call, waiting}
+use Rattle.machine.specs.resolved_tree.declared.operator.Operator.{Operator}
+use Rattle.machine.specs.resolved_tree.declared.operator.UnaryOperator.{UnaryOperator}
+use Rattle.machine.specs.typed_tree.declared.node.ShortCircuit.{ShortCircuit}
+use Rattle.kept_cells.specs.run_values.declared.value.Kind.{Kind}
+use Rattle.kept_cells.specs.run_values.declared.value.Kind.TheVariants as sort
+use Rattle.kept_cells.specs.run_values.Arithmetic.{is_integer}
+use Rattle.machine.specs.type_definitions.declared.table.Shape.{Shape}
+use Rattle.machine.specs.type_definitions.declared.table.Shape.TheVariants as shape
+use Rattle.machine.specs.type_definitions.Types.{Table, shape_of, words, is_owning}
+use Rattle.machine.specs.type_definitions.Entries.{boolean}
+use Rattle.machine.specs.typed_tree.Trees.{TypedTree, Name, Component as IntoComponent, Designated, Element, Call, EndOfFile, Parens, Aggregate, Alike, New, NoMore, More}
+use Rattle.machine.specs.typed_tree.Trees as typed
+use Rattle.machine.specs.flow_paths.Objects.{Typing, object_at, sub_at, is_package_object}
+use Rattle.machine.specs.flow_paths.Names.{has_call, waiting}
 use Rattle.machine.specs.Words.{component_type, words_before, element_type, element_count}
 use Rattle.machine.specs.Typed.{Sort, Whole, Position, Pointer, sorts, same_sorts, is_pointer, points_to, takes_whole, takes_truth, compares_words, is_not, field_count, is_record, is_array, has_bounds, designates, tree_count}
 use Rattle.machine.specs.Evaluate.{Use, AsValue, AsView, part_type}

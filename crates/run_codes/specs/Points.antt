@@ -2,22 +2,22 @@
 use Rattle.std.specs.Prelude.{ℕ, zero, suc, ◌+◌, ◌-◌, Bool, true, not, ◌&&◌, ◌==◌, List, [], ◌∷◌, ◌++◌, map, flat_map, reverse, take, drop, length, sum, get_or, slice_get, nat_le, nat_lt, Option, Some, None, option_and_then, ℤ, pos, negsuc, ◌+ℤ◌, unsigned_abs, int_le, int_lt, if◌then◌else◌}
 use Rattle.std.specs.Char.{to_ascii_uppercase}
 use Rattle.std.specs.Cmp.Lexicographic.{pointwise}
-use Rattle.spark_base.specs.declared.position.Pos.{Pos}
-use Rattle.type_definitions.specs.declared.judgement.View.{View}
-use Rattle.type_definitions.specs.declared.judgement.View.TheVariants as view
-use Rattle.type_definitions.specs.Types.{Table, full, shape_of}
-use Rattle.type_definitions.specs.Entries.{boolean}
-use Rattle.run_values.specs.declared.value.Kind.{Kind}
-use Rattle.run_values.specs.declared.value.Kind.TheVariants as sort
-use Rattle.run_values.specs.declared.items.Item.{Item}
-use Rattle.run_values.specs.declared.items.Item.TheVariants as item
-use Rattle.run_values.specs.Images.{image}
-use Rattle.run_values.specs.Items.{next_item}
+use Rattle.machine.specs.spark_base.declared.position.Pos.{Pos}
+use Rattle.machine.specs.type_definitions.declared.judgement.View.{View}
+use Rattle.machine.specs.type_definitions.declared.judgement.View.TheVariants as view
+use Rattle.machine.specs.type_definitions.Types.{Table, full, shape_of}
+use Rattle.machine.specs.type_definitions.Entries.{boolean}
+use Rattle.kept_cells.specs.run_values.declared.value.Kind.{Kind}
+use Rattle.kept_cells.specs.run_values.declared.value.Kind.TheVariants as sort
+use Rattle.kept_cells.specs.run_values.declared.items.Item.{Item}
+use Rattle.kept_cells.specs.run_values.declared.items.Item.TheVariants as item
+use Rattle.kept_cells.specs.run_values.Images.{image}
+use Rattle.kept_cells.specs.run_values.Items.{next_item}
 use Rattle.kept_cells.specs.Cells.{Cell}
 use Rattle.machine.specs.Words.{access_offsets}
 use Rattle.machine.specs.Evaluate.{ProgramError, StorageError, DataError, EndError, Twice, literals}
 use Rattle.machine.specs.States.{Leak, Ending, Normal, Raised, Spent, Trapped, stack_words}
-use Rattle.flow_paths.specs.Laid.{FlowProgram}
+use Rattle.machine.specs.flow_paths.Laid.{FlowProgram}
 use Rattle.machine.specs.States as machine
 use Rattle.machine.specs.Run.{Run, main_of}
 use Rattle.run_codes.specs.Codes.{Code, Place, Fill, Actual, ByValue, From, To, Piece, Bytes, NumberImage, LiteralImage, Choice, Does, Go, Put, Store, Assign, Call, Output, Input, Release, Test, Choose, Start, Next, EvaluateLeft, EvaluateRight, Hold, EndPointer, EndScope, Finish, Fall, Point, Room, Object, Counter, Sub}

@@ -1,25 +1,25 @@
 -- From programs that are laid out to programs as they are run.
 use Rattle.std.specs.Prelude.{ℕ, suc, zero, ◌+◌, Bool, true, false, not, ◌==◌, List, [], ◌∷◌, ◌++◌, map, flat_map, length, slice_get, nat_lt, Option, Some, None, is_some, option_and_then, ℤ, pos, negsuc, if◌then◌else◌}
 use Rattle.std.specs.List.{list_any}
-use Rattle.spark_base.specs.declared.position.Pos.{Pos}
-use Rattle.place_names.specs.declared.act.Mode.TheVariants as mode
-use Rattle.typed_tree.specs.declared.node.ShortCircuit.{ShortCircuit}
-use Rattle.typed_tree.specs.declared.node.ShortCircuit.TheVariants as short
-use Rattle.run_values.specs.declared.value.Kind.{Kind}
-use Rattle.run_values.specs.declared.value.Kind.TheVariants as sort
-use Rattle.type_definitions.specs.declared.table.Shape.{Shape}
-use Rattle.type_definitions.specs.declared.table.Shape.TheVariants as shape
-use Rattle.type_definitions.specs.Types.{Table, shape_of, full, base, is_owning}
-use Rattle.type_definitions.specs.Entries.{boolean}
-use Rattle.typed_tree.specs.Trees.{TypedTree, TypedCode, Name, Component as IntoComponent, Designated, Element, Parens, Image, Unary, Binary, Short, IsNull, Aggregate, Alike, New, Text, Interval, Others, NoMore, More}
-use Rattle.typed_tree.specs.Trees as typed
-use Rattle.flow_paths.specs.Instructions.{Instruction, Skip, Declare, Assign, Output, Input, Release, Test, Choose, Start, Next, Evaluate, LeaveLoop, Hold, EndScope, Finish, Fall}
-use Rattle.flow_paths.specs.Instructions as instruction
-use Rattle.flow_paths.specs.Objects.{Typing, object_at, sub_at, is_package_object, is_anonymous, view_of, Passing, ByValue, Traversed, passings}
-use Rattle.flow_paths.specs.Objects as objects
-use Rattle.flow_paths.specs.Names.{has_call, waiting, first}
-use Rattle.flow_paths.specs.Points.{FlowPoint}
-use Rattle.flow_paths.specs.Laid.{FlowSub, FlowProgram, flow_typing, result_of}
+use Rattle.machine.specs.spark_base.declared.position.Pos.{Pos}
+use Rattle.machine.specs.place_names.declared.act.Mode.TheVariants as mode
+use Rattle.machine.specs.typed_tree.declared.node.ShortCircuit.{ShortCircuit}
+use Rattle.machine.specs.typed_tree.declared.node.ShortCircuit.TheVariants as short
+use Rattle.kept_cells.specs.run_values.declared.value.Kind.{Kind}
+use Rattle.kept_cells.specs.run_values.declared.value.Kind.TheVariants as sort
+use Rattle.machine.specs.type_definitions.declared.table.Shape.{Shape}
+use Rattle.machine.specs.type_definitions.declared.table.Shape.TheVariants as shape
+use Rattle.machine.specs.type_definitions.Types.{Table, shape_of, full, base, is_owning}
+use Rattle.machine.specs.type_definitions.Entries.{boolean}
+use Rattle.machine.specs.typed_tree.Trees.{TypedTree, TypedCode, Name, Component as IntoComponent, Designated, Element, Parens, Image, Unary, Binary, Short, IsNull, Aggregate, Alike, New, Text, Interval, Others, NoMore, More}
+use Rattle.machine.specs.typed_tree.Trees as typed
+use Rattle.machine.specs.flow_paths.Instructions.{Instruction, Skip, Declare, Assign, Output, Input, Release, Test, Choose, Start, Next, Evaluate, LeaveLoop, Hold, EndScope, Finish, Fall}
+use Rattle.machine.specs.flow_paths.Instructions as instruction
+use Rattle.machine.specs.flow_paths.Objects.{Typing, object_at, sub_at, is_package_object, is_anonymous, view_of, Passing, ByValue, Traversed, passings}
+use Rattle.machine.specs.flow_paths.Objects as objects
+use Rattle.machine.specs.flow_paths.Names.{has_call, waiting, first}
+use Rattle.machine.specs.flow_paths.Points.{FlowPoint}
+use Rattle.machine.specs.flow_paths.Laid.{FlowSub, FlowProgram, flow_typing, result_of}
 use Rattle.machine.specs.Typed.{Sort, Whole, Position, Pointer}
 use Rattle.machine.specs.Evaluate.{Use, AsValue, AsView}
 use Rattle.machine.specs.States.{sub_of, stack_words}

@@ -2,16 +2,16 @@
 --
 -- What stands for access values and cells is told by `PointsTo`, `IsMarked` and `CellStands` alone.
 use Rattle.std.specs.Prelude.{◌≡◌, ◌⊎◌, ◌≤◌, ◌<◌, ℕ, zero, suc, ◌+◌, Bool, true, false, ◌&&◌, ◌==◌, IsTrue, List, [], ◌∷◌, ◌++◌, map, filter, flat_map, length, take, drop, get_or, slice_get, Some, ℤ, pos, negsuc, unsigned_abs}
-use Rattle.spark_base.specs.Lists.{Has}
-use Rattle.run_values.specs.declared.value.Value.{Value}
-use Rattle.run_values.specs.Values.{kind}
-use Rattle.run_values.specs.Arithmetic.{is_integer}
+use Rattle.machine.specs.spark_base.Lists.{Has}
+use Rattle.kept_cells.specs.run_values.declared.value.Value.{Value}
+use Rattle.kept_cells.specs.run_values.Values.{kind}
+use Rattle.kept_cells.specs.run_values.Arithmetic.{is_integer}
 use Rattle.kept_cells.specs.Cells.{Cell as StoredCell}
-use Rattle.type_definitions.specs.declared.table.Shape.TheVariants as shape
-use Rattle.type_definitions.specs.declared.table.Component.{Component}
-use Rattle.type_definitions.specs.Types.{Table, shape_of, span, words}
-use Rattle.type_definitions.specs.Entries.{integer}
-use Rattle.flow_paths.specs.Objects.{Typing, object_at, is_package_object}
+use Rattle.machine.specs.type_definitions.declared.table.Shape.TheVariants as shape
+use Rattle.machine.specs.type_definitions.declared.table.Component.{Component}
+use Rattle.machine.specs.type_definitions.Types.{Table, shape_of, span, words}
+use Rattle.machine.specs.type_definitions.Entries.{integer}
+use Rattle.machine.specs.flow_paths.Objects.{Typing, object_at, is_package_object}
 use Rattle.machine.specs.Words.{Word, Int, Enumerated, Null, Cell, access_offsets}
 use Rattle.machine.specs.Typed.{Sort, Whole, Position, Pointer, sorts, repeated_sorts, same_designated}
 use Rattle.machine.specs.Memory.{Memory, Slot, Place, HeapCell, cell, slots_at, fresh, live_words, OfVariable, OfCell}
