@@ -28,13 +28,14 @@ Put_Line (Integer'Image (X.Value)); Free (X);
 end Main;
 ";
 
-/// The cell that the raising step made counts as freed.
+/// The step that raises makes no cell.
 const RAISES: &str = "X : List; Z : Integer := 0;
 begin
 X := new Cell'(1, new Cell'(2 / Z, null));
 end Main;
 ";
 
+/// The cell that the raising step made counts as freed.
 const RAISES_LATE: &str = "subtype Small is Integer range 1 .. 9;
 type Box is record Left : Int_Ptr; Right : Small; end record;
 type Box_Ptr is access Box;

@@ -102,8 +102,10 @@ fn repeats(rt: HostRuntime) -> Result<(), Fail> {
 
 #[test]
 fn traverses(rt: HostRuntime) -> Result<(), Fail> {
+    // Declare; Call; Declare, Test, Assign, Test, Hold, EndScope, Finish of the function; Declare;
+    // Assign; EndScope; Output; EndScope, whose leak check fails; Finish
     let answer = run(rt.alloc(), TRAVERSES, "", 1000, NO_FAULTS)?;
     let line = "m.adb:15:1: leak of cell 2\n";
-    assert!(rt; answer.is(" 9\n", line, Ok(ended(13, 2, 0, 1)), 2));
+    assert!(rt; answer.is(" 9\n", line, Ok(ended(15, 2, 0, 1)), 2));
     Ok(())
 }
