@@ -38,7 +38,7 @@ impl<R> Drop for Begun<'_, R> {
 
 /// The only frame is the one of a subprogram, which has no words yet.
 fn first<'r, R: Store>(alloc: Global, store: &'r mut R, input: &'r [u8], sub: Sub) -> Begun<'r, R>
-    ensures { IsFirst store.old sub input.now result.memory result.frames result.words }
+    ensures { IsFirst store.old store.entry.ghost_name sub input.now result.memory result.frames result.words }
 {
     Begun {
         memory: Memory::new(alloc, store, input),
@@ -81,7 +81,7 @@ fn first_frame<'r, R: Store>(
     input: &'r [u8],
 ) -> Result<Begun<'r, R>, Stop>
     requires { IsWhole codes.now }
-    ensures { IfOk result (λ b. HasPackages table.now (program_of codes.now) store.old input.now b.memory b.frames b.words) }
+    ensures { IfOk result (λ b. HasPackages table.now (program_of codes.now) store.old store.entry.ghost_name input.now b.memory b.frames b.words) }
 {
     let sub = sub_at(codes, 0);
     let mut begun = first(alloc, store, input, sub);
@@ -117,7 +117,7 @@ pub fn start<'r, R: Store>(
 ) -> Result<Begun<'r, R>, AllocError>
     requires whole { IsWhole codes.now }
     requires store { R.Means store.old no_heap }
-    ensures { IfOk result (λ b. IsStarted R.Means table.now (program_of codes.now) input.now declares b.memory b.frames b.words) }
+    ensures { IfOk result (λ b. IsStarted R.Means table.now (program_of codes.now) store.entry.ghost_name input.now declares b.memory b.frames b.words) }
 {
     let Ok(mut begun) = first_frame(alloc, codes, table, store, input) else {
         return Err(AllocError);
