@@ -110,7 +110,7 @@ pub fn begin<'r, R: Store>(
 ) -> Result<Parts<'r, R>, AllocError>
     requires whole { IsWhole codes.now }
     requires store { R.Means store.old no_heap }
-    ensures { IfOk result (λ p. IsBegun R.Means table.now (program_of codes.now) input.now declares p) }
+    ensures { IfOk result (λ p. IsBegun R.Means table.now (program_of codes.now) store.entry.ghost_name input.now declares p) }
 {
     let Ok(mut parts) = first_frame(alloc, codes, table, store, input) else {
         return Err(AllocError);

@@ -38,7 +38,7 @@ ended_over Means May new over is normal made freed = record {
 pub counted_freed : (freed made were with : ℕ) → were ≡ made → with ≡ freed + (made - were) → with ≡ freed
 counted_freed freed made were with same is = omega (arith, same, is)
 
-not_memory : (s : Stop) (p : Pos) (end : Ending) → EndsBy s p end → s ≢ stop.Memory
+pub not_memory : (s : Stop) (p : Pos) (end : Ending) → EndsBy s p end → s ≢ stop.Memory
 not_memory (stop.Raises e) p end is = λ same. absurd (cc)
 not_memory stop.Memory p end is = λ same. is
 not_memory _ p end is = λ same. absurd is
