@@ -4,9 +4,6 @@ use Rattle.type_definitions.specs.Types.{Table}
 use Rattle.run_codes.specs.Codes.{Sub}
 use Rattle.run_codes.specs.Programs.{Program}
 use Rattle.run_codes.specs.Points.{sub_at, template}
-use Rattle.code_rows.specs.declared.point.Sub.{Sub as SubRow}
-use Rattle.code_rows.specs.declared.codes.Codes.{Codes}
-use Rattle.code_rows.specs.Points.{program_of, sub_of}
 use Rattle.slot_heap.specs.Heaps.{Heap, no_heap}
 use Rattle.handled_runs.specs.Slots.{Slots}
 use Rattle.handled_steps.specs.Runs.{no_memory}
@@ -20,7 +17,7 @@ use Rattle.slot_stages.proofs.Starts.{first_stage, first_frame, first_is, first_
 use Rattle.slot_entries.specs.Entries.{stacked_words}
 use Rattle.slot_turns.specs.Betweens.{stage_of, IsBetween}
 use Rattle.slot_leads.specs.Begins.{MainBegins}
-use Rattle.slot_leads.specs.Starts.{only_frame, no_cells, IsFirst, HasPackages, silent, IsStarted}
+use Rattle.slot_leads.specs.Starts.{only_frame, no_cells, HasPackages, silent, IsStarted}
 
 abbrev no_ghosts : Ghosts
 no_ghosts = record { heap = no_heap; numbers = λ h. 0; moves = []; peaks = []; sizes = [] }
@@ -61,22 +58,6 @@ one_frame n = omega arith
 pub packages_words : {R : Type 0} (table : Table) (program : Program) (store : R) (lent : ℕ) (bytes : List ℕ) (m : Kept R) (s : Stacked) (words : ℕ)
     → HasPackages table program store lent bytes m s words → words ≡ stacked_words s
 packages_words table program store lent bytes m s words has = has.words ∙ one_frame (sub_at program 0).words ∙ ap stacked_words (sym has.frames)
-
--- Their words are pushed.
-pub packages_pushed : {R : Type 0} (codes : Codes) (table : Table) (store : R) (lent : ℕ) (bytes : List ℕ) (sub : SubRow) (m q : Kept R) (s t : Stacked) (words all : ℕ)
-    → IsFirst store lent sub bytes m s words → sub_of codes sub ≡ sub_at (program_of codes) 0 → q ≡ record m { stack = m.stack ++ template table (sub_of codes sub) } → t ≡ s → all ≡ words
-    → HasPackages table (program_of codes) store lent bytes q t all
-packages_pushed {R} codes table store lent bytes sub m q s t words all is same memory frames count = record {
-  stack = ap (λ (x : Kept R). x.stack) memory ∙ ap (λ (ws : List ℤ). ws ++ template table (sub_of codes sub)) is.stack ∙ ap (λ (x : Sub). template table x) same;
-  base = ap (λ (x : Kept R). x.base) memory ∙ is.base;
-  waits = ap (λ (x : Kept R). x.waits) memory ∙ is.waits;
-  heap = ap (λ (x : Kept R). x.heap) memory ∙ is.heap;
-  moves = ap (λ (x : Kept R). x.moves) memory ∙ is.moves;
-  input = ap (λ (x : Kept R). x.input) memory ∙ is.input;
-  read = ap (λ (x : Kept R). x.read) memory ∙ is.read;
-  frames = frames ∙ is.frames ∙ ap (λ (x : Sub). only_frame x.first x.words) same;
-  words = count ∙ is.words ∙ ap (λ (x : Sub). x.words) same;
-}
 
 module _ {R : Type 0} (Means : R → Heap → Type 0) (table : Table) (program : Program) (store : R) (lent : ℕ) (bytes : List ℕ) (m : Kept R) (s : Stacked) (words : ℕ)
     (means : Means store no_heap) (has : HasPackages table program store lent bytes m s words) where

@@ -11,7 +11,7 @@ use Rattle.run_codes.specs.Codes.{Point}
 use Rattle.run_codes.specs.Flat.{Got, Given, Stops, Broken, is_broken}
 use Rattle.handled_runs.specs.Slots.{Slots}
 use Rattle.handled_steps.specs.States.{Outcome, Turn, on_got}
-use Rattle.slot_memory.specs.Memory.{Kept, Ghosts, slots}
+use Rattle.slot_memory.specs.Memory.{Kept, Ghosts, Shows, slots}
 use Rattle.slot_runs.specs.Turns.{Setting, NeverFails, is_failing}
 use Rattle.slot_turns.specs.Betweens.{StandAt}
 use Rattle.slot_turns.specs.Steps.{turn_at, DoneAt}
