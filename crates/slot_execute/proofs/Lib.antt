@@ -4,7 +4,7 @@ pub mod Codes
 pub mod Same
 -- where runs start
 pub mod Started
--- what is told of them
-pub mod Told
+-- runs without a step
+pub mod NoSteps
 -- libraries that the crates above name through this one
 pub use Rattle.accepted_recycled.proofs as accepted_recycled
