@@ -50,11 +50,11 @@ silent m s = record { kept = m; stacked = s; output = []; leaks = [] }
 
 -- What is kept is that of the state at the start.
 pub record IsStarted {R : Type 0}
-    (Means : R → Heap → Type 0) (table : Table) (program : Program) (lent : ℕ) (bytes : List ℕ) (declares : Bool) (m : Kept R) (s : Stacked) (all : ℕ) : Type 0 where
+    (Means : R → Heap → Type 0) (table : Table) (program : Program) (reference : ℕ) (bytes : List ℕ) (declares : Bool) (m : Kept R) (s : Stacked) (all : ℕ) : Type 0 where
   pub ghosts : Ghosts
   pub between : IsBetween (silent m s)
   pub stands : StandAt Means (silent m s) ghosts
   pub input : m.input ≡ bytes
-  pub lent : m.heap.lent ≡ lent
+  pub lent : m.heap.lent ≡ reference
   pub words : all ≡ stacked_words s
   pub state : state_of (stage_of (silent m s) ghosts) ≡ state_at_start table program declares

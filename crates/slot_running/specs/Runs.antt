@@ -42,12 +42,12 @@ AreKept Means None p = IsKnown Means p.memory × (p.words ≡ stacked_words p.fr
 AreKept Means (Some over) p = Unit
 
 -- The run stands before the first step of a program.
-pub record IsAtStart {R : Type 0} (Means : R → Heap → Type 0) (table : Table) (program : Program) (lent : ℕ) (input : List ℕ) (declares : Bool) (r : Running R) : Type 0 where
+pub record IsAtStart {R : Type 0} (Means : R → Heap → Type 0) (table : Table) (program : Program) (reference : ℕ) (input : List ℕ) (declares : Bool) (r : Running R) : Type 0 where
   pub setting : running_setting r ≡ record { table = table; program = program; input = input }
   pub inside : Inside
   pub stands : RunStands Means r inside
   pub start : state_of (running_untold r) inside ≡ state_at_start table program declares
-  pub lent : running_lent r ≡ lent
+  pub lent : running_lent r ≡ reference
 
 -- ---- turns
 
