@@ -7,7 +7,7 @@ use Rattle.slot_heap.specs.Heaps.{Knows}
 use Rattle.slot_executor.specs.Executes.{AreSame, HasSlots, IsExecuted}
 use Rattle.slot_runs.specs.Tellings.{Sinks, HaveFronts}
 use Rattle.slot_runs.proofs.Owed.{none_had}
-use Rattle.accepted_recycled.proofs.accepted_runs.Kept.{accepted_soundly}
+use Rattle.accepted_runs.proofs.Kept.{accepted_soundly}
 use Rattle.slot_execute.proofs.Same.{accepted_are_same}
 use Rattle.slot_execute.proofs.programs.execute.Goals as goal
 
