@@ -136,6 +136,7 @@ module _ {R : Type 0} (Means : R → Heap → Type 0) (codes : Codes) (table : T
                   ∙ ap (λ os. state_of (record r { output = os })) (found.2 ∙ sym led.output)
                   ∙ ap (λ ls. state_of (record r { output = new.output.items; leaks = ls })) (sym (ap leaks_of (led.leaks ∙ leaks)));
             };
+        lent = led_lent table (program_of codes) k (next_of n) old.memory new.memory old.frames new.frames to;
       };
       left =
           let g : Ghosts = at.can.ghosts in
@@ -148,8 +149,8 @@ module _ {R : Type 0} (Means : R → Heap → Type 0) (codes : Codes) (table : T
     }
 
   pub output_halts : {U : Type 0} (x : Stop) (made : ℕ) (new : Parts R) → Added {U = U} Means old.memory (written table pieces line) (Err x) old.output.items new.output.items
-      → made ≡ old.memory.heap.made → new.output.items ≡ old.output.items → new.leaks.items ≡ old.leaks.items → StepsOf Means codes table point (Err (record { stop = x; made = made })) old new
-  output_halts x made new added counted output leaks = record {
+      → made ≡ old.memory.heap.made → new.memory ≡ old.memory → new.output.items ≡ old.output.items → new.leaks.items ≡ old.leaks.items → StepsOf Means codes table point (Err (record { stop = x; made = made })) old new
+  output_halts x made new added counted same output leaks = record {
     steps = record {
       steps = λ g stands fine other.
           let s : Slots = slots old.memory g in
@@ -159,7 +160,11 @@ module _ {R : Type 0} (Means : R → Heap → Type 0) (codes : Codes) (table : T
             made = sym counted;
             output = output;
             leaks = ap leaks_of leaks;
+            ghosts = g;
+            stands = subst (λ m. Stands Means m g) (sym (same)) stands.memory;
+            slots = refl;
           };
+      lent = λ other. ap (λ (m : Kept R). m.heap.lent) same;
     };
     left = tt;
   }
