@@ -7,6 +7,7 @@ use Rattle.slot_heap.specs.Heaps.{Heap, words_at}
 use Rattle.run_codes.specs.Codes.{Point, Does, Finish}
 use Rattle.run_codes.specs.Flat.{Got, Given, Stops, Broken, Spot, InStack, InCell, and_then, constraint, kinds, have_kinds, spliced}
 use Rattle.run_codes.specs.Points.{Return, fits}
+use Rattle.code_rows.specs.declared.stop.Stop.TheVariants as stop
 use Rattle.code_rows.specs.Stops.{stop_of}
 use Rattle.handled_runs.specs.Fits.{are_slot_words}
 use Rattle.handled_runs.specs.Slots.{Slots, held}

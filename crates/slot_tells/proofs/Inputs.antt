@@ -19,7 +19,7 @@ use Rattle.handled_runs.specs.Slots.{Slots}
 use Rattle.handled_steps.specs.States.{State, Outcome, Goes, Turn, waiting, after, halted, on_got}
 use Rattle.handled_steps.specs.Steps as defined
 use Rattle.handled_steps.specs.Steps.{reading, input}
-use Rattle.slot_memory.specs.Memory.{Kept, Ghosts, Elsewhere, slots, ghosts_of, elsewhere}
+use Rattle.slot_memory.specs.Memory.{Kept, Ghosts, Stands, Elsewhere, slots, ghosts_of, elsewhere}
 use Rattle.slot_frames.specs.Stacks.{Stacked}
 use Rattle.slot_runs.specs.Turns.{Setting, NeverFails}
 use Rattle.slot_stages.specs.Stages.{Stage, state_of}
@@ -37,6 +37,7 @@ use Rattle.slot_parts.specs.Stages.{between_of, setting_of, IsAt}
 use Rattle.slot_parts.specs.Steps.{AreLeft, StepsOf}
 use Rattle.slot_parts.specs.Goes.{IsLed}
 use Rattle.slot_parts.proofs.Sights.{does_at, stage_at, start_now}
+use Rattle.slot_parts.proofs.Leads.{led_lent}
 use Rattle.slot_tells.proofs.Told.{got_fine}
 
 -- Where a run goes on doesn't depend on how far the input is read.

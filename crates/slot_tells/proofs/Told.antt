@@ -16,7 +16,7 @@ use Rattle.run_results.specs.Results.{leaks_of}
 use Rattle.handled_runs.specs.Slots.{Slots}
 use Rattle.handled_steps.specs.States.{State, Outcome, Goes, Fails, Turn, waiting, after, halted, on_got}
 use Rattle.handled_steps.specs.Steps.{Done, writing, output}
-use Rattle.slot_memory.specs.Memory.{Ghosts, slots}
+use Rattle.slot_memory.specs.Memory.{Kept, Ghosts, Stands, slots}
 use Rattle.slot_runs.specs.Turns.{Setting, NeverFails, is_failing}
 use Rattle.slot_stages.specs.Stages.{Stage, state_of}
 use Rattle.slot_stages.specs.Leads.{LeadsTo}
@@ -32,6 +32,7 @@ use Rattle.slot_parts.specs.Stages.{between_of, setting_of, IsAt}
 use Rattle.slot_parts.specs.Steps.{StepsOf}
 use Rattle.slot_parts.specs.Goes.{IsLed}
 use Rattle.slot_parts.proofs.Sights.{does_at, stage_at, start_now}
+use Rattle.slot_parts.proofs.Leads.{led_lent}
 
 fails_never : {A : Type 0} → is_failing Fails ≡ false → A
 fails_never is = absurd (never is)
@@ -161,7 +162,7 @@ module _ {R : Type 0} (Means : R → Heap → Type 0) (codes : Codes) (table : T
             output = output;
             leaks = ap leaks_of leaks;
             ghosts = g;
-            stands = subst (λ m. Stands Means m g) (sym (same)) stands.memory;
+            stands = subst (λ m. Stands Means m g) (sym same) stands.memory;
             slots = refl;
           };
       lent = λ other. ap (λ (m : Kept R). m.heap.lent) same;

@@ -172,7 +172,7 @@ module _ {R : Type 0} (Means : R → Heap → Type 0) (codes : Codes) (table : T
               output = output;
               leaks = ap leaks_of leaks;
               ghosts = g;
-              stands = subst (λ m. Stands Means m g) (sym (same)) stands.memory;
+              stands = subst (λ m. Stands Means m g) (sym same) stands.memory;
               slots = refl;
             };
         lent = λ other. ap (λ (m : Kept R). m.heap.lent) same;
@@ -245,7 +245,7 @@ module _ {R : Type 0} (Means : R → Heap → Type 0) (codes : Codes) (table : T
               output = output;
               leaks = ap leaks_of leaks;
               ghosts = g;
-              stands = subst (λ m. Stands Means m g) (sym (same)) stands.memory;
+              stands = subst (λ m. Stands Means m g) (sym same) stands.memory;
               slots = refl;
             };
         lent = λ other. ap (λ (m : Kept R). m.heap.lent) same;
