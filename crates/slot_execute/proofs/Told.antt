@@ -13,8 +13,8 @@ use Rattle.run_results.specs.Results as results
 use Rattle.run_results.specs.Lines.{leak_lines}
 use Rattle.slot_runs.specs.Tellings.{Sinks}
 use Rattle.slot_executor.specs.Executes as executes
-use Rattle.accepted_recycled.proofs.accepted_runs.Endings.{sound_untrapped}
-use Rattle.accepted_recycled.proofs.accepted_runs.Kept.{accepted_soundly}
+use Rattle.accepted_runs.proofs.Endings.{sound_untrapped}
+use Rattle.accepted_runs.proofs.Kept.{accepted_soundly}
 use Rattle.slot_execute.specs.declared.ran.Ran.{Ran}
 use Rattle.slot_execute.specs.Results.{IsRun}
 use Rattle.slot_execute.specs.Executes.{IsExecuted}
