@@ -34,6 +34,7 @@ pub mod ClosingNames
 -- sources that break two rules
 pub mod TwoFirstUnknown
 pub mod TwoFirstDoubled
+pub mod TwoFirstDoubledUnits
 pub mod TwoFirstHidden
 pub mod TwoFirstEarly
 pub mod TwoFirstMissing

@@ -5,8 +5,8 @@ use Rattle.laid_program.specs.declared.laid.Laid.{Laid}
 use Rattle.laid_program.specs.Programs.{program_of}
 use Rattle.machine.specs.Run.{Run, run}
 use Rattle.run_codes.specs.Points.{ran_of}
-use Rattle.run_command.specs.slot_execute.declared.ran.Ran.{Ran}
-use Rattle.run_command.specs.slot_execute.Results.{IsRun}
+use Rattle.run_results.specs.declared.ran.Ran.{Ran}
+use Rattle.run_results.specs.Results.{IsRun}
 
 -- The run of a program without input, in as many steps as any run may take.
 abbrev pub run_of : Laid → Run

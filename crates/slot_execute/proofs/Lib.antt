@@ -4,5 +4,5 @@ pub mod Codes
 pub mod Same
 -- where runs start
 pub mod Started
--- what is told of them
-pub mod Told
+-- runs without a step
+pub mod NoSteps

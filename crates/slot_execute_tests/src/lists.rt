@@ -86,6 +86,8 @@ fn sums(rt: HostRuntime) -> Result<(), Fail> {
     let alloc = rt.alloc();
     let text = source(alloc, SUMS)?;
     let input = numbers(alloc, 1000)?;
+    // Declare, four times; Test, Input, Assign; Declare; Test, Assign, Assign; EndScope; Output; Test,
+    // Assign, Assign, Release; EndScope, twice; Finish. Each loop has 1,000 turns and one more Test
     let answer = run(alloc, text.as_str(), input.as_str(), 20_000, NO_FAULTS)?;
     assert!(rt; answer.is(" 500500\n", "", Ok(ended(10_013, 1000, 1000, 0)), 1000));
     Ok(())
@@ -95,6 +97,8 @@ fn sums(rt: HostRuntime) -> Result<(), Fail> {
 fn repeats(rt: HostRuntime) -> Result<(), Fail> {
     let alloc = rt.alloc();
     let text = source(alloc, REPEATS)?;
+    // Declare, twice; Start; 100 times Next, Start, Next and Assign 1,000 times, Next, Test and Assign,
+    // Assign, Release 1,000 times, Test; Next; EndScope, twice; Finish
     let answer = run(alloc, text.as_str(), "", 1_000_000, NO_FAULTS)?;
     assert!(rt; answer.is("", "", Ok(ended(600_407, 100_000, 100_000, 0)), 1000));
     Ok(())
@@ -102,8 +106,10 @@ fn repeats(rt: HostRuntime) -> Result<(), Fail> {
 
 #[test]
 fn traverses(rt: HostRuntime) -> Result<(), Fail> {
+    // Declare; Call; Declare, Test, Assign, Test, Hold, EndScope, Finish of the function; Declare;
+    // Assign; EndScope; Output; EndScope, whose leak check fails; Finish
     let answer = run(rt.alloc(), TRAVERSES, "", 1000, NO_FAULTS)?;
     let line = "m.adb:15:1: leak of cell 2\n";
-    assert!(rt; answer.is(" 9\n", line, Ok(ended(13, 2, 0, 1)), 2));
+    assert!(rt; answer.is(" 9\n", line, Ok(ended(15, 2, 0, 1)), 2));
     Ok(())
 }

@@ -39,13 +39,7 @@ pub(crate) struct Response {
 
 impl Response {
     /// Whether it wrote these texts, and gave this with so many slots.
-    pub(crate) fn is(
-        &self,
-        out: &str,
-        err: &str,
-        ran: Result<Ran, ExecFault>,
-        slots: u64,
-    ) -> bool {
+    pub(crate) fn is(&self, out: &str, err: &str, ran: Result<Ran, ExecFault>, slots: u64) -> bool {
         self.out.bytes() == out.as_bytes()
             && self.err.bytes() == err.as_bytes()
             && self.ran == ran

@@ -38,7 +38,6 @@ counted_freed freed made were with same is = omega (arith, same, is)
 not_memory : (s : Stop) (p : Pos) (end : Ending) → EndsBy s p end → s ≢ stop.Memory
 not_memory (stop.Raises e) p end is = λ same. absurd (cc)
 not_memory stop.Memory p end is = λ same. is
-not_memory _ p end is = λ same. absurd is
 
 ends_by : (t : Turn) (s : Stop) (end : Ending) (m : Slots) → EndsBy s t.point.pos end
     → halted t (stop_of s) m ≡ Ends (ending_of end) (counted (record t.state { memory = given_up t.state.memory m }))

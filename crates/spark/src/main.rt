@@ -1,7 +1,8 @@
 //! The program `spark`: the tool over real files, standard input and the two outputs.
 //!
 //! `main` takes the words after the program's name, makes the real objects of `real_outside` and a
-//! store without cells, calls `run_tool` and ends with its answer. Words that aren't UTF-8 are a usage fault, as no words are.
+//! store without cells, calls `run_tool` and ends with its answer. Words that aren't UTF-8 are a usage
+//! fault, as no words are.
 #![tactic(auto)]
 
 ghost use Rattle.spark_tool.specs.Promises.{IsStatus};

@@ -81,7 +81,7 @@ no_more (Some files) runs left words out new_out err new_err delivers = λ input
 kept : (old new : Option (List ℕ)) → Keeps old new → Appends old new []
 kept old new same = Appends-kept old old new [] (Appends-nil old) same
 
-front_kept : (old new : Option (List ℕ)) (piece : List ℕ) → Keeps old new → AppendsPrefix old new piece
+pub front_kept : (old new : Option (List ℕ)) (piece : List ℕ) → Keeps old new → AppendsPrefix old new piece
 front_kept old new piece same = ([], piece, refl, kept old new same)
 
 -- nothing was written

@@ -7,6 +7,7 @@ pub mod WrongTypes
 pub mod WrongPlaces
 pub mod WrongOwners
 pub mod AnonymousSources
+pub mod TraversedActuals
 pub mod WrongValues
 -- Y1 to Y3
 pub mod WrongSizes

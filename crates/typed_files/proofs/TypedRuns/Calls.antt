@@ -28,7 +28,11 @@ use Rattle.typed_tree.specs.Statements.{typed_text, typed_call, call_of, predefi
 use Rattle.flow_paths.specs.Instructions as instruction
 use Rattle.flow_paths.specs.Objects.{Typing, Signature}
 use Rattle.typed_laws.specs.Fine.{Agree, Laws, IsMeant, AreSuffixes, IsSuffix, AreArguments}
+<<<<<<< HEAD
 use Rattle.typed_laws.proofs.Agreeing.{holds, nil_left, nil_right, and_left, and_right, agree_access, agree_counts, is_free}
+=======
+use Rattle.typed_laws.proofs.Agreeing.{holds, nil_left, nil_right, and_left, and_right, agree_access, agree_counts}
+>>>>>>> 599e11edbf776cd017b0b3af5972eb7b22d77ae7
 use Rattle.typed_laws.proofs.TypedPoints.Flags.{flagged, at_flags, typed_same, meant_same}
 use Rattle.typed_laws.proofs.TypedPoints.Strings.{string_own}
 use Rattle.typed_laws.specs.TypedSteps.Steps.{IsPlaceOf, FirstText, IsText, IsCall}

@@ -18,7 +18,11 @@ use Rattle.typed_tree.specs.Trees.{TypedTree}
 use Rattle.typed_tree.specs.Expressions.{Site, typed_expression, typed_name, typed_steps, typed_actuals, typed_imaged, called_function, object_type}
 use Rattle.flow_paths.specs.Objects.{Typing, Signature}
 use Rattle.typed_laws.specs.Fine.{Has, Laws, IsMeant}
+<<<<<<< HEAD
 use Rattle.typed_laws.proofs.Agreeing.{holds, nil_left, nil_right, and_left, is_free}
+=======
+use Rattle.typed_laws.proofs.Agreeing.{holds, nil_left, nil_right, and_left}
+>>>>>>> 599e11edbf776cd017b0b3af5972eb7b22d77ae7
 use Rattle.typed_laws.proofs.TypedPoints.Flags.{flagged, at_flags, typed_same, meant_same}
 use Rattle.typed_laws.proofs.TypedPoints.Values.{has_at, unwanted, scalar_own_type}
 use Rattle.typed_laws.specs.TypedSteps.Steps.{Taken}

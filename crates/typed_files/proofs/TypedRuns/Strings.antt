@@ -23,7 +23,11 @@ use Rattle.typed_laws.proofs.Main.{has_type}
 use Rattle.typed_laws.proofs.TypedPoints.Statements.{based_scalar}
 use Rattle.typed_laws.proofs.TypedPoints.Strings.{string_own}
 use Rattle.typed_laws.specs.TypedSteps.Steps.{IsText}
+<<<<<<< HEAD
 use Rattle.typed_laws.proofs.TypedPoints.Images.{IsImage, image_read, join_only}
+=======
+use Rattle.typed_files.proofs.TypedRuns.Images.{IsImage, image_read, join_only}
+>>>>>>> 599e11edbf776cd017b0b3af5972eb7b22d77ae7
 use Rattle.typed_files.proofs.TypedRuns.Within.{imaged_same}
 
 module _ (s : Site) (objects : List Object) (subs : List Signature) (made : ℕ → Type 0) (laws : Laws s.context.known made) where

@@ -52,7 +52,11 @@ use Rattle.typed_laws.specs.TypedSteps.Steps.{IsCall}
 use Rattle.typed_files.specs.TypedRuns.Code.{ArePassed, GivesNoView, Within, WithinSource}
 use Rattle.typed_files.specs.TypedRuns.Formals.{formals_of, IsProfiled, AreProfiled}
 use Rattle.typed_files.proofs.TypedRuns.Actuals.{tight, traversed_named, call_given}
+<<<<<<< HEAD
 use Rattle.typed_laws.proofs.TypedPoints.Images.{IsImage, image_read, join_only}
+=======
+use Rattle.typed_files.proofs.TypedRuns.Images.{IsImage, image_read, join_only}
+>>>>>>> 599e11edbf776cd017b0b3af5972eb7b22d77ae7
 
 -- What stands within an expression; it may be what a traversal function gives where that may stand.
 abbrev WithinAs : Typing → Bool → TypedTree → Type 0

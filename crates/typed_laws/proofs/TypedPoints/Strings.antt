@@ -26,7 +26,89 @@ use Rattle.typed_laws.proofs.Agreeing.{holds, nil_left, nil_right}
 use Rattle.typed_laws.proofs.Main.{fine}
 use Rattle.typed_laws.proofs.TypedPoints.Values.{bound_stays}
 use Rattle.typed_laws.proofs.TypedPoints.Statements.{based_scalar}
+<<<<<<< HEAD
 use Rattle.typed_laws.proofs.TypedPoints.Images.{IsImage, image_read, join_only}
+=======
+
+-- ---- names that are read as images
+
+no_image_if : (b : Bool) (r : Reading) (t : ℕ) → (r ≡ reading.Image t → ⊥) → reading_if b r ≡ reading.Image t → ⊥
+no_image_if true r t never e = never e
+no_image_if false r t never e = cc
+
+no_image_end : (b : Bool) (v : ℤ) (t : ℕ) → ended b v ≡ reading.Image t → ⊥
+no_image_end true v t e = cc
+no_image_end false v t e = cc
+
+no_image_value : (b : Bool) (u t : ℕ) (v : ℤ) → (if b then reading.Value u v else reading.Off) ≡ reading.Image t → ⊥
+no_image_value true u t v e = cc
+no_image_value false u t v e = cc
+
+no_image_along : (c : Context) (rest : Tree) (u t : ℕ) → along c u rest ≡ reading.Image t → ⊥
+unfolding along
+no_image_along c (More a rest) u t e = by (step c a u) e (λ v. no_image_along c rest v t)
+  where
+    by : (n : Next) → led_on (λ v. along c v rest) rest n ≡ reading.Image t → ((v : ℕ) → along c v rest ≡ reading.Image t → ⊥) → ⊥
+    by (Goes v) is on = on v is
+    by (Gives x) is on = no_image_end (is_end rest) x t is
+    by Stops is on = cc
+no_image_along c rest u t e = cc
+
+no_image_function : (d : ℕ) (o : Option ℕ) (rest : Tree) (t : ℕ) → of_function d o rest ≡ reading.Image t → ⊥
+no_image_function d None rest t e = cc
+no_image_function d (Some r) rest t e = no_image_if (is_call rest) (reading.Call d) t (λ z. cc) e
+
+-- An image has one argument.
+abbrev IsImaged : Tree → Type 0
+IsImaged rest = (args : Tree) × (rest ≡ More (Applied args) NoMore) × (is_index args ≡ true)
+
+imaged : (b t : ℕ) (rest : Tree) → reading_if (is_imaged rest) (reading.Image b) ≡ reading.Image t → IsImaged rest × (t ≡ b)
+imaged b t (More (Applied args) NoMore) e = by (is_index args) refl e
+  where
+    by : (g : Bool) → is_index args ≡ g → reading_if g (reading.Image b) ≡ reading.Image t → IsImaged (More (Applied args) NoMore) × (t ≡ b)
+    by true is h = ((args, refl, is), (let f : reading.Image b ≡ reading.Image t = h in cc))
+    by false is h = cc
+imaged b t rest e = cc
+
+scalar_image : (b t : ℕ) (a : Attribute) (low high : ℤ) (rest : Tree) → scalar_attribute b a low high rest ≡ reading.Image t → IsImaged rest × (t ≡ b)
+scalar_image b t attribute.First low high rest e = absurd (no_image_value (is_end rest) b t low e)
+scalar_image b t attribute.Last low high rest e = absurd (no_image_value (is_end rest) b t high e)
+scalar_image b t attribute.Image low high rest e = imaged b t rest e
+scalar_image b t a low high rest e = cc
+
+no_image_ended : (n : Next) (rest : Tree) (t : ℕ) → ended_at n rest ≡ reading.Image t → ⊥
+no_image_ended (Gives v) rest t e = no_image_end (is_end rest) v t e
+no_image_ended n rest t e = cc
+
+type_image : (b t : ℕ) (a : Attribute) (w : View) (rest : Tree) → type_attribute b a w rest ≡ reading.Image t → IsImaged rest × (t ≡ b) × (is_scalar w ≡ true)
+type_image b t a (view.Whole low high) rest e = let is = scalar_image b t a low high rest e in (is.0, is.1, refl)
+type_image b t a (view.Listed low high) rest e = let is = scalar_image b t a (pos low) (pos high) rest e in (is.0, is.1, refl)
+type_image b t a w rest e = absurd (no_image_ended (array_attribute a w) rest t e)
+
+-- Only an attribute of a scalar type is read as an image.
+abbrev IsImage : Context → ℕ → ℕ → Entry → Tree → Type 0
+IsImage c d t e rest =
+    (a : Attribute) × (more : Tree) × (rest ≡ More (Attr a) more) × IsImaged more × (e ≡ entry.Type) × (t ≡ base c.known.table d) × (is_scalar (seen c d) ≡ true)
+
+image_of : (c : Context) (d t : ℕ) (e : Entry) (rest : Tree) → of_entry c d e rest ≡ reading.Image t → IsImage c d t e rest
+image_of c d t (entry.Object o) rest is = absurd (no_image_along c rest o.of t is)
+image_of c d t (entry.Subprogram p) rest is = absurd (no_image_function d p.result rest t is)
+image_of c d t (entry.Literal u n) rest is = absurd (no_image_value (is_end rest) u t (pos n) is)
+image_of c d t entry.Type (More (Attr a) rest) is =
+    let found = type_image (base c.known.table d) t a (seen c d) rest is in (a, rest, refl, found.0, refl, found.1, found.2)
+image_of c d t (entry.Predefined predefined.EndOfFile) rest is = absurd (no_image_if (is_call rest) reading.EndOfFile t (λ z. cc) is)
+image_of c d t e rest is = cc
+
+join_only : (op : Operator) → (if is_join op then own.Text else if is_arithmetic op then own.Of integer else own.Of boolean) ≡ own.Text → op ≡ operator.Concatenate
+join_only operator.Concatenate e = refl
+join_only operator.Add e = cc
+join_only operator.Subtract e = cc
+join_only operator.Multiply e = cc
+join_only operator.Divide e = cc
+join_only operator.Modulo e = cc
+join_only operator.Remainder e = cc
+join_only op e = cc
+>>>>>>> 599e11edbf776cd017b0b3af5972eb7b22d77ae7
 
 module _ (s : Site) (objects : List Object) (subs : List Signature) (made : ℕ → Type 0) (laws : Laws s.context.known made) where
   abbrev y : Typing

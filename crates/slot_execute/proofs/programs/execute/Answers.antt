@@ -1,12 +1,13 @@
-use Rattle.std.proofs.Common.{sym, subst}
+use Rattle.std.proofs.Common.{map, string_bytes, sym, subst}
+use Rattle.std.specs.Prelude.{IfOk, OnErr}
+use Rattle.machine.specs.Run.{Run, run}
 use Rattle.laid_program.specs.declared.laid.Laid.{Laid}
 use Rattle.laid_program.specs.Programs.{program_of}
-use Rattle.slot_executor.specs.Executes.{AreSame}
-use Rattle.slot_runs.specs.Tellings.{Sinks}
+use Rattle.slot_executor.specs.Executes.{AreSame, IsExecuted}
+use Rattle.slot_runs.specs.Tellings.{Sinks, HaveFronts}
 use Rattle.slot_runs.proofs.Owed.{none_had}
 use Rattle.accepted_runs.proofs.Kept.{accepted_soundly}
 use Rattle.slot_execute.proofs.Same.{accepted_are_same}
-use Rattle.slot_execute.proofs.Told.{done_untrapped, done_executed}
 use Rattle.slot_execute.proofs.programs.execute.Goals as goal
 
 pub returns-in_default-clause-fronts : goal.returns-in_default-clause-fronts
@@ -24,23 +25,21 @@ run_codes-requires-clause-same g c =
 pub returns-in_default-lower_ready-clause-sound : goal.returns-in_default-lower_ready-clause-sound
 returns-in_default-lower_ready-clause-sound g c = accepted_soundly c.args.program.now c.args.input.now c.requires.main
 
-pub returns-in-Ok-run_codes-clause-sound : goal.returns-in-Ok-run_codes-clause-sound
-returns-in-Ok-run_codes-clause-sound g c = accepted_soundly c.args.program.now c.args.input.now c.requires.main
+pub returns-in-Ok-clause-sound : goal.returns-in-Ok-clause-sound
+returns-in-Ok-clause-sound g c = accepted_soundly c.args.program.now c.args.input.now c.requires.main
 
-pub returns-in-Err-clause-sound : goal.returns-in-Err-clause-sound
-returns-in-Err-clause-sound g c = accepted_soundly c.args.program.now c.args.input.now c.requires.main
-
--- so no trap is told
-pub told-requires : goal.told-requires
-told-requires g c =
+-- what is laid out is the program
+pub returns-in-Ok-clause-executed : goal.returns-in-Ok-clause-executed
+returns-in-Ok-clause-executed g c =
     let old : Sinks = record { output = g.K.Sink.written c.args.out.now; lines = g.K.Sink.written c.args.err.now } in
     let new : Sinks = record { output = g.K.Sink.written c.run_codes.new.out; lines = g.K.Sink.written c.run_codes.new.err } in
-    done_untrapped c.args.program.now c.laid-laid.result.now c.args.input.now c.args.steps c.in-Ok-run_codes.went old new c.laid-laid.ensures.value c.requires.main
-    c.in-Ok-run_codes.ensures.executed
+    subst (λ (l : Laid). IfOk c.run_codes.result (λ ran. IsExecuted (map string_bytes l.names.items) (run (program_of l) c.args.input.now c.args.steps) ran old new))
+    c.laid-laid.ensures.value c.run_codes.ensures.executed
 
-pub returns-in-Ok-run_codes-clause-executed : goal.returns-in-Ok-run_codes-clause-executed
-returns-in-Ok-run_codes-clause-executed g c =
+pub returns-in-Ok-clause-fronts : goal.returns-in-Ok-clause-fronts
+returns-in-Ok-clause-fronts g c =
     let old : Sinks = record { output = g.K.Sink.written c.args.out.now; lines = g.K.Sink.written c.args.err.now } in
     let new : Sinks = record { output = g.K.Sink.written c.run_codes.new.out; lines = g.K.Sink.written c.run_codes.new.err } in
-    done_executed c.args.program.now c.laid-laid.result.now c.args.input.now c.args.steps c.in-Ok-run_codes.went c.told.result old new c.laid-laid.ensures.value c.told.ensures
-    c.in-Ok-run_codes.ensures.executed
+    let whole : Laid → Run = λ l. run (program_of l) c.args.input.now c.args.steps in
+    subst (λ (l : Laid). OnErr c.run_codes.result (HaveFronts (map string_bytes l.names.items) old new (whole l).output (whole l).leaks))
+    c.laid-laid.ensures.value c.run_codes.ensures.fronts

@@ -6,7 +6,7 @@ use Rattle.slot_runs.proofs.Kept.{if_ok, for_err}
 use Rattle.slot_runs.proofs.Owed.{none_had}
 use Rattle.slot_executor.specs.Executes.{IsExecuted}
 use Rattle.slot_execute.proofs.Started.{unfit}
-use Rattle.slot_execute.proofs.Told.{none_executed}
+use Rattle.slot_execute.proofs.NoSteps.{none_executed}
 use Rattle.slot_execute.proofs.programs.run_codes.Goals as goal
 
 pub run_unfit-requires-clause-unfit : goal.run_unfit-requires-clause-unfit
