@@ -45,7 +45,7 @@ returns-clause-fronts g c =
     subst (λ (l : Laid). OnErr c.run_codes.result (HaveFronts (map string_bytes l.names.items) old new (whole l).output (whole l).leaks))
     c.laid-laid.ensures.value c.run_codes.ensures.fronts
 
-pub returns-in-Ok-clause-slots : goal.returns-in-Ok-clause-slots
-returns-in-Ok-clause-slots g c =
+pub returns-clause-slots : goal.returns-clause-slots
+returns-clause-slots g c =
     subst (λ (l : Laid). IfOk c.run_codes.result (λ ran. Knows g.R.Store.Means c.run_codes.new.store (λ m. HasSlots (run (program_of l) c.args.input.now c.args.steps) m.slots)))
     c.laid-laid.ensures.value c.run_codes.ensures.slots
