@@ -4,6 +4,7 @@ pub mod Words
 pub mod Owners
 pub mod Given
 pub mod Actuals
+pub mod Images
 pub mod Within
 -- sources, strings, ranges
 pub mod Views

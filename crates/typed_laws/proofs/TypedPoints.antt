@@ -4,7 +4,6 @@ pub mod Points
 pub mod Flags
 pub mod Values
 pub mod Sources
-pub mod Images
 pub mod Strings
 -- statements and bodies
 pub mod Statements

@@ -1,11 +1,18 @@
 -- String expressions.
-use Rattle.std.proofs.Common.{◌≡◌, refl, sym, ap, ◌∙◌, subst, ℕ, true, false, ◌||◌, List, [], ◌++◌, None}
-use Rattle.std.proofs.lemmas.Bool.{false≢true, true≢false}
+use Rattle.std.proofs.Common.{◌≡◌, refl, sym, ap, ◌∙◌, subst, ℕ, Bool, true, false, ◌||◌, List, [], ◌++◌, ℤ, pos, Option, Some, None, if◌then◌else◌}
 use Rattle.spark_base.specs.declared.position.Pos.{Pos}
+use Rattle.resolved_tree.specs.declared.operator.Attribute.{Attribute}
+use Rattle.resolved_tree.specs.declared.operator.Attribute.TheVariants as attribute
 use Rattle.resolved_tree.specs.declared.operator.Operator.{Operator}
 use Rattle.resolved_tree.specs.declared.operator.Operator.TheVariants as operator
 use Rattle.resolved_tree.specs.Trees.{Tree, Number, Text, Named, Parens, Unary, Binary, Applied, Attr, Argument, NoMore, More, position}
+use Rattle.type_definitions.specs.declared.table.Entry.{Entry}
 use Rattle.type_definitions.specs.declared.table.Entry.TheVariants as entry
+use Rattle.type_definitions.specs.declared.table.Predefined.TheVariants as predefined
+use Rattle.type_definitions.specs.declared.judgement.View.{View}
+use Rattle.type_definitions.specs.declared.judgement.View.TheVariants as view
+use Rattle.type_definitions.specs.declared.judgement.Next.{Next}
+use Rattle.type_definitions.specs.declared.judgement.Next.TheVariants.{Goes, Gives, Stops}
 use Rattle.type_definitions.specs.declared.judgement.Own.{Own}
 use Rattle.type_definitions.specs.declared.judgement.Own.TheVariants as own
 use Rattle.type_definitions.specs.declared.judgement.Reading.{Reading}
@@ -13,10 +20,10 @@ use Rattle.type_definitions.specs.declared.judgement.Reading.TheVariants as read
 use Rattle.type_definitions.specs.declared.judgement.Role.TheVariants as role
 use Rattle.type_definitions.specs.declared.judgement.Where.TheVariants as stands
 use Rattle.type_definitions.specs.declared.judgement.Fault.{Fault}
-use Rattle.type_definitions.specs.Types.{base}
-use Rattle.type_definitions.specs.Entries.{entry_of, integer}
-use Rattle.type_definitions.specs.Names.{Context, is_index, reading_of}
-use Rattle.type_definitions.specs.Expressions.{own_of, own_type, inside, around, around_string, around_operands, around_parens, arguments, behind, way_of, reading_faults, given_names, call_arguments, is_string, is_unknown, operand_type, is_null, is_join}
+use Rattle.type_definitions.specs.Types.{base, is_scalar, is_untyped}
+use Rattle.type_definitions.specs.Entries.{entry_of, integer, boolean}
+use Rattle.type_definitions.specs.Names.{Context, seen, step, along, led_on, ended, is_end, is_index, is_imaged, is_call, reading_if, of_entry, of_function, ended_at, array_attribute, scalar_attribute, type_attribute, reading_of}
+use Rattle.type_definitions.specs.Expressions.{own_of, own_type, inside, around, around_string, around_operands, around_parens, arguments, behind, way_of, reading_faults, given_names, call_arguments, is_string, is_unknown, operand_type, is_null, is_join, is_arithmetic}
 use Rattle.typed_tree.specs.declared.object.Object.{Object}
 use Rattle.typed_tree.specs.Expressions.{Site, typed_expression, typed_name, typed_imaged, typed_first, typed_steps, typed_actuals, object_type, called_function, operands}
 use Rattle.flow_paths.specs.Objects.{Typing, Signature}
@@ -26,9 +33,6 @@ use Rattle.typed_laws.proofs.Agreeing.{holds, nil_left, nil_right}
 use Rattle.typed_laws.proofs.Main.{fine}
 use Rattle.typed_laws.proofs.TypedPoints.Values.{bound_stays}
 use Rattle.typed_laws.proofs.TypedPoints.Statements.{based_scalar}
-<<<<<<< HEAD
-use Rattle.typed_laws.proofs.TypedPoints.Images.{IsImage, image_read, join_only}
-=======
 
 -- ---- names that are read as images
 
@@ -108,7 +112,6 @@ join_only operator.Divide e = cc
 join_only operator.Modulo e = cc
 join_only operator.Remainder e = cc
 join_only op e = cc
->>>>>>> 599e11edbf776cd017b0b3af5972eb7b22d77ae7
 
 module _ (s : Site) (objects : List Object) (subs : List Signature) (made : ℕ → Type 0) (laws : Laws s.context.known made) where
   abbrev y : Typing
@@ -127,8 +130,16 @@ module _ (s : Site) (objects : List Object) (subs : List Signature) (made : ℕ 
       by own.Unknown is h = absurd ((fine s objects subs made laws e meant).by_known want is within)
       by (own.Of t) is h =
           let m = ((fine s objects subs made laws e meant).by_own want t is within).0 in
-          absurd (true≢false (sym h ∙ laws.certain t m))
-      by own.Demanding is h = absurd (false≢true h)
+          let f = laws.certain t m in absurd (apart (is_untyped c.known.table t) h f)
+        where
+          apart : (b : Bool) → b ≡ true → b ≡ false → ⊥
+          apart true e f = cc
+          apart false e f = cc
+      by own.Demanding is h = cc
+
+  image_read : (d t : ℕ) (rest : Tree) → reading_of c d rest ≡ reading.Image t → IsImage c d t (entry_of c.known d) rest
+  unfolding reading_of
+  image_read d t rest is = image_of c d t (entry_of c.known d) rest is
 
   -- The value whose image is meant.
   image_stays : (p : Pos) (d t : ℕ) (rest : Tree) → AreSuffixes s y rest → IsImage c d t (entry_of c.known d) rest → behind c (way_of c.known d (entry_of c.known d)) rest ≡ []
@@ -155,7 +166,7 @@ module _ (s : Site) (objects : List Object) (subs : List Signature) (made : ℕ 
         where
           both : (a b : List Fault) → a ≡ [] → b ≡ [] → a ++ b ≡ []
           both a b e f = ap (λ x. x ++ b) e ∙ f
-      argument args one m h none = absurd (false≢true one)
+      argument args one m h none = cc
 
   -- An operand of `&` that is a string.
   abbrev IsWritten : Tree → Type 0
@@ -165,21 +176,21 @@ module _ (s : Site) (objects : List Object) (subs : List Signature) (made : ℕ 
   pub written : (e : Tree) (want : ℕ) → IsMeant s y e → own_type c e ≡ own.Text → inside c false want e ≡ [] → Writes y (typed_expression s want e)
   unfolding own_type inside typed_expression IsMeant Writes
   written (Text p v) want meant is none = tt
-  written (Number p n) want meant is none = absurd (false≢true (ap is_string is))
+  written (Number p n) want meant is none = cc
   written (Named p d rest) want meant is none = by (reading_of c d rest) refl is
     where
       by : (r : Reading) → reading_of c d rest ≡ r → own_of c.known r ≡ own.Text
           → Writes y (typed_name s p d (reading_of c d rest) (typed_steps s (object_type (entry_of c.known d)) rest) (typed_actuals s (called_function (reading_of c d rest)) rest) (typed_imaged s rest))
       by (reading.Image t) read own =
-          rw read (image_stays p d t rest meant.1 (image_read c d t rest read)
+          rw read (image_stays p d t rest meant.1 (image_read d t rest read)
           (nil_right (reading_faults c p d false (given_names (call_arguments rest)) (reading_of c d rest)) _ none))
-      by (reading.Place t) read own = absurd (false≢true (ap is_string own))
-      by (reading.Value t v) read own = absurd (false≢true (ap is_string own))
-      by (reading.Call f) read own = absurd (false≢true (ap is_string own))
-      by reading.EndOfFile read own = absurd (false≢true (ap is_string own))
-      by reading.Off read own = absurd (false≢true (ap is_string own))
+      by (reading.Place t) read own = cc
+      by (reading.Value t v) read own = cc
+      by (reading.Call f) read own = cc
+      by reading.EndOfFile read own = cc
+      by reading.Off read own = cc
   written (Parens p e) want meant is none = written e want meant is (nil_right (around_parens c p want e) _ none)
-  written (Unary p op e) want meant is none = absurd (false≢true (ap is_string is))
+  written (Unary p op e) want meant is none = cc
   written (Binary p op a b) want meant is none =
       let t = operand_type operator.Concatenate in
       by op (join_only op is) none (λ own within. written a t meant.0 own within) (λ own within. written b t meant.1 own within)
@@ -196,5 +207,5 @@ module _ (s : Site) (objects : List Object) (subs : List Signature) (made : ℕ 
             first (string_own a t meant.0 (nil_left (around_string c a) _ around) left) left,
             second (string_own b t meant.1 (nil_right (around_string c a) _ around) right) right,
           )
-      by o e h first second = absurd (false≢true (ap is_join e))
-  written e want meant is none = absurd (false≢true (ap is_string is))
+      by o e h first second = cc
+  written e want meant is none = cc
