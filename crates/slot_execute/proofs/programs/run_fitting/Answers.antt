@@ -11,7 +11,7 @@ use Rattle.slot_execute.proofs.programs.run_fitting.Goals as goal
 
 pub run_started-ran-requires-clause-started : goal.run_started-ran-requires-clause-started
 run_started-ran-requires-clause-started g c =
-    started c.args.laid.now c.args.codes c.requires.ready g.R.Store.Means c.args.store.ghost_name c.args.input.now c.is_declaring-declares.result c.in-Ok.run' c.requires.fits c.is_declaring-declares.ensures c.in-Ok.ensures
+    started c.args.laid.now c.args.codes c.requires.ready g.R.Store.Means _ c.args.input.now c.is_declaring-declares.result c.in-Ok.run' c.requires.fits c.is_declaring-declares.ensures c.in-Ok.ensures
 
 pub run_started-ran-requires-clause-same : goal.run_started-ran-requires-clause-same
 run_started-ran-requires-clause-same g c =
@@ -38,5 +38,5 @@ returns-clause-fronts g c =
 -- the store is given back
 pub returns-clause-slots : goal.returns-clause-slots
 returns-clause-slots g c =
-    fitting_slots g.R.Store.Means (λ bytes. run (program_of c.args.laid.now) bytes c.args.steps) c.args.input.now c.in-Ok.run' c.run_started-ran.new.run c.args.store.ghost_name _ c.run_started-ran.result
+    fitting_slots g.R.Store.Means (λ bytes. run (program_of c.args.laid.now) bytes c.args.steps) c.args.input.now c.in-Ok.run' c.run_started-ran.new.run _ _ c.run_started-ran.result
     (λ lent. search (rules, lent)) c.in-Ok.ensures.lent (ap (λ (s : Setting). s.input) c.in-Ok.ensures.setting) c.run_started-ran.ensures.left c.run_started-ran.ensures.lent
