@@ -4,6 +4,7 @@ use Rattle.std.proofs.Common.{◌≡◌, refl, sym, ap, ◌∙◌, inl, inr, ℕ
 use Rattle.std.specs.Prelude.{flat_map}
 use Rattle.std.proofs.lemmas.Grind.{common_steps}
 use Rattle.std.proofs.lemmas.List.{append_assoc}
+use Rattle.std.proofs.lemmas.Bool.{false≢true}
 use Rattle.spark_base.specs.Lists.{Has}
 use Rattle.spark_base.specs.declared.position.Pos.{Pos}
 use Rattle.resolved_tree.specs.Trees.{Code, Incomplete, Private, TypeDecl, Subtype, ConstrainedSubtype, Objects, Numbers, Instance, SubDecl, SubBody, Package, PackageBody, NoMore, More}
@@ -60,7 +61,7 @@ module _ (units : List Code) where
   one_part s site h a n m (Instance d mark args) same e = none s (objects_in units h a m (Instance d mark args))
   one_part s site h a n m (SubDecl front) same e = none s (objects_in units h a m (SubDecl front))
   one_part s site h a n m NoMore same e = none s (objects_in units h a m NoMore)
-  one_part s site h a n m _ same e = cc
+  one_part s site h a n m _ same e = absurd (false≢true e)
 
   parts_of : (s site : Site) (h : Home) (a n m : ℕ) (c : Code) → site.objects ≡ s.objects → are_parts c ≡ true → AreOf s (objects_in units h a m c) (subs_in site n c)
   unfolding subs_in objects_in are_parts
@@ -69,7 +70,7 @@ module _ (units : List Code) where
       (one_part s site h a n m c same (and_first (is_declaration c || is_body c) (are_parts rest) e))
       (parts_of s site h a (n + scope_count c) (m + scope_count c) rest same (and_second (is_declaration c || is_body c) (are_parts rest) e))
   parts_of s site h a n m NoMore same e = none s []
-  parts_of s site h a n m _ same e = cc
+  parts_of s site h a n m _ same e = absurd (false≢true e)
 
   unit_of : (s : Site) (h : Home) (a n m : ℕ) (c : Code) → is_unit c ≡ true → AreOf s (objects_in units h a m c) (subs_in s n c)
   unfolding subs_in objects_in
@@ -77,7 +78,7 @@ module _ (units : List Code) where
       one_body s s h a n m front items stmts end refl (and_second (is_procedure front) (are_declarations items && are_statements false stmts) e)
   unit_of s h a n m (Package d visible hidden) e = none s (objects_in units h a m (Package d visible hidden))
   unit_of s h a n m (PackageBody d parts) e = parts_of s (placed (in_hidden (declared_number d)) s) (in_package (package_text units (declared_number d)) h) a n m parts refl e
-  unit_of s h a n m _ e = cc
+  unit_of s h a n m _ e = absurd (false≢true e)
 
   pub units_apart : (s : Site) (h : Home) (n m : ℕ) (us : List Code) → ((u : Code) → Has us u → is_unit u ≡ true)
       → AreOf s (over_units (objects_in units h 0) m us) (over_units (subs_in s) n us)

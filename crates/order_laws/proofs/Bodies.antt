@@ -1,6 +1,7 @@
 -- The typed code of resolved code as the grammar has it: declarations before statements, exits in loops.
 use Rattle.std.proofs.Common.{◌≡◌, refl, ℕ, ◌+◌, Bool, true, false, ◌&&◌, ◌||◌, List, [], ◌∷◌, ◌++◌, map}
 use Rattle.std.specs.List.{AllByRecursion}
+use Rattle.std.proofs.lemmas.Bool.{false≢true}
 use Rattle.resolved_tree.specs.Trees.{Tree, Code, Incomplete, Private, TypeDecl, Subtype, ConstrainedSubtype, Objects, Numbers, Instance, SubDecl, Package, Skip, Assign, Call, Exit, Return, If, Branch, Case, When, Loop, While, For, Block, NoMore, More, code_items}
 use Rattle.resolved_tree.specs.Trees as resolved
 use Rattle.type_definitions.specs.declared.table.Entry.{Entry}
@@ -43,7 +44,7 @@ one_declares s n (ConstrainedSubtype d m low high) h = tt
 one_declares s n (Instance d m args) h = tt
 one_declares s n (SubDecl front) h = tt
 one_declares s n NoMore h = tt
-one_declares s n _ h = cc
+one_declares s n _ h = absurd (false≢true h)
 
 pub all_declare : (s : Site) (n : ℕ) (c : Code) → are_declarations c ≡ true → AllByRecursion IsDeclare (statements s n c)
 unfolding statements are_declarations
@@ -52,7 +53,7 @@ all_declare s n (More a rest) h =
     (one_declares s n a (and_first (is_declaration a) (are_declarations rest) h))
     (all_declare s (n + scope_count a) rest (and_second (is_declaration a) (are_declarations rest) h))
 all_declare s n NoMore h = tt
-all_declare s n _ h = cc
+all_declare s n _ h = absurd (false≢true h)
 
 -- ---- statements
 
@@ -118,7 +119,7 @@ body_written looped [] cs h g = (let all = list_written looped cs g in (all.1, a
 body_written looped (typed.Declare p x v ∷ ds) cs h g =
     let more = body_written looped ds cs h.1 g in
     (both_true (is_placed (typed_code_list (ds ++ cs))) true more.0 refl, more.1)
-body_written looped (_ ∷ ds) cs h g = cc
+body_written looped (_ ∷ ds) cs h g = absurd (false≢true h.0)
 
 predefined_written : (s : Site) (looped : Bool) (p : Pos) (which : Predefined) (args : Tree) → IsWritten looped (predefined_call s p which args)
 unfolding is_undeclaring is_placed is_formed
@@ -168,7 +169,7 @@ mutual
       (one_written s n looped a (and_first (is_statement looped a) (are_statements looped rest) h))
       (all_written s (n + scope_count a) looped rest (and_second (is_statement looped a) (are_statements looped rest) h))
   all_written s n looped NoMore h = tt
-  all_written s n looped _ h = cc
+  all_written s n looped _ h = absurd (false≢true h)
 
   one_written : (s : Site) (n : ℕ) (looped : Bool) (c : Code) → is_statement looped c ≡ true → Written looped (statements s n c)
   one_written s n looped (Skip p) h = ((refl, refl, refl), tt)
@@ -193,7 +194,7 @@ mutual
       (all_written s (n + 1 + scope_count items) looped stmts (and_second (are_declarations items) (are_statements looped stmts) h)) in
       ((refl, whole.0, whole.1), tt)
   one_written s n looped NoMore h = tt
-  one_written s n looped _ h = cc
+  one_written s n looped _ h = absurd (false≢true h)
 
   branches_written : (s : Site) (n : ℕ) (looped : Bool) (c : Code) → are_branches looped c ≡ true → AllByRecursion (IsBranch looped) (statements s n c)
   branches_written s n looped (More a rest) h =
@@ -201,13 +202,13 @@ mutual
       (branch_written s n looped a (and_first (is_branch looped a) (are_branches looped rest) h))
       (branches_written s (n + scope_count a) looped rest (and_second (is_branch looped a) (are_branches looped rest) h))
   branches_written s n looped NoMore h = tt
-  branches_written s n looped _ h = cc
+  branches_written s n looped _ h = absurd (false≢true h)
 
   branch_written : (s : Site) (n : ℕ) (looped : Bool) (c : Code) → is_branch looped c ≡ true → AllByRecursion (IsBranch looped) (statements s n c)
   branch_written s n looped (Branch p e stmts) h =
       (let first = inner looped (statements s n stmts) (all_written s n looped stmts h) in ((first.0, first.1), tt))
   branch_written s n looped NoMore h = tt
-  branch_written s n looped _ h = cc
+  branch_written s n looped _ h = absurd (false≢true h)
 
   alternatives_written : (s : Site) (n : ℕ) (looped : Bool) (c : Code) → are_alternatives looped c ≡ true → AllByRecursion (IsAlternative looped) (statements s n c)
   alternatives_written s n looped (More a rest) h =
@@ -215,13 +216,13 @@ mutual
       (alternative_written s n looped a (and_first (is_alternative looped a) (are_alternatives looped rest) h))
       (alternatives_written s (n + scope_count a) looped rest (and_second (is_alternative looped a) (are_alternatives looped rest) h))
   alternatives_written s n looped NoMore h = tt
-  alternatives_written s n looped _ h = cc
+  alternatives_written s n looped _ h = absurd (false≢true h)
 
   alternative_written : (s : Site) (n : ℕ) (looped : Bool) (c : Code) → is_alternative looped c ≡ true → AllByRecursion (IsAlternative looped) (statements s n c)
   alternative_written s n looped (When choices stmts) h =
       (let first = inner looped (statements s n stmts) (all_written s n looped stmts h) in ((first.0, first.1), tt))
   alternative_written s n looped NoMore h = tt
-  alternative_written s n looped _ h = cc
+  alternative_written s n looped _ h = absurd (false≢true h)
 
 -- ---- bodies
 

@@ -1,6 +1,7 @@
 -- The subprogram of the package objects declares them one by one, and each has a number of its own.
 use Rattle.std.proofs.Common.{◌≡◌, refl, inl, inr, ℕ, ◌+◌, true, ◌||◌, List, [], ◌∷◌, ◌++◌}
 use Rattle.std.specs.List.{AllByRecursion}
+use Rattle.std.proofs.lemmas.Bool.{false≢true}
 use Rattle.spark_base.specs.Lists.{Has}
 use Rattle.resolved_tree.specs.Trees.{Code, Incomplete, Private, TypeDecl, Subtype, ConstrainedSubtype, Objects, Numbers, Instance, SubDecl, SubBody, Package, PackageBody, NoMore, More}
 use Rattle.type_definitions.specs.Gathered.{in_visible, in_hidden, declared_number, declared_text}
@@ -33,7 +34,7 @@ part_declares s n (ConstrainedSubtype d mark low high) e = tt
 part_declares s n (Instance d mark args) e = tt
 part_declares s n (SubDecl front) e = tt
 part_declares s n NoMore e = tt
-part_declares s n _ e = cc
+part_declares s n _ e = absurd (false≢true e)
 
 parts_declare : (s : Site) (n : ℕ) (c : Code) → are_parts c ≡ true → AllByRecursion IsDeclare (statements s n c)
 unfolding statements are_parts
@@ -42,7 +43,7 @@ parts_declare s n (More c rest) e =
     (part_declares s n c (and_first (is_declaration c || is_body c) (are_parts rest) e))
     (parts_declare s (n + scope_count c) rest (and_second (is_declaration c || is_body c) (are_parts rest) e))
 parts_declare s n NoMore e = tt
-parts_declare s n _ e = cc
+parts_declare s n _ e = absurd (false≢true e)
 
 unit_declares : (s : Site) (n : ℕ) (u : Code) → is_unit u ≡ true → AllByRecursion IsDeclare (elaborated s n u)
 unit_declares s n (Package d visible hidden) e =
@@ -62,19 +63,19 @@ pub declares_alone : (cs : List TypedCode) → AllByRecursion IsDeclare cs → d
 unfolding declares_only
 declares_alone [] h = refl
 declares_alone (typed.Declare p x v ∷ cs) h = declares_alone cs h.1
-declares_alone (_ ∷ cs) h = cc
+declares_alone (_ ∷ cs) h = absurd (false≢true h.0)
 
 pub declares_placed : (cs : List TypedCode) → AllByRecursion IsDeclare cs → is_placed (typed_code_list cs) ≡ true
 unfolding is_placed
 declares_placed [] h = refl
 declares_placed (typed.Declare p x v ∷ cs) h = both_true (is_placed (typed_code_list cs)) true (declares_placed cs h.1) refl
-declares_placed (_ ∷ cs) h = cc
+declares_placed (_ ∷ cs) h = absurd (false≢true h.0)
 
 pub no_parameters : (cs : List TypedCode) → AllByRecursion IsDeclare cs → (x : ℕ) → Has (parameters (typed_code_list cs)) x → ⊥
 unfolding parameters
 no_parameters [] h x has = has
 no_parameters (typed.Declare p y v ∷ cs) h x has = no_parameters cs h.1 x has
-no_parameters (_ ∷ cs) h x has = cc
+no_parameters (_ ∷ cs) h x has = absurd (false≢true h.0)
 
 -- ---- their numbers
 
@@ -105,7 +106,7 @@ module _ (units : List Code) where
   part_some s h a n m (Instance d mark args) e = ([], refl, refl)
   part_some s h a n m (SubDecl front) e = ([], refl, refl)
   part_some s h a n m NoMore e = ([], refl, refl)
-  part_some s h a n m _ e = cc
+  part_some s h a n m _ e = absurd (false≢true e)
 
   parts_some : (s : Site) (h : Home) (a n m : ℕ) (c : Code) → are_parts c ≡ true → IsSome s (statements s n c) (objects_in units h a m c)
   unfolding statements objects_in are_parts declared_within
@@ -114,7 +115,7 @@ module _ (units : List Code) where
       (part_some s h a n m c (and_first (is_declaration c || is_body c) (are_parts rest) e))
       (parts_some s h a (n + scope_count c) (m + scope_count c) rest (and_second (is_declaration c || is_body c) (are_parts rest) e))
   parts_some s h a n m NoMore e = ([], refl, refl)
-  parts_some s h a n m _ e = cc
+  parts_some s h a n m _ e = absurd (false≢true e)
 
   declarations_some : (s : Site) (h : Home) (a n m : ℕ) (c : Code) → are_declarations c ≡ true → IsSome s (statements s n c) (objects_in units h a m c)
   declarations_some s h a n m c e = (objects_in units h a m c, declarations_same s units h a n m c e, part_whole (objects_in units h a m c))
@@ -129,7 +130,7 @@ module _ (units : List Code) where
       (and_second (are_declarations visible) (are_declarations hidden) e))
   unit_some s h a n (PackageBody d parts) e = parts_some (placed (in_hidden (declared_number d)) s) (in_package (package_text units (declared_number d)) h) a n n parts e
   unit_some s h a n (SubBody front items stmts end) e = none_declared s (objects_in units h a n (SubBody front items stmts end))
-  unit_some s h a n _ e = cc
+  unit_some s h a n _ e = absurd (false≢true e)
 
   pub units_some : (s : Site) (h : Home) (n : ℕ) (us : List Code) → ((u : Code) → Has us u → is_unit u ≡ true)
       → IsSome s (over_units (elaborated s) n us) (over_units (objects_in units h 0) n us)

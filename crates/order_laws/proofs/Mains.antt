@@ -2,6 +2,7 @@
 use Rattle.std.proofs.Common.{◌≡◌, refl, sym, ap, ◌∙◌, subst, inl, inr, ℕ, suc, ◌+◌, Bool, true, false, nat_eq, List, [], ◌∷◌, ◌++◌, arith, Option, Some, None}
 use Rattle.std.specs.Prelude.{flat_map}
 use Rattle.std.specs.List.{position_or_len}
+use Rattle.std.proofs.lemmas.Bool.{false≢true}
 use Rattle.spark_base.specs.Lists.{Has}
 use Rattle.spark_base.proofs.Lists.{Has-append_left, Has-append_right}
 use Rattle.spark_base.specs.declared.position.Pos.{Pos}
@@ -144,4 +145,4 @@ procedure_result c (Front d formals NoMore) items stmts end h faults =
     let p : Profile = profile_of (entry_of c.known (front_number (Front d formals NoMore))) in
     by_result c.known p d formals
     (and_second (same_formals c.known.table p.formals (formal_infos c.known (anonymous_result NoMore) formals)) (same_result c.known p.result NoMore) agree)
-procedure_result c _ items stmts end h faults = cc
+procedure_result c _ items stmts end h faults = absurd (false≢true h)

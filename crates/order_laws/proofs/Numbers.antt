@@ -3,6 +3,7 @@ use Rattle.std.proofs.Common.{◌≡◌, refl, sym, ap, ◌∙◌, ℕ, ◌+◌,
 use Rattle.std.specs.Prelude.{flat_map}
 use Rattle.std.proofs.lemmas.Grind.{common_steps}
 use Rattle.std.proofs.lemmas.List.{append_assoc}
+use Rattle.std.proofs.lemmas.Bool.{false≢true}
 use Rattle.place_names.specs.declared.act.Mode.{Mode}
 use Rattle.place_names.specs.declared.act.Mode.TheVariants as mode
 use Rattle.resolved_tree.specs.Trees.{Tree, Code, Incomplete, Private, TypeDecl, Subtype, ConstrainedSubtype, Objects, Numbers, Instance, Formals, SubDecl, Package, Skip, Assign, Call, Exit, Return, If, Branch, Case, When, Loop, While, For, Block, NoMore, More, code_items}
@@ -99,7 +100,7 @@ module _ (s : Site) where
     one_declaration a n m (Instance d mark args) e = refl
     one_declaration a n m (SubDecl front) e = refl
     one_declaration a n m NoMore e = refl
-    one_declaration a n m _ e = cc
+    one_declaration a n m _ e = absurd (false≢true e)
 
     pub declarations_same : (a n m : ℕ) (c : Code) → are_declarations c ≡ true → IsSame a n m c
     unfolding statements objects_in are_declarations declared_within
@@ -108,7 +109,7 @@ module _ (s : Site) where
         (one_declaration a n m c (and_first (is_declaration c) (are_declarations rest) e))
         (declarations_same a (n + scope_count c) (m + scope_count c) rest (and_second (is_declaration c) (are_declarations rest) e))
     declarations_same a n m NoMore e = refl
-    declarations_same a n m _ e = cc
+    declarations_same a n m _ e = absurd (false≢true e)
 
     alone : (c : TypedCode) (xs : List ℕ) → declared_within c ≡ xs → declared_in (c ∷ []) ≡ xs
     alone c xs e = declared_one c ∙ e
@@ -122,7 +123,7 @@ module _ (s : Site) where
           (one_same a n m looped c (and_first (is_statement looped c) (are_statements looped rest) e))
           (statements_same a (n + scope_count c) (m + scope_count c) looped rest (and_second (is_statement looped c) (are_statements looped rest) e))
       statements_same a n m looped NoMore e = refl
-      statements_same a n m looped _ e = cc
+      statements_same a n m looped _ e = absurd (false≢true e)
 
       one_same : (a n m : ℕ) (looped : Bool) (c : Code) → is_statement looped c ≡ true → IsSame a n m c
       one_same a n m looped (Skip p) e = refl
@@ -156,7 +157,7 @@ module _ (s : Site) where
           (declarations_same m (n + 1) (m + 1) items (and_first (are_declarations items) (are_statements looped stmts) e))
           (statements_same m (n + 1 + scope_count items) (m + 1 + scope_count items) looped stmts (and_second (are_declarations items) (are_statements looped stmts) e)))
       one_same a n m looped NoMore e = refl
-      one_same a n m looped _ e = cc
+      one_same a n m looped _ e = absurd (false≢true e)
 
       branches_same : (a n m : ℕ) (looped : Bool) (c : Code) → are_branches looped c ≡ true → IsSame a n m c
       branches_same a n m looped (More c rest) e =
@@ -164,13 +165,13 @@ module _ (s : Site) where
           (branch_same a n m looped c (and_first (is_branch looped c) (are_branches looped rest) e))
           (branches_same a (n + scope_count c) (m + scope_count c) looped rest (and_second (is_branch looped c) (are_branches looped rest) e))
       branches_same a n m looped NoMore e = refl
-      branches_same a n m looped _ e = cc
+      branches_same a n m looped _ e = absurd (false≢true e)
 
       branch_same : (a n m : ℕ) (looped : Bool) (c : Code) → is_branch looped c ≡ true → IsSame a n m c
       branch_same a n m looped (Branch p v stmts) e =
           alone (typed.Branch p (typed_expression s boolean v) (typed_code_list (statements s n stmts))) (numbers (objects_in units h a m stmts)) (statements_same a n m looped stmts e)
       branch_same a n m looped NoMore e = refl
-      branch_same a n m looped _ e = cc
+      branch_same a n m looped _ e = absurd (false≢true e)
 
       alternatives_same : (a n m : ℕ) (looped : Bool) (c : Code) → are_alternatives looped c ≡ true → IsSame a n m c
       alternatives_same a n m looped (More c rest) e =
@@ -178,13 +179,13 @@ module _ (s : Site) where
           (alternative_same a n m looped c (and_first (is_alternative looped c) (are_alternatives looped rest) e))
           (alternatives_same a (n + scope_count c) (m + scope_count c) looped rest (and_second (is_alternative looped c) (are_alternatives looped rest) e))
       alternatives_same a n m looped NoMore e = refl
-      alternatives_same a n m looped _ e = cc
+      alternatives_same a n m looped _ e = absurd (false≢true e)
 
       alternative_same : (a n m : ℕ) (looped : Bool) (c : Code) → is_alternative looped c ≡ true → IsSame a n m c
       alternative_same a n m looped (When choices stmts) e =
           alone (typed.When (typed_choices s.context choices) (typed_code_list (statements s n stmts))) (numbers (objects_in units h a m stmts)) (statements_same a n m looped stmts e)
       alternative_same a n m looped NoMore e = refl
-      alternative_same a n m looped _ e = cc
+      alternative_same a n m looped _ e = absurd (false≢true e)
 
     pub body_same : (a n m : ℕ) (items stmts : Code) → are_declarations items ≡ true → are_statements false stmts ≡ true
         → declared_within (typed_body s n items stmts) ≡ numbers (objects_in units h a m items ++ objects_in units h a (m + scope_count items) stmts)

@@ -42,6 +42,13 @@ one_less m n e = omega (arith, e)
 less_one : (m n : ℕ) → m + 1 ≡ n + 1 → m ≡ n
 less_one m n e = omega (arith, e)
 
+-- An object after the first one.
+pub one_on : (o : Object) (os : List Object) (k : ℕ) (other : Object) → get_or (o ∷ os) (1 + k) other ≡ get_or os k other
+one_on o os k other = grind (arith, common_steps)
+
+pub one_more : (o : Object) (os : List Object) (k : ℕ) (other : Object) → get_or (o ∷ os) (k + 1) other ≡ get_or os k other
+one_more o os k other = grind (arith, common_steps)
+
 -- Two numbers of a list that stand at one place are one.
 one_place : (xs : List ℕ) (d e : ℕ) → Has xs d → Has xs e → position_or_len (nat_eq d) xs ≡ position_or_len (nat_eq e) xs → d ≡ e
 one_place [] d e has there same = absurd has
@@ -82,22 +89,16 @@ object_there (x ∷ all) o once has = elim (either (nat_eq o.number x.number)) [
       ∙ ap object_of (it_is has (same_number o.number x.number here))
   | inr other ↦
       ap (λ k. get_or (map object_of (x ∷ all)) k text_io) (number_later o.number x.number (map number_of all) other)
-      ∙ one_on (position_or_len (nat_eq o.number) (map number_of all)) ∙ object_there all o once.1 (later has other)
+      ∙ one_on (object_of x) (map object_of all) (position_or_len (nat_eq o.number) (map number_of all)) text_io ∙ object_there all o once.1 (later has other)
 ]
   where
     it_is : Has (x ∷ all) o → o.number ≡ x.number → x ≡ o
     it_is (inl e) same = e
     it_is (inr has) same = absurd (once.0 (subst (Has (map number_of all)) same (Has-map number_of all o has)))
 
-    itself : (d x : ℕ) → nat_eq d x ≡ false → d ≡ x → ⊥
-    itself d x other e = grind (arith, other, e)
-
     later : Has (x ∷ all) o → nat_eq o.number x.number ≡ false → Has all o
-    later (inl e) other = absurd (itself o.number x.number other (ap number_of (sym e)))
+    later (inl e) other = absurd (itself o.number x.number other (ap number_of e))
     later (inr has) other = has
-
-    one_on : (k : ℕ) → get_or (object_of x ∷ map object_of all) (1 + k) text_io ≡ get_or (map object_of all) k text_io
-    one_on k = grind (arith, common_steps)
 
 -- ---- parts
 
@@ -180,12 +181,9 @@ module _ (s : Site) (all : List DeclaredObject) (is : s.objects ≡ map number_o
       sym found.2 ∙ ap (λ xs. position_or_len (nat_eq (found.0).number) xs + 1) is ∙ more (position_or_len (nat_eq (found.0).number) (map number_of all)) in (
         found.0,
         found.1,
-        ap (λ k. get_or (text_io ∷ map object_of all) k text_io) here ∙ one_on (position_or_len (nat_eq (found.0).number) (map number_of all))
+        ap (λ k. get_or (text_io ∷ map object_of all) k text_io) here ∙ one_on text_io (map object_of all) (position_or_len (nat_eq (found.0).number) (map number_of all)) text_io
             ∙ object_there all found.0 once (part_has some all part found.0 found.1),
       )
     where
       more : (n : ℕ) → n + 1 ≡ 1 + n
       more n = omega arith
-
-      one_on : (k : ℕ) → get_or (text_io ∷ map object_of all) (1 + k) text_io ≡ get_or (map object_of all) k text_io
-      one_on k = grind (arith, common_steps)

@@ -1,6 +1,7 @@
 -- Code that is placed is settled, where the parameter of each `for` loop is of a scalar type.
-use Rattle.std.proofs.Common.{◌≡◌, refl, ap, ◌∙◌, inl, inr, ℕ, Bool, true, false, not, ◌&&◌, ◌||◌, List, [], ◌∷◌, ◌++◌, arith}
+use Rattle.std.proofs.Common.{◌≡◌, refl, ap, ◌∙◌, inl, inr, ℕ, Bool, true, false, not, ◌&&◌, ◌||◌, List, [], ◌∷◌, ◌++◌}
 use Rattle.std.specs.Prelude.{flat_map, reverse}
+use Rattle.std.proofs.lemmas.Bool.{false≢true, true≢false}
 use Rattle.spark_base.specs.Lists.{Has}
 use Rattle.spark_base.proofs.Lists.{Has-append_left, Has-append_right, Has-append_cases}
 use Rattle.type_definitions.specs.declared.table.Shape.{Shape}
@@ -28,14 +29,14 @@ module _ (s : Typing) (lasting : (x : ℕ) → is_temporary (object_at s x).kind
   unfolding are_placed_branches is_undeclaring is_placed_branch
   branches_undeclaring (typed.More (typed.Branch p e stmts) rest) h = branches_undeclaring rest (and_second (is_placed stmts && is_undeclaring stmts) (are_placed_branches rest) h)
   branches_undeclaring typed.NoMore h = refl
-  branches_undeclaring _ h = cc
+  branches_undeclaring _ h = absurd (false≢true h)
 
   alternatives_undeclaring : (c : TypedCode) → are_placed_alternatives c ≡ true → is_undeclaring c ≡ true
   unfolding are_placed_alternatives is_undeclaring is_placed_alternative
   alternatives_undeclaring (typed.More (typed.When choices stmts) rest) h =
       alternatives_undeclaring rest (and_second (is_placed stmts && is_undeclaring stmts) (are_placed_alternatives rest) h)
   alternatives_undeclaring typed.NoMore h = refl
-  alternatives_undeclaring _ h = cc
+  alternatives_undeclaring _ h = absurd (false≢true h)
 
   mutual
     unfolding is_settled is_placed are_placed_branches is_placed_branch are_placed_alternatives is_placed_alternative parameters
@@ -73,8 +74,8 @@ module _ (s : Typing) (lasting : (x : ℕ) → is_temporary (object_at s x).kind
         (settled_from stmts (and_first (is_placed stmts) (is_undeclaring stmts) h) (λ y has. silent y (inr has)))
         (and_second (is_placed stmts) (is_undeclaring stmts) h))
     settled_from (typed.Block n stmts end) h silent = settled_from stmts h silent
-    settled_from (typed.Branch p e stmts) h silent = cc
-    settled_from (typed.When choices stmts) h silent = cc
+    settled_from (typed.Branch p e stmts) h silent = absurd (false≢true h)
+    settled_from (typed.When choices stmts) h silent = absurd (false≢true h)
     settled_from _ h silent = refl
 
     branches_settled : (c : TypedCode) → are_placed_branches c ≡ true → AreSilent c → is_settled s c ≡ true
@@ -89,7 +90,7 @@ module _ (s : Typing) (lasting : (x : ℕ) → is_temporary (object_at s x).kind
         (branches_settled rest more (λ x has. silent x (Has-append_right (parameters stmts) (parameters rest) x has)))
         (branches_undeclaring rest more))
     branches_settled typed.NoMore h silent = refl
-    branches_settled _ h silent = cc
+    branches_settled _ h silent = absurd (false≢true h)
 
     alternatives_settled : (c : TypedCode) → are_placed_alternatives c ≡ true → AreSilent c → is_settled s c ≡ true
     alternatives_settled (typed.More (typed.When choices stmts) rest) h silent =
@@ -103,7 +104,7 @@ module _ (s : Typing) (lasting : (x : ℕ) → is_temporary (object_at s x).kind
         (alternatives_settled rest more (λ x has. silent x (Has-append_right (parameters stmts) (parameters rest) x has)))
         (alternatives_undeclaring rest more))
     alternatives_settled typed.NoMore h silent = refl
-    alternatives_settled _ h silent = cc
+    alternatives_settled _ h silent = absurd (false≢true h)
 
 -- ---- a loop has a point that starts it
 
@@ -164,8 +165,8 @@ module _ (s : Setting) (x : ℕ) where
         let out : List NamedPoint = ends at 0 end (ending s stmts) (reverse (declared stmts) ++ w.scope) k in
         in_left x (laid s stmts (0 ∷ at) (within_block (ending s stmts) w) (entry out k)) out
         (starts stmts (0 ∷ at) (within_block (ending s stmts) w) (entry out k) h has)
-    starts (typed.Branch p e stmts) at w k h has = cc
-    starts (typed.When choices stmts) at w k h has = cc
+    starts (typed.Branch p e stmts) at w k h has = absurd (false≢true h)
+    starts (typed.When choices stmts) at w k h has = absurd (false≢true h)
     starts _ at w k h has = absurd has
 
     branches_start : (c : TypedCode) (at : Place) (w : Around) (k otherwise : List PointName) → are_placed_branches c ≡ true → Has (parameters c) x
@@ -181,7 +182,7 @@ module _ (s : Setting) (x : ℕ) where
               (branches_start rest (1 ∷ at) w k otherwise (and_second (is_placed stmts && is_undeclaring stmts) (are_placed_branches rest) h) later)
         ]
     branches_start typed.NoMore at w k otherwise h has = absurd has
-    branches_start _ at w k otherwise h has = cc
+    branches_start _ at w k otherwise h has = absurd (false≢true h)
 
     alternatives_start : (c : TypedCode) (at : Place) (w : Around) (k : List PointName) → are_placed_alternatives c ≡ true → Has (parameters c) x
         → Starts x (flat_map (λ ps. ps) (laid_whens s c at w k))
@@ -194,23 +195,26 @@ module _ (s : Setting) (x : ℕ) where
               (alternatives_start rest (1 ∷ at) w k (and_second (is_placed stmts && is_undeclaring stmts) (are_placed_alternatives rest) h) later)
         ]
     alternatives_start typed.NoMore at w k h has = absurd has
-    alternatives_start _ at w k h has = cc
+    alternatives_start _ at w k h has = absurd (false≢true h)
 
 -- ---- an object of a scalar type leaves silently
+
+silent : (a b c : Bool) → a ≡ false → b ≡ false → c ≡ false → not (a || b) && not c ≡ true
+silent false false false x y z = refl
+silent true b c x y z = absurd (true≢false x)
+silent false true c x y z = absurd (true≢false y)
+silent false false true x y z = absurd (true≢false z)
 
 module _ (s : Typing) (own_law : OwnsByShape s.table) where
   by_shape : (t : ℕ) (sh : Shape) → shape_of s.table t ≡ sh → is_scalar (view_of_shape sh) ≡ true → (is_owning s.table t ≡ false) × (is_anonymous (full s.table t) ≡ false)
   by_shape t (shape.Whole a b) e h = (own_law t ∙ ap (owns_of (is_owning s.table)) e, ap (λ z. is_anonymous (view_of_shape z)) e)
   by_shape t (shape.Listed l a b) e h = (own_law t ∙ ap (owns_of (is_owning s.table)) e, ap (λ z. is_anonymous (view_of_shape z)) e)
-  by_shape t (shape.Access d c n) e h = cc
-  by_shape t (shape.Fields cs) e h = cc
-  by_shape t (shape.Elements a b el) e h = cc
-  by_shape t (shape.Same of) e h = cc
+  by_shape t (shape.Access d c n) e h = absurd (false≢true h)
+  by_shape t (shape.Fields cs) e h = absurd (false≢true h)
+  by_shape t (shape.Elements a b el) e h = absurd (false≢true h)
+  by_shape t (shape.Same of) e h = absurd (false≢true h)
 
   pub scalar_silent : (x : ℕ) → is_temporary (object_at s x).kind ≡ false → is_scalar (full s.table (object_at s x).of) ≡ true → leaves_silently s x ≡ true
   scalar_silent x lasting scalar =
       let both = by_shape (object_at s x).of (shape_of s.table (object_at s x).of) refl scalar in
       silent (is_owning s.table (object_at s x).of) (is_anonymous (view_of s x)) (is_temporary (object_at s x).kind) both.0 both.1 lasting
-    where
-      silent : (a b c : Bool) → a ≡ false → b ≡ false → c ≡ false → not (a || b) && not c ≡ true
-      silent a b c x y z = grind (arith, x, y, z)

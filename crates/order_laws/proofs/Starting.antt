@@ -1,6 +1,7 @@
 -- The initial values of package objects name no object of an owning type: a sentence of typing forbids it.
-use Rattle.std.proofs.Common.{◌≡◌, refl, ap, ◌∙◌, subst, ℕ, ◌+◌, Bool, true, false, not, ◌&&◌, nat_eq, List, [], ◌∷◌, ◌++◌, map, arith, ℤ, if◌then◌else◌}
+use Rattle.std.proofs.Common.{◌≡◌, refl, ap, ◌∙◌, subst, ℕ, ◌+◌, Bool, true, false, not, ◌&&◌, nat_eq, List, [], ◌∷◌, ◌++◌, map, ℤ, if◌then◌else◌}
 use Rattle.std.specs.List.{AllByRecursion}
+use Rattle.std.proofs.lemmas.Bool.{false≢true}
 use Rattle.spark_base.specs.declared.position.Pos.{Pos}
 use Rattle.resolved_tree.specs.declared.operator.Operator.{Operator}
 use Rattle.resolved_tree.specs.declared.operator.Operator.TheVariants as operator
@@ -79,6 +80,15 @@ reading_same b c d rest = by_entry (entry_of c.known d)
     by_entry (entry.Instance t) = refl
 
 -- ---- expressions
+
+not_owning : (x y : Bool) → x ≡ true → not (x && y) ≡ true → y ≡ false
+not_owning true true e f = absurd (false≢true f)
+not_owning true false e f = refl
+not_owning false y e f = absurd (false≢true e)
+
+never : (x : Bool) → x ≡ true → not x ≡ true → ⊥
+never true e f = false≢true f
+never false e f = false≢true e
 
 module _ (own : Typing) (s : Site) (b : Bool) (started : b ≡ true)
     (plain : (d : ℕ) → root_owning s.context.known (entry_of s.context.known d) ≡ false → is_owning own.table (object_at own (object_number s d)).of ≡ false) where
@@ -160,16 +170,9 @@ module _ (own : Typing) (s : Site) (b : Bool) (started : b ≡ true)
       both_true (not (is_owning own.table (object_at own (object_number s d)).of)) (own_nothing own (roots steps))
       (ap not (plain d (not_owning b (root_owning s.context.known (entry_of s.context.known d)) started
       (demanded 8 p (not (b && root_owning s.context.known (entry_of s.context.known d))) faults)))) h
-    where
-      not_owning : (x y : Bool) → x ≡ true → not (x && y) ≡ true → y ≡ false
-      not_owning x y e f = grind (arith, e, f)
   name_none p d loose given (reading.Value t v) steps actuals imaged faults h g = number_none t v
   name_none p d loose given (reading.Call f) steps actuals imaged faults h g =
       absurd (never b started (demanded 8 p (not b) (nothing_left (demand 8 p (not b)) _ faults)))
-    where
-      never : (x : Bool) → x ≡ true → not x ≡ true → ⊥
-      never true e f = cc
-      never false e f = cc
   name_none p d loose given (reading.Image t) steps actuals imaged faults h g = g
   name_none p d loose given reading.EndOfFile steps actuals imaged faults h g = refl
 

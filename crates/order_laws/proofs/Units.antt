@@ -3,6 +3,7 @@ use Rattle.std.proofs.Common.{◌≡◌, refl, sym, ap, ◌∙◌, inl, inr, ℕ
 use Rattle.std.specs.Prelude.{flat_map}
 use Rattle.std.specs.List.{AllByRecursion, position_or_len}
 use Rattle.std.proofs.lemmas.List.{append_assoc}
+use Rattle.std.proofs.lemmas.Bool.{false≢true}
 use Rattle.spark_base.specs.Lists.{Has}
 use Rattle.spark_base.proofs.Lists.{Has-append_cases}
 use Rattle.spark_base.specs.declared.position.Pos.{Pos}
@@ -48,7 +49,7 @@ module _ (units : List Code) (h : Home) (outside : h.identifier ≡ None) where
   declaration_local a n (Instance d m args) e = tt
   declaration_local a n (SubDecl front) e = tt
   declaration_local a n NoMore e = tt
-  declaration_local a n _ e = cc
+  declaration_local a n _ e = absurd (false≢true e)
 
   declarations_local : (a n : ℕ) (c : Code) → are_declarations c ≡ true → AreLocal (objects_in units h a n c)
   unfolding objects_in are_declarations
@@ -56,7 +57,7 @@ module _ (units : List Code) (h : Home) (outside : h.identifier ≡ None) where
       both (objects_in units h a n c) (objects_in units h a (n + scope_count c) rest) (declaration_local a n c (and_first (is_declaration c) (are_declarations rest) e))
       (declarations_local a (n + scope_count c) rest (and_second (is_declaration c) (are_declarations rest) e))
   declarations_local a n NoMore e = tt
-  declarations_local a n _ e = cc
+  declarations_local a n _ e = absurd (false≢true e)
 
   mutual
     unfolding objects_in are_statements is_statement are_branches is_branch are_alternatives is_alternative
@@ -66,7 +67,7 @@ module _ (units : List Code) (h : Home) (outside : h.identifier ≡ None) where
         both (objects_in units h a n c) (objects_in units h a (n + scope_count c) rest) (one_local a n looped c (and_first (is_statement looped c) (are_statements looped rest) e))
         (statements_local a (n + scope_count c) looped rest (and_second (is_statement looped c) (are_statements looped rest) e))
     statements_local a n looped NoMore e = tt
-    statements_local a n looped _ e = cc
+    statements_local a n looped _ e = absurd (false≢true e)
 
     one_local : (a n : ℕ) (looped : Bool) (c : Code) → is_statement looped c ≡ true → AreLocal (objects_in units h a n c)
     one_local a n looped (If p branches otherwise) e =
@@ -87,19 +88,19 @@ module _ (units : List Code) (h : Home) (outside : h.identifier ≡ None) where
     one_local a n looped (Exit p when) e = tt
     one_local a n looped (Return p v) e = tt
     one_local a n looped NoMore e = tt
-    one_local a n looped _ e = cc
+    one_local a n looped _ e = absurd (false≢true e)
 
     branches_local : (a n : ℕ) (looped : Bool) (c : Code) → are_branches looped c ≡ true → AreLocal (objects_in units h a n c)
     branches_local a n looped (More c rest) e =
         both (objects_in units h a n c) (objects_in units h a (n + scope_count c) rest) (branch_local a n looped c (and_first (is_branch looped c) (are_branches looped rest) e))
         (branches_local a (n + scope_count c) looped rest (and_second (is_branch looped c) (are_branches looped rest) e))
     branches_local a n looped NoMore e = tt
-    branches_local a n looped _ e = cc
+    branches_local a n looped _ e = absurd (false≢true e)
 
     branch_local : (a n : ℕ) (looped : Bool) (c : Code) → is_branch looped c ≡ true → AreLocal (objects_in units h a n c)
     branch_local a n looped (Branch p v stmts) e = statements_local a n looped stmts e
     branch_local a n looped NoMore e = tt
-    branch_local a n looped _ e = cc
+    branch_local a n looped _ e = absurd (false≢true e)
 
     alternatives_local : (a n : ℕ) (looped : Bool) (c : Code) → are_alternatives looped c ≡ true → AreLocal (objects_in units h a n c)
     alternatives_local a n looped (More c rest) e =
@@ -107,12 +108,12 @@ module _ (units : List Code) (h : Home) (outside : h.identifier ≡ None) where
         (alternative_local a n looped c (and_first (is_alternative looped c) (are_alternatives looped rest) e))
         (alternatives_local a (n + scope_count c) looped rest (and_second (is_alternative looped c) (are_alternatives looped rest) e))
     alternatives_local a n looped NoMore e = tt
-    alternatives_local a n looped _ e = cc
+    alternatives_local a n looped _ e = absurd (false≢true e)
 
     alternative_local : (a n : ℕ) (looped : Bool) (c : Code) → is_alternative looped c ≡ true → AreLocal (objects_in units h a n c)
     alternative_local a n looped (When choices stmts) e = statements_local a n looped stmts e
     alternative_local a n looped NoMore e = tt
-    alternative_local a n looped _ e = cc
+    alternative_local a n looped _ e = absurd (false≢true e)
 
   group_local : (a : ℕ) (g : Code) → AreLocal (formals_of h a g)
   group_local a (Formals ids m of) = each_local a m (code_items ids)
@@ -214,7 +215,7 @@ module _ (units : List Code) where
   one_part s site h a n m (Instance d mark args) same e sub has = absurd has
   one_part s site h a n m (SubDecl front) same e sub has = absurd has
   one_part s site h a n m NoMore same e sub has = absurd has
-  one_part s site h a n m _ same e sub has = cc
+  one_part s site h a n m _ same e sub has = absurd (false≢true e)
 
   parts_of : (s site : Site) (h : Home) (a n m : ℕ) (c : Code) → site.objects ≡ s.objects → are_parts c ≡ true
       → (sub : TypedSub) → Has (subs_in site n c) sub → IsBodyOf units s (objects_in units h a m c) sub
@@ -226,7 +227,7 @@ module _ (units : List Code) where
         (parts_of s site h a (n + scope_count c) (m + scope_count c) rest same (and_second (is_declaration c || is_body c) (are_parts rest) e) sub later)
   ]
   parts_of s site h a n m NoMore same e sub has = absurd has
-  parts_of s site h a n m _ same e sub has = cc
+  parts_of s site h a n m _ same e sub has = absurd (false≢true e)
 
   unit_of : (s : Site) (h : Home) (a n m : ℕ) (c : Code) → is_unit c ≡ true → (sub : TypedSub) → Has (subs_in s n c) sub → IsBodyOf units s (objects_in units h a m c) sub
   unfolding subs_in objects_in
@@ -234,7 +235,7 @@ module _ (units : List Code) where
       body_of s s h a n m front items stmts end refl (and_second (is_procedure front) (are_declarations items && are_statements false stmts) e) sub has
   unit_of s h a n m (Package d visible hidden) e sub has = absurd has
   unit_of s h a n m (PackageBody d parts) e sub has = parts_of s (placed (in_hidden (declared_number d)) s) (in_package (package_text units (declared_number d)) h) a n m parts refl e sub has
-  unit_of s h a n m _ e sub has = cc
+  unit_of s h a n m _ e sub has = absurd (false≢true e)
 
   pub units_of : (s : Site) (h : Home) (n m : ℕ) (us : List Code) → ((u : Code) → Has us u → is_unit u ≡ true)
       → (sub : TypedSub) → Has (over_units (subs_in s) n us) sub → IsBodyOf units s (over_units (objects_in units h 0) m us) sub

@@ -1,8 +1,8 @@
 -- What the package objects are declared with names no object of an owning type.
-use Rattle.std.proofs.Common.{◌≡◌, refl, sym, ap, ◌∙◌, subst, ◌⊎◌, inl, inr, ℕ, ◌+◌, Bool, true, false, not, ◌&&◌, ◌||◌, nat_eq, List, [], ◌∷◌, ◌++◌, map, get_or, arith, None}
+use Rattle.std.proofs.Common.{◌≡◌, refl, sym, ap, ◌∙◌, subst, ◌⊎◌, inl, inr, ℕ, ◌+◌, Bool, true, false, not, ◌&&◌, ◌||◌, nat_eq, List, [], ◌∷◌, ◌++◌, map, get_or, None}
 use Rattle.std.specs.Prelude.{flat_map, is_none}
 use Rattle.std.specs.List.{AllByRecursion, position_or_len}
-use Rattle.std.proofs.lemmas.Grind.{common_steps}
+use Rattle.std.proofs.lemmas.Bool.{false≢true}
 use Rattle.spark_base.specs.Lists.{Has}
 use Rattle.place_names.specs.declared.act.Mode.{Mode}
 use Rattle.place_names.specs.declared.act.Mode.TheVariants as mode
@@ -33,8 +33,18 @@ use Rattle.scope_laws.proofs.Lists.{and_first, and_second, both_true, all_both}
 use Rattle.order_laws.specs.ReadyLaws.InOrder.{own_nothing, names_no_owner}
 use Rattle.order_laws.specs.Written.{is_declaration, are_declarations, is_body, are_parts, is_unit}
 use Rattle.order_laws.proofs.Mains.{nothing_left, nothing_right, demanded}
-use Rattle.order_laws.proofs.Parts.{either, same_number, number_here, number_later}
+use Rattle.order_laws.proofs.Parts.{either, one_on, one_more, same_number, number_here, number_later}
 use Rattle.order_laws.proofs.Starting.{expression_none}
+
+nothing_more : (xs : List ℕ) → xs ++ [] ≡ xs
+nothing_more [] = refl
+nothing_more (x ∷ xs) = ap (λ ys. x ∷ ys) (nothing_more xs)
+
+named_indication : (a x y z : Bool) → y ≡ true → not a || (x && (not y && z)) ≡ true → a ≡ false
+named_indication false x y z e h = refl
+named_indication true true true z e h = absurd (false≢true h)
+named_indication true true false z e h = absurd (false≢true e)
+named_indication true false y z e h = absurd (false≢true h)
 
 -- ---- the types of objects are those of their declarations
 
@@ -99,15 +109,12 @@ module _ (known : Known) (units : List Code) where
         (later (position_or_len (nat_eq d) (map (λ (u : DeclaredObject). u.number) os)) (type_there os h.1 d))
   ]
     where
-      one_on : (k : ℕ) → get_or (map (λ (u : DeclaredObject). u.object) (o ∷ os)) (1 + k) text_io ≡ get_or (map (λ (u : DeclaredObject). u.object) os) k text_io
-      one_on k = grind (arith, common_steps)
-
       later : (k : ℕ) → ((get_or (map (λ (u : DeclaredObject). u.object) os) k text_io).of ≡ object_type (entry_of known d))
           ⊎ ((get_or (map (λ (u : DeclaredObject). u.object) os) k text_io).of ≡ integer)
           → ((get_or (map (λ (u : DeclaredObject). u.object) (o ∷ os)) (1 + k) text_io).of ≡ object_type (entry_of known d))
           ⊎ ((get_or (map (λ (u : DeclaredObject). u.object) (o ∷ os)) (1 + k) text_io).of ≡ integer)
-      later k (inl e) = inl (ap (λ z. z.of) (one_on k) ∙ e)
-      later k (inr e) = inr (ap (λ z. z.of) (one_on k) ∙ e)
+      later k (inl e) = inl (ap (λ z. z.of) (one_on o.object (map (λ (u : DeclaredObject). u.object) os) k text_io) ∙ e)
+      later k (inr e) = inr (ap (λ z. z.of) (one_on o.object (map (λ (u : DeclaredObject). u.object) os) k text_io) ∙ e)
 
   module _ (whole : is_owning known.table integer ≡ false) where
     abbrev own : Typing
@@ -126,15 +133,13 @@ module _ (known : Known) (units : List Code) where
     plain : (d : ℕ) → root_owning known (entry_of known d) ≡ false → is_owning own.table (object_at own (object_number (site_of known units) d)).of ≡ false
     unfolding typed_program
     plain d h =
-        ap (λ z. is_owning known.table z.of) (one_on (position_or_len (nat_eq d) (map (λ (o : DeclaredObject). o.number) (program_objects known units))))
+        ap (λ z. is_owning known.table z.of)
+        (one_more text_io (map (λ (o : DeclaredObject). o.object) (program_objects known units))
+        (position_or_len (nat_eq d) (map (λ (o : DeclaredObject). o.number) (program_objects known units))) text_io)
         ∙ elim (type_there (program_objects known units) (units_are (record { known = known; identifier = None }) 1 units refl) d) [
           | inl e ↦ ap (is_owning known.table) e ∙ by_entry (entry_of known d) h
           | inr e ↦ ap (is_owning known.table) e ∙ whole
         ]
-      where
-        one_on : (k : ℕ) → get_or (text_io ∷ map (λ (o : DeclaredObject). o.object) (program_objects known units)) (k + 1) text_io
-            ≡ get_or (map (λ (o : DeclaredObject). o.object) (program_objects known units)) k text_io
-        one_on k = grind (arith, common_steps)
 
     -- ---- declarations
 
@@ -167,9 +172,6 @@ module _ (known : Known) (units : List Code) where
       one_none : (e : TypedTree) → own_nothing own (roots e) ≡ true → own_nothing own (roots (typed.More e typed.NoMore)) ≡ true
       unfolding roots
       one_none e h = ap (own_nothing own) (nothing_more (roots e)) ∙ h
-        where
-          nothing_more : (xs : List ℕ) → xs ++ [] ≡ xs
-          nothing_more xs = grind (arith, common_steps)
 
       optional_none : (v : Tree) (want given : ℕ) → initial_faults (starting s.context) false want v ≡ [] → own_nothing own (roots (typed_optional s given v)) ≡ true
       unfolding roots
@@ -177,15 +179,6 @@ module _ (known : Known) (units : List Code) where
           one_none (typed_expression s given e)
           (none_there e want (nothing_right (around (starting s.context) stands.Stored want e) (inside (starting s.context) false want e) faults) given)
       optional_none _ want given faults = refl
-
-      named_indication : (a x y z : Bool) → y ≡ true → not a || (x && (not y && z)) ≡ true → a ≡ false
-      named_indication false x y z e h = refl
-      named_indication true x y z e h = absurd (never x y z e h)
-        where
-          never : (x y z : Bool) → y ≡ true → x && (not y && z) ≡ true → ⊥
-          never true true z e h = cc
-          never true false z e h = cc
-          never false y z e h = cc
 
       objects_none : (ids : Code) (constant : Bool) (i : Code) (v : Tree) (want given : ℕ) → objects_faults s.context ids constant i v want ≡ []
           → own_nothing own (roots (typed_optional s given v)) ≡ true
@@ -215,7 +208,7 @@ module _ (known : Known) (units : List Code) where
       declaration_none n (Instance d m args) e faults = tt
       declaration_none n (SubDecl front) e faults = tt
       declaration_none n NoMore e faults = tt
-      declaration_none n _ e faults = cc
+      declaration_none n _ e faults = absurd (false≢true e)
 
       declarations_none : (n : ℕ) (c : Code) → are_declarations c ≡ true → code_faults s.context c ≡ [] → AllByRecursion NamesNone (statements s n c)
       unfolding statements code_faults are_declarations
@@ -225,7 +218,7 @@ module _ (known : Known) (units : List Code) where
           (declarations_none (n + scope_count a) rest (and_second (is_declaration a) (are_declarations rest) e)
           (nothing_right (code_faults s.context a) (code_faults s.context rest) faults))
       declarations_none n NoMore e faults = tt
-      declarations_none n _ e faults = cc
+      declarations_none n _ e faults = absurd (false≢true e)
 
       part_none : (n : ℕ) (c : Code) → is_declaration c || is_body c ≡ true → code_faults s.context c ≡ [] → AllByRecursion NamesNone (statements s n c)
       unfolding statements
@@ -240,7 +233,7 @@ module _ (known : Known) (units : List Code) where
       part_none n (Instance d m args) e faults = tt
       part_none n (SubDecl front) e faults = tt
       part_none n NoMore e faults = tt
-      part_none n _ e faults = cc
+      part_none n _ e faults = absurd (false≢true e)
 
       parts_none : (n : ℕ) (c : Code) → are_parts c ≡ true → code_faults s.context c ≡ [] → AllByRecursion NamesNone (statements s n c)
       unfolding statements code_faults are_parts
@@ -250,7 +243,7 @@ module _ (known : Known) (units : List Code) where
           (parts_none (n + scope_count a) rest (and_second (is_declaration a || is_body a) (are_parts rest) e)
           (nothing_right (code_faults s.context a) (code_faults s.context rest) faults))
       parts_none n NoMore e faults = tt
-      parts_none n _ e faults = cc
+      parts_none n _ e faults = absurd (false≢true e)
 
     -- ---- units
 

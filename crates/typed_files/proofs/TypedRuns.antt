@@ -4,7 +4,6 @@ pub mod Words
 pub mod Owners
 pub mod Given
 pub mod Actuals
-pub mod Images
 pub mod Within
 -- sources, strings, ranges
 pub mod Views

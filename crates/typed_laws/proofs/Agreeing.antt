@@ -1,5 +1,6 @@
 -- Types that agree, and expressions that have one of them.
 use Rattle.std.proofs.Common.{slice_get, ◌≡◌, refl, sym, ap, ◌∙◌, subst, inl, inr, ℕ, Bool, true, false, not, ◌&&◌, ◌||◌, List, [], ◌∷◌, ◌++◌, ℤ, Some, None, if◌then◌else◌}
+use Rattle.std.proofs.lemmas.Bool.{false≢true, true≢false}
 use Rattle.spark_base.specs.declared.position.Pos.{Pos}
 use Rattle.type_definitions.specs.declared.table.Shape.{Shape}
 use Rattle.type_definitions.specs.declared.table.Shape.TheVariants as shape
@@ -28,10 +29,15 @@ whole_number v = by (is_integer v) refl
 
 -- ---- lists of faults
 
+-- Whether there are none.
+abbrev pub is_free : List Fault → Bool
+is_free [] = true
+is_free (f ∷ fs) = false
+
 -- what holds where a type isn't known, or else
 pub of_known : (b a : Bool) → b ≡ false → b || a ≡ true → a ≡ true
 of_known false a is e = e
-of_known true a is e = cc
+of_known true a is e = absurd (true≢false is)
 
 pub nil_left : (a b : List Fault) → a ++ b ≡ [] → a ≡ []
 nil_left [] b e = refl
@@ -51,18 +57,18 @@ and_left false b e = e
 
 pub and_right : (a b : Bool) → a && b ≡ true → b ≡ true
 and_right true b e = e
-and_right false b e = cc
+and_right false b e = absurd (false≢true e)
 
 pub either_left : (a b : Bool) → a ≡ true → a || b ≡ true
 either_left true b e = refl
-either_left false b e = cc
+either_left false b e = absurd (false≢true e)
 
 pub either_right : (a b : Bool) → b ≡ true → a || b ≡ true
 either_right true b e = refl
 either_right false b e = e
 
 pub not_true : (b : Bool) → not b ≡ true → b ≡ false
-not_true true e = cc
+not_true true e = absurd (false≢true e)
 not_true false e = refl
 
 -- ---- types that agree
@@ -70,30 +76,30 @@ not_true false e = refl
 kind_trans : (a b c : Shape) → same_kind a b ≡ true → same_kind b c ≡ true → same_kind a c ≡ true
 kind_trans (shape.Whole u v) (shape.Whole w x) (shape.Whole y z) e f = refl
 kind_trans (shape.Listed k u v) (shape.Listed l w x) (shape.Listed m y z) e f = refl
-kind_trans (shape.Whole u v) (shape.Whole w x) (shape.Listed m y z) e f = cc
-kind_trans (shape.Whole u v) (shape.Whole w x) (shape.Access d k n) e f = cc
-kind_trans (shape.Whole u v) (shape.Whole w x) (shape.Fields cs) e f = cc
-kind_trans (shape.Whole u v) (shape.Whole w x) (shape.Elements y z el) e f = cc
-kind_trans (shape.Whole u v) (shape.Whole w x) (shape.Same of) e f = cc
-kind_trans (shape.Listed k u v) (shape.Listed l w x) (shape.Whole y z) e f = cc
-kind_trans (shape.Listed k u v) (shape.Listed l w x) (shape.Access d m n) e f = cc
-kind_trans (shape.Listed k u v) (shape.Listed l w x) (shape.Fields cs) e f = cc
-kind_trans (shape.Listed k u v) (shape.Listed l w x) (shape.Elements y z el) e f = cc
-kind_trans (shape.Listed k u v) (shape.Listed l w x) (shape.Same of) e f = cc
-kind_trans (shape.Whole u v) (shape.Listed l w x) c e f = cc
-kind_trans (shape.Whole u v) (shape.Access d k n) c e f = cc
-kind_trans (shape.Whole u v) (shape.Fields cs) c e f = cc
-kind_trans (shape.Whole u v) (shape.Elements y z el) c e f = cc
-kind_trans (shape.Whole u v) (shape.Same of) c e f = cc
-kind_trans (shape.Listed k u v) (shape.Whole l w) c e f = cc
-kind_trans (shape.Listed k u v) (shape.Access d m n) c e f = cc
-kind_trans (shape.Listed k u v) (shape.Fields cs) c e f = cc
-kind_trans (shape.Listed k u v) (shape.Elements y z el) c e f = cc
-kind_trans (shape.Listed k u v) (shape.Same of) c e f = cc
-kind_trans (shape.Access d k n) b c e f = cc
-kind_trans (shape.Fields cs) b c e f = cc
-kind_trans (shape.Elements y z el) b c e f = cc
-kind_trans (shape.Same of) b c e f = cc
+kind_trans (shape.Whole u v) (shape.Whole w x) (shape.Listed m y z) e f = absurd (false≢true f)
+kind_trans (shape.Whole u v) (shape.Whole w x) (shape.Access d k n) e f = absurd (false≢true f)
+kind_trans (shape.Whole u v) (shape.Whole w x) (shape.Fields cs) e f = absurd (false≢true f)
+kind_trans (shape.Whole u v) (shape.Whole w x) (shape.Elements y z el) e f = absurd (false≢true f)
+kind_trans (shape.Whole u v) (shape.Whole w x) (shape.Same of) e f = absurd (false≢true f)
+kind_trans (shape.Listed k u v) (shape.Listed l w x) (shape.Whole y z) e f = absurd (false≢true f)
+kind_trans (shape.Listed k u v) (shape.Listed l w x) (shape.Access d m n) e f = absurd (false≢true f)
+kind_trans (shape.Listed k u v) (shape.Listed l w x) (shape.Fields cs) e f = absurd (false≢true f)
+kind_trans (shape.Listed k u v) (shape.Listed l w x) (shape.Elements y z el) e f = absurd (false≢true f)
+kind_trans (shape.Listed k u v) (shape.Listed l w x) (shape.Same of) e f = absurd (false≢true f)
+kind_trans (shape.Whole u v) (shape.Listed l w x) c e f = absurd (false≢true e)
+kind_trans (shape.Whole u v) (shape.Access d k n) c e f = absurd (false≢true e)
+kind_trans (shape.Whole u v) (shape.Fields cs) c e f = absurd (false≢true e)
+kind_trans (shape.Whole u v) (shape.Elements y z el) c e f = absurd (false≢true e)
+kind_trans (shape.Whole u v) (shape.Same of) c e f = absurd (false≢true e)
+kind_trans (shape.Listed k u v) (shape.Whole l w) c e f = absurd (false≢true e)
+kind_trans (shape.Listed k u v) (shape.Access d m n) c e f = absurd (false≢true e)
+kind_trans (shape.Listed k u v) (shape.Fields cs) c e f = absurd (false≢true e)
+kind_trans (shape.Listed k u v) (shape.Elements y z el) c e f = absurd (false≢true e)
+kind_trans (shape.Listed k u v) (shape.Same of) c e f = absurd (false≢true e)
+kind_trans (shape.Access d k n) b c e f = absurd (false≢true e)
+kind_trans (shape.Fields cs) b c e f = absurd (false≢true e)
+kind_trans (shape.Elements y z el) b c e f = absurd (false≢true e)
+kind_trans (shape.Same of) b c e f = absurd (false≢true e)
 
 -- one type has one definition
 pub one_shape : (table : Table) (t u : ℕ) → meant_type table t ≡ meant_type table u → shape_of table t ≡ shape_of table u
@@ -108,41 +114,41 @@ agree_trans table t u v (inr e) (inr f) = inr (kind_trans (shape_of table t) (sh
 kind_owns : (f : ℕ → Bool) (a b : Shape) → same_kind a b ≡ true → owns_of f a ≡ owns_of f b
 kind_owns f (shape.Whole u v) (shape.Whole w x) e = refl
 kind_owns f (shape.Listed k u v) (shape.Listed l w x) e = refl
-kind_owns f (shape.Whole u v) (shape.Listed l w x) e = cc
-kind_owns f (shape.Whole u v) (shape.Access d k n) e = cc
-kind_owns f (shape.Whole u v) (shape.Fields cs) e = cc
-kind_owns f (shape.Whole u v) (shape.Elements y z el) e = cc
-kind_owns f (shape.Whole u v) (shape.Same of) e = cc
-kind_owns f (shape.Listed k u v) (shape.Whole l w) e = cc
-kind_owns f (shape.Listed k u v) (shape.Access d m n) e = cc
-kind_owns f (shape.Listed k u v) (shape.Fields cs) e = cc
-kind_owns f (shape.Listed k u v) (shape.Elements y z el) e = cc
-kind_owns f (shape.Listed k u v) (shape.Same of) e = cc
-kind_owns f (shape.Access d k n) b e = cc
-kind_owns f (shape.Fields cs) b e = cc
-kind_owns f (shape.Elements y z el) b e = cc
-kind_owns f (shape.Same of) b e = cc
+kind_owns f (shape.Whole u v) (shape.Listed l w x) e = absurd (false≢true e)
+kind_owns f (shape.Whole u v) (shape.Access d k n) e = absurd (false≢true e)
+kind_owns f (shape.Whole u v) (shape.Fields cs) e = absurd (false≢true e)
+kind_owns f (shape.Whole u v) (shape.Elements y z el) e = absurd (false≢true e)
+kind_owns f (shape.Whole u v) (shape.Same of) e = absurd (false≢true e)
+kind_owns f (shape.Listed k u v) (shape.Whole l w) e = absurd (false≢true e)
+kind_owns f (shape.Listed k u v) (shape.Access d m n) e = absurd (false≢true e)
+kind_owns f (shape.Listed k u v) (shape.Fields cs) e = absurd (false≢true e)
+kind_owns f (shape.Listed k u v) (shape.Elements y z el) e = absurd (false≢true e)
+kind_owns f (shape.Listed k u v) (shape.Same of) e = absurd (false≢true e)
+kind_owns f (shape.Access d k n) b e = absurd (false≢true e)
+kind_owns f (shape.Fields cs) b e = absurd (false≢true e)
+kind_owns f (shape.Elements y z el) b e = absurd (false≢true e)
+kind_owns f (shape.Same of) b e = absurd (false≢true e)
 
 kind_counts : (a b : Shape) → same_kind a b ≡ true → (counts a ≡ counts b) × (lists a ≡ lists b)
 kind_counts (shape.Whole u v) (shape.Whole w x) e = (refl, refl)
 kind_counts (shape.Listed k u v) (shape.Listed l w x) e = (refl, refl)
-kind_counts (shape.Whole u v) (shape.Listed l w x) e = cc
-kind_counts (shape.Whole u v) (shape.Access d k n) e = cc
-kind_counts (shape.Whole u v) (shape.Fields cs) e = cc
-kind_counts (shape.Whole u v) (shape.Elements y z el) e = cc
-kind_counts (shape.Whole u v) (shape.Same of) e = cc
-kind_counts (shape.Listed k u v) (shape.Whole l w) e = cc
-kind_counts (shape.Listed k u v) (shape.Access d m n) e = cc
-kind_counts (shape.Listed k u v) (shape.Fields cs) e = cc
-kind_counts (shape.Listed k u v) (shape.Elements y z el) e = cc
-kind_counts (shape.Listed k u v) (shape.Same of) e = cc
-kind_counts (shape.Access d k n) b e = cc
-kind_counts (shape.Fields cs) b e = cc
-kind_counts (shape.Elements y z el) b e = cc
-kind_counts (shape.Same of) b e = cc
+kind_counts (shape.Whole u v) (shape.Listed l w x) e = absurd (false≢true e)
+kind_counts (shape.Whole u v) (shape.Access d k n) e = absurd (false≢true e)
+kind_counts (shape.Whole u v) (shape.Fields cs) e = absurd (false≢true e)
+kind_counts (shape.Whole u v) (shape.Elements y z el) e = absurd (false≢true e)
+kind_counts (shape.Whole u v) (shape.Same of) e = absurd (false≢true e)
+kind_counts (shape.Listed k u v) (shape.Whole l w) e = absurd (false≢true e)
+kind_counts (shape.Listed k u v) (shape.Access d m n) e = absurd (false≢true e)
+kind_counts (shape.Listed k u v) (shape.Fields cs) e = absurd (false≢true e)
+kind_counts (shape.Listed k u v) (shape.Elements y z el) e = absurd (false≢true e)
+kind_counts (shape.Listed k u v) (shape.Same of) e = absurd (false≢true e)
+kind_counts (shape.Access d k n) b e = absurd (false≢true e)
+kind_counts (shape.Fields cs) b e = absurd (false≢true e)
+kind_counts (shape.Elements y z el) b e = absurd (false≢true e)
+kind_counts (shape.Same of) b e = absurd (false≢true e)
 
 kind_access : (a b : Shape) (d : ℕ) (k n : Bool) → a ≡ shape.Access d k n → same_kind a b ≡ true → ⊥
-kind_access a b d k n e f = let g : false ≡ true = subst (λ z. same_kind z b ≡ true) e f in cc
+kind_access a b d k n e f = absurd (false≢true (subst (λ z. same_kind z b ≡ true) e f))
 
 pub agree_counts : (table : Table) (t u : ℕ) → Agree table t u → counts (shape_of table t) ≡ true → counts (shape_of table u) ≡ true
 agree_counts table t u (inl e) h = subst (λ z. counts z ≡ true) (one_shape table t u e) h
@@ -167,10 +173,10 @@ agree_owns table t u law (inr e) = law t ∙ kind_owns (is_owning table) (shape_
 counted_owns : (f : ℕ → Bool) (a : Shape) → counts a || lists a ≡ true → owns_of f a ≡ false
 counted_owns f (shape.Whole u v) e = refl
 counted_owns f (shape.Listed k u v) e = refl
-counted_owns f (shape.Access d k n) e = cc
-counted_owns f (shape.Fields cs) e = cc
-counted_owns f (shape.Elements y z el) e = cc
-counted_owns f (shape.Same of) e = cc
+counted_owns f (shape.Access d k n) e = absurd (false≢true e)
+counted_owns f (shape.Fields cs) e = absurd (false≢true e)
+counted_owns f (shape.Elements y z el) e = absurd (false≢true e)
+counted_owns f (shape.Same of) e = absurd (false≢true e)
 
 pub scalar_owns : (table : Table) (t : ℕ) → Owns table → counts (shape_of table t) || lists (shape_of table t) ≡ true → is_owning table t ≡ false
 scalar_owns table t law e = law t ∙ counted_owns (is_owning table) (shape_of table t) e

@@ -1,6 +1,6 @@
 -- Each form of expression has the type that its place takes, where its parts have.
 use Rattle.std.proofs.Common.{◌≡◌, refl, sym, ap, ◌∙◌, subst, inl, ℕ, Bool, true, false, not, nat_eq, ◌&&◌, ◌||◌, List, [], ◌++◌, pos, negsuc, Option, Some, None, if◌then◌else◌}
-use Rattle.std.proofs.lemmas.Bool.{eqb-true}
+use Rattle.std.proofs.lemmas.Bool.{eqb-true, false≢true, true≢false}
 use Rattle.spark_base.specs.declared.position.Pos.{Pos}
 use Rattle.resolved_tree.specs.declared.operator.UnaryOperator.{UnaryOperator}
 use Rattle.resolved_tree.specs.declared.operator.UnaryOperator.TheVariants as unary
@@ -24,67 +24,69 @@ use Rattle.type_definitions.specs.Entries.{entry_of, integer, boolean, is_type, 
 use Rattle.type_definitions.specs.Faults.{demand}
 use Rattle.type_definitions.specs.Statics.{is_alone}
 use Rattle.type_definitions.specs.Names.{Context, seen, reading_of}
-use Rattle.type_definitions.specs.Expressions.{Given, own_of, own_type, fits, suits, inside, around, is_parens, allowed, is_of, is_access, own_owning, unary_type, operand_type, is_arithmetic, designated, reading_faults, given_names, call_arguments}
+use Rattle.type_definitions.specs.Expressions.{Given, own_of, own_type, fits, suits, inside, around, is_parens, allowed, is_of, is_access, own_owning, unary_type, operand_type, is_arithmetic, designated, reading_faults, given_names, call_arguments, is_demanding, is_string}
 use Rattle.typed_tree.specs.Trees.{TypedTree}
 use Rattle.typed_tree.specs.Trees as typed
 use Rattle.typed_tree.specs.declared.object.Object.{Object}
 use Rattle.typed_tree.specs.Expressions.{Site, typed_expression}
 use Rattle.flow_paths.specs.Objects.{Signature}
 use Rattle.typed_laws.specs.Fine.{counts, lists, Has, Laws, Denotes}
-use Rattle.typed_laws.proofs.Agreeing.{of_known, and_left, whole_number, nil_left, nil_right, holds, either_left, either_right, not_true, retyped}
+use Rattle.typed_laws.proofs.Agreeing.{of_known, and_left, whole_number, nil_left, nil_right, holds, either_left, either_right, not_true, retyped, is_free}
 use Rattle.typed_laws.proofs.Steps.{typing, seen_access}
 use Rattle.typed_laws.proofs.Named.{Fine, AreFineSuffixes, named_has}
+use Rattle.typed_laws.proofs.Readings.{is_off}
+use Rattle.type_definitions.specs.Statements.{type_or_integer}
 
 -- ---- what faults say
 
 allowed_plain : (c : Context) (at : Where) (e : Tree) → allowed c at e ≡ true → is_parens e ≡ false
-allowed_plain c at (Parens p e) is = cc
+allowed_plain c at (Parens p e) is = absurd (false≢true is)
 allowed_plain c at e is = refl
 
 owning_plain : (c : Context) (at : Where) (e : Tree) (b : Bool) → not b || allowed c at e ≡ true → b ≡ true → is_parens e ≡ false
 owning_plain c at e true h is = allowed_plain c at e h
-owning_plain c at e false h is = cc
+owning_plain c at e false h is = absurd (false≢true is)
 
 pub allowed_when : (b a : Bool) → not b || a ≡ true → b ≡ true → a ≡ true
 allowed_when true a h e = h
-allowed_when false a h e = cc
+allowed_when false a h e = absurd (false≢true e)
 
 pub alone_type : (op : UnaryOperator) (e : Tree) → is_alone op e ≡ true → unary_type op ≡ integer
 alone_type unary.Minus e h = refl
-alone_type op e h = cc
+alone_type op e h = absurd (false≢true h)
 
 pub is_access_view : (w : View) → is_access w ≡ true → (d : ℕ) × (k : Bool) × (n : Bool) × (w ≡ view.Access d k n)
 is_access_view (view.Access d k n) e = (d, k, n, refl)
-is_access_view w e = cc
+is_access_view w e = absurd (false≢true e)
 
 pub not_demanding : (k : Known) (r : Reading) → own_of k r ≡ own.Demanding → ⊥
-not_demanding k (reading.Place t) e = cc
-not_demanding k (reading.Value t v) e = cc
-not_demanding k (reading.Call f) e = cc
-not_demanding k (reading.Image t) e = cc
-not_demanding k reading.EndOfFile e = cc
-not_demanding k reading.Off e = cc
+not_demanding k (reading.Place t) e = false≢true (ap is_demanding e)
+not_demanding k (reading.Value t v) e = false≢true (ap is_demanding e)
+not_demanding k (reading.Call f) e = false≢true (ap is_demanding e)
+not_demanding k (reading.Image t) e = false≢true (ap is_demanding e)
+not_demanding k reading.EndOfFile e = false≢true (ap is_demanding e)
+not_demanding k reading.Off e = false≢true (ap is_demanding e)
 
 pub not_off : (c : Context) (p : Pos) (d : ℕ) (loose : Bool) (given : List Given) (r : Reading) → own_of c.known r ≡ own.Unknown → reading_faults c p d loose given r ≡ [] → ⊥
-not_off c p d loose given reading.Off e none = cc
-not_off c p d loose given (reading.Place t) e none = cc
-not_off c p d loose given (reading.Value t v) e none = cc
-not_off c p d loose given (reading.Call f) e none = cc
-not_off c p d loose given (reading.Image t) e none = cc
-not_off c p d loose given reading.EndOfFile e none = cc
+not_off c p d loose given reading.Off e none = false≢true (ap is_free none)
+not_off c p d loose given (reading.Place t) e none = false≢true (ap is_off e)
+not_off c p d loose given (reading.Value t v) e none = false≢true (ap is_off e)
+not_off c p d loose given (reading.Call f) e none = false≢true (ap is_off e)
+not_off c p d loose given (reading.Image t) e none = false≢true (ap is_off e)
+not_off c p d loose given reading.EndOfFile e none = false≢true (ap is_off e)
 
 pub shape_view : (z : Shape) → counts z || lists z ≡ true → is_scalar (view_of z) ≡ true
 shape_view (shape.Whole a b) e = refl
 shape_view (shape.Listed k a b) e = refl
-shape_view z e = cc
+shape_view z e = absurd (false≢true e)
 
 pub mark_denotes : (k : Known) (o : Option ℕ) → denotes_type k o ≡ true → (d : ℕ) × (o ≡ Some d) × (entry_of k d ≡ entry.Type)
-mark_denotes k None e = cc
+mark_denotes k None e = absurd (false≢true e)
 mark_denotes k (Some d) e = (d, refl, by (entry_of k d) e)
   where
     by : (z : Entry) → is_type z ≡ true → z ≡ entry.Type
     by entry.Type h = refl
-    by z h = cc
+    by z h = absurd (false≢true h)
 
 pub marked_is : (k : Known) (o : Option ℕ) (d : ℕ) → o ≡ Some d → entry_of k d ≡ entry.Type → type_of_mark k o ≡ d
 marked_is k o d e f = ap (type_of_mark k) e ∙ ap (type_of_entry d) f
@@ -132,7 +134,7 @@ module _ (s : Site) (objects : List Object) (subs : List Signature) (made : ℕ 
       by : (o : Own) → own_type s.context e ≡ o → Typed want (typed_expression s want e)
       by own.Unknown is = absurd (off want is none)
       by own.Demanding is = absurd (never is)
-      by own.Text is = let f : is_of s.context.known want own.Text ≡ true = subst (λ z. is_of s.context.known want z ≡ true) is fit in cc
+      by own.Text is = absurd (false≢true (subst (λ z. is_of s.context.known want z ≡ true) is fit))
       by (own.Of t) is =
           let f : is_of s.context.known want (own.Of t) ≡ true = subst (λ z. is_of s.context.known want z ≡ true) is fit in
           let has = on want t is none in
@@ -152,20 +154,20 @@ module _ (s : Site) (objects : List Object) (subs : List Signature) (made : ℕ 
   number_own : (p : Pos) (n want t : ℕ) → own_type s.context (Number p n) ≡ own.Of t → made t × Typed t (typed_expression s want (Number p n))
   unfolding own_type typed_expression Has
   number_own p n want t is =
-      let same : integer ≡ t = cc in
+      let same : integer ≡ t = ap type_or_integer is in
       (subst made same laws.integers, (subst (λ z. counts (shape_of table z) ≡ true) same laws.whole, whole_number (pos n)))
 
   pub number_good : (p : Pos) (n : ℕ) → Good (Number p n)
   unfolding own_type
   number_good p n = record {
-    by_place = λ want m fit none plain. from_own (Number p n) (λ z. cc) (λ w z f. cc) (λ w t z f. number_own p n w t z) want m fit none;
+    by_place = λ want m fit none plain. from_own (Number p n) (λ z. false≢true (ap is_demanding z)) (λ w z f. false≢true (ap is_off z)) (λ w t z f. number_own p n w t z) want m fit none;
     by_own = λ want t is none. number_own p n want t is;
-    by_known = λ w z f. cc;
+    by_known = λ w z f. false≢true (ap is_off z);
   }
 
   pub text_good : (p : Pos) (v : List ℕ) → Good (Text p v)
   unfolding own_type
-  text_good p v = record { by_place = λ want m fit none plain. cc; by_own = λ want t is none. cc; by_known = λ w z f. cc }
+  text_good p v = record { by_place = λ want m fit none plain. absurd (false≢true fit); by_own = λ want t is none. absurd (true≢false (ap is_string is)); by_known = λ w z f. false≢true (ap is_off z) }
 
   pub null_good : (p : Pos) → Good (Null p)
   unfolding own_type typed_expression Has
@@ -173,8 +175,8 @@ module _ (s : Site) (objects : List Object) (subs : List Signature) (made : ℕ 
     by_place = λ want m fit none plain. (
         let found = is_access_view (seen s.context want) fit in
         (found.0, found.1, found.2, seen_access s.context want found.0 found.1 found.2 found.3));
-    by_own = λ want t is none. cc;
-    by_known = λ w z f. cc;
+    by_own = λ want t is none. absurd (true≢false (ap is_demanding is));
+    by_known = λ w z f. false≢true (ap is_off z);
   }
 
   pub named_off : (p : Pos) (d : ℕ) (rest : Tree) (want : ℕ) → own_type s.context (Named p d rest) ≡ own.Unknown → inside s.context false want (Named p d rest) ≡ [] → ⊥
@@ -196,11 +198,11 @@ module _ (s : Site) (objects : List Object) (subs : List Signature) (made : ℕ 
   }
 
   bad : (b : Bool) → b ≡ true → b ≡ false → ⊥
-  bad true e f = cc
-  bad false e f = cc
+  bad true e f = absurd (true≢false f)
+  bad false e f = absurd (false≢true e)
 
   not_owning : (b : Bool) → (b ≡ true → true ≡ false) → b ≡ false
-  not_owning true f = absurd (let g = f refl in cc)
+  not_owning true f = absurd (true≢false (f refl))
   not_owning false f = refl
 
   pub parens_good : (p : Pos) (e : Tree) → Good e → Good (Parens p e)
@@ -221,7 +223,7 @@ module _ (s : Site) (objects : List Object) (subs : List Signature) (made : ℕ 
       → inside s.context false want (Unary p op e) ≡ [] → made t × Typed t (typed_expression s want (Unary p op e))
   unfolding own_type inside typed_expression Has
   unary_own p op e good want t is none =
-      let same : unary_type op ≡ t = cc in
+      let same : unary_type op ≡ t = ap type_or_integer is in
       (subst made same (unary_made op).0, subst (λ z. Typed z (typed_expression s want (Unary p op e))) same (by (is_alone op e) refl none))
     where
       by : (b : Bool) → is_alone op e ≡ b
@@ -233,7 +235,7 @@ module _ (s : Site) (objects : List Object) (subs : List Signature) (made : ℕ 
   pub unary_good : (p : Pos) (op : UnaryOperator) (e : Tree) → Good e → Good (Unary p op e)
   unfolding own_type
   unary_good p op e good = record {
-    by_place = λ want m fit none plain. from_own (Unary p op e) (λ z. cc) (λ w z f. cc) (unary_own p op e good) want m fit none;
+    by_place = λ want m fit none plain. from_own (Unary p op e) (λ z. false≢true (ap is_demanding z)) (λ w z f. false≢true (ap is_off z)) (unary_own p op e good) want m fit none;
     by_own = unary_own p op e good;
-    by_known = λ w z f. cc;
+    by_known = λ w z f. false≢true (ap is_off z);
   }

@@ -16,16 +16,17 @@ use Rattle.type_definitions.specs.Types.{is_owning, is_untyped, base, shape_of}
 use Rattle.type_definitions.specs.Entries.{entry_of, integer, boolean}
 use Rattle.type_definitions.specs.Faults.{demand}
 use Rattle.type_definitions.specs.Names.{seen, step, led_on, along, is_end, indexed, is_index, through, of_entry, reading_of}
-use Rattle.type_definitions.specs.Expressions.{own_of, own_type, fits, suits, inside, around, arguments, behind, within_suffix, next_type, is_parens, profile_of, result_type, way_of}
+use Rattle.type_definitions.specs.Expressions.{own_of, own_type, fits, suits, inside, around, arguments, behind, within_suffix, next_type, is_parens, profile_of, result_type, way_of, is_string}
 use Rattle.typed_tree.specs.Trees.{TypedTree}
 use Rattle.typed_tree.specs.declared.object.Object.{Object}
 use Rattle.typed_tree.specs.Expressions.{Site, object_number, sub_number, typed_expression, typed_first, typed_steps, typed_step, typed_name, object_type, value_of_type}
 use Rattle.flow_paths.specs.Objects.{Signature, object_at, sub_at}
 use Rattle.typed_laws.specs.Fine.{counts, lists, Has, Leads, Laws, Denotes}
 use Rattle.typed_laws.proofs.Agreeing.{of_known, whole_number, nil_left, nil_right, holds, agree_lists, scalar_owns, either_left}
-use Rattle.typed_laws.proofs.Readings.{no_place, place_along, call_of, value_of, seen_scalar}
-use Rattle.std.proofs.lemmas.Bool.{eqb-true}
-use Rattle.typed_laws.proofs.Steps.{typing, HasIndex, known_next, step_leads, through_made}
+use Rattle.typed_laws.proofs.Readings.{no_place, place_along, call_of, value_of, seen_scalar, is_off, is_place, place_type}
+use Rattle.std.proofs.lemmas.Bool.{eqb-true, false≢true, true≢false}
+use Rattle.typed_laws.proofs.Steps.{typing, HasIndex, known_next, step_leads, through_made, goes}
+use Rattle.type_definitions.specs.Statements.{type_or_integer}
 
 module _ (s : Site) (objects : List Object) (subs : List Signature) (made : ℕ → Type 0) (laws : Laws s.context.known made) where
   -- What is proved of an expression.
@@ -60,12 +61,12 @@ module _ (s : Site) (objects : List Object) (subs : List Signature) (made : ℕ 
       let more = nil_right (around s.context stands.Elsewhere integer e) _ none in
       let suit = holds 1 (position e) (suits s.context integer e) (nil_left (demand 1 (position e) (suits s.context integer e)) _ here) in
       let fit = of_known (is_untyped s.context.known.table integer) (fits s.context integer e) (laws.certain integer laws.integers) suit in
-      fine.0.by_place integer laws.integers fit (nil_left (inside s.context false integer e) _ more) (λ owns. let never = scalar_owns s.context.known.table integer laws.owns (either_left _ _ laws.whole) in cc)
-  index_given args fine one none = cc
+      fine.0.by_place integer laws.integers fit (nil_left (inside s.context false integer e) _ more) (λ owns. absurd (true≢false (sym owns ∙ scalar_owns s.context.known.table integer laws.owns (either_left _ _ laws.whole))))
+  index_given args fine one none = absurd (false≢true one)
 
   led : (w : View) (b : Bool) (v : ℕ) → indexed b w ≡ Goes v → b ≡ true
   led w true v e = refl
-  led w false v e = cc
+  led w false v e = absurd (false≢true (ap goes e))
 
   suffix_given : (t v : ℕ) (a : Tree) → made t → IsFineSuffix a → step s.context a t ≡ Goes v → within_suffix s.context (way.Along t) a ≡ []
       → HasIndex s objects subs made laws a
@@ -81,7 +82,7 @@ module _ (s : Site) (objects : List Object) (subs : List Signature) (made : ℕ 
       → (v : ℕ) × (n ≡ Goes v) × (along s.context v rest ≡ reading.Place u)
   led_place rest (Goes v) u e = (v, refl, e)
   led_place rest (Gives x) u e = absurd (no_place (is_end rest) x u e)
-  led_place rest Stops u e = cc
+  led_place rest Stops u e = absurd (false≢true (ap is_place e))
 
   -- The type kept in a name is the one that its steps lead to.
   pub steps_lead : (rest : Tree) (t u : ℕ) → AreFineSuffixes rest → made t → along s.context t rest ≡ reading.Place u
@@ -102,7 +103,7 @@ module _ (s : Site) (objects : List Object) (subs : List Signature) (made : ℕ 
             (one.1 u (typed_steps s v rest) index more.1),
       )
   steps_lead rest t u fine m is none =
-      let same : t ≡ u = cc in
+      let same : t ≡ u = ap place_type is in
       (subst made same m, same)
 
   -- ---- names
@@ -132,7 +133,7 @@ module _ (s : Site) (objects : List Object) (subs : List Signature) (made : ℕ 
       by : (b : Bool) → nat_eq u integer ≡ b → Has (typing s objects subs made laws) u (value_of_type u x)
       by true e = rw e (subst (λ z. counts (shape_of s.context.known.table z) ≡ true) (sym (eqb-true u integer e)) laws.whole, whole_number x)
       by false e = rw e (elim is [
-        | inl whole ↦ absurd (let f : nat_eq integer integer ≡ false = subst (λ z. nat_eq z integer ≡ false) whole e in cc)
+        | inl whole ↦ absurd (true≢false (subst (λ z. nat_eq z integer ≡ false) whole e))
         | inr listed ↦ listed
       ])
 
@@ -144,7 +145,7 @@ module _ (s : Site) (objects : List Object) (subs : List Signature) (made : ℕ 
       (typed_name s p d r (typed_steps s (object_type (entry_of s.context.known d)) rest) actuals imaged)
   unfolding reading_of Has
   named_has p d t rest (reading.Place u) actuals imaged denotes fine is has none =
-      let same : u ≡ t = cc in
+      let same : u ≡ t = ap type_or_integer has in
       let found = place_along s.context d u (entry_of s.context.known d) rest is in
       let o = found.0 in
       let way : behind s.context (way.Along o.of) rest ≡ [] =
@@ -159,7 +160,7 @@ module _ (s : Site) (objects : List Object) (subs : List Signature) (made : ℕ 
         ),
       )
   named_has p d t rest (reading.Value u x) actuals imaged denotes fine is has none =
-      let same : u ≡ t = cc in
+      let same : u ≡ t = ap type_or_integer has in
       let given = value_given d u x rest is in (
         subst made same given.0,
         subst (λ z. Has (typing s objects subs made laws) z (value_of_type u x)) same (value_has u x given.1),
@@ -169,7 +170,7 @@ module _ (s : Site) (objects : List Object) (subs : List Signature) (made : ℕ 
       let result : (profile_of (entry_of s.context.known f)).result ≡ Some found.1 =
       subst (λ z. (profile_of (entry_of s.context.known z)).result ≡ Some found.1) (sym found.0) found.2 in
       let gives : result_type (profile_of (entry_of s.context.known f)).result ≡ found.1 = ap result_type result in
-      let of : result_type (profile_of (entry_of s.context.known f)).result ≡ t = cc in
+      let of : result_type (profile_of (entry_of s.context.known f)).result ≡ t = ap type_or_integer has in
       let same : found.1 ≡ t = sym gives ∙ of in (
         subst made same (laws.result d found.1 found.2),
         (
@@ -179,7 +180,7 @@ module _ (s : Site) (objects : List Object) (subs : List Signature) (made : ℕ 
         ),
       )
   named_has p d t rest reading.EndOfFile actuals imaged denotes fine is has none =
-      let same : boolean ≡ t = cc in
+      let same : boolean ≡ t = ap type_or_integer has in
       (subst made same laws.booleans, subst (λ z. lists (shape_of s.context.known.table z) ≡ true) same laws.listed)
-  named_has p d t rest (reading.Image u) actuals imaged denotes fine is has none = cc
-  named_has p d t rest reading.Off actuals imaged denotes fine is has none = cc
+  named_has p d t rest (reading.Image u) actuals imaged denotes fine is has none = absurd (true≢false (ap is_string has))
+  named_has p d t rest reading.Off actuals imaged denotes fine is has none = absurd (true≢false (ap is_off has))

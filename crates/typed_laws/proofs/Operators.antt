@@ -1,6 +1,6 @@
 -- Operators, and comparisons with null.
 use Rattle.std.proofs.Common.{◌≡◌, refl, sym, ap, ◌∙◌, subst, inl, inr, ℕ, Bool, true, false, ◌&&◌, ◌||◌, nat_eq, List, [], ◌++◌, if◌then◌else◌}
-use Rattle.std.proofs.lemmas.Bool.{eqb-true}
+use Rattle.std.proofs.lemmas.Bool.{eqb-true, false≢true, true≢false}
 use Rattle.spark_base.specs.declared.position.Pos.{Pos}
 use Rattle.resolved_tree.specs.declared.operator.Operator.{Operator}
 use Rattle.resolved_tree.specs.declared.operator.Operator.TheVariants as operator
@@ -18,7 +18,7 @@ use Rattle.type_definitions.specs.Types.{is_scalar, is_untyped, base, shape_of, 
 use Rattle.type_definitions.specs.Entries.{integer, boolean}
 use Rattle.type_definitions.specs.Faults.{demand}
 use Rattle.type_definitions.specs.Names.{seen, reading_of}
-use Rattle.type_definitions.specs.Expressions.{own_of, own_type, inside, around, operand_type, is_arithmetic, is_logical, is_join, operator_gives, compares, scalar_own, one_type, is_access, is_null, is_access_name, is_access_place}
+use Rattle.type_definitions.specs.Expressions.{own_of, own_type, inside, around, operand_type, is_arithmetic, is_logical, is_join, operator_gives, compares, scalar_own, one_type, is_access, is_null, is_access_name, is_access_place, is_demanding, is_string}
 use Rattle.typed_tree.specs.Trees.{TypedTree}
 use Rattle.typed_tree.specs.Trees as typed
 use Rattle.typed_tree.specs.declared.object.Object.{Object}
@@ -26,41 +26,46 @@ use Rattle.typed_tree.specs.Expressions.{Site, typed_expression, compared}
 use Rattle.flow_paths.specs.Objects.{Signature}
 use Rattle.typed_laws.specs.Fine.{is_plain, Has, Pointed, Laws, operator_type}
 use Rattle.typed_laws.proofs.Agreeing.{of_known, nil_left, nil_right, holds, either_left, either_right, retyped}
-use Rattle.typed_laws.proofs.Readings.{seen_scalar}
+use Rattle.typed_laws.proofs.Readings.{seen_scalar, is_off}
 use Rattle.typed_laws.proofs.Steps.{typing, seen_access}
 use Rattle.typed_laws.proofs.Cases.{Typed, Good, placed, from_own, operand_made, shape_view, is_access_view}
 use Rattle.typed_tree.specs.Expressions.{typed_name}
 use Rattle.typed_laws.specs.Fine.{is_plain, Takes}
+use Rattle.type_definitions.specs.Statements.{type_or_integer}
+
+abbrev is_typed : Own → Bool
+is_typed (own.Of t) = true
+is_typed o = false
 
 gives_type : (op : Operator) (t : ℕ) → operator_gives op ≡ own.Of t → operator_type op ≡ t
 gives_type op t e = by (is_join op) (is_arithmetic op) e
   where
     by : (j a : Bool) → (if j then own.Text else if a then own.Of integer else own.Of boolean) ≡ own.Of t → (if a then integer else boolean) ≡ t
-    by true a f = cc
-    by false true f = cc
-    by false false f = cc
+    by true a f = absurd (false≢true (ap is_typed f))
+    by false true f = ap type_or_integer f
+    by false false f = ap type_or_integer f
 
 never_unknown : (op : Operator) → operator_gives op ≡ own.Unknown → ⊥
 never_unknown op e = by (is_join op) (is_arithmetic op) e
   where
     by : (j a : Bool) → (if j then own.Text else if a then own.Of integer else own.Of boolean) ≡ own.Unknown → ⊥
-    by true a f = cc
-    by false true f = cc
-    by false false f = cc
+    by true a f = false≢true (ap is_off f)
+    by false true f = false≢true (ap is_off f)
+    by false false f = false≢true (ap is_off f)
 
 never_demanding : (op : Operator) → operator_gives op ≡ own.Demanding → ⊥
 never_demanding op e = by (is_join op) (is_arithmetic op) e
   where
     by : (j a : Bool) → (if j then own.Text else if a then own.Of integer else own.Of boolean) ≡ own.Demanding → ⊥
-    by true a f = cc
-    by false true f = cc
-    by false false f = cc
+    by true a f = false≢true (ap is_demanding f)
+    by false true f = false≢true (ap is_demanding f)
+    by false false f = false≢true (ap is_demanding f)
 
 three : (x y z : Bool) → x && y && z ≡ true → (x ≡ true) × (y ≡ true) × (z ≡ true)
 three true true true e = (refl, refl, refl)
-three true true false e = cc
-three true false z e = cc
-three false y z e = cc
+three true true false e = absurd (false≢true e)
+three true false z e = absurd (false≢true e)
+three false y z e = absurd (false≢true e)
 
 module _ (s : Site) (objects : List Object) (subs : List Signature) (made : ℕ → Type 0) (laws : Laws s.context.known made) where
   abbrev Has_ : ℕ → TypedTree → Type 0
@@ -129,8 +134,8 @@ module _ (s : Site) (objects : List Object) (subs : List Signature) (made : ℕ 
     where
       by : (o : Own) → own_type s.context e ≡ o → Compared want e
       by own.Unknown is = absurd (good.by_known want is none)
-      by own.Demanding is = let f : scalar_own s.context own.Demanding ≡ true = subst (λ z. scalar_own s.context z ≡ true) is scalar in cc
-      by own.Text is = let f : scalar_own s.context own.Text ≡ true = subst (λ z. scalar_own s.context z ≡ true) is scalar in cc
+      by own.Demanding is = absurd (false≢true (subst (λ z. scalar_own s.context z ≡ true) is scalar))
+      by own.Text is = absurd (false≢true (subst (λ z. scalar_own s.context z ≡ true) is scalar))
       by (own.Of t) is =
           let f : scalar_own s.context (own.Of t) ≡ true = subst (λ z. scalar_own s.context z ≡ true) is scalar in
           let has = good.by_own want t is none in
@@ -177,13 +182,13 @@ module _ (s : Site) (objects : List Object) (subs : List Signature) (made : ℕ 
       (of_known (is_untyped s.context.known.table t) (is_access (seen s.context t)) (laws.certain t has.0) is) in
       (has.1.0, found.0, found.1, found.2, seen_access s.context t found.0 found.1 found.2 found.3)
   pointed_name p d reading.Off steps actuals imaged on off is = absurd (off refl)
-  pointed_name p d r steps actuals imaged on off is = cc
+  pointed_name p d r steps actuals imaged on off is = absurd (false≢true is)
 
   pointed : (want : ℕ) (e : Tree) → Good_ e → is_access_name s.context e ≡ true → inside s.context false want e ≡ [] → Pointed (typing s objects subs made laws) (typed_expression s want e)
   unfolding own_type typed_expression
   pointed want (Named p d rest) good is none =
       pointed_name p d (reading_of s.context d rest) _ _ _ (λ t h. good.by_own want t h none) (λ h. good.by_known want h none) is
-  pointed want e good is none = cc
+  pointed want e good is none = absurd (false≢true is)
 
   null_compared : (op : Operator) (equal : Bool) (a b : Tree) (t : ℕ) → Good_ a → Good_ b → is_plain op ≡ true → is_arithmetic op || is_logical op ≡ false
       → operator_gives op ≡ own.Of t → operator_type op ≡ boolean
@@ -225,7 +230,7 @@ module _ (s : Site) (objects : List Object) (subs : List Signature) (made : ℕ 
   binary_own p operator.GreaterEqual a b ga gb want t is none = compared_has operator.GreaterEqual a b t ga gb refl refl is (holds 1 p _ (nil_left _ _ none)) (nil_right (demand 1 p (compares s.context operator.GreaterEqual a b)) _ none)
   binary_own p operator.Equal a b ga gb want t is none = null_compared operator.Equal true a b t ga gb refl refl is refl (holds 1 p _ (nil_left _ _ none)) (nil_right (demand 1 p (compares s.context operator.Equal a b)) _ none)
   binary_own p operator.NotEqual a b ga gb want t is none = null_compared operator.NotEqual false a b t ga gb refl refl is refl (holds 1 p _ (nil_left _ _ none)) (nil_right (demand 1 p (compares s.context operator.NotEqual a b)) _ none)
-  binary_own p operator.Concatenate a b ga gb want t is none = cc
+  binary_own p operator.Concatenate a b ga gb want t is none = absurd (true≢false (ap is_string is))
 
   pub binary_good : (p : Pos) (op : Operator) (a b : Tree) → Good_ a → Good_ b → Good_ (Binary p op a b)
   unfolding own_type

@@ -1,6 +1,6 @@
 -- An expression that has a type gives words of its sorts: what the executor asks for.
 use Rattle.std.proofs.Common.{is_some, ◌≡◌, refl, sym, ap, ◌∙◌, subst, ◌⊎◌, inl, inr, ℕ, suc, ◌<◌, Bool, true, false, not, ◌&&◌, ◌||◌, List, [], ◌∷◌, length, nat_eq, nat_lt, Some, if◌then◌else◌, arith, lt-ltb}
-use Rattle.std.proofs.lemmas.Bool.{eq-eqb}
+use Rattle.std.proofs.lemmas.Bool.{eq-eqb, false≢true}
 use Rattle.std.specs.Prelude.{ℤ}
 use Rattle.std.specs.Ordering.{int_eq}
 use Rattle.std.proofs.lemmas.Cmp.{int_eq_equiv}
@@ -39,44 +39,44 @@ sorts_same table (x ∷ a) = both_true _ _ (sort_same table x) (sorts_same table
 
 counted_sorts : (f : ℕ → List Sort) (z : Shape) → counts z ≡ true → sorts_of f z ≡ Whole ∷ []
 counted_sorts f (shape.Whole a b) e = refl
-counted_sorts f z e = cc
+counted_sorts f z e = absurd (false≢true e)
 
 listed_sorts : (f : ℕ → List Sort) (z : Shape) → lists z ≡ true → sorts_of f z ≡ Position ∷ []
 listed_sorts f (shape.Listed k a b) e = refl
-listed_sorts f z e = cc
+listed_sorts f z e = absurd (false≢true e)
 
 kind_sorts : (f : ℕ → List Sort) (a b : Shape) → same_kind a b ≡ true → sorts_of f a ≡ sorts_of f b
 kind_sorts f (shape.Whole u v) (shape.Whole w x) e = refl
 kind_sorts f (shape.Listed k u v) (shape.Listed l w x) e = refl
-kind_sorts f (shape.Whole u v) b e = cc
-kind_sorts f (shape.Listed k u v) b e = cc
-kind_sorts f a b e = cc
+kind_sorts f (shape.Whole u v) b e = absurd (false≢true e)
+kind_sorts f (shape.Listed k u v) b e = absurd (false≢true e)
+kind_sorts f a b e = absurd (false≢true e)
 
 scalar_sort : (z : Shape) → is_scalar (view_of z) ≡ true → (counts z ≡ true) ⊎ (lists z ≡ true)
 scalar_sort (shape.Whole a b) e = inl refl
 scalar_sort (shape.Listed k a b) e = inr refl
-scalar_sort z e = cc
+scalar_sort z e = absurd (false≢true e)
 
 first_of : (x z w : Bool) → x ≡ true → x || z || w ≡ true
 first_of true true true e = refl
 first_of true true false e = refl
 first_of true false true e = refl
 first_of true false false e = refl
-first_of false z w e = cc
+first_of false z w e = absurd (false≢true e)
 
 second_of : (x z w : Bool) → z ≡ true → x || z || w ≡ true
 second_of true true true e = refl
 second_of true true false e = refl
 second_of false true true e = refl
 second_of false true false e = refl
-second_of x false w e = cc
+second_of x false w e = absurd (false≢true e)
 
 third_of : (x z w : Bool) → w ≡ true → x || z || w ≡ true
 third_of true true true e = refl
 third_of true false true e = refl
 third_of false true true e = refl
 third_of false false true e = refl
-third_of x z false e = cc
+third_of x z false e = absurd (false≢true e)
 
 either_both : (c d e f : Bool) → ((c ≡ true) × (d ≡ true)) ⊎ ((e ≡ true) × (f ≡ true)) → (c && d) || (e && f) ≡ true
 either_both c d e f (inl h) = either_left _ _ (both_true c d h.0 h.1)
@@ -192,9 +192,9 @@ module _ (y : Typing) (law : (t : ℕ) → sorts y.table t ≡ sorts_of (sorts y
   binary_sorts operator.LessEqual t u a b c d e f plain agree takes own cases = third_of false false (is_position (sorts y.table t) && ((c && d) || (e && f))) (both_true _ _ (truth_is t agree) (either_both c d e f cases))
   binary_sorts operator.Greater t u a b c d e f plain agree takes own cases = third_of false false (is_position (sorts y.table t) && ((c && d) || (e && f))) (both_true _ _ (truth_is t agree) (either_both c d e f cases))
   binary_sorts operator.GreaterEqual t u a b c d e f plain agree takes own cases = third_of false false (is_position (sorts y.table t) && ((c && d) || (e && f))) (both_true _ _ (truth_is t agree) (either_both c d e f cases))
-  binary_sorts operator.AndThen t u a b c d e f plain agree takes own cases = cc
-  binary_sorts operator.OrElse t u a b c d e f plain agree takes own cases = cc
-  binary_sorts operator.Concatenate t u a b c d e f plain agree takes own cases = cc
+  binary_sorts operator.AndThen t u a b c d e f plain agree takes own cases = absurd (false≢true plain)
+  binary_sorts operator.OrElse t u a b c d e f plain agree takes own cases = absurd (false≢true plain)
+  binary_sorts operator.Concatenate t u a b c d e f plain agree takes own cases = absurd (false≢true plain)
 
   mutual
     unfolding Has HasParts HasFirst Pointed Leads gives pointed leads leads_on parts_given given_first

@@ -1,5 +1,6 @@
 -- An expression that has a type gives what soundness asks for.
 use Rattle.std.proofs.Common.{◌≡◌, refl, sym, ap, ◌∙◌, subst, ◌⊎◌, inl, inr, ℕ, suc, Bool, true, false, ◌||◌, if◌then◌else◌}
+use Rattle.std.proofs.lemmas.Bool.{false≢true}
 use Rattle.type_definitions.specs.declared.table.Shape.{Shape}
 use Rattle.type_definitions.specs.declared.table.Shape.TheVariants as shape
 use Rattle.type_definitions.specs.Types.{Table, shape_of, full, view_of, is_scalar, is_owning, words, words_of}
@@ -23,9 +24,9 @@ use Rattle.typed_laws.proofs.Agreeing.{one_shape, either_left, either_right}
 kind_scalar : (a b : Shape) → same_kind a b ≡ true → (is_scalar (view_of a) ≡ true) × (is_scalar (view_of b) ≡ true)
 kind_scalar (shape.Whole u v) (shape.Whole w x) e = (refl, refl)
 kind_scalar (shape.Listed k u v) (shape.Listed l w x) e = (refl, refl)
-kind_scalar (shape.Whole u v) b e = cc
-kind_scalar (shape.Listed k u v) b e = cc
-kind_scalar a b e = cc
+kind_scalar (shape.Whole u v) b e = absurd (false≢true e)
+kind_scalar (shape.Listed k u v) b e = absurd (false≢true e)
+kind_scalar a b e = absurd (false≢true e)
 
 pub matches : (table : Table) (t u : ℕ) → Agree table t u → Matches table t u
 matches table t u (inl e) = inl (one_shape table t u e)
@@ -36,12 +37,12 @@ agree_scalar table t u (inl e) = ap (λ z. is_scalar (view_of z)) (one_shape tab
 agree_scalar table t u (inr e) = let both = kind_scalar (shape_of table t) (shape_of table u) e in both.0 ∙ sym both.1
 
 composite_scalar : (z : Shape) → is_record z || is_array z ≡ true → is_scalar (view_of z) ≡ true → ⊥
-composite_scalar (shape.Whole a b) e f = cc
-composite_scalar (shape.Listed k a b) e f = cc
-composite_scalar z e f = cc
+composite_scalar (shape.Whole a b) e f = absurd (false≢true e)
+composite_scalar (shape.Listed k a b) e f = absurd (false≢true e)
+composite_scalar z e f = absurd (false≢true f)
 
 no_access : (z : Shape) (d : ℕ) (k n : Bool) → z ≡ shape.Access d k n → is_scalar (view_of z) ≡ true → ⊥
-no_access z d k n e h = let g = ap (λ x. is_scalar (view_of x)) e in cc
+no_access z d k n e h = false≢true (sym (ap (λ x. is_scalar (view_of x)) e) ∙ h)
 
 module _ (y : Typing) (whole : counts (shape_of y.table integer) ≡ true) (listed : lists (shape_of y.table boolean) ≡ true)
     (word_law : (t : ℕ) → words y.table t ≡ words_of (words y.table) (shape_of y.table t)) where
@@ -68,7 +69,7 @@ module _ (y : Typing) (whole : counts (shape_of y.table integer) ≡ true) (list
     stays (IsNull equal (Call p sub actuals)) t has scalar = tt
     stays (IsNull equal e) t has scalar = absurd has.1
     stays (Aggregate of es) t has scalar = absurd (composite_scalar (shape_of y.table of) has.3 (agree_scalar y.table of t has.0 ∙ scalar))
-    stays (Alike of e) t has scalar = (let g = agree_scalar y.table of t has.0 in let h = ap (λ z. is_scalar (view_of z)) has.4 in cc)
+    stays (Alike of e) t has scalar = absurd (false≢true (sym (ap (λ z. is_scalar (view_of z)) has.4) ∙ agree_scalar y.table of t has.0 ∙ scalar))
     stays (New of v) t has scalar = absurd (no_access (shape_of y.table t) has.0 has.1 has.2 has.3 scalar)
     stays (Number v) t has scalar = tt
     stays (Literal n) t has scalar = tt

@@ -4,6 +4,7 @@ pub mod Points
 pub mod Flags
 pub mod Values
 pub mod Sources
+pub mod Images
 pub mod Strings
 -- statements and bodies
 pub mod Statements

@@ -1,5 +1,6 @@
 -- Where what is passed for actuals is laid out, and what the acts of the call do there.
 use Rattle.std.proofs.Common.{◌≡◌, refl, ◌&&◌, sym, ap, ◌∙◌, subst, inl, inr, ℕ, Bool, true, false, List, [], ◌∷◌, ◌++◌, Option, Some, None}
+use Rattle.std.proofs.lemmas.Bool.{false≢true}
 use Rattle.spark_base.proofs.Lists.{Has-append_left, Has-append_right}
 use Rattle.spark_base.specs.declared.position.Pos.{Pos}
 use Rattle.place_names.specs.declared.act.Act.TheVariants as act
@@ -49,6 +50,7 @@ use Rattle.soundness.proofs.OwnedWays.Named.{covered_under, longer}
 use Rattle.place_names.specs.Names.{Name as PlaceName, covers}
 use Rattle.place_names.specs.declared.fact.Fact.TheVariants.{Moved}
 use Rattle.viewed_steps.proofs.Released.{ends_there}
+use Rattle.viewed_steps.proofs.Constructors.{is_empty_word}
 
 module _ (h : Here) (sees : ℕ → Bool) (seeing : Seeing h.typing sees) (settled : IsSettled h.typing.table) (hands : List Waiting) (leaks : List Leak) (m : Memory) (waits : List (List machine.Word))
     (other : Around (home h.typing h.frame)) (facts : List Fact) (v : Views)
@@ -207,7 +209,7 @@ module _ (h : Here) (sees : ℕ → Bool) (seeing : Seeing h.typing sees) (settl
                 let below = covered_under (home h.typing h.frame) w u named moved.0 e in
                 let under = subst (Under (expand v w)) leads (expand_under v w u place (bare (ways.number_of u) (ap sees (longer w u below).root ∙ plain)) below) in
                 let b = ends_there (seen h.typing m hands leaks) (expand v w) l reaches empty z at r under in
-                let no : Gone ≡ Empty = sym is ∙ ap (seen h.typing m hands leaks).word b.1 ∙ empty b.0 in cc))),
+                let no : Gone ≡ Empty = sym is ∙ ap (seen h.typing m hands leaks).word b.1 ∙ empty b.0 in absurd (false≢true (ap is_empty_word no))))),
           ),
           leads,
         )

@@ -2,6 +2,7 @@
 -- copied back.
 use Rattle.std.proofs.Common.{◌≡◌, refl, sym, ap, ◌∙◌, subst, inl, inr, ℕ, ◌+◌, Bool, true, false, List, [], ◌∷◌, ◌++◌, take, drop, length, get_or, if◌then◌else◌}
 use Rattle.std.proofs.lemmas.List.{length-map}
+use Rattle.std.proofs.lemmas.Bool.{false≢true}
 use Rattle.spark_base.specs.Lists.{Has}
 use Rattle.type_definitions.specs.Types.{words, full, is_scalar, components_of}
 use Rattle.flow_paths.specs.Objects.{Typing, object_at}
@@ -29,8 +30,12 @@ use Rattle.soundness.specs.ViewedSoundness.Holds.{is_bundle, is_view}
 use Rattle.viewed_steps.proofs.Views.{AreAccess, view_access, scalar_bundle, scalar_no_view}
 use Rattle.viewed_steps.proofs.Beside.{put_beside}
 use Rattle.viewed_steps.proofs.Lodged.{lodged_spot}
+use Rattle.viewed_steps.proofs.Constructors.{is_of_variable_base}
 
 -- ---- memories that owners see alike
+
+same_variable : (f x g y : ℕ) → memory.OfVariable f x ≡ memory.OfVariable g y → x ≡ y
+same_variable f x g y e = cc
 
 -- a scalar place isn't in the variable of a view
 no_view_fixed : (s : Typing) (sees : ℕ → Bool) (settled : IsSettled s.table) → AreAccess s → (k : Place) (fixed : IsFixed s k) → is_bundle s fixed.object ≡ false → (g y : ℕ)
@@ -44,9 +49,9 @@ no_view_fixed s sees settled in_formals k fixed bare g y view base =
     subst (λ p. Matches s.table k.of (type_in s.table (object_at s y).of p)) none
     (subst (λ z. Matches s.table k.of (type_in s.table (object_at s z).of fixed.steps)) same fixed.of) in
     scalar_no_view s sees in_formals y (matches_scalar s k.of (object_at s y).of fits fixed.scalar) view
-  where
-    same_variable : (f x g y : ℕ) → memory.OfVariable f x ≡ memory.OfVariable g y → x ≡ y
-    same_variable f x g y e = cc
+
+same_object : (g x h y : ℕ) → OfVariable g x ≡ OfVariable h y → x ≡ y
+same_object g x h y e = cc
 
 module _ (s : Typing) (sees : ℕ → Bool) (settled : IsSettled s.table) (own_law : OwnsByShape s.table) (in_formals : AreAccess s) (hands : List Waiting) (leaks : List Leak) where
   abbrev Scalar : ℕ → Type 0
@@ -101,10 +106,7 @@ module _ (s : Typing) (sees : ℕ → Bool) (settled : IsSettled s.table) (own_l
   -- a scalar variable
   pub variable_plain : (k : Place) (g y : ℕ) → IsFixed s k → k.base ≡ memory.OfVariable g y → Scalar y → (m : Memory) → IsPlainSpot m k
   variable_plain k g y fixed base scalar m =
-      fixed_plain k fixed (subst (λ z. is_bundle s z ≡ false) (sym (same_object fixed.frame fixed.object g y (sym fixed.base ∙ base))) (scalar_bundle s sees in_formals y scalar)) m
-    where
-      same_object : (f x g y : ℕ) → memory.OfVariable f x ≡ memory.OfVariable g y → x ≡ y
-      same_object f x g y e = cc
+      fixed_plain k fixed (subst (λ z. is_bundle s z ≡ false) (sym (same_variable fixed.frame fixed.object g y (sym fixed.base ∙ base))) (scalar_bundle s sees in_formals y scalar)) m
 
   pub lodged_plain : (k : Place) (c : Lodge) → IsLodged s k c → is_scalar (full s.table k.of) ≡ true → (f x : ℕ) → base_of c.way ≡ OfRoot (OfVariable f x)
       → (m : Memory) → Kept s m hands → Reaches (seen s m hands leaks) c.way (OfCell c.cell) → IsPlainSpot m k
@@ -116,7 +118,7 @@ module _ (s : Typing) (sees : ℕ → Bool) (settled : IsSettled s.table) (own_l
   }
     where
       no_cell : (n g y : ℕ) → memory.OfCell n ≡ memory.OfVariable g y → ⊥
-      no_cell n g y e = cc
+      no_cell n g y e = absurd (false≢true (ap is_of_variable_base e))
 
   -- one in a variable, or in one of these cells, which are there
   pub plain_place : (f : ℕ) (cells : List Lodge) → ((c : Lodge) → Has cells c → (g : ℕ) × (y : ℕ) × (base_of c.way ≡ OfRoot (OfVariable g y)) × (g ≡ f → ⊥))
@@ -172,9 +174,6 @@ module _ (s : Typing) (sees : ℕ → Bool) (settled : IsSettled s.table) (own_l
       (one ∙ sym (plain_word s settled k.of plain.scalar)) (inl refl))
 
   -- ---- the formals
-
-  same_object : (g x h y : ℕ) → OfVariable g x ≡ OfVariable h y → x ≡ y
-  same_object g x h y e = cc
 
   one_formal : (f x : ℕ) (ws : List machine.Word) (m : Memory) → Scalar x → One ws → Kept s m hands → Enters m (declared f x ws m)
   one_formal f x ws m plain one typed =

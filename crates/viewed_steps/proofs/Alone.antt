@@ -77,6 +77,9 @@ use Rattle.viewed_steps.proofs.Views.{AreAccess, all_held}
 use Rattle.viewed_steps.specs.Seeing.{sees_in}
 use Rattle.viewed_steps.proofs.Sees.{sees_seeing}
 
+some_is : {t w : ℕ} → Some t ≡ Some w → t ≡ w
+some_is e = cc
+
 module _ (table : Table) (typed : TypedProgram) (effects : Effects) (input : List ℕ) (ready : IsReady table typed effects) where
   abbrev sees : ℕ → Bool
   sees = sees_in (flow_program table typed)
@@ -292,9 +295,6 @@ module _ (table : Table) (typed : TypedProgram) (effects : Effects) (input : Lis
           (call_given (steps.here main_turn) sees seeing ready.accepted.settled state.leaks [] other alone (keeps s ready.accepted.settled ready.owns) index_law ready.owns views
           ready.class.parts_named [] state.memory (waiting_in easy.state) facts_now alone_taken.3 alone_taken.4 alone_taken.5 v.of u v.words
           (subst (λ z. Matches s.table z u) (sym type) fits) first_value.1.1 ready_value)))
-        where
-          some_is : {t w : ℕ} → Some t ≡ Some w → t ≡ w
-          some_is e = cc
 
     -- ---- a declaration or an assignment
 

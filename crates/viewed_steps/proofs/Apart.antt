@@ -1,6 +1,7 @@
 -- What the frames around the innermost one say of package objects: places that one of them has moved or
 -- lent meet none that another one has lent, and the innermost frame disturbs none of them.
 use Rattle.std.proofs.Common.{◌≡◌, refl, sym, ap, ◌∙◌, subst, inl, inr, ℕ, ◌<◌, Bool, true, false, ◌&&◌, ◌==◌, eqb-true, List, [], ◌∷◌, length, arith}
+use Rattle.std.proofs.lemmas.Bool.{false≢true}
 use Rattle.spark_base.specs.Lists.{Has}
 use Rattle.place_names.specs.Facts.{place}
 use Rattle.place_names.specs.declared.fact.Fact.{Fact}
@@ -28,7 +29,7 @@ use Rattle.spark_base.proofs.Lists.{Has-append_cases}
 
 both_first : (a b : Bool) → a && b ≡ true → a ≡ true
 both_first true b e = refl
-both_first false b e = cc
+both_first false b e = absurd (false≢true e)
 
 pub same_root : (n m : Name) → overlaps n m ≡ true → n.root ≡ m.root
 same_root n m over = eqb-true n.root m.root (both_first (n.root == m.root) (agree_along n.sels m.sels) over)

@@ -1,6 +1,7 @@
 -- Names of places that are passed: one of them isn't above another one that doesn't overlap it, where
 -- neither is lent. And the name of the cell that such a place is in.
 use Rattle.std.proofs.Common.{◌≡◌, refl, sym, ap, ◌∙◌, subst, inl, ℕ, Bool, true, List, [], ◌∷◌, Option, Some, None}
+use Rattle.std.proofs.lemmas.Bool.{false≢true}
 use Rattle.place_names.specs.declared.rule.Loan.TheVariants.{Borrowed}
 use Rattle.place_names.specs.declared.fact.Fact.{Fact}
 use Rattle.place_names.specs.Names.{overlaps}
@@ -11,6 +12,7 @@ use Rattle.soundness.specs.OwnedLoans.Views.{Around, Views, way_at, expand, expa
 use Rattle.soundness.proofs.OwnedLoans.Meeting.{IsPlain}
 use Rattle.soundness.proofs.OwnedLoans.Safe.{Unlent, apart_names}
 use Rattle.soundness.proofs.OwnedLoans.Ways.{part_found}
+use Rattle.viewed_steps.proofs.Constructors.{is_of_cell_loc}
 
 module _ (home : ℕ → ℕ) (observer : ℕ → Bool) (other : Around home) (v : Views) (s : View) (facts : List Fact)
     (viewed : Viewed home observer other v s facts) where
@@ -31,8 +33,8 @@ pub record IsNameOfCell (v : Views) (s : View) (w : Way) (n : ℕ) : Type 0 wher
 pub cell_name : (v : Views) (s : View) → ((x : ℕ) (w : Way) → v.way x ≡ Some w → Reaches s w (OfCell (v.cell x)))
     → ((x : ℕ) (p : List Step) (w : Way) → v.part_way x p ≡ Some w → Reaches s w (OfCell (v.part_cell x p))) → (w : Way) (l : Loc) (n : ℕ)
     → Reaches s (expand v w) l → trunk l ≡ OfCell n → IsNameOfCell v s w n
-cell_name v s views parts (Object (OfVariable f x)) l n is base = (let no : OfRoot (OfVariable f x) ≡ OfCell n = ap trunk (sym is) ∙ base in cc)
-cell_name v s views parts (Object (OfHand h)) l n is base = (let no : OfRoot (OfHand h) ≡ OfCell n = ap trunk (sym is) ∙ base in cc)
+cell_name v s views parts (Object (OfVariable f x)) l n is base = (let no : OfRoot (OfVariable f x) ≡ OfCell n = ap trunk (sym is) ∙ base in absurd (false≢true (ap is_of_cell_loc no)))
+cell_name v s views parts (Object (OfHand h)) l n is base = (let no : OfRoot (OfHand h) ≡ OfCell n = ap trunk (sym is) ∙ base in absurd (false≢true (ap is_of_cell_loc no)))
 cell_name v s views parts (Lost c) l n reach base = record {
   name = Lost c;
   rest = [];

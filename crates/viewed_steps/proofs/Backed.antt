@@ -5,6 +5,7 @@
 use Rattle.soundness.specs.ViewedSoundness.Holds.{is_view}
 use Rattle.std.proofs.Common.{◌≡◌, refl, sym, ap, ◌∙◌, subst, ◌⊎◌, inl, inr, ℕ, suc, ◌+◌, Bool, true, false, not, List, [], ◌∷◌, ◌++◌, take, drop, length, get_or, arith, append-nil, if◌then◌else◌, Some}
 use Rattle.std.proofs.lemmas.List.{length-map}
+use Rattle.std.proofs.lemmas.Bool.{false≢true}
 use Rattle.spark_base.specs.Lists.{Has}
 use Rattle.place_names.specs.declared.fact.Fact.{Fact}
 use Rattle.type_definitions.specs.Types.{words, full, is_scalar, is_owning}
@@ -40,6 +41,7 @@ use Rattle.viewed_steps.proofs.Alike.{Enters, moved_there, stored_there, one_the
 use Rattle.viewed_steps.proofs.Entered.{matches_back, inside_no_view}
 use Rattle.viewed_steps.proofs.Lodged.{cell_live}
 use Rattle.viewed_steps.proofs.Views.{AreAccess, AreFar}
+use Rattle.viewed_steps.proofs.Constructors.{is_held_word, is_of_cell_loc}
 
 same_names : {f x g y : ℕ} → memory.OfVariable f x ≡ memory.OfVariable g y → (f ≡ g) × (x ≡ y)
 same_names e = (cc, cc)
@@ -54,6 +56,9 @@ pub place_is : (t : Turn) (r : Return) (rest : List Return) (begun : Now) (b : m
     (λ ws n. copied_back t rest (record n { memory = stored (typing t) r.to ws (moved_out (typing t) (variable_place (here t) r.formal) n.memory) }))
 place_is t r rest begun (memory.OfVariable f x) base there = rw base refl
 place_is t r rest begun (memory.OfCell n) base there = rw (base, there) refl
+
+hand_apart : {h f x : ℕ} → OfRoot (OfHand h) ≡ OfRoot (OfVariable f x) → ⊥
+hand_apart e = cc
 
 module _ (t : Turn) (sees : ℕ → Bool) (settled : IsSettled (typing t).table) (own_law : OwnsByShape (typing t).table) (in_formals : AreAccess (typing t))
     (hands : List Waiting) (leaks : List Leak) (depth : ℕ) (deep : length t.outer ≡ suc depth) (v : Views)
@@ -279,18 +284,12 @@ module _ (t : Turn) (sees : ℕ → Bool) (settled : IsSettled (typing t).table)
     free_hands w under (inr (inl o)) = free (length hands) w under (inr o)
     free_hands w under (inr (inr (inl (k, has, p, is)))) =
         let base = from_depth k has in
-        hand_base (sym (base_under (Object (OfHand (length hands))) w under) ∙ ap base_of is ∙ base_along k p ∙ base.2)
+        hand_apart (sym (base_under (Object (OfHand (length hands))) w under) ∙ ap base_of is ∙ base_along k p ∙ base.2)
       where
         from_depth : (k : Way) → Has (to ∷ ways) k → Begins s depth k
         from_depth k (inl same) = subst (Begins s depth) same (inside_begins s depth r.to to inside)
         from_depth k (inr has) = begin k has
-
-        hand_base : {h f x : ℕ} → OfRoot (OfHand h) ≡ OfRoot (OfVariable f x) → ⊥
-        hand_base e = cc
-    free_hands w under (inr (inr (inr (x, base, none)))) = hand_base (sym (base_under (Object (OfHand (length hands))) w under) ∙ base)
-      where
-        hand_base : {h f x : ℕ} → OfRoot (OfHand h) ≡ OfRoot (OfVariable f x) → ⊥
-        hand_base e = cc
+    free_hands w under (inr (inr (inr (x, base, none)))) = hand_apart (sym (base_under (Object (OfHand (length hands))) w under) ∙ base)
 
     pub one_stand : StandsAway rest ways next
     one_stand =
@@ -317,7 +316,7 @@ module _ (t : Turn) (sees : ℕ → Bool) (settled : IsSettled (typing t).table)
         sym (trunk_part (OfRoot (OfVariable g y)) p) ∙ ap trunk is ∙ trunk_part at q ∙ trunk_is s depth r.to to inside in
         elim inside.stands [
           | inl variable ↦ (let same = same_variable g y inside.frame inside.object (start_is ∙ variable.1) in (variable, same.0, same.1))
-          | inr cell ↦ (let never : OfRoot (OfVariable g y) ≡ OfCell cell.0 = start_is ∙ cell.1 in cc)
+          | inr cell ↦ (let never : OfRoot (OfVariable g y) ≡ OfCell cell.0 = start_is ∙ cell.1 in absurd (false≢true (ap is_of_cell_loc never)))
         ]
 
     -- the way of what is in the place
@@ -388,7 +387,7 @@ module _ (t : Turn) (sees : ℕ → Bool) (settled : IsSettled (typing t).table)
             absurd (no_number (sym none ∙ held))
           where
             no_number : Empty ≡ Held c → ⊥
-            no_number e = cc
+            no_number e = absurd (false≢true (ap is_held_word e))
 
     pub one_held : (g y : ℕ) (p : List Step) (c : ℕ) → word_in s.table (content s next [] (OfRoot (OfVariable g y))) p ≡ Held c
         → (word_in s.table (content s m [] (OfRoot (OfVariable g y))) p ≡ Held c) ⊎ ((g ≡ home s depth y) × (is_package_object s y ≡ false → is_within y scope ≡ true))
@@ -483,7 +482,7 @@ module _ (t : Turn) (sees : ℕ → Bool) (settled : IsSettled (typing t).table)
       no_number (sym none ∙ held)
     where
       no_number : {c : ℕ} → Empty ≡ Held c → ⊥
-      no_number e = cc
+      no_number e = absurd (false≢true (ap is_held_word e))
 
   copied_then : (r : Return) (rest : List Return) (ways : List Way) (m later : Memory) → IsCopiedTo s cells r → Enters s sees settled own_law in_formals hands leaks m later → (n : Memory)
       → IsBack rest ways later n → IsBack (r ∷ rest) ways m n

@@ -1,5 +1,6 @@
 -- No number stands in what was taken, however its way is put.
 use Rattle.std.proofs.Common.{◌≡◌, refl, sym, ap, ◌∙◌, subst, inl, inr, ℕ, ◌≤◌, arith, List, [], ◌∷◌, ◌++◌, Bool}
+use Rattle.std.proofs.lemmas.Bool.{false≢true}
 use Rattle.spark_base.specs.Lists.{Has}
 use Rattle.place_names.specs.declared.fact.Fact.{Fact}
 use Rattle.flow_paths.specs.Objects.{Typing}
@@ -12,16 +13,17 @@ use Rattle.soundness.specs.Seen.{content, steps_in, word_in}
 use Rattle.viewed_steps.specs.Taken.{Lodge, IsInside, IsAmong, AreTaken}
 use Rattle.viewed_steps.proofs.Carried.{start_reached, start_steps}
 use Rattle.soundness.specs.OwnedLoans.Views.{Views}
+use Rattle.viewed_steps.proofs.Constructors.{is_into_way, is_nil}
 
 -- A way to a variable or a cell as a whole.
 abbrev pub IsTop : View → Way → Loc → Type 0
 IsTop view w l = Reaches view w l × (steps_in l ≡ [])
 
 no_step : (view : View) (w u : Way) (i : Step) (l : Loc) → IsTop view w l → w ≡ Into u i → ⊥
-no_step view (Object r) u i l top is = cc
-no_step view (Lost n) u i l top is = cc
-no_step view (All w) u i l top is = cc
-no_step view (Into w j) u i l ((m, reach, at), whole) is = (let no : j ∷ steps_in m ≡ [] = sym (ap steps_in at) ∙ whole in cc)
+no_step view (Object r) u i l top is = absurd (false≢true (ap is_into_way is))
+no_step view (Lost n) u i l top is = absurd (false≢true (ap is_into_way is))
+no_step view (All w) u i l top is = absurd (false≢true (ap is_into_way is))
+no_step view (Into w j) u i l ((m, reach, at), whole) is = (let no : j ∷ steps_in m ≡ [] = sym (ap steps_in at) ∙ whole in absurd (false≢true (ap is_nil no)))
 
 longer_one : (a b : Way) (i j : Step) → Into a i ≡ Into b j → (a ≡ b) × (i ≡ j)
 longer_one a b i j is = (cc, cc)

@@ -44,6 +44,9 @@ no_returns s sees m depth v view (x ∷ formals) (More e rest) (a ∷ passed) la
 no_returns s sees m depth v view (x ∷ formals) (More e rest) [] laid modes = refl
 no_returns s sees m depth v view (x ∷ formals) actuals passed laid modes = ap (returns_of (x ∷ formals)) laid
 
+some_is : (a b : ℕ) → Some a ≡ Some b → a ≡ b
+some_is a b same = cc
+
 -- So its frame is that of a traversal function, over the frame that calls it.
 pub begins_traversal : (table : Table) (typed : TypedProgram) (inner g : ViewStage) (f : ℕ) (first : Option Way)
     → traversed_formal (flow_typing (flow_program table typed)) (sub_of (flow_program table typed) inner.stage.frame.sub) ≡ Some f
@@ -61,8 +64,5 @@ begins_traversal table typed inner g f first traversed rooted none named of_sub 
   none,
 )
   where
-    some_is : (a b : ℕ) → Some a ≡ Some b → a ≡ b
-    some_is a b same = cc
-
     same_formal : f ≡ f'
     same_formal = some_is f f' (sym traversed ∙ also)

@@ -1,6 +1,7 @@
 -- A step that calls nothing stores in variables of its frame and in package objects alone: those of
 -- other frames keep their first words.
 use Rattle.std.proofs.Common.{◌≡◌, refl, sym, ap, ◌∙◌, subst, ◌⊎◌, inl, inr, ℕ, ◌+◌, Bool, true, false, not, ◌&&◌, List, [], ◌∷◌, ◌++◌, take, drop, length, get_or, nat_lt, int_le, ℤ, Option, Some, None, if◌then◌else◌}
+use Rattle.std.proofs.lemmas.Bool.{false≢true, true≢false}
 use Rattle.spark_base.specs.declared.position.Pos.{Pos}
 use Rattle.type_definitions.specs.Types.{full}
 use Rattle.typed_tree.specs.Trees.{TypedTree, TypedCode, Text, Name, Parens, Image, Binary, NoMore, More}
@@ -31,6 +32,7 @@ use Rattle.soundness.proofs.Fading.{Fainter, FadesTo, Fades, still, then_fades, 
 use Rattle.soundness.proofs.Following.{Each}
 use Rattle.soundness.proofs.Onward.{Gets}
 use Rattle.soundness.proofs.Scoped.{IsFrom, LeadsFrom, walked_from}
+use Rattle.viewed_steps.proofs.Constructors.{is_held_word, is_of_variable_base}
 
 -- Another instruction than a call, an operand that waits, a return with a value, and the end of a
 -- call.
@@ -56,8 +58,8 @@ faint_owner a b faint false c held = held
 faint_owner a b faint true c held = by_gone b.gone a.gone refl refl
   where
     by_gone : (g h : Bool) → b.gone ≡ g → a.gone ≡ h → owner_word a ≡ Held c
-    by_gone true h e f = (let no : Gone ≡ Held c = sym (ap (owner_at b.word) e) ∙ held in cc)
-    by_gone false true e f = (let no : true ≡ false = sym (faint.gone f) ∙ e in cc)
+    by_gone true h e f = (let no : Gone ≡ Held c = sym (ap (owner_at b.word) e) ∙ held in absurd (false≢true (ap is_held_word no)))
+    by_gone false true e f = (let no : true ≡ false = sym (faint.gone f) ∙ e in absurd (true≢false no))
     by_gone false false e f = (λ j. owner_at (sym faint.word j) (f j)) ∙ sym (ap (owner_at b.word) e) ∙ held
 
 pub faint_held : (s : Typing) (m n : Memory) (f y : ℕ)
@@ -76,7 +78,7 @@ same_frame : (f x g y : ℕ) → memory.OfVariable f x ≡ memory.OfVariable g y
 same_frame f x g y e = cc
 
 no_cell : (n g y : ℕ) → memory.OfCell n ≡ memory.OfVariable g y → ⊥
-no_cell n g y e = cc
+no_cell n g y e = absurd (false≢true (ap is_of_variable_base e))
 
 module _ (s : Typing) (depth : ℕ) where
   near_home : (x : ℕ) → (home s depth x ≡ 0) ⊎ (home s depth x ≡ depth)

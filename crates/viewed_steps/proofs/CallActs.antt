@@ -1,6 +1,7 @@
 -- The acts of a call: its actuals are read, moved or lent, and what is copied back may be.
 use Rattle.std.proofs.Common.{◌≡◌, refl, sym, ap, ◌∙◌, subst, ◌⊎◌, inl, inr, ℕ, suc, ◌<◌, true, false, List, [], ◌∷◌, ◌++◌, map, take, length, arith, Option, Some, None, is_some, Bool, not, ◌&&◌}
 use Rattle.std.specs.Prelude.{is_some}
+use Rattle.std.proofs.lemmas.Bool.{false≢true}
 use Rattle.spark_base.specs.Lists.{Has}
 use Rattle.spark_base.proofs.Lists.{Has-append_cases, Has-append_right, Has-map_from}
 use Rattle.place_names.specs.declared.act.Act.{Act}
@@ -84,6 +85,7 @@ use Rattle.viewed_steps.proofs.Exclusive.{first_true, second_true, mode_in, Chan
 use Rattle.viewed_steps.proofs.Globals.{shown_act}
 use Rattle.viewed_steps.specs.Seeing.{sees_in}
 use Rattle.viewed_steps.proofs.Sees.{sees_seeing}
+use Rattle.viewed_steps.proofs.Constructors.{is_end_scope_instruction}
 
 module _ (table : Table) (typed : TypedProgram) (effects : Effects) (input : List ℕ) (ready : IsReady table typed effects) where
   abbrev sees : ℕ → Bool
@@ -209,7 +211,7 @@ module _ (table : Table) (typed : TypedProgram) (effects : Effects) (input : Lis
           by_kind : (b : Bool) → is_anonymous (view_of s x) ≡ b → b ≡ false
           by_kind false is = refl
           by_kind true is =
-              let never : None ≡ Some x = sym (ap (λ b. traversed_of b (sub_of program n).formals) none) ∙ ready.traversing.firsts n (called.runs).entered x has is in cc
+              let never : None ≡ Some x = sym (ap (λ b. traversed_of b (sub_of program n).formals) none) ∙ ready.traversing.firsts n (called.runs).entered x has is in absurd (false≢true (ap is_some never))
 
       -- what a call takes owns nothing
       pub plain_there : TakesPassed s actuals (temporaries_of s (take (taken p.instr) p.scope))
@@ -537,7 +539,7 @@ module _ (table : Table) (typed : TypedProgram) (effects : Effects) (input : Lis
               (λ of answers x has. ready.class.modes n of answers x has)
 
       not_end : (x : ℕ) → p.instr ≡ EndScope x → ⊥
-      not_end x is = (let no : Call n actuals result ≡ EndScope x = sym e ∙ is in cc)
+      not_end x is = (let no : Call n actuals result ≡ EndScope x = sym e ∙ is in absurd (false≢true (ap is_end_scope_instruction no)))
 
       pub holds_now : Holds s sees depth views state.memory
       holds_now = all_held s sees in_formals depth views state.memory (λ x k view bare at. holds.held x k (λ fading. not_end fading.0 fading.1) view bare at) holds.only holds.owners holds.own holds.taken holds.parts

@@ -84,6 +84,9 @@ use Rattle.viewed_steps.proofs.Stilled.{still}
 use Rattle.viewed_steps.proofs.Supplied.{SuppliesAll}
 use Rattle.viewed_steps.specs.Seeing.{sees_in}
 
+same_loan : {l k : Loan} {h b : ℕ} {m q : PlaceName} → Lent l h m ≡ Lent k b q → (l ≡ k) × (m ≡ q)
+same_loan is = (cc, cc)
+
 module _ (table : Table) (typed : TypedProgram) (effects : Effects) (input : List ℕ) (ready : IsReady table typed effects) where
   abbrev sees : ℕ → Bool
   sees = sees_in (flow_program table typed)
@@ -478,9 +481,6 @@ module _ (table : Table) (typed : TypedProgram) (effects : Effects) (input : Lis
 
         known_is : known_at program effects waits_stage ≡ facts_called ++ flat_map (shown_one s) (alias.passed formals actuals)
         known_is = λ j. facts_there j ++ shows.shown_is table typed effects input ready state top below more_frames rest named p frames deep stages running awaiting of_sub at_point path views viewed_before kept scope holds placed_before above n actuals result e all_passed_ways.0 j
-
-        same_loan : {l k : Loan} {h b : ℕ} {m q : PlaceName} → Lent l h m ≡ Lent k b q → (l ≡ k) × (m ≡ q)
-        same_loan is = (cc, cc)
 
         pub is_waiting : IsWaiting table typed effects after_call n (returns_of formals passed) waits_there
         is_waiting = record {

@@ -6,6 +6,7 @@ use Rattle.std.specs.List.{AllByRecursion}
 use Rattle.std.proofs.Common.{◌&&◌, ◌≡◌, refl, sym, ap, ◌∙◌, subst, ◌⊎◌, inl, inr, ℕ, suc, ◌<◌, ◌≤◌, Bool, true, false, ◌||◌, ◌==◌, eq-eqb, List, [], ◌∷◌, ◌++◌, length, get_or, arith, Option, Some, None, if◌then◌else◌, not}
 use Rattle.std.proofs.Math.Nat.{eq-or-lt_of_le}
 use Rattle.std.specs.Prelude.{is_some}
+use Rattle.std.proofs.lemmas.Bool.{false≢true, true≢false}
 use Rattle.spark_base.specs.Lists.{Has}
 use Rattle.place_names.specs.declared.act.Act.{Act}
 use Rattle.place_names.specs.declared.fact.Fact.{Fact}
@@ -76,6 +77,7 @@ use Rattle.soundness.proofs.OwnedLoans.Meeting.{stands}
 use Rattle.viewed_steps.proofs.Roots.{FromGiven}
 use Rattle.soundness.proofs.OwnedLoans.Safe.{Unlent}
 use Rattle.viewed_steps.specs.Seeing.{sees_in}
+use Rattle.viewed_steps.proofs.Constructors.{is_call_instruction, is_held_word}
 
 smaller : (f b low : ℕ) → f < suc b → (f ≡ low → ⊥) → low ≡ b → f < low
 smaller f b low less ne is =
@@ -86,6 +88,9 @@ higher : (f low b : ℕ) → low < f → low ≡ b → (f ≡ suc b → ⊥) →
 higher f low b less is ne =
     let most : suc b ≤ f = omega (arith, less, is) in
     elim (eq-or-lt_of_le most) [ inl same ↦ absurd (ne (sym same)) | inr over ↦ over ]
+
+hand_base : {k f x : ℕ} → OfRoot (ways.OfHand k) ≡ OfRoot (OfVariable f x) → ⊥
+hand_base e = cc
 
 module _ (table : Table) (typed : TypedProgram) (effects : Effects) (input : List ℕ) (ready : IsReady table typed effects) where
   abbrev sees : ℕ → Bool
@@ -190,16 +195,16 @@ module _ (table : Table) (typed : TypedProgram) (effects : Effects) (input : Lis
               | inl copied ↦ copied
               | inr (inl shown) ↦ (
                   let none = word_dead s.table (content s state.memory [] (OfRoot (OfVariable depth x))) q (ap not shown) in
-                  let no_number : ways.Empty ≡ Held n = sym none ∙ held in cc)
+                  let no_number : ways.Empty ≡ Held n = sym none ∙ held in absurd (false≢true (ap is_held_word no_number)))
               | inr (inr plain) ↦ (
                   let none = word_no s.table (content s state.memory [] (OfRoot (OfVariable depth x))) q
                   ((keeps s ready.accepted.settled ready.owns).ownerless (object_at s x).of plain q) in
-                  let no_number : ways.Empty ≡ Held n = sym none ∙ held in cc)
+                  let no_number : ways.Empty ≡ Held n = sym none ∙ held in absurd (false≢true (ap is_held_word no_number)))
             ]
             | inl plain_type ↦ (
                 let none = word_no s.table (content s state.memory [] (OfRoot (OfVariable depth x))) q
                 (no_leaf s.table ready.accepted.settled (object_at s x).of plain_type q) in
-                let no_number : ways.Empty ≡ Held n = sym none ∙ held in cc)
+                let no_number : ways.Empty ≡ Held n = sym none ∙ held in absurd (false≢true (ap is_held_word no_number)))
           ])
     ]
       where
@@ -220,7 +225,7 @@ module _ (table : Table) (typed : TypedProgram) (effects : Effects) (input : Lis
 
         formal_lasts : (k : ObjectKind) → is_formal_kind k ≡ true → is_temporary k ≡ false
         formal_lasts object_kind.Formal is = refl
-        formal_lasts k is = cc
+        formal_lasts k is = absurd (false≢true is)
 
         none_in : (scope : List ℕ) → ((x : ℕ) → is_within x scope ≡ true → is_temporary_object s x ≡ false) → temporaries_of s scope ≡ []
         none_in [] none = refl
@@ -256,7 +261,7 @@ module _ (table : Table) (typed : TypedProgram) (effects : Effects) (input : Lis
       where
         first_of : (a b : Bool) → a && b ≡ true → a ≡ true
         first_of true b is = refl
-        first_of false b is = cc
+        first_of false b is = absurd (false≢true is)
 
         by_way : (o : Option Way) → views.part_way x p ≡ o → views.part_way x p ≡ None
         by_way None e = e
@@ -268,7 +273,7 @@ module _ (table : Table) (typed : TypedProgram) (effects : Effects) (input : Lis
     whole_roots : p.instr ≡ Finish → (name : PlaceName) → Has own_facts (Moved name) → is_formal s name.root || is_package_object s name.root ≡ true → ⊥
     whole_roots is name has shared =
         let finishing : AllowsAll own_facts (acts_of_main Finish) =
-        subst (λ i. AllowsAll own_facts (acts_of_main i)) is (standing.allowed table typed effects input ready state top older outer named p frames of_sub at_point path (λ k actuals result call. (let never : Finish ≡ Call k actuals result = sym is ∙ call in cc))) in
+        subst (λ i. AllowsAll own_facts (acts_of_main i)) is (standing.allowed table typed effects input ready state top older outer named p frames of_sub at_point path (λ k actuals result call. (let never : Finish ≡ Call k actuals result = sym is ∙ call in absurd (false≢true (ap is_call_instruction never))))) in
         leaves_whole program effects ready.accepted.effects_are own named top.before finishing.0 name has
         (sym (λ j. formal_same s own (standing.agree table typed effects input ready) name.root j || package_same s own (standing.agree table typed effects input ready) name.root j) ∙ shared)
 
@@ -332,9 +337,6 @@ module _ (table : Table) (typed : TypedProgram) (effects : Effects) (input : Lis
         | inr away_there ↦ hand_base (sym (base_under (ways.Object (ways.OfHand k)) w under)
             ∙ (gone_low table typed effects unmoved_stage local state below.stage.depth (h ∷ others) between_low w away_there).2)
       ]
-        where
-          hand_base : {k f x : ℕ} → OfRoot (ways.OfHand k) ≡ OfRoot (OfVariable f x) → ⊥
-          hand_base e = cc
 
       pub whole_low : (x : ℕ) (w : Way) → ways.base_of w ≡ OfRoot (OfVariable (suc below.stage.depth) x)
           → IsMovedBy (home s below.stage.depth) below.views their_facts w ⊎ gone_around w → ⊥
@@ -403,7 +405,7 @@ module _ (table : Table) (typed : TypedProgram) (effects : Effects) (input : Lis
           first false b e = refl
 
           second : (a b : Bool) → a || b ≡ false → b ≡ false
-          second true b e = cc
+          second true b e = absurd (true≢false e)
           second false b e = e
 
           own_base : (w : Way) → ways.Named (home s depth) w → is_package_object s (number_of w) ≡ false → ways.base_of w ≡ OfRoot (OfVariable (suc below.stage.depth) (number_of w))

@@ -11,6 +11,7 @@ use Rattle.typed_tree.specs.declared.object.ObjectKind.{ObjectKind}
 use Rattle.typed_tree.specs.declared.object.ObjectKind.TheVariants as object_kind
 use Rattle.spark_base.proofs.Lists.{Has-append_left}
 use Rattle.std.proofs.Common.{◌≡◌, refl, sym, ap, ◌∙◌, subst, ◌⊎◌, inl, inr, ℕ, suc, true, false, List, [], ◌∷◌, ◌++◌, take, drop, length, get_or, arith, Option, Some, None, Bool, ◌||◌}
+use Rattle.std.proofs.lemmas.Bool.{false≢true}
 use Rattle.spark_base.specs.Lists.{Has}
 use Rattle.place_names.specs.declared.fact.Fact.{Fact}
 use Rattle.place_names.specs.declared.fact.Fact.TheVariants.{Moved, Lent}
@@ -93,6 +94,7 @@ use Rattle.viewed_steps.proofs.Stilled.{still}
 use Rattle.viewed_steps.proofs.CallBegins as begins
 use Rattle.viewed_steps.specs.Seeing.{sees_in}
 use Rattle.viewed_steps.proofs.Sees.{sees_seeing}
+use Rattle.viewed_steps.proofs.Constructors.{is_end_scope_instruction, is_finish_instruction}
 
 module _ (table : Table) (typed : TypedProgram) (effects : Effects) (input : List ℕ) (ready : IsReady table typed effects) where
   abbrev sees : ℕ → Bool
@@ -588,8 +590,8 @@ module _ (table : Table) (typed : TypedProgram) (effects : Effects) (input : Lis
         none_below = elim (above.1).0.1 [
           | inl none ↦ none
           | inr (some, returned, none_back, was) ↦ absurd (elim (ready.traversing.ending top.frame.sub (running.0).entered some top.before top.frame.next path returned) [
-            | inl (z, ends) ↦ (let never : Call n actuals result ≡ EndScope z = sym e ∙ sym (innermost.instr_there table typed effects input ready state top below more_frames rest named p frames deep stages running awaiting of_sub at_point path views viewed_before kept scope holds placed_before above) ∙ ends in cc)
-            | inr finishes ↦ (let never : Call n actuals result ≡ Finish = sym e ∙ sym (innermost.instr_there table typed effects input ready state top below more_frames rest named p frames deep stages running awaiting of_sub at_point path views viewed_before kept scope holds placed_before above) ∙ finishes in cc)
+            | inl (z, ends) ↦ (let never : Call n actuals result ≡ EndScope z = sym e ∙ sym (innermost.instr_there table typed effects input ready state top below more_frames rest named p frames deep stages running awaiting of_sub at_point path views viewed_before kept scope holds placed_before above) ∙ ends in absurd (false≢true (ap is_end_scope_instruction never)))
+            | inr finishes ↦ (let never : Call n actuals result ≡ Finish = sym e ∙ sym (innermost.instr_there table typed effects input ready state top below more_frames rest named p frames deep stages running awaiting of_sub at_point path views viewed_before kept scope holds placed_before above) ∙ finishes in absurd (false≢true (ap is_finish_instruction never)))
           ])
         ]
 
@@ -708,7 +710,7 @@ module _ (table : Table) (typed : TypedProgram) (effects : Effects) (input : Lis
 
             formal_lasts : (k : ObjectKind) → is_formal_kind k ≡ true → is_temporary k ≡ false
             formal_lasts object_kind.Formal is = refl
-            formal_lasts k is = cc
+            formal_lasts k is = absurd (false≢true is)
 
             callee_held : (x k : ℕ) → is_view s x ≡ true → is_bundle s x ≡ false → (get_or (variable_slots s (home s (suc depth) x) x with_all.variables) 0 no_slot).word ≡ machine.Cell k
                 → (w : Way) × (callee_views.way x ≡ Some w) × (callee_views.cell x ≡ k)

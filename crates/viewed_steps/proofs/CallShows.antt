@@ -56,6 +56,7 @@ use Rattle.viewed_steps.proofs.CallActs as acting
 use Rattle.viewed_steps.proofs.Withheld.{kept_fact, kept_root}
 use Rattle.std.specs.Prelude.{flat_map, is_some}
 use Rattle.std.proofs.Common.{not, ◌&&◌, eq-eqb, if◌then◌else◌}
+use Rattle.std.proofs.lemmas.Bool.{false≢true}
 use Rattle.spark_base.proofs.Lists.{Has-append_left, Has-append_cases, Has-append_right}
 use Rattle.place_names.specs.declared.rule.Loan.TheVariants.{Borrowed}
 use Rattle.place_names.specs.Facts.{place}
@@ -79,6 +80,7 @@ use Rattle.viewed_steps.proofs.First.{way_named}
 use Rattle.viewed_steps.proofs.Calling as calling
 use Rattle.viewed_steps.proofs.Roots.{view_goes}
 use Rattle.viewed_steps.specs.Seeing.{sees_in}
+use Rattle.viewed_steps.proofs.Constructors.{is_borrowed_loan}
 
 -- ---- what is known of an actual that is shown
 
@@ -101,7 +103,14 @@ clear_named s sees facts (x ∷ formals) _ clear b has given plain w named = abs
 
 both_first : (a b : Bool) → a && b ≡ true → a ≡ true
 both_first true b e = refl
-both_first false b e = cc
+both_first false b e = absurd (false≢true e)
+
+by_test : (b : Bool) → (if b then Borrowed else Observed) ≡ Borrowed → b ≡ true
+by_test true is = refl
+by_test false is = cc
+
+same_loan : (l k : Loan) (h b : ℕ) (n m : PlaceName) → Lent l h n ≡ Lent k b m → (l ≡ k) × (n ≡ m)
+same_loan l k h b n m e = (cc, cc)
 
 module _ (table : Table) (typed : TypedProgram) (effects : Effects) (input : List ℕ) (ready : IsReady table typed effects) where
   abbrev sees : ℕ → Bool
@@ -211,10 +220,6 @@ module _ (table : Table) (typed : TypedProgram) (effects : Effects) (input : Lis
 
       lent_exclusive : (x : ℕ) → lent_to s x ≡ Borrowed → is_exclusive s x ≡ true
       lent_exclusive x is = by_test (is_exclusive s x) is
-        where
-          by_test : (b : Bool) → (if b then Borrowed else Observed) ≡ Borrowed → b ≡ true
-          by_test true is = refl
-          by_test false is = cc
 
       -- a formal of a function only sees
       function_sees : (t : ℕ) → (sub_of program n).result ≡ Some t → (b : alias.Passed) → Has passed_all b → is_given s b.formal ≡ true → is_exclusive s b.formal ≡ false
@@ -264,8 +269,8 @@ module _ (table : Table) (typed : TypedProgram) (effects : Effects) (input : Lis
             where
               second : (a b : Bool) → a && b ≡ true → b ≡ true
               second true b e = e
-              second false b e = cc
-          variable_named w is = cc
+              second false b e = absurd (false≢true e)
+          variable_named w is = absurd (false≢true is)
 
           mutable : (a b : Bool) → b ≡ true → not (a && not b) ≡ true
           mutable true b is = (λ j. not (not (is j)))
@@ -368,11 +373,8 @@ module _ (table : Table) (typed : TypedProgram) (effects : Effects) (input : Lis
                   ])
             ]
           where
-            same_loan : (l k : Loan) (h b : ℕ) (n m : PlaceName) → Lent l h n ≡ Lent k b m → (l ≡ k) × (n ≡ m)
-            same_loan l k h b n m e = (cc, cc)
-
             observed_borrowed : Observed ≡ Borrowed → ⊥
-            observed_borrowed is = cc
+            observed_borrowed is = absurd (false≢true (ap is_borrowed_loan is))
 
             -- what is lent to be changed meets nothing that is observed
             by_lent : (b : IsShownOf s passed_all f) → is_exclusive s (b.passed).formal ≡ true → IsLentAs s sees facts_now passed_all (b.passed).formal (b.passed).actual

@@ -1,6 +1,7 @@
 -- Calls: what the actuals are, and how they are passed. Each is a value of one word, a scalar place in a
 -- variable, or another place in a variable of the caller.
 use Rattle.std.proofs.Common.{◌≡◌, refl, ◌&&◌, ◌||◌, not, is_some, sym, ap, ◌∙◌, subst, ◌⊎◌, inl, inr, ℕ, Bool, true, false, List, [], ◌∷◌, ◌++◌, map, Option, if◌then◌else◌}
+use Rattle.std.proofs.lemmas.Bool.{false≢true}
 use Rattle.spark_base.specs.Lists.{Has}
 use Rattle.spark_base.proofs.Lists.{Has-append_cases}
 use Rattle.place_names.specs.declared.act.Act.TheVariants as act
@@ -88,13 +89,13 @@ module _ (s : Typing) (own_law : OwnsByShape s.table) (procedure : Bool) where
 
   none_of : (m : Mode) (owning access : Bool) (ways : List Passing) (actuals : TypedTree) → is_empty actuals ≡ true
       → AreReads (actual_values s (passing_by m owning access ∷ ways) actuals)
-  none_of mode.In false access ways (More e rest) none = cc
+  none_of mode.In false access ways (More e rest) none = absurd (false≢true none)
   none_of mode.In false access ways actuals none = λ p has. absurd has
-  none_of mode.In true access ways (More e rest) none = cc
+  none_of mode.In true access ways (More e rest) none = absurd (false≢true none)
   none_of mode.In true access ways actuals none = λ p has. absurd has
-  none_of mode.Out owning access ways (More e rest) none = cc
+  none_of mode.Out owning access ways (More e rest) none = absurd (false≢true none)
   none_of mode.Out owning access ways actuals none = λ p has. absurd has
-  none_of mode.InOut owning access ways (More e rest) none = cc
+  none_of mode.InOut owning access ways (More e rest) none = absurd (false≢true none)
   none_of mode.InOut owning access ways actuals none = λ p has. absurd has
 
   pub values_are_read : PartsAreNamed s.table → (formals : List ℕ) (actuals : TypedTree) → AreUnseen s formals → AreActualsTo s formals actuals → AreReads (actual_values s (map way_to formals) actuals)

@@ -1,5 +1,6 @@
 -- A call leads on, in the frame of what is called.
 use Rattle.std.proofs.Common.{◌≡◌, refl, sym, ap, ◌∙◌, subst, ◌⊎◌, inl, inr, ℕ, suc, ◌<◌, true, false, ◌==◌, List, [], ◌∷◌, ◌++◌, take, drop, length, arith, Option, Some, None, Bool, ◌||◌}
+use Rattle.std.proofs.lemmas.Bool.{false≢true}
 use Rattle.spark_base.specs.Lists.{Has}
 use Rattle.place_names.specs.declared.act.Act.{Act}
 use Rattle.place_names.specs.declared.act.Act.TheVariants as act
@@ -101,6 +102,10 @@ use Rattle.viewed_steps.proofs.Stilled.{still, lent_only, still_viewed}
 use Rattle.viewed_steps.proofs.Supplied.{SuppliesAll, supplies_each}
 use Rattle.viewed_steps.specs.Seeing.{sees_in}
 use Rattle.viewed_steps.proofs.Sees.{sees_seeing}
+use Rattle.viewed_steps.proofs.Constructors.{is_of_cell_base}
+
+same_cell : {a b : ℕ} → memory.OfCell a ≡ memory.OfCell b → a ≡ b
+same_cell e = cc
 
 module _ (table : Table) (typed : TypedProgram) (effects : Effects) (input : List ℕ) (ready : IsReady table typed effects) where
   abbrev sees : ℕ → Bool
@@ -640,7 +645,7 @@ module _ (table : Table) (typed : TypedProgram) (effects : Effects) (input : Lis
         housed_aside : (c : Lodge) (has : Has cells c) (k : Place) → k.base ≡ memory.OfCell c.cell
             → (u : Way) × Has ways_taken u × IsPassedOn s sees cells depth views facts_all next_there (named_cell c has).by.formal k u → (to : Way) → Has ways_taken to → ways.Past to c.way → ⊥
         housed_aside c has k base (u, has_u, one) to taken past = elim (one.inside).stands [
-          | inl variable ↦ (let never : memory.OfVariable (one.inside).frame (one.inside).object ≡ memory.OfCell c.cell = sym variable.2 ∙ base in cc)
+          | inl variable ↦ (let never : memory.OfVariable (one.inside).frame (one.inside).object ≡ memory.OfCell c.cell = sym variable.2 ∙ base in absurd (false≢true (ap is_of_cell_base never)))
           | inr cell ↦ (
               let view = view_here s easy.state in
               let number : cell.0 ≡ c.cell = same_cell (sym cell.2 ∙ base) in
@@ -655,9 +660,6 @@ module _ (table : Table) (typed : TypedProgram) (effects : Effects) (input : Lis
                 | inr apart ↦ apart.0 (under_on to c.way u (past_under to c.way past) below)
               ])
         ]
-          where
-            same_cell : {a b : ℕ} → memory.OfCell a ≡ memory.OfCell b → a ≡ b
-            same_cell e = cc
 
         -- one of a scalar place
         scalar_aside : (c : Lodge) (has : Has cells c) → IsScalarObject s (named_cell c has).by.formal → (to : Way) → Has ways_taken to → ways.Past to c.way → ⊥

@@ -1,6 +1,7 @@
 -- What a place has is taken by a call, or by its end, and given to a place that has no number: the
 -- state stays sound with views.
 use Rattle.std.proofs.Common.{◌≡◌, refl, sym, ap, ◌∙◌, subst, ◌⊎◌, inl, inr, ℕ, ◌+◌, Bool, true, false, not, List, [], ◌∷◌, ◌++◌, take, drop, length, get_or, append-nil, suc, ◌<◌}
+use Rattle.std.proofs.lemmas.Bool.{false≢true}
 use Rattle.place_names.specs.declared.fact.Fact.{Fact}
 use Rattle.type_definitions.specs.Types.{words}
 use Rattle.flow_paths.specs.Objects.{Typing, object_at}
@@ -24,6 +25,7 @@ use Rattle.soundness.specs.OwnedLoans.Views.{Views, IsMovedBy}
 use Rattle.viewed_steps.specs.Taken.{IsCellAt, IsInside, trunk_type, IsOwnAt}
 use Rattle.viewed_steps.proofs.Lodged.{lodged_spot, cell_live}
 use Rattle.viewed_steps.proofs.Between.{moved_between, base_under, base_along, same_variable, OwnersStand, Begins, begun_low}
+use Rattle.viewed_steps.proofs.Constructors.{is_of_root_loc, is_of_variable_base}
 
 -- ---- places in variables
 
@@ -32,6 +34,9 @@ rooted_base (Object r) f x is = tt
 rooted_base (Lost n) f x is = cc
 rooted_base (Into w i) f x is = rooted_base w f x is
 rooted_base (All w) f x is = rooted_base w f x is
+
+same_names : {f x g y : ℕ} → memory.OfVariable f x ≡ memory.OfVariable g y → OfVariable f x ≡ OfVariable g y
+same_names e = cc
 
 module _ (s : Typing) (depth : ℕ) (k : Place) (to : Way) (inside : IsInside s depth k to) where
   -- where it is
@@ -121,11 +126,8 @@ module _ (s : Typing) (depth : ℕ) (k : Place) (to : Way) (inside : IsInside s 
     | inr there ↦ no_names (sym there.2 ∙ is)
   ]
     where
-      same_names : {f x g y : ℕ} → memory.OfVariable f x ≡ memory.OfVariable g y → OfVariable f x ≡ OfVariable g y
-      same_names e = cc
-
       no_names : {n g y : ℕ} → memory.OfCell n ≡ memory.OfVariable g y → ⊥
-      no_names e = cc
+      no_names e = absurd (false≢true (ap is_of_variable_base e))
 
   hands_same : (m : Memory) (hands : List Waiting) → content s m hands inside.start ≡ content s m [] inside.start
   hands_same m hands = elim inside.stands [
@@ -142,17 +144,17 @@ module _ (s : Typing) (depth : ℕ) (k : Place) (to : Way) (inside : IsInside s 
 
 -- ---- hands and variables
 
+hand_apart : {h f x : ℕ} → OfRoot (OfVariable f x) ≡ OfRoot (OfHand h) → ⊥
+hand_apart e = cc
+
 variable_off : (g y : ℕ) (p : List Step) (h : ℕ) → Below (hand h) (part (OfRoot (OfVariable g y)) p) → ⊥
-variable_off g y p h (q, is) = other_trunk (sym (trunk_part (OfRoot (OfVariable g y)) p) ∙ ap trunk is ∙ trunk_part (hand h) q)
-  where
-    other_trunk : {h f x : ℕ} → OfRoot (OfVariable f x) ≡ OfRoot (OfHand h) → ⊥
-    other_trunk e = cc
+variable_off g y p h (q, is) = hand_apart (sym (trunk_part (OfRoot (OfVariable g y)) p) ∙ ap trunk is ∙ trunk_part (hand h) q)
 
 pub cell_off : (c : ℕ) (p : List Step) (l : Loc) (r : Root) → trunk l ≡ OfRoot r → Below l (part (OfCell c) p) → ⊥
 cell_off c p l r base (q, is) = other_trunk (sym (trunk_part (OfCell c) p) ∙ ap trunk is ∙ trunk_part l q ∙ base)
   where
     other_trunk : {c : ℕ} {r : Root} → OfCell c ≡ OfRoot r → ⊥
-    other_trunk e = cc
+    other_trunk e = absurd (false≢true (ap is_of_root_loc e))
 
 hand_differs : {a : Loc} {f x h : ℕ} → a ≡ OfRoot (OfVariable f x) → a ≡ OfRoot (OfHand h) → ⊥
 hand_differs p q = cc
@@ -200,7 +202,7 @@ module _ (s : Typing) (settled : IsSettled s.table) (home : ℕ → ℕ) (v : Vi
       where
         marked : (z : machine.Word) (g : Bool) → g ≡ true → owner_at z g ≡ Gone
         marked z true e = refl
-        marked z false e = cc
+        marked z false e = absurd (false≢true e)
 
     abbrev after : View
     after = seen_of s.table b (length m.cells) (λ n. (cell m n).freed) leaks
@@ -220,12 +222,9 @@ module _ (s : Typing) (settled : IsSettled s.table) (home : ℕ → ℕ) (v : Vi
     carried_held g y p c held =
         elim (owner_before (seen s m rest leaks) after l (hand (length rest)) move (part (OfRoot (OfVariable g y)) p) c (word_root s.table b (OfVariable g y) p ∙ held)) [
           | inr stays ↦ sym (word_root s.table a (OfVariable g y) p) ∙ stays.word
-          | inl (q, is, word) ↦ absurd (other_trunk
+          | inl (q, is, word) ↦ absurd (hand_apart
               (sym (trunk_part (OfRoot (OfVariable g y)) p) ∙ ap trunk is ∙ trunk_part (hand (length rest)) q))
         ]
-      where
-        other_trunk : {h f x : ℕ} → OfRoot (OfVariable f x) ≡ OfRoot (OfHand h) → ⊥
-        other_trunk e = cc
 
     -- beside the place a variable has what it had
     pub carried_beside : (g y : ℕ) (p : List Step) → (Below l (part (OfRoot (OfVariable g y)) p) → ⊥)

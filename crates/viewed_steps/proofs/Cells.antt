@@ -1,6 +1,7 @@
 -- Actuals that are copied back to in cells: nothing that was moved leads to them before the call, no place that
 -- the call takes lies above them, and each cell has a name.
-use Rattle.std.proofs.Common.{◌≡◌, refl, sym, ap, ◌∙◌, subst, ◌⊎◌, inl, inr, ℕ, Bool, true, false, ◌&&◌, ◌==◌, eqb-true, eq-eqb, List, [], ◌∷◌, ◌++◌, map, flat_map, Option, Some, None}
+use Rattle.std.proofs.Common.{◌≡◌, refl, sym, ap, ◌∙◌, subst, ◌⊎◌, inl, inr, ℕ, Bool, true, false, ◌&&◌, ◌==◌, eqb-true, eq-eqb, List, [], ◌∷◌, ◌++◌, map, flat_map, Option, Some, None, is_some}
+use Rattle.std.proofs.lemmas.Bool.{false≢true}
 use Rattle.spark_base.specs.Lists.{Has}
 use Rattle.spark_base.specs.declared.position.Pos.{Pos}
 use Rattle.spark_base.proofs.Lists.{Has-append_left, Has-append_right, Has-append_cases, Has-map_from}
@@ -24,6 +25,7 @@ use Rattle.flow_paths.specs.Names.{Written, written, name_of}
 use Rattle.flow_paths.specs.Acts.{naming, actual_act, actual_acts}
 use Rattle.flow_paths.specs.Aliases as alias
 use Rattle.flow_paths.specs.Aliases.{pair_reports, overlap_reports}
+use Rattle.flow_paths.specs.Views.{is_in_mode}
 use Rattle.machine.specs.Memory.{Memory, Place}
 use Rattle.machine.specs.Memory as memory
 use Rattle.machine.specs.Calls.{Passed, Value, From, To}
@@ -47,18 +49,19 @@ use Rattle.viewed_steps.proofs.Opened.{actual_open, IsLess, open_before}
 use Rattle.viewed_steps.proofs.Called.{copies_add}
 use Rattle.viewed_steps.proofs.Entered.{IsFrom, IsOfPlace}
 use Rattle.viewed_steps.proofs.Passed.{apart_pair, flat_has, later_none, after_less}
+use Rattle.viewed_steps.proofs.Constructors.{is_of_cell_loc}
 
 -- ---- names that don't overlap
 
 equal_flip : (a b : Sel) → is_equal a b ≡ true → is_equal b a ≡ true
 equal_flip (Field i) (Field j) e = eq-eqb j i (sym (eqb-true i j e))
-equal_flip (Field i) Elem e = cc
-equal_flip (Field i) Deref e = cc
-equal_flip Elem (Field j) e = cc
+equal_flip (Field i) Elem e = absurd (false≢true e)
+equal_flip (Field i) Deref e = absurd (false≢true e)
+equal_flip Elem (Field j) e = absurd (false≢true e)
 equal_flip Elem Elem e = refl
-equal_flip Elem Deref e = cc
-equal_flip Deref (Field j) e = cc
-equal_flip Deref Elem e = cc
+equal_flip Elem Deref e = absurd (false≢true e)
+equal_flip Deref (Field j) e = absurd (false≢true e)
+equal_flip Deref Elem e = absurd (false≢true e)
 equal_flip Deref Deref e = refl
 
 agree_flip : (k m : List Sel) → agree_along k m ≡ true → agree_along m k ≡ true
@@ -124,8 +127,11 @@ passed_formal (x ∷ formals) actuals b has = absurd has
 
 not_in : (m : Mode) → is_in m ≡ false → m ≡ mode.In → ⊥
 not_in mode.In e is = cc
-not_in mode.Out e is = cc
-not_in mode.InOut e is = cc
+not_in mode.Out e is = absurd (false≢true (ap is_in_mode is))
+not_in mode.InOut e is = absurd (false≢true (ap is_in_mode is))
+
+same_written : {a b : Written} → Some a ≡ Some b → a ≡ b
+same_written e = cc
 
 module _ (s : Typing) (sees : ℕ → Bool) (own_law : OwnsByShape s.table) (depth : ℕ) (facts : List Fact) (procedure : Bool) where
   -- where all are of mode `in`
@@ -229,7 +235,7 @@ module _ (s : Typing) (sees : ℕ → Bool) (own_law : OwnsByShape s.table) (dep
             | inr gone ↦ inr gone
             | inl there ↦ elim (head_less (object_at s x).mode (is_owning s.table (object_at s x).of) (procedure && is_named_access (view_of s x)) e known f there) [
               | inl stays ↦ inl stays
-              | inr (other, w, is_w, n, is_f, covered) ↦ (let no : None ≡ Some w = sym is ∙ is_w in cc)
+              | inr (other, w, is_w, n, is_f, covered) ↦ (let no : None ≡ Some w = sym is ∙ is_w in absurd (false≢true (ap is_some no)))
             ]
           ]) apart
       rest_open x e formals rest known outs none less apart (Some m) is others =
@@ -265,11 +271,8 @@ module _ (s : Typing) (sees : ℕ → Bool) (own_law : OwnsByShape s.table) (dep
         where
           in_is : (m : Mode) → is_in m ≡ true → m ≡ mode.In
           in_is mode.In e = refl
-          in_is mode.Out e = cc
-          in_is mode.InOut e = cc
-
-          same_written : {a b : Written} → Some a ≡ Some b → a ≡ b
-          same_written e = cc
+          in_is mode.Out e = absurd (false≢true e)
+          in_is mode.InOut e = absurd (false≢true e)
   all_open (x ∷ formals) actuals known outs unobserved none allowed less apart = tt
 
 -- ---- the cells
@@ -298,6 +301,9 @@ named_before home t (ways.Object r) under named = subst (Named home) (sym under)
 named_before home t (ways.Lost n) under named = absurd named
 named_before home t (ways.Into w i) under named = elim under [ inl e ↦ subst (Named home) (sym e) named | inr u ↦ named_before home t w u named ]
 named_before home t (ways.All w) under named = elim under [ inl e ↦ subst (Named home) (sym e) named | inr u ↦ named_before home t w u named ]
+
+same_cell : {a b : ℕ} → OfCell a ≡ OfCell b → a ≡ b
+same_cell e = cc
 
 module _ (s : Typing) (sees : ℕ → Bool) (settled : IsSettled s.table) (own_law : OwnsByShape s.table) (mem : Memory) (depth : ℕ) (facts : List Fact) (procedure : Bool) (v : Views) (view : ways.View) where
   abbrev Called : List ℕ → TypedTree → List Passed → Lodge → Type 0
@@ -341,12 +347,9 @@ module _ (s : Typing) (sees : ℕ → Bool) (settled : IsSettled s.table) (own_l
   house_base : (s : Typing) (sees : ℕ → Bool) (depth : ℕ) (v : Views) (view : ways.View) (x y : ℕ) (path : TypedTree) (k : Place) → (h : IsHoused s sees depth v view x y path k)
       → k.base ≡ memory.OfCell h.cell
   house_base s sees depth v view x y path k h = elim (h.inside).stands [
-    | inl variable ↦ (let never : OfRoot (ways.OfVariable (h.inside).frame (h.inside).object) ≡ OfCell h.cell = sym variable.1 ∙ h.start in cc)
+    | inl variable ↦ (let never : OfRoot (ways.OfVariable (h.inside).frame (h.inside).object) ≡ OfCell h.cell = sym variable.1 ∙ h.start in absurd (false≢true (ap is_of_cell_loc never)))
     | inr cell ↦ cell.2 ∙ ap memory.OfCell (same_cell (sym cell.1 ∙ h.start))
   ]
-    where
-      same_cell : {a b : ℕ} → OfCell a ≡ OfCell b → a ≡ b
-      same_cell e = cc
 
   -- the cell of one that isn't scalar
   housed_cell : (x : ℕ) (m : Mode) (p : Pos) (y u : ℕ) (path : TypedTree) (k : Place) (a : Passed) (known : List Fact) (formals : List ℕ) (rest : TypedTree) (passed : List Passed) → (object_at s x).mode ≡ m → (m ≡ mode.In → ⊥)

@@ -1,5 +1,6 @@
 -- What is shown to formals that own nothing is neither moved nor borrowed: the acts of the call ask so.
 use Rattle.std.proofs.Common.{◌≡◌, refl, sym, ap, ◌∙◌, subst, inl, inr, ℕ, Bool, true, false, ◌&&◌, List, [], ◌∷◌, map, Option, Some, None}
+use Rattle.std.proofs.lemmas.Bool.{false≢true, true≢false}
 use Rattle.spark_base.specs.Lists.{Has}
 use Rattle.place_names.specs.declared.act.Act.TheVariants as act
 use Rattle.place_names.specs.declared.act.Mode.{Mode}
@@ -37,7 +38,7 @@ actual_clears facts true u allowed = (
 
 second_true : (a b : Bool) → a && b ≡ true → b ≡ true
 second_true true b e = e
-second_true false b e = cc
+second_true false b e = absurd (false≢true e)
 
 module _ (s : Typing) (sees : ℕ → Bool) (procedure : Bool) where
   abbrev copies_of : List ℕ → TypedTree → List Placed
@@ -53,7 +54,7 @@ module _ (s : Typing) (sees : ℕ → Bool) (procedure : Bool) where
   head_keeps true access e facts = naming_sees (written e) access facts
 
   head_clears : (owning access : Bool) (e : TypedTree) (facts : List Fact) → owning ≡ true → AllowsAll facts (acts (actual_act (passing_by mode.In owning access) e)) → IsClear s sees facts e
-  head_clears false access e facts owns allowed = (let no : false ≡ true = owns in cc)
+  head_clears false access e facts owns allowed = (let no : false ≡ true = owns in absurd (false≢true no))
   head_clears true access (Name p y path u) facts owns allowed =
       λ w called plain. actual_clears facts access w (subst (λ z. Allows facts (act.Actual z mode.In true access)) (sym called) allowed.0)
   head_clears true access e facts owns allowed = tt
@@ -61,7 +62,7 @@ module _ (s : Typing) (sees : ℕ → Bool) (procedure : Bool) where
   owns_there : (x : ℕ) → is_anonymous (view_of s x) ≡ false → is_given s x ≡ true → is_owning s.table (object_at s x).of ≡ true
   owns_there x unseen given = elim (given_cases s x given) [
     | inl formal ↦ second_true (is_in_formal s x) (is_owning s.table (object_at s x).of) formal
-    | inr anonymous ↦ (let no : true ≡ false = sym anonymous ∙ unseen in cc)
+    | inr anonymous ↦ (let no : true ≡ false = sym anonymous ∙ unseen in absurd (true≢false no))
   ]
 
   pub all_clear : (formals : List ℕ) (actuals : TypedTree) (facts : List Fact) → AreUnseen s formals → ((x : ℕ) → Has formals x → (object_at s x).mode ≡ mode.In)

@@ -2,6 +2,7 @@
 -- type.
 use Rattle.std.proofs.Common.{◌≡◌, refl, sym, ap, ◌∙◌, subst, inl, inr, ℕ, zero, suc, ◌+◌, ◌<◌, Bool, true, false, ◌||◌, List, [], ◌∷◌, ◌++◌, length, get_or, arith, append-nil, append_assoc, if◌then◌else◌}
 use Rattle.std.proofs.lemmas.List.{length-append, length-map}
+use Rattle.std.proofs.lemmas.Bool.{true≢false}
 use Rattle.place_names.specs.declared.act.Act.TheVariants as act
 use Rattle.place_names.specs.declared.act.Placed.{Placed}
 use Rattle.place_names.specs.declared.fact.Fact.{Fact}
@@ -55,12 +56,12 @@ none_owns owns [] i other lt none = absurd (omega (arith, lt))
 none_owns owns (c ∷ cs) zero other lt none = first (owns c.of) (any_owns owns cs) none
   where
     first : (a b : Bool) → a || b ≡ false → a ≡ false
-    first true b e = cc
+    first true b e = absurd (true≢false e)
     first false b e = refl
 none_owns owns (c ∷ cs) (suc i) other lt none = none_owns owns cs i other (omega (arith, lt)) (later (owns c.of) (any_owns owns cs) none)
   where
     later : (a b : Bool) → a || b ≡ false → b ≡ false
-    later true b e = cc
+    later true b e = absurd (true≢false e)
     later false b e = e
 
 pub part_owns : (owns : ℕ → Bool) (sh : Shape) (i : ℕ) → i < field_count sh → is_record sh || is_array sh ≡ true → owns_of owns sh ≡ false → owns (part_type sh i) ≡ false
@@ -83,7 +84,7 @@ element_owns owns (shape.Same of) array none = cc
 pub no_cell : (s : Typing) → OwnsByShape s.table → (want d : ℕ) (constant by_name : Bool) → shape_of s.table want ≡ shape.Access d constant by_name → IsNamed s.table want
     → is_owning s.table want ≡ false → ⊥
 no_cell s own_law want d constant by_name is named none =
-    let no : true ≡ false = sym (named d constant by_name is) ∙ ap (owns_of (is_owning s.table)) (sym is) ∙ sym (own_law want) ∙ none in cc
+    let no : true ≡ false = sym (named d constant by_name is) ∙ ap (owns_of (is_owning s.table)) (sym is) ∙ sym (own_law want) ∙ none in absurd (true≢false no)
 
 -- ---- the acts
 

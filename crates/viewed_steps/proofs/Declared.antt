@@ -1,5 +1,6 @@
 -- The declaration of an object that isn't a view.
-use Rattle.std.proofs.Common.{None, ◌≡◌, refl, sym, ap, ◌∙◌, subst, ◌⊎◌, inl, inr, ℕ, Bool, true, false, not, List, [], ◌∷◌, ◌+◌, ◌++◌, length, get_or, append-nil, Some, if◌then◌else◌}
+use Rattle.std.proofs.Common.{None, ◌≡◌, refl, sym, ap, ◌∙◌, subst, ◌⊎◌, inl, inr, ℕ, Bool, true, false, not, List, [], ◌∷◌, ◌+◌, ◌++◌, length, get_or, append-nil, Some, if◌then◌else◌, is_some}
+use Rattle.std.proofs.lemmas.Bool.{true≢false}
 use Rattle.spark_base.specs.Lists.{Has}
 use Rattle.place_names.specs.declared.act.Act.TheVariants as act
 use Rattle.place_names.specs.declared.fact.Fact.{Fact}
@@ -149,6 +150,9 @@ bare_off home other f x apart w l p q bare = elim (other.rests w l p bare) [
     below [] l off = off
     below (i ∷ q) l off = below q l off
 
+frame_of : (f x g y : ℕ) → OfVariable f x ≡ OfVariable g y → g ≡ f
+frame_of f x g y e = cc
+
 module _ (s : Typing) (settled : IsSettled s.table) (home : ℕ → ℕ) (observer : ℕ → Bool) (other : Around home) (v : Views) where
   pub declared_viewed : (m : Memory) (got : Waiting) (rest : List Waiting) (leaks : List Leak) (facts : List Fact) (f x : ℕ)
       → Viewed home observer other v (seen s m (got ∷ rest) leaks) facts → ((h : ℕ) (w : Way) → Under (Object (OfHand h)) w → other.gone w → ⊥) → Kept s m (got ∷ rest)
@@ -190,9 +194,6 @@ module _ (s : Typing) (settled : IsSettled s.table) (home : ℕ → ℕ) (observ
             (sym (word_off s m (got ∷ rest) rest leaks f x got.words (part l (q ++ p)) (bare_off home other f x apart w l p (q ++ p) bare)) ∙ held);
       }
     where
-      frame_of : (f x g y : ℕ) → OfVariable f x ≡ OfVariable g y → g ≡ f
-      frame_of f x g y e = cc
-
       stays : (y : ℕ) (w : Way) → v.way y ≡ Some w
           → Named home w ⊎ IsForeign home w → Reaches (seen s m (got ∷ rest) leaks) w (OfCell (v.cell y))
           → Reaches (seen s (declared f x got.words m) rest leaks) w (OfCell (v.cell y))
@@ -210,7 +211,7 @@ pub stands_root : (v : Views) (u : Way) → ((p : List Step) → v.part_way (num
     ⊎ ((y : ℕ) × (k : Way) × (v.way y ≡ Some k) × (number_of (expand v u) ≡ number_of k) × (base_of (expand v u) ≡ base_of k))
 stands_root v u bare = elim (lifts v u) [
   | inl e ↦ inl (ap number_of e)
-  | inr (inr l) ↦ (let is : Some l.way ≡ None = sym l.has ∙ ap (λ z. v.part_way z l.steps) (sym (part_root v u l)) ∙ bare l.steps in cc)
+  | inr (inr l) ↦ (let is : Some l.way ≡ None = sym l.has ∙ ap (λ z. v.part_way z l.steps) (sym (part_root v u l)) ∙ bare l.steps in absurd (true≢false (ap is_some is)))
   | inr (inl l) ↦ inr (l.object, l.way, l.has, ap number_of (lifted_way v u l) ∙ root_on l.way l.rest, ap base_of (lifted_way v u l) ∙ base_on l.way l.rest)
 ]
 

@@ -1,5 +1,6 @@
 -- Names that go through no access value lead to parts of their variables.
 use Rattle.std.proofs.Common.{◌≡◌, refl, ap, ◌∙◌, ℕ, true, List, [], ◌∷◌}
+use Rattle.std.proofs.lemmas.Bool.{false≢true}
 use Rattle.type_definitions.specs.Types.{Table}
 use Rattle.typed_tree.specs.Trees.{TypedTree, Component as IntoComponent, Designated, Element}
 use Rattle.flow_paths.specs.Objects.{Typing}
@@ -42,7 +43,7 @@ pub steps_direct : (h : Here) (path : TypedTree) → goes_through_none path ≡ 
 unfolding goes_through_none steps_of
 steps_direct h (IntoComponent i rest) direct now =
     direct_on (steps_of h rest now) (λ way n. Done (run.ToComponent i ∷ way) n) (steps_direct h rest direct now) (λ way n d. d)
-steps_direct h (Designated rest) direct now = cc
+steps_direct h (Designated rest) direct now = absurd (false≢true direct)
 steps_direct h (Element index low high rest) direct now =
     direct_then (evaluate h AsValue index now)
     (λ ws n. followed_by (indexed low high ws n) (λ i n. followed_by (steps_of h rest n) (λ way n. Done (run.ToElement i ∷ way) n)))

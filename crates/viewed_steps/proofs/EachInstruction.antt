@@ -4,6 +4,7 @@ use Rattle.viewed_steps.proofs.Traversed.{declared_source, assigned_source}
 use Rattle.flow_paths.specs.Views.{sub_acts}
 use Rattle.soundness.proofs.Passing.{plain_type}
 use Rattle.std.proofs.Common.{◌≡◌, refl, sym, ap, ◌∙◌, subst, ◌⊎◌, inl, inr, ℕ, suc, ◌+◌, ◌<◌, Bool, true, false, not, ◌||◌, List, [], ◌∷◌, ◌++◌, map, drop, length, arith, append-nil, Option, Some, None, nat_lt, int_le, ◌&&◌, if◌then◌else◌, take}
+use Rattle.std.proofs.lemmas.Bool.{false≢true, true≢false}
 use Rattle.spark_base.specs.Lists.{Has}
 use Rattle.spark_base.specs.declared.position.Pos.{Pos}
 use Rattle.place_names.specs.declared.act.Act.{Act}
@@ -91,8 +92,11 @@ use Rattle.viewed_steps.specs.Seeing.{sees_in}
 use Rattle.viewed_steps.proofs.Sees.{sees_seeing}
 
 last_within : (x : ℕ) (scope : List ℕ) → is_last x scope ≡ true → is_within x scope ≡ true
-last_within x [] last = cc
+last_within x [] last = absurd (false≢true last)
 last_within x (y ∷ scope) last = ap (λ b. b || is_within x scope) last
+
+same_roots : (f x g y : ℕ) → ways.OfRoot (OfVariable f x) ≡ ways.OfRoot (OfVariable g y) → (f ≡ g) × (x ≡ y)
+same_roots f x g y e = (cc, cc)
 
 module _ (table : Table) (typed : TypedProgram) (effects : Effects) (input : List ℕ) (ready : IsReady table typed effects) where
   abbrev sees : ℕ → Bool
@@ -354,7 +358,7 @@ module _ (table : Table) (typed : TypedProgram) (effects : Effects) (input : Lis
       not_within : (x : ℕ) (v : TypedTree) → p.instr ≡ Declare x v → is_within x p.scope ≡ true → ⊥
       not_within x v e within =
           let out : not (is_within x p.scope) ≡ true = ready_there (Declare x v) e in
-          let no : true ≡ false = sym within ∙ not_true (is_within x p.scope) out in cc
+          let no : true ≡ false = sym within ∙ not_true (is_within x p.scope) out in absurd (true≢false no)
 
       -- nothing that is there is rooted in an object that is declared
       unrooted : (x : ℕ) (v : TypedTree) → p.instr ≡ Declare x v → (r z : ℕ) → is_package_object s x ≡ false → Lasts program p.scope r z → r ≡ x → ⊥
@@ -371,15 +375,12 @@ module _ (table : Table) (typed : TypedProgram) (effects : Effects) (input : Lis
       -- no part of a formal has a way from such an object
       free_parts : (x y : ℕ) (q : List Step) (w : Way) → views.part_way y q ≡ Some w → ways.base_of w ≡ ways.OfRoot (OfVariable depth x) → ⊥
       free_parts x y q w has base = elim (holds.low y q w has).0 [
-        | inr (foreign, less, some) ↦ (let same = same_root foreign.0 foreign.1 depth x (sym foreign.2 ∙ base) in let frames_are = same.0 in omega (arith, less, frames_are))
+        | inr (foreign, less, some) ↦ (let same = same_roots foreign.0 foreign.1 depth x (sym foreign.2 ∙ base) in let frames_are = same.0 in omega (arith, less, frames_are))
         | inl at ↦ (
-            let same = same_root (home s depth (number_of w)) (number_of w) depth x (sym (named_base (home s depth) w at) ∙ base) in
+            let same = same_roots (home s depth (number_of w)) (number_of w) depth x (sym (named_base (home s depth) w at) ∙ base) in
             let first : home s depth (number_of w) ≡ 0 = ap (λ b. if b then 0 else depth) ((holds.low y q w has).1 at) in
             let frames_are = same.0 in omega (arith, first, frames_are))
       ]
-        where
-          same_root : (f x g y : ℕ) → ways.OfRoot (OfVariable f x) ≡ ways.OfRoot (OfVariable g y) → (f ≡ g) × (x ≡ y)
-          same_root f x g y e = (cc, cc)
 
       pub free : (x : ℕ) (v : TypedTree) → p.instr ≡ Declare x v
           → ((y : ℕ) (w : Way) → views.way y ≡ Some w

@@ -31,6 +31,9 @@ use Rattle.viewed_steps.proofs.Outs.{HasStill, places_apart, ways_apart}
 use Rattle.viewed_steps.proofs.Views.{AreAccess, view_cases, AreOnly}
 use Rattle.viewed_steps.proofs.Entered.{inside_no_view}
 
+frames_differ : (f y g z : ℕ) → (f ≡ g → ⊥) → OfVariable f y ≡ OfVariable g z → ⊥
+frames_differ f y g z ne e = (let same : f ≡ g = cc in ne same)
+
 module _ (s : Typing) (sees : ℕ → Bool) (settled : IsSettled s.table) (own_law : OwnsByShape s.table) (in_formals : AreAccess s)
     (hands : List Waiting) (leaks : List Leak) (depth : ℕ) (v : Views) (only : AreOnly s v) (facts : List Fact)
     (scope : List ℕ) (cells : List Lodge)
@@ -53,9 +56,6 @@ module _ (s : Typing) (sees : ℕ → Bool) (settled : IsSettled s.table) (own_l
 
   reached : Reaches (seen s m hands leaks) to at
   reached = inside_reached s depth k to passed.inside (seen s m hands leaks) there
-
-  frames_differ : (f y g z : ℕ) → (f ≡ g → ⊥) → OfVariable f y ≡ OfVariable g z → ⊥
-  frames_differ f y g z ne e = (let same : f ≡ g = cc in ne same)
 
   -- the variable of the place alone is changed, and then the formal
   other_base : (g y : ℕ) → (OfVariable (passed.inside).frame (passed.inside).object ≡ OfVariable g y → ⊥) → variable_slots s g y mid.variables ≡ variable_slots s g y m.variables

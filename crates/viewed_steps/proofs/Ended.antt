@@ -1,5 +1,6 @@
 -- The end of a scope: observers that fade give up their ways, and the object gives up its own.
-use Rattle.std.proofs.Common.{◌≡◌, refl, sym, ap, ◌∙◌, subst, inl, inr, ℕ, ◌<◌, Bool, true, false, ◌&&◌, ◌||◌, ◌==◌, eqb-true, eq-eqb, List, [], ◌∷◌, drop, length, get_or, arith, Option, Some, None}
+use Rattle.std.proofs.Common.{◌≡◌, refl, sym, ap, ◌∙◌, subst, inl, inr, ℕ, ◌<◌, Bool, true, false, ◌&&◌, ◌||◌, ◌==◌, eqb-true, eq-eqb, List, [], ◌∷◌, drop, length, get_or, arith, Option, Some, None, is_some}
+use Rattle.std.proofs.lemmas.Bool.{false≢true}
 use Rattle.spark_base.specs.Lists.{Has}
 use Rattle.place_names.specs.declared.act.Act.TheVariants as act
 use Rattle.place_names.specs.declared.fact.Fact.{Fact}
@@ -49,7 +50,7 @@ view_kinds false b c any is none = cc
 
 both_parts : (a b : Bool) → a && b ≡ true → (a ≡ true) × (b ≡ true)
 both_parts true b e = (refl, e)
-both_parts false b e = cc
+both_parts false b e = absurd (false≢true e)
 
 both_true : (a b : Bool) → a ≡ true → b ≡ true → a && b ≡ true
 both_true a b e f = ap (λ x. x && b) e ∙ f
@@ -59,7 +60,7 @@ refused true e = absurd (e refl)
 refused false e = refl
 
 pub none_some : (w : Way) → None ≡ Some w → ⊥
-none_some w e = cc
+none_some w e = absurd (false≢true (ap is_some e))
 
 same_object : (f x g y : ℕ) → OfVariable f x ≡ OfVariable g y → y ≡ x
 same_object f x g y e = cc
@@ -77,6 +78,9 @@ rest_within x y (z ∷ rest) last within off =
     drop_none : (rest : List ℕ) → is_within x rest ≡ true → is_within x (drop 0 rest) ≡ true
     drop_none [] w = w
     drop_none (a ∷ rest) w = w
+
+same_end : (a b : ℕ) → EndScope a ≡ EndScope b → a ≡ b
+same_end a b e = cc
 
 module _ (t : Turn) (sees : ℕ → Bool) (seeing : Seeing (typing t) sees) (settled : IsSettled (typing t).table) (own_law : OwnsByShape (typing t).table) (other : Around (home (typing t) (length t.outer)))
     (alone : (w : Way) → IsNear (length t.outer) w → other.gone w → ⊥)
@@ -338,9 +342,6 @@ module _ (t : Turn) (sees : ℕ → Bool) (seeing : Seeing (typing t) sees) (set
 
       fading_before : (x : ℕ) → IsFading s p x → scope_of s x ≡ scope_of s y
       fading_before x (z, e, sight, region) = region ∙ ap (scope_of s) (same_end z y (sym e ∙ is))
-        where
-          same_end : (a b : ℕ) → EndScope a ≡ EndScope b → a ≡ b
-          same_end a b e = cc
 
       held : (x n : ℕ) → (IsFading s q x → ⊥) → is_view s x ≡ true → is_bundle s x ≡ false
           → (get_or (variable_slots s (home s depth x) x (undeclared depth y m).variables) 0 no_slot).word ≡ machine.Cell n

@@ -4,6 +4,7 @@
 use Rattle.soundness.specs.ViewedSoundness.Holds.{is_bundle, is_view, IsNamed, is_given}
 use Rattle.std.proofs.Common.{◌≡◌, refl, sym, ap, ◌∙◌, subst, ◌⊎◌, inl, inr, ℕ, suc, ◌+◌, Bool, true, false, not, List, [], ◌∷◌, ◌++◌, take, drop, length, get_or, arith, if◌then◌else◌, Some}
 use Rattle.std.proofs.lemmas.List.{length-map}
+use Rattle.std.proofs.lemmas.Bool.{false≢true}
 use Rattle.spark_base.specs.Lists.{Has}
 use Rattle.spark_base.specs.declared.position.Pos.{Pos}
 use Rattle.place_names.specs.declared.fact.Fact.{Fact}
@@ -37,6 +38,7 @@ use Rattle.viewed_steps.proofs.Outs.{Out, HasStill, places_apart, ways_apart}
 use Rattle.viewed_steps.proofs.Beside.{put_beside}
 use Rattle.viewed_steps.proofs.Declared.{declared_low}
 use Rattle.viewed_steps.proofs.Views.{AreAccess, AreFar, base_named, view_cases, AreOnly}
+use Rattle.viewed_steps.proofs.Constructors.{is_of_variable_base}
 
 named_part : (home : ℕ → ℕ) (w : Way) (p : List Step) → Named home w → Named home (along w p)
 named_part home w [] n = n
@@ -45,6 +47,9 @@ named_part home w (i ∷ p) n = named_part home w p n
 pub matches_back : (s : Typing) (t u : ℕ) → Matches s.table t u → Matches s.table u t
 matches_back s t u (inl e) = inl (sym e)
 matches_back s t u (inr (a, b)) = inr (b, a)
+
+same_object : {f x g y : ℕ} → memory.OfVariable f x ≡ memory.OfVariable g y → x ≡ y
+same_object e = cc
 
 module _ (s : Typing) (settled : IsSettled s.table) (depth : ℕ) (k : Place) (to : Way) (inside : IsInside s depth k to) where
   -- its variable is no view, if it is in one
@@ -88,11 +93,8 @@ module _ (s : Typing) (settled : IsSettled s.table) (depth : ℕ) (k : Place) (t
     | inr cell ↦ no_names (sym cell.2 ∙ is)
   ]
     where
-      same_object : {f x g y : ℕ} → memory.OfVariable f x ≡ memory.OfVariable g y → x ≡ y
-      same_object e = cc
-
       no_names : {n g y : ℕ} → memory.OfCell n ≡ memory.OfVariable g y → ⊥
-      no_names e = cc
+      no_names e = absurd (false≢true (ap is_of_variable_base e))
 
 -- ---- what is passed
 
@@ -194,6 +196,12 @@ IsFrom [] passed y k = ⊥
 IsFrom (x ∷ formals) [] y k = ⊥
 IsFrom (x ∷ formals) (a ∷ passed) y k = ((x ≡ y) × IsOfPlace a k) ⊎ IsFrom formals passed y k
 
+one_place : {a b : Place} → IsOfPlace (From a) b ⊎ IsOfPlace (To a) b → a ≡ b
+one_place (inl (inl e)) = cc
+one_place (inl (inr e)) = cc
+one_place (inr (inl e)) = cc
+one_place (inr (inr e)) = cc
+
 -- it is taken, if it isn't scalar
 pub from_taken : (s : Typing) (sees : ℕ → Bool) (m : Memory) (cells : List Lodge) (depth : ℕ) (v : Views) (facts : List Fact) (scope : List ℕ) (formals : List ℕ) (passed : List Passed) (ways : List Way) (outs : List Out)
     → ArePassedOn s sees m cells depth v facts scope formals passed ways outs → (y : ℕ) (k : Place) → IsFrom formals passed y k → is_scalar (full s.table (object_at s y).of) ≡ false
@@ -208,12 +216,6 @@ from_taken s sees m cells depth v facts scope (x ∷ formals) (a ∷ passed) (to
 from_taken s sees m cells depth v facts scope (x ∷ formals) (a ∷ passed) (to ∷ ways) outs (inr (place, later_outs, how, one, apart, differ, more)) y k (inl (same, is)) many =
     (to, inl refl, subst (λ z. IsPassedOn s sees cells depth v facts scope z k to) same (subst (λ z. IsPassedOn s sees cells depth v facts scope x z to) (same_place how) one))
   where
-    one_place : {a b : Place} → IsOfPlace (From a) b ⊎ IsOfPlace (To a) b → a ≡ b
-    one_place (inl (inl e)) = cc
-    one_place (inl (inr e)) = cc
-    one_place (inr (inl e)) = cc
-    one_place (inr (inr e)) = cc
-
     same_place : IsTakenAs s depth v facts place to a outs later_outs → place ≡ k
     same_place (inl (from, whole, rest)) = one_place (inl (subst (λ b. IsOfPlace b k) from is))
     same_place (inr (pos, goes, rest)) = one_place (inr (subst (λ b. IsOfPlace b k) goes is))
@@ -263,6 +265,12 @@ AreBlank s depth m formals =
     (x : ℕ) → Has formals x → (p : List Step) → word_in s.table (content s m [] (OfRoot (OfVariable (suc depth) x))) p ≡ Empty
 
 -- ---- what the formals have then
+
+frames_differ : (f x g y : ℕ) → (f ≡ g → ⊥) → OfVariable f x ≡ OfVariable g y → ⊥
+frames_differ f x g y ne e = (let same : f ≡ g = cc in ne same)
+
+hand_base : {h f x : ℕ} → OfRoot (OfHand h) ≡ OfRoot (OfVariable f x) → ⊥
+hand_base e = cc
 
 module _ (s : Typing) (sees : ℕ → Bool) (settled : IsSettled s.table) (own_law : OwnsByShape s.table) (in_formals : AreAccess s)
     (hands : List Waiting) (leaks : List Leak) (depth : ℕ) (v : Views) (far : AreFar (home s depth) v depth)
@@ -340,9 +348,6 @@ module _ (s : Typing) (sees : ℕ → Bool) (settled : IsSettled s.table) (own_l
         length-map (slots_of s m k) (λ (z : Slot). z.word) ∙ (taken_slots s settled m k (room s settled m hands typed k at spot)).0
         ∙ matches_words s.table settled k.of (object_at s x).of passed.fits
 
-    frames_differ : (f x g y : ℕ) → (f ≡ g → ⊥) → OfVariable f x ≡ OfVariable g y → ⊥
-    frames_differ f x g y ne e = (let same : f ≡ g = cc in ne same)
-
     blank_mid : (p : List Step) → word_in s.table (content s mid (got ∷ hands) (OfRoot (OfVariable (suc depth) x))) p ≡ Empty
     blank_mid p =
         ap (λ z. word_in s.table (record { of = (object_at s x).of; slots = z; owns = not (is_view_formal s x) }) p)
@@ -358,9 +363,6 @@ module _ (s : Typing) (sees : ℕ → Bool) (settled : IsSettled s.table) (own_l
           | inr (inl away) ↦ open_there.free h w under (inr away)
           | inr (inr (p, is)) ↦ hand_base (sym (base_under (Object (OfHand h)) w under) ∙ ap base_of is ∙ base_along to p ∙ inside_base s depth k to passed.inside)
         ]) kept_mid blank_mid passed.owner long (alike s.table settled k.of (object_at s x).of passed.fits))
-      where
-        hand_base : {h f x : ℕ} → OfRoot (OfHand h) ≡ OfRoot (OfVariable f x) → ⊥
-        hand_base e = cc
 
     pub kept_next : Kept s next hands
     kept_next = declared_kept s settled mid (suc depth) x got hands kept_mid long passed.fits

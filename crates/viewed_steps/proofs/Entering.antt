@@ -1,6 +1,7 @@
 -- All formals of a call are declared. The places of those that aren't scalar and are copied back are gone
 -- meanwhile, and have no number.
 use Rattle.std.proofs.Common.{◌≡◌, refl, sym, ap, ◌∙◌, subst, ◌⊎◌, inl, inr, ℕ, suc, List, [], ◌∷◌, ◌++◌, get_or, arith, append-nil, append_assoc, Bool, true, false}
+use Rattle.std.proofs.lemmas.Bool.{false≢true}
 use Rattle.spark_base.specs.Lists.{Has}
 use Rattle.spark_base.specs.declared.position.Pos.{Pos}
 use Rattle.place_names.specs.declared.fact.Fact.{Fact}
@@ -33,6 +34,7 @@ use Rattle.viewed_steps.proofs.Vacated.{place_checks}
 use Rattle.viewed_steps.proofs.Outs.{Out, IsUnderOne, found_in, HasStill, HaveStill, still_then}
 use Rattle.viewed_steps.proofs.Entered.{IsPlainPassed, IsPlainOne, DiffersFrom, ArePassedOn, IsOpen, AreBlank, passed_base, outs_taken, stand_next, kept_next, one_held, one_carried, one_views, one_bare, one_stays, one_blank, one_still, IsShownTo, HasWords}
 use Rattle.viewed_steps.proofs.Emptying.{out_stand, out_kept, out_views, out_blank, out_held, out_carried, out_bare, out_stays, out_still}
+use Rattle.viewed_steps.proofs.Constructors.{is_held_word, is_value_passed}
 
 -- what has a number owns
 pub owns_there : (s : Typing) → IsSettled s.table → OwnsByShape s.table → (m : Memory) (f x : ℕ) (q : List Step) (k : ℕ)
@@ -40,12 +42,15 @@ pub owns_there : (s : Typing) → IsSettled s.table → OwnsByShape s.table → 
 owns_there s settled own_law m f x q k held = by_type (is_owning s.table (object_at s x).of) refl
   where
     no_number : Empty ≡ Held k → ⊥
-    no_number same_word = cc
+    no_number same_word = absurd (false≢true (ap is_held_word same_word))
 
     by_type : (b : Bool) → is_owning s.table (object_at s x).of ≡ b → b ≡ true
     by_type true is = refl
     by_type false is =
         absurd (no_number (sym (word_no s.table (content s m [] (OfRoot (OfVariable f x))) q ((keeps s settled own_law).ownerless (object_at s x).of is q)) ∙ held))
+
+hand_base : (h f x : ℕ) → OfRoot (OfHand h) ≡ OfRoot (OfVariable f x) → ⊥
+hand_base h f x e = cc
 
 module _ (s : Typing) (sees : ℕ → Bool) (settled : IsSettled s.table) (own_law : OwnsByShape s.table) (in_formals : AreAccess s)
     (hands : List Waiting) (depth : ℕ) (v : Views) (far : AreFar (home s depth) v depth)
@@ -107,10 +112,10 @@ module _ (s : Typing) (sees : ℕ → Bool) (settled : IsSettled s.table) (own_l
   plain_returns n x (From k) formals passed (to ∷ ways) before (inl plain) taken = inl (plain, taken)
   plain_returns n x (To k) formals passed [] before (inl plain) taken = (plain, taken)
   plain_returns n x (To k) formals passed (to ∷ ways) before (inl plain) taken = inl (plain, taken)
-  plain_returns n x (From k) formals passed ways before (inr (inl (shown, z, is, typed))) taken = (let never : From k ≡ Value (z ∷ []) = is in cc)
-  plain_returns n x (To k) formals passed ways before (inr (inl (shown, z, is, typed))) taken = (let never : To k ≡ Value (z ∷ []) = is in cc)
-  plain_returns n x (From k) formals passed ways before (inr (inr (kind, ws, is, fit))) taken = (let never : From k ≡ Value ws = is in cc)
-  plain_returns n x (To k) formals passed ways before (inr (inr (kind, ws, is, fit))) taken = (let never : To k ≡ Value ws = is in cc)
+  plain_returns n x (From k) formals passed ways before (inr (inl (shown, z, is, typed))) taken = (let never : From k ≡ Value (z ∷ []) = is in absurd (false≢true (ap is_value_passed never)))
+  plain_returns n x (To k) formals passed ways before (inr (inl (shown, z, is, typed))) taken = (let never : To k ≡ Value (z ∷ []) = is in absurd (false≢true (ap is_value_passed never)))
+  plain_returns n x (From k) formals passed ways before (inr (inr (kind, ws, is, fit))) taken = (let never : From k ≡ Value ws = is in absurd (false≢true (ap is_value_passed never)))
+  plain_returns n x (To k) formals passed ways before (inr (inr (kind, ws, is, fit))) taken = (let never : To k ≡ Value ws = is in absurd (false≢true (ap is_value_passed never)))
 
   nothing_declared : (formals : List ℕ) (passed : List Passed) (ways : List Way) (leaks : List Leak) (m : Memory) → Kept s m hands → AreDeclared formals passed ways leaks leaks m m
   nothing_declared formals passed ways leaks m typed = record {
@@ -215,9 +220,6 @@ module _ (s : Typing) (sees : ℕ → Bool) (settled : IsSettled s.table) (own_l
       ]
 
   -- ---- what is known elsewhere after one is taken
-
-  hand_base : (h f x : ℕ) → OfRoot (OfHand h) ≡ OfRoot (OfVariable f x) → ⊥
-  hand_base h f x e = cc
 
   pub along_under : (to w : Way) → (p : List Step) × (w ≡ along to p) → Under to w
   along_under to w (p, is) = subst (Under to) (sym is) (under_along to to p (under_itself to))

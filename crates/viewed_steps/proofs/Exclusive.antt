@@ -1,6 +1,7 @@
 -- What a formal sees that a procedure changes through it: no view sees past it, and neither what another
 -- such formal sees nor a place that the call takes meets it.
 use Rattle.std.proofs.Common.{◌≡◌, refl, sym, ap, ◌∙◌, subst, ◌⊎◌, inl, inr, ℕ, Bool, true, false, not, ◌&&◌, List, [], ◌∷◌, ◌++◌, Some}
+use Rattle.std.proofs.lemmas.Bool.{false≢true}
 use Rattle.spark_base.specs.Lists.{Has}
 use Rattle.place_names.specs.declared.fact.Fact.{Fact}
 use Rattle.place_names.specs.declared.fact.Fact.TheVariants.{Moved, Lent}
@@ -38,15 +39,15 @@ use Rattle.viewed_steps.proofs.Lending.{IsNameOf, IsKeptApart, IsLentTo, named_h
 
 pub first_true : (a b : Bool) → a && b ≡ true → a ≡ true
 first_true true b is = refl
-first_true false b is = cc
+first_true false b is = absurd (false≢true is)
 
 pub second_true : (a b : Bool) → a && b ≡ true → b ≡ true
 second_true true b is = is
-second_true false b is = cc
+second_true false b is = absurd (false≢true is)
 
 pub mode_in : (how : Mode) → is_in how ≡ true → how ≡ mode.In
 mode_in mode.In is = refl
-mode_in how is = cc
+mode_in how is = absurd (false≢true is)
 
 -- A formal that is copied back, or is shown what its actual designates.
 abbrev pub IsMet : Typing → ℕ → Type 0
@@ -92,11 +93,11 @@ are_lent s sees facts formals actuals differ none allowed keep lent many y has f
   where
     second : (a b : Bool) → a && b ≡ true → b ≡ true
     second true b e = e
-    second false b e = cc
+    second false b e = absurd (false≢true e)
 
     variable_named : (w : TypeView) → is_named_access w ≡ true → is_variable_access w ≡ true
     variable_named (view.Access d c n) e = second n (not c) e
-    variable_named w e = cc
+    variable_named w e = absurd (false≢true e)
 
     changed : (x : ℕ) → Has formals x → IsMet s x → IsKeptApart s sees x
     changed x there (inl back) = inl (inl back)

@@ -1,6 +1,7 @@
 -- What is passed first to a traversal function has no act of its own. Nothing of it is moved or borrowed, so one as for
 -- formals of other functions would be allowed, and would change no fact.
 use Rattle.std.proofs.Common.{◌≡◌, refl, sym, ap, ◌∙◌, subst, inl, inr, ℕ, Bool, true, false, List, [], ◌∷◌, ◌++◌, append_assoc, append-nil}
+use Rattle.std.proofs.lemmas.Bool.{false≢true}
 use Rattle.spark_base.specs.Lists.{Has}
 use Rattle.place_names.specs.declared.selector.Sel.{Sel}
 use Rattle.place_names.specs.declared.selector.Sel.TheVariants as sel
@@ -66,7 +67,7 @@ way_named m = (let at = way_at (λ x. 0) m in (at.0, at.2))
 cleared_breaks : (facts : List Fact) (u : Way) → Cleared facts u → (f : Fact) → Has facts f → breaks_O6 (ways.name_of u) f ≡ true → ⊥
 cleared_breaks facts u clear (Moved n) has breaks = clear.1 n has breaks
 cleared_breaks facts u clear (Lent Borrowed h n) has breaks = clear.0 h n has breaks
-cleared_breaks facts u clear (Lent Observed h n) has breaks = cc
+cleared_breaks facts u clear (Lent Observed h n) has breaks = absurd (false≢true breaks)
 
 pub cleared_actual : (facts : List Fact) (u : Way) → Cleared facts u → Allows facts (act.Actual (ways.name_of u) mode.In true false)
 cleared_actual facts u clear f has = elim (bool_cases (breaks_O6 (ways.name_of u) f)) [

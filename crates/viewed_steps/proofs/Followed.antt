@@ -45,6 +45,9 @@ pub record IsTraversing (program : FlowProgram) (n f : ℕ) : Type 0 where
   pub result : (sub_of program n).result ≡ Some of
   pub ways : passings (flow_typing program) (sub_at (flow_typing program) n) ≡ first_traversed (map (passing (flow_typing program) false) (f ∷ rest))
 
+some_is : (a b : ℕ) → Some a ≡ Some b → a ≡ b
+some_is a b same = cc
+
 pub is_traversing : (program : FlowProgram) (n f : ℕ) → traversed_formal (flow_typing program) (sub_of program n) ≡ Some f → IsTraversing program n f
 is_traversing program n f traversed = by_result (sub_of program n).result (sub_of program n).formals refl refl traversed
   where
@@ -53,9 +56,6 @@ is_traversing program n f traversed = by_result (sub_of program n).result (sub_o
     by_result None formals result are is = cc
     by_result (Some t) formals result are is = by_kind (traverses (flow_typing program).table (Some t)) refl formals are is
       where
-        some_is : (a b : ℕ) → Some a ≡ Some b → a ≡ b
-        some_is a b same = cc
-
         by_kind : (b : Bool) → traverses (flow_typing program).table (Some t) ≡ b → (formals : List ℕ) → (sub_of program n).formals ≡ formals → traversed_of b formals ≡ Some f → IsTraversing program n f
         by_kind false none formals are is = cc
         by_kind true gives [] are is = cc
@@ -72,6 +72,9 @@ is_traversing program n f traversed = by_result (sub_of program n).result (sub_o
                   ∙ ap (λ b. if b then first_traversed (map (passing (flow_typing program) false) (x ∷ rest)) else map (passing (flow_typing program) false) (x ∷ rest)) gives
                   ∙ ap (λ z. first_traversed (map (passing (flow_typing program) false) (z ∷ rest))) first;
             }
+
+same_formal : (a b : ℕ) → Some a ≡ Some b → b ≡ a
+same_formal a b e = cc
 
 module _ (table : Table) (typed : TypedProgram) (effects : Effects) (input : List ℕ) (ready : IsReady table typed effects)
     (state : State) (top : Stage) (older : List ViewStage) (outer : List Frame) (named : NamedSub) (p : NamedPoint)
@@ -128,9 +131,6 @@ module _ (table : Table) (typed : TypedProgram) (effects : Effects) (input : Lis
   pub unseen : AreUnseen s ways_are.rest
   unseen x has = by_kind (is_anonymous (view_of s x)) refl
     where
-      same_formal : (a b : ℕ) → Some a ≡ Some b → b ≡ a
-      same_formal a b e = cc
-
       by_kind : (b : Bool) → is_anonymous (view_of s x) ≡ b → b ≡ false
       by_kind false e = refl
       by_kind true e =

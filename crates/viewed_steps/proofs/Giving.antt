@@ -20,6 +20,7 @@ use Rattle.viewed_steps.proofs.Sources.{view_shape}
 use Rattle.spark_base.specs.declared.position.Pos.{Pos}
 use Rattle.soundness.proofs.ViewedSoundness.ViewKinds.{given_view, access_bundle, true_false}
 use Rattle.std.proofs.Common.{◌≡◌, refl, sym, ap, ◌∙◌, subst, ◌⊎◌, inl, inr, ℕ, suc, ◌<◌, Bool, true, false, List, [], ◌∷◌, ◌++◌, drop, length, Some, None, map, Option, ◌||◌, append-nil, not, take, if◌then◌else◌}
+use Rattle.std.proofs.lemmas.Bool.{false≢true}
 use Rattle.spark_base.specs.Lists.{Has}
 use Rattle.place_names.specs.declared.act.Act.{Act}
 use Rattle.place_names.specs.declared.fact.Fact.{Fact}
@@ -85,6 +86,13 @@ use Rattle.viewed_steps.specs.Traversals.{IsGivenTo}
 use Rattle.viewed_steps.proofs.Views.{AreAccess}
 use Rattle.viewed_steps.specs.Seeing.{sees_in}
 use Rattle.viewed_steps.proofs.Sees.{sees_seeing}
+use Rattle.viewed_steps.proofs.Constructors.{is_assign_instruction, is_call_instruction, is_cell_word, is_declare_instruction, is_end_scope_instruction}
+
+first_one : (v w : Waiting) (waits others : List Waiting) → v ∷ waits ≡ w ∷ others → v ≡ w
+first_one v w waits others same = cc
+
+some_is : {a b : ℕ} → Some a ≡ Some b → a ≡ b
+some_is same = cc
 
 module _ (table : Table) (typed : TypedProgram) (effects : Effects) (input : List ℕ) (ready : IsReady table typed effects) where
   abbrev sees : ℕ → Bool
@@ -219,10 +227,10 @@ module _ (table : Table) (typed : TypedProgram) (effects : Effects) (input : Lis
       sub_result = ap (λ (z : FlowSub). z.result) (standing.sub_is table typed effects input ready state top older outer named p frames of_sub at_point) ∙ result
 
       going_then : (x : ℕ) → p.instr ≡ EndScope x → ⊥
-      going_then x same = (let never : Hold (More e last) ≡ EndScope x = sym is ∙ same in cc)
+      going_then x same = (let never : Hold (More e last) ≡ EndScope x = sym is ∙ same in absurd (false≢true (ap is_end_scope_instruction never)))
 
       no_call_then : IsNoCall p.instr
-      no_call_then n actuals temporary same = (let never : Hold (More e last) ≡ Call n actuals temporary = sym is ∙ same in cc)
+      no_call_then n actuals temporary same = (let never : Hold (More e last) ≡ Call n actuals temporary = sym is ∙ same in absurd (false≢true (ap is_call_instruction never)))
 
       returns_there : is_some (sub_of program top.frame.sub).result ≡ true
       returns_there = ap is_some sub_result
@@ -298,9 +306,9 @@ module _ (table : Table) (typed : TypedProgram) (effects : Effects) (input : Lis
           where
             same_cell : (k j : ℕ) → machine.Cell k ≡ machine.Cell j → k ≡ j
             same_cell k j e = cc
-        given_word (machine.Int n) e = nothing_given (λ j same. (let never : machine.Int n ≡ machine.Cell j = sym e ∙ same in cc))
-        given_word (machine.Enumerated n) e = nothing_given (λ j same. (let never : machine.Enumerated n ≡ machine.Cell j = sym e ∙ same in cc))
-        given_word machine.Null e = nothing_given (λ j same. (let never : machine.Null ≡ machine.Cell j = sym e ∙ same in cc))
+        given_word (machine.Int n) e = nothing_given (λ j same. (let never : machine.Int n ≡ machine.Cell j = sym e ∙ same in absurd (false≢true (ap is_cell_word never))))
+        given_word (machine.Enumerated n) e = nothing_given (λ j same. (let never : machine.Enumerated n ≡ machine.Cell j = sym e ∙ same in absurd (false≢true (ap is_cell_word never))))
+        given_word machine.Null e = nothing_given (λ j same. (let never : machine.Null ≡ machine.Cell j = sym e ∙ same in absurd (false≢true (ap is_cell_word never))))
 
       -- ---- the state afterwards
 
@@ -317,9 +325,6 @@ module _ (table : Table) (typed : TypedProgram) (effects : Effects) (input : Lis
               (first_one (value_of (z ∷ [])) w below.stage.frame.waits others same) (given_word z back other_named other_of q at_q z refl),
         )
           where
-            first_one : (v w : Waiting) (waits others : List Waiting) → v ∷ waits ≡ w ∷ others → v ≡ w
-            first_one v w waits others same = cc
-
             returned_now : has_returned (sub_of program top.frame.sub) (top.frame.next ∷ top.before) ≡ true
             returned_now = ap (λ b. b || has_returned (sub_of program top.frame.sub) top.before)
                 (ap returns_value (innermost.instr_there table typed effects input ready state top below more_frames rest named p frames deep stages running awaiting of_sub at_point path views viewed_before kept scope holds placed_before above ∙ is))
@@ -405,9 +410,6 @@ module _ (table : Table) (typed : TypedProgram) (effects : Effects) (input : Lis
           (sym (standing.sub_is table typed effects input ready state top older outer named p frames of_sub at_point))
           (subst (IsOnlyRoot s (sub_acts (flow_sub own named)) y) (same_formal f traversed) one)))
         where
-          some_is : {a b : ℕ} → Some a ≡ Some b → a ≡ b
-          some_is same = cc
-
           same_formal : (f : ℕ) → traversed_formal s (flow_sub own named) ≡ Some f → f ≡ first_formal.0
           same_formal f traversed =
               some_is (sym traversed ∙ ap (traversed_formal s) (sym (standing.sub_is table typed effects input ready state top older outer named p frames of_sub at_point)) ∙ first_formal.1)
@@ -476,9 +478,9 @@ module _ (table : Table) (typed : TypedProgram) (effects : Effects) (input : Lis
           → GivesView s n of → GivesQuietly
       unfolding evaluate
       by_call alone_taken q y steps_there u r n more call gives = elim alone_taken.8 [
-        | inl (x, other_instr) ↦ (let never : Hold (More e last) ≡ Declare x (More (CallIn alone_taken.3 alone_taken.4 alone_taken.5) NoMore) = sym is ∙ other_instr in cc)
+        | inl (x, other_instr) ↦ (let never : Hold (More e last) ≡ Declare x (More (CallIn alone_taken.3 alone_taken.4 alone_taken.5) NoMore) = sym is ∙ other_instr in absurd (false≢true (ap is_declare_instruction never)))
         | inr (inl (k, x, steps_of, w, other_instr, calls)) ↦ (
-            let never : Hold (More e last) ≡ Assign (Name k x steps_of w) (CallIn alone_taken.3 alone_taken.4 alone_taken.5) = sym is ∙ other_instr in cc)
+            let never : Hold (More e last) ≡ Assign (Name k x steps_of w) (CallIn alone_taken.3 alone_taken.4 alone_taken.5) = sym is ∙ other_instr in absurd (false≢true (ap is_assign_instruction never)))
         | inr (inr same_instr) ↦ (
             let both : Hold (More e last) ≡ Hold (More (CallIn alone_taken.3 alone_taken.4 alone_taken.5) NoMore) = sym is ∙ same_instr in
             let same_call : e ≡ CallIn alone_taken.3 alone_taken.4 alone_taken.5 = cc in
@@ -521,9 +523,9 @@ module _ (table : Table) (typed : TypedProgram) (effects : Effects) (input : Lis
 
       not_alone : TakesAlone s p → ((a : Pos) (b : ℕ) (actuals : TypedTree) → e ≡ CallIn a b actuals → ⊥) → ⊥
       not_alone alone_taken no_call = elim alone_taken.8 [
-        | inl (x, other_instr) ↦ (let never : Hold (More e last) ≡ Declare x (More (CallIn alone_taken.3 alone_taken.4 alone_taken.5) NoMore) = sym is ∙ other_instr in cc)
+        | inl (x, other_instr) ↦ (let never : Hold (More e last) ≡ Declare x (More (CallIn alone_taken.3 alone_taken.4 alone_taken.5) NoMore) = sym is ∙ other_instr in absurd (false≢true (ap is_declare_instruction never)))
         | inr (inl (k, x, steps_of, w, other_instr, calls)) ↦ (
-            let never : Hold (More e last) ≡ Assign (Name k x steps_of w) (CallIn alone_taken.3 alone_taken.4 alone_taken.5) = sym is ∙ other_instr in cc)
+            let never : Hold (More e last) ≡ Assign (Name k x steps_of w) (CallIn alone_taken.3 alone_taken.4 alone_taken.5) = sym is ∙ other_instr in absurd (false≢true (ap is_assign_instruction never)))
         | inr (inr same_instr) ↦ (
             let both : Hold (More e last) ≡ Hold (More (CallIn alone_taken.3 alone_taken.4 alone_taken.5) NoMore) = sym is ∙ same_instr in
             let same_call : e ≡ CallIn alone_taken.3 alone_taken.4 alone_taken.5 = cc in
@@ -532,8 +534,8 @@ module _ (table : Table) (typed : TypedProgram) (effects : Effects) (input : Lis
 
       not_together : TakesTogether s named.sub.result p → ⊥
       not_together together = elim together.1 [
-        | inl (x, other_instr, owner) ↦ (let never : Hold (More e last) ≡ Declare x (More together.0 NoMore) = sym is ∙ other_instr in cc)
-        | inr (inl (k, x, steps_of, w, other_instr, place, scalar)) ↦ (let never : Hold (More e last) ≡ Assign (Name k x steps_of w) together.0 = sym is ∙ other_instr in cc)
+        | inl (x, other_instr, owner) ↦ (let never : Hold (More e last) ≡ Declare x (More together.0 NoMore) = sym is ∙ other_instr in absurd (false≢true (ap is_declare_instruction never)))
+        | inr (inl (k, x, steps_of, w, other_instr, place, scalar)) ↦ (let never : Hold (More e last) ≡ Assign (Name k x steps_of w) together.0 = sym is ∙ other_instr in absurd (false≢true (ap is_assign_instruction never)))
         | inr (inr (same_instr, plain_result)) ↦ true_false (is_anonymous (full s.table of)) view (plain_result of result)
       ]
 
@@ -570,7 +572,7 @@ module _ (table : Table) (typed : TypedProgram) (effects : Effects) (input : Lis
     return_step e last is = by_result named.sub.result refl (subst (IsFine s named.sub.result) is (standing.fine table typed effects input ready state top older outer named p frames of_sub at_point))
       where
         no_call_holding : IsNoCall p.instr
-        no_call_holding n actuals r same = (let never : Hold (More e last) ≡ Call n actuals r = sym is ∙ same in cc)
+        no_call_holding n actuals r same = (let never : Hold (More e last) ≡ Call n actuals r = sym is ∙ same in absurd (false≢true (ap is_call_instruction never)))
 
         by_result : (r : Option ℕ) → named.sub.result ≡ r → Returns s r (More e last) → Along (steps.hold main_turn (More e last))
         by_result None none never = cc

@@ -1,6 +1,7 @@
 -- What is passed of package objects and copied back: the callee uses nothing of the object, and the caller
 -- writes it.
 use Rattle.std.proofs.Common.{◌≡◌, refl, sym, ap, ◌∙◌, subst, ◌⊎◌, inl, inr, ℕ, Bool, true, false, not, ◌&&◌, ◌||◌, ◌==◌, eq-eqb, List, [], ◌∷◌, map, flat_map, Option, Some, None, is_some, if◌then◌else◌}
+use Rattle.std.proofs.lemmas.Bool.{true≢false}
 use Rattle.spark_base.specs.Lists.{Has}
 use Rattle.spark_base.proofs.Lists.{Has-append_left, Has-append_right, Has-append_cases}
 use Rattle.place_names.specs.declared.act.Act.TheVariants as act
@@ -95,7 +96,7 @@ module _ (program : FlowProgram) (effects : Effects) where
       reports_are : (o : Option ℕ) → is_some o ≡ false → call_reports s effects (Call n actuals o)
           ≡ (if is_some (sub_at s n).result then [] else passed_reports s effects n (alias.passed (sub_at s n).formals actuals))
       reports_are None no_result = refl
-      reports_are (Some of) no_result = cc
+      reports_are (Some of) no_result = absurd (true≢false no_result)
 
   pub changed_unused : AreReports program effects [] → (sub : FlowSub) → Has program.subs sub → (p : FlowPoint) → Has sub.points p
       → (n : ℕ) (actuals : TypedTree) (result : Option ℕ) → p.instr ≡ Call n actuals result → is_some (sub_of program n).result ≡ is_some result

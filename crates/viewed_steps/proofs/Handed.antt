@@ -1,6 +1,7 @@
 -- What frames around hand on stands beside the facts of a frame where it calls, or is gone on with: all that
 -- is gone for them is known, and none of their views concerns it. And what holds without it.
 use Rattle.std.proofs.Common.{◌≡◌, refl, sym, ap, ◌∙◌, subst, ◌⊎◌, inl, inr, ℕ, Bool, true, false, ◌&&◌, ◌==◌, eqb-true, List, ◌++◌, Option, Some, None}
+use Rattle.std.proofs.lemmas.Bool.{false≢true, true≢false}
 use Rattle.spark_base.proofs.Lists.{Has-append_left, Has-append_right, Has-append_cases}
 use Rattle.spark_base.specs.Lists.{Has}
 use Rattle.place_names.specs.declared.fact.Fact.{Fact}
@@ -35,7 +36,7 @@ use Rattle.viewed_steps.specs.Seeing.{sees_in}
 
 both_first : (a b : Bool) → a && b ≡ true → a ≡ true
 both_first true b e = refl
-both_first false b e = cc
+both_first false b e = absurd (false≢true e)
 
 module _ (table : Table) (typed : TypedProgram) (effects : Effects)
     (unmoved : (e : Stage) → e.frame.sub ≡ 0 → (name : Name) → Has (facts_of (flow_program table typed) effects e) (Moved name) → ⊥)
@@ -153,7 +154,7 @@ module _ (table : Table) (typed : TypedProgram) (effects : Effects)
         where
           by_way : (o : Option Way) → v.way x ≡ o → v.way x ≡ None
           by_way None is = is
-          by_way (Some w) is = (let no : true ≡ false = sym shared ∙ only x w is in cc)
+          by_way (Some w) is = (let no : true ≡ false = sym shared ∙ only x w is in absurd (true≢false no))
 
   -- and without them
   pub without_them : (v : Views) (view : View) (all facts : List Fact) → ((x : ℕ) (w : Way) → v.way x ≡ Some w → is_package_object s x ≡ false)

@@ -3,6 +3,7 @@
 use Rattle.std.proofs.Common.{◌≡◌, refl, sym, ap, ◌∙◌, ◌⊎◌, inl, inr, ℕ, Bool, true, false, not, ◌&&◌, ◌||◌, ◌==◌, eq-eqb, eqb-true, List, [], ◌∷◌, map, None}
 use Rattle.std.specs.Prelude.{filter}
 use Rattle.std.specs.List.{list_any}
+use Rattle.std.proofs.lemmas.Bool.{true≢false}
 use Rattle.spark_base.specs.Lists.{Has}
 use Rattle.spark_base.proofs.Lists.{Has-append_left, Has-append_right, Has-append_cases, Has-filter, Has-filter_passes}
 use Rattle.place_names.specs.declared.selector.Sel.{Sel}
@@ -41,7 +42,7 @@ after_more (a ∷ more) some all part f has = after_more more (effect a some) (e
 -- ---- facts and acts of different roots
 
 forbidden_none : (test : Bool) (r : Rule) (m : Name) (f : Fact) → test ≡ false → forbidden_if test r m f ≡ None
-forbidden_none true r m f e = cc
+forbidden_none true r m f e = absurd (true≢false e)
 forbidden_none false r m f e = refl
 
 neither : (a b : Bool) → a ≡ false → b ≡ false → a || b ≡ false
@@ -63,7 +64,7 @@ module _ (s : Typing) (n : Name) (shared : is_package_object s n.root ≡ true)
   other_root : (r : ℕ) → (r == n.root) ≡ false → (n.root == r) ≡ false
   other_root r other = elim (bool_cases (n.root == r)) [
     | inr e ↦ e
-    | inl e ↦ (let same : (r == n.root) ≡ true = eq-eqb r n.root (sym (eqb-true n.root r e)) in let no : true ≡ false = sym same ∙ other in cc)
+    | inl e ↦ (let same : (r == n.root) ≡ true = eq-eqb r n.root (sym (eqb-true n.root r e)) in let no : true ≡ false = sym same ∙ other in absurd (true≢false no))
   ]
 
   apart_overlap : (m : Name) → (m.root == n.root) ≡ false → overlaps n m ≡ false
@@ -93,10 +94,10 @@ module _ (s : Typing) (n : Name) (shared : is_package_object s n.root ≡ true)
 
   lends_on : (b : Bool) → not b ≡ false → b ≡ true
   lends_on true e = refl
-  lends_on false e = cc
+  lends_on false e = absurd (true≢false e)
 
   kind_first : (b : Bool) → b && true ≡ false → b ≡ false
-  kind_first true e = cc
+  kind_first true e = absurd (true≢false e)
   kind_first false e = refl
 
   abbrev Observing : ℕ → Fact

@@ -10,6 +10,7 @@ use Rattle.typed_tree.specs.declared.object.ObjectKind.{ObjectKind}
 use Rattle.typed_tree.specs.declared.object.ObjectKind.TheVariants as object_kind
 use Rattle.std.specs.List.{AllByRecursion}
 use Rattle.std.proofs.Common.{Option, append_assoc, flat_map, ◌≡◌, refl, sym, ap, ◌∙◌, subst, ◌⊎◌, inl, inr, ℕ, suc, ◌<◌, Bool, true, false, ◌&&◌, ◌||◌, ◌==◌, eq-eqb, List, [], ◌∷◌, ◌++◌, map, take, drop, length, get_or, arith, Some, None, if◌then◌else◌}
+use Rattle.std.proofs.lemmas.Bool.{false≢true, true≢false}
 use Rattle.spark_base.specs.Lists.{Has}
 use Rattle.spark_base.proofs.Lists.{Has-append_left, Has-append_cases, Has-map_from}
 use Rattle.place_names.specs.declared.act.Act.{Act}
@@ -83,6 +84,7 @@ use Rattle.soundness.proofs.ViewedSoundness.Hands.{words_first}
 use Rattle.viewed_steps.proofs.Supplied.{Supplies, scalar_ownless, ownless_values, of_types, points_there}
 use Rattle.viewed_steps.specs.Seeing.{sees_in}
 use Rattle.viewed_steps.proofs.Sees.{sees_seeing}
+use Rattle.viewed_steps.proofs.Constructors.{is_held_word}
 
 unless : (b : Bool) → (b ≡ true → ⊥) → b ≡ false
 unless true e = absurd (e refl)
@@ -93,8 +95,8 @@ borrower_anonymous s x e = either_view (is_variable (object_at s x).kind) (is_bo
   where
     either_view : (k a b : Bool) → k && a ≡ true → a || b ≡ true
     either_view true true b e = refl
-    either_view true false b e = cc
-    either_view false a b e = cc
+    either_view true false b e = absurd (false≢true e)
+    either_view false a b e = absurd (false≢true e)
 
 observer_anonymous : (s : Typing) (x : ℕ) → is_observer s x ≡ true → is_anonymous (view_of s x) ≡ true
 observer_anonymous s x e = either_view (is_variable (object_at s x).kind) (is_borrowing (view_of s x)) (is_observing (view_of s x)) e
@@ -102,8 +104,8 @@ observer_anonymous s x e = either_view (is_variable (object_at s x).kind) (is_bo
     either_view : (k a b : Bool) → k && b ≡ true → a || b ≡ true
     either_view true true b e = refl
     either_view true false true e = refl
-    either_view true false false e = cc
-    either_view false a b e = cc
+    either_view true false false e = absurd (false≢true e)
+    either_view false a b e = absurd (false≢true e)
 
 module _ (table : Table) (typed : TypedProgram) (effects : Effects) (input : List ℕ) (ready : IsReady table typed effects) where
   abbrev sees : ℕ → Bool
@@ -482,7 +484,7 @@ module _ (table : Table) (typed : TypedProgram) (effects : Effects) (input : Lis
       where
         no_temporary : (k : ObjectKind) → is_variable k ≡ true → is_temporary k ≡ false
         no_temporary object_kind.Variable is = refl
-        no_temporary k is = cc
+        no_temporary k is = absurd (false≢true is)
 
     pub lasts_left : (r x : ℕ) → Lasts program p.scope r x → Lasts program left_scope r x
     lasts_left r x (inl shared_object) = inl shared_object
@@ -557,7 +559,7 @@ module _ (table : Table) (typed : TypedProgram) (effects : Effects) (input : Lis
     ]
       where
         not_or : (a b : Bool) → a || b ≡ false → a ≡ false
-        not_or true b e = cc
+        not_or true b e = absurd (true≢false e)
         not_or false b e = refl
 
         by_end : (end : Bool) → has_scope_end s x ≡ end → is_held s x ≡ false → is_within x p.scope ≡ true → is_within x left_scope ≡ true
@@ -565,7 +567,7 @@ module _ (table : Table) (typed : TypedProgram) (effects : Effects) (input : Lis
         by_end false end lasts within =
             let none = word_no s.table (content s state.memory [] (OfRoot (OfVariable f x))) q
             (ownerless s.table ready.owns (object_at s x).of (not_or (is_owning s.table (object_at s x).of) (is_anonymous (view_of s x)) end) q) in
-            let no_number : ways.Empty ≡ Held n = sym none ∙ held in cc
+            let no_number : ways.Empty ≡ Held n = sym none ∙ held in absurd (false≢true (ap is_held_word no_number))
 
     pub in_scope : (m : Memory) (after_scope : List ℕ) → Inside s IsOld m depth after_scope → InScope s m depth after_scope
     in_scope m after_scope in_there f x q n held = elim (in_there f x q n held) [ inl old ↦ inl old.0 | inr mine ↦ inr mine ]

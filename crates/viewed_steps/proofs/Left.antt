@@ -1,5 +1,6 @@
 -- The end of a call: the variables of its frame are removed, and what the others have stays.
 use Rattle.std.proofs.Common.{◌≡◌, sym, ap, ◌∙◌, subst, inl, inr, ℕ, false, not, List, [], get_or, append-nil, if◌then◌else◌}
+use Rattle.std.proofs.lemmas.Bool.{false≢true}
 use Rattle.flow_paths.specs.Objects.{Typing, object_at, is_package_object}
 use Rattle.machine.specs.Words.{default}
 use Rattle.machine.specs.Words as machine
@@ -13,6 +14,7 @@ use Rattle.soundness.proofs.Defaults.{none_default, blank_word}
 use Rattle.soundness.proofs.Keeping.{cell_has}
 use Rattle.soundness.proofs.Around.{same_or_not}
 use Rattle.soundness.proofs.Endings.{SameNumbers, numbers_owned, numbers_covered, reaches_on, frame_other, frame_same, frame_ends, left_blank}
+use Rattle.viewed_steps.proofs.Constructors.{is_gone_word}
 
 -- where owners see the same, cells have the same words
 pub cells_same : (s : Typing) (m n : Memory) (hands : List Waiting) (leaks : List Leak) → IsSame (seen s m hands leaks) (seen s n hands leaks)
@@ -66,7 +68,7 @@ module _ (s : Typing) (m : Memory) (f : ℕ) (hands : List Waiting) (leaks : Lis
     | inl e ↦ (
         let there : word_in s.table (content s left hands (OfRoot (OfVariable f y))) p ≡ Gone =
         subst (λ z. word_in s.table (content s left hands (OfRoot (OfVariable z y))) p ≡ Gone) e gone in
-        let no : Empty ≡ Gone = sym (blank y p) ∙ there in cc)
+        let no : Empty ≡ Gone = sym (blank y p) ∙ there in absurd (false≢true (ap is_gone_word no)))
     | inr ne ↦ ap (λ z. word_in s.table (record { of = (object_at s y).of; slots = z; owns = not (is_view_formal s y) }) p) (sym (frame_other s f g y ne m.variables)) ∙ gone
   ]
   gone_there (OfRoot (OfHand h)) p t gone = gone
@@ -90,7 +92,7 @@ module _ (s : Typing) (m : Memory) (f : ℕ) (hands : List Waiting) (leaks : Lis
   whole_there w l x base r gone =
       let there : word_in s.table (content s left hands (OfRoot (OfVariable f x))) (steps_in l) ≡ Gone =
       subst (λ z. word_in s.table (content s left hands z) (steps_in l) ≡ Gone) (stays_there w l x base r) gone in
-      let no : Empty ≡ Gone = sym (blank x (steps_in l)) ∙ there in cc
+      let no : Empty ≡ Gone = sym (blank x (steps_in l)) ∙ there in absurd (false≢true (ap is_gone_word no))
 
   base_there : (w : Way) → Named (home s f) w → is_package_object s (number_of w) ≡ false → base_of w ≡ OfRoot (OfVariable f (number_of w))
   base_there (Object (OfVariable g x)) named own = (let e : g ≡ f = named ∙ ap (λ b. if b then 0 else f) own in ap (λ z. OfRoot (OfVariable z x)) e)

@@ -2,6 +2,7 @@
 -- write what they name, or give a borrower another place.
 use Rattle.spark_base.proofs.Lists.{Has-append_right}
 use Rattle.std.proofs.Common.{◌≡◌, refl, sym, ap, ◌∙◌, subst, inl, inr, ℕ, Bool, true, false, not, List, [], ◌∷◌, ◌++◌, Option, Some, None, if◌then◌else◌}
+use Rattle.std.proofs.lemmas.Bool.{true≢false}
 use Rattle.spark_base.specs.Lists.{Has}
 use Rattle.spark_base.specs.declared.position.Pos.{Pos}
 use Rattle.place_names.specs.declared.act.Act.{Act}
@@ -45,7 +46,7 @@ spares_loan s (act.Move m parts) e l h n = refl
 spares_loan s (act.Borrow b m) e l h n = refl
 spares_loan s (act.Observe b m from) e l h n = refl
 spares_loan s (act.Reborrow b m) e l h n = refl
-spares_loan s (act.EndScope x borrower) e l h n = cc
+spares_loan s (act.EndScope x borrower) e l h n = absurd (true≢false e)
 spares_loan s (act.Return roots) e l h n = refl
 spares_loan s (act.Actual m mode.In owning access) e l h n = refl
 spares_loan s (act.Actual m mode.Out owning access) e l h n = refl

@@ -1,3 +1,4 @@
+pub mod Constructors
 pub mod Sees
 pub mod Views
 pub mod Faded

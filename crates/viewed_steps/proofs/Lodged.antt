@@ -1,6 +1,7 @@
 -- Places in cells: the type of a cell goes by the way that reaches it, so a place stays where it is as
 -- long as the way reaches the cell.
 use Rattle.std.proofs.Common.{◌≡◌, refl, sym, ap, ◌∙◌, subst, inl, inr, ℕ, Bool, true, false, ◌&&◌, List, ◌∷◌, get_or, append-nil}
+use Rattle.std.proofs.lemmas.Bool.{false≢true, true≢false}
 use Rattle.type_definitions.specs.declared.table.Shape.{Shape}
 use Rattle.type_definitions.specs.declared.table.Shape.TheVariants as shape
 use Rattle.type_definitions.specs.Types.{Table, shape_of, view_of, is_scalar}
@@ -17,17 +18,18 @@ use Rattle.soundness.proofs.Joined.{trunk_part, steps_part}
 use Rattle.soundness.proofs.Contents.{owner_held, Shown, shown}
 use Rattle.soundness.proofs.Steps.{same_below, no_leaf, plain_shape, plain_end}
 use Rattle.viewed_steps.specs.Taken.{Lodge, last_steps, trunk_type, IsLodged}
+use Rattle.viewed_steps.proofs.Constructors.{is_of_cell_loc}
 
 both_parts : (a b : Bool) → a && b ≡ true → (a ≡ true) × (b ≡ true)
 both_parts true b e = (refl, e)
-both_parts false b e = cc
+both_parts false b e = absurd (false≢true e)
 
 -- a word that owns is an access value
 access_of : (h : Shape) → owns_one h ≡ true → (d : ℕ) × (constant : Bool) × (h ≡ shape.Access d constant true)
 access_of (shape.Access d constant true) own = (d, constant, refl)
-access_of (shape.Access d constant false) own = cc
-access_of (shape.Whole a b) own = cc
-access_of h own = cc
+access_of (shape.Access d constant false) own = absurd (false≢true own)
+access_of (shape.Whole a b) own = absurd (false≢true own)
+access_of h own = absurd (false≢true own)
 
 matches_both : (s : Typing) (t u w : ℕ) → Matches s.table t u → Matches s.table u w → Matches s.table t w
 matches_both s t u w (inl e) (inl f) = inl (e ∙ f)
@@ -48,6 +50,9 @@ part_moved table settled t u p (inr (a, b)) there =
     let none = plain_end table settled t plain.0 plain.1 p there in
     subst (λ z. (has_part table t z ≡ has_part table u z) × (offset_in table t z ≡ offset_in table u z) × Matches table (type_in table t z) (type_in table u z)) (sym none)
     (refl, refl, inr (a, b))
+
+same_cells : (n c : ℕ) → OfCell n ≡ OfCell c → n ≡ c
+same_cells n c e = cc
 
 module _ (s : Typing) (settled : IsSettled s.table) (m : Memory) (hands : List Waiting) (leaks : List Leak) (kept : Kept s m hands) where
   -- what a part that owns has the number of is a cell of the type that the part designates
@@ -70,7 +75,7 @@ module _ (s : Typing) (settled : IsSettled s.table) (m : Memory) (hands : List W
       (inl (ap (λ z. shape_of s.table (content s m hands (trunk z)).of) (sym is)), ap steps_in is, λ n e. absurd (no_root n (sym is ∙ e)))
     where
       no_root : (n : ℕ) → OfRoot (OfVariable g y) ≡ OfCell n → ⊥
-      no_root n e = cc
+      no_root n e = absurd (false≢true (ap is_of_cell_loc e))
   typed_way (Object (OfHand h)) f x base l is = cc
   typed_way (Lost n) f x base l is = cc
   typed_way (Into w i) f x base l (k, reach, is) =
@@ -81,7 +86,7 @@ module _ (s : Typing) (settled : IsSettled s.table) (m : Memory) (hands : List W
       )
     where
       no_part : (n : ℕ) (k : Loc) → Inside k i ≡ OfCell n → ⊥
-      no_part n k e = cc
+      no_part n k e = absurd (false≢true (ap is_of_cell_loc e))
   typed_way (All w) f x base l (k, n, reach, held, is) =
       let there = typed_way w f x base k reach in
       let found = cell_there (content s m hands (trunk k)) (steps_in k) n (kept.points (trunk k) (steps_in k)) held in
@@ -92,15 +97,12 @@ module _ (s : Typing) (settled : IsSettled s.table) (m : Memory) (hands : List W
         subst (λ z. Matches s.table (trunk_type s (All w)) (content s m hands (trunk z)).of) (sym is)
             (subst (λ z. Matches s.table z (cell m n).of) (sym (same_designated same leaf)) found.2),
         ap steps_in is,
-        λ c e. subst (λ z. IsMade m (memory.OfCell z)) (same_cell n c (sym is ∙ e)) (found.0, found.1),
+        λ c e. subst (λ z. IsMade m (memory.OfCell z)) (same_cells n c (sym is ∙ e)) (found.0, found.1),
       )
     where
-      same_cell : (n c : ℕ) → OfCell n ≡ OfCell c → n ≡ c
-      same_cell n c e = cc
-
       by_type : (t u : ℕ) (p : List Step) → Matches s.table t u → is_leaf s.table u p ≡ true → shape_of s.table (type_in s.table t p) ≡ shape_of s.table (type_in s.table u p)
       by_type t u p (inl e) leaf = (same_below s.table settled t u e p).0
-      by_type t u p (inr both) leaf = (let no : true ≡ false = sym leaf ∙ no_leaf s.table settled u both.1 p in cc)
+      by_type t u p (inr both) leaf = (let no : true ≡ false = sym leaf ∙ no_leaf s.table settled u both.1 p in absurd (true≢false no))
 
       type_there : ℕ
       type_there = type_in s.table (content s m hands (trunk k)).of (steps_in k)

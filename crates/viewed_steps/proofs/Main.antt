@@ -2,7 +2,8 @@
 -- a trap.
 use Rattle.viewed_steps.proofs.Traversed.{none_given, empty_given, begins_given, procedure_traverses}
 use Rattle.viewed_steps.specs.Awaited.{lasting_of}
-use Rattle.std.proofs.Common.{◌≡◌, refl, sym, ap, subst, ℕ, zero, suc, Bool, true, false, nat_le, List, [], ◌∷◌, ◌++◌, get_or, inl, inr, Some, None, if◌then◌else◌, ◌∙◌}
+use Rattle.std.proofs.Common.{◌≡◌, refl, sym, ap, subst, ℕ, zero, suc, Bool, true, false, nat_le, List, [], ◌∷◌, ◌++◌, get_or, inl, inr, Some, None, if◌then◌else◌, ◌∙◌, is_some}
+use Rattle.std.proofs.lemmas.Bool.{false≢true}
 use Rattle.spark_base.specs.Lists.{Has}
 use Rattle.type_definitions.specs.Types.{Table}
 use Rattle.typed_tree.specs.Programs.{TypedProgram}
@@ -43,7 +44,7 @@ abbrev pub no_views : Views
 no_views = record { way = λ x. None; loan = λ x. Lost 0; up = λ x. Lost 0; cell = λ x. 0; part_way = λ x p. None; part_cell = λ x p. 0 }
 
 none_some : (w : Way) → None ≡ Some w → ⊥
-none_some w e = cc
+none_some w e = absurd (false≢true (ap is_some e))
 
 module _ (s : Typing) (sees : ℕ → Bool) where
   empty_viewed : (at_home : ℕ → ℕ) (other : Way → Type 0) → ViewedAlone at_home sees (known_gone at_home other) no_views (seen s empty_memory [] []) []

@@ -1,7 +1,8 @@
 -- What is passed by a name that is copied back: nothing that was moved leads to it, before the acts of the
 -- call as at its own act, since what an earlier actual of mode `out` covers doesn't overlap it.
-use Rattle.std.proofs.Common.{◌≡◌, refl, sym, ◌∙◌, subst, ◌⊎◌, inl, inr, Bool, true, false, not, ◌||◌, ◌==◌, eqb-true, eq-eqb, List, [], ◌∷◌}
+use Rattle.std.proofs.Common.{◌≡◌, refl, sym, ◌∙◌, subst, ◌⊎◌, inl, inr, Bool, true, false, not, ◌||◌, ◌==◌, eqb-true, eq-eqb, List, [], ◌∷◌, ap}
 use Rattle.std.specs.List.{list_any}
+use Rattle.std.proofs.lemmas.Bool.{false≢true}
 use Rattle.spark_base.specs.Lists.{Has}
 use Rattle.place_names.specs.declared.selector.Sel.{Sel}
 use Rattle.place_names.specs.declared.selector.Sel.TheVariants.{Field, Elem, Deref}
@@ -20,6 +21,7 @@ use Rattle.soundness.proofs.Freeing.{switched}
 use Rattle.soundness.proofs.OwnedLoans.Clear.{refused}
 use Rattle.soundness.proofs.OwnedLoans.Allowed.{either_right, leads_overlaps, write_open, write_unlent}
 use Rattle.soundness.proofs.OwnedLoans.Safe.{Open, Unlent}
+use Rattle.viewed_steps.proofs.Constructors.{is_moved_fact}
 
 -- ---- names
 
@@ -57,7 +59,7 @@ covers_overlaps k n m e f =
 
 either_left : (a b : Bool) → a ≡ true → a || b ≡ true
 either_left true b e = refl
-either_left false b e = cc
+either_left false b e = absurd (false≢true e)
 
 -- nothing that was moved or is borrowed leads to what is copied back, nor is it lent
 pub actual_open : (facts : List Fact) (how : Mode) (owning access : Bool) (k : Way) → (how ≡ mode.In → ⊥) → Allows facts (act.Actual (name_of k) how owning access)
@@ -106,7 +108,7 @@ open_before facts known outs k less apart free = record {
   ];
   lent = λ h n has leads short. elim (less (Lent Borrowed h n) has) [
     | inl there ↦ free.lent h n there leads short
-    | inr (m, among, moved, is, covered) ↦ (let no : Lent Borrowed h n ≡ Moved moved = is in cc)
+    | inr (m, among, moved, is, covered) ↦ (let no : Lent Borrowed h n ≡ Moved moved = is in absurd (false≢true (ap is_moved_fact no)))
   ];
 }
   where

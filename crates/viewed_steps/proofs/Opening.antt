@@ -1,5 +1,6 @@
 -- The views of what is called: its formals that own nothing, with the ways of what they are shown.
-use Rattle.std.proofs.Common.{◌≡◌, refl, sym, ap, ◌∙◌, subst, ◌⊎◌, inl, inr, ℕ, suc, ◌<◌, get_or, arith, Bool, true, false, ◌&&◌, ◌==◌, eqb-true, eq-eqb, List, [], ◌∷◌, Option, Some, None, if◌then◌else◌}
+use Rattle.std.proofs.Common.{◌≡◌, refl, sym, ap, ◌∙◌, subst, ◌⊎◌, inl, inr, ℕ, suc, ◌<◌, get_or, arith, Bool, true, false, ◌&&◌, ◌==◌, eqb-true, eq-eqb, List, [], ◌∷◌, Option, Some, None, if◌then◌else◌, is_some}
+use Rattle.std.proofs.lemmas.Bool.{false≢true, true≢false}
 use Rattle.spark_base.specs.Lists.{Has}
 use Rattle.place_names.specs.declared.act.Mode.{Mode}
 use Rattle.place_names.specs.declared.act.Mode.TheVariants as mode
@@ -49,6 +50,7 @@ use Rattle.viewed_steps.proofs.Exclusive.{IsLentAs, IsFrom, IsSeenFrom}
 use Rattle.viewed_steps.proofs.Lending.{IsActualOf, actual_named}
 use Rattle.viewed_steps.proofs.Views.{AreLowFormals, AreAccess, not_elsewhere, given_type, given_formal, bundle_given}
 use Rattle.viewed_steps.proofs.Waited.{plain_unheld}
+use Rattle.viewed_steps.proofs.Constructors.{is_access_shape, is_cell_word}
 
 abbrev pub no_views : Views
 no_views = record { way = λ x. None; loan = λ x. Lost 0; up = λ x. Lost 0; cell = λ x. 0; part_way = λ x p. None; part_cell = λ x p. 0 }
@@ -71,6 +73,12 @@ first_word ws = (get_or (fresh ws) 0 no_slot).word
 
 same_values : (a b : List machine.Word) → Value a ≡ Value b → a ≡ b
 same_values a b e = cc
+
+same_ways : (a b : Way) → Some a ≡ Some b → a ≡ b
+same_ways a b e = cc
+
+same_cells : (a b : ℕ) → machine.Cell a ≡ machine.Cell b → a ≡ b
+same_cells a b e = cc
 
 module _ (h : Here) (sees : ℕ → Bool) (seeing : Seeing h.typing sees) (settled : IsSettled h.typing.table) (hands : List Waiting) (leaks : List Leak) (m : Memory) (waits : List (List machine.Word))
     (other : Around (home h.typing h.frame)) (facts : List Fact) (v : Views)
@@ -137,11 +145,11 @@ module _ (h : Here) (sees : ℕ → Bool) (seeing : Seeing h.typing sees) (settl
   no_opened formals actuals passed none = (
     no_views,
     record {
-      way = λ y w has. (let no : None ≡ Some w = has in cc);
+      way = λ y w has. (let no : None ≡ Some w = has in absurd (false≢true (ap is_some no)));
       held = λ y n formal bare ws shown at. absurd (none y ws shown);
       ups = λ y. refl;
-      bare = λ y w has. (let no : None ≡ Some w = has in cc);
-      parts = λ y p w has. (let no : None ≡ Some w = has in cc);
+      bare = λ y w has. (let no : None ≡ Some w = has in absurd (false≢true (ap is_some no)));
+      parts = λ y p w has. (let no : None ≡ Some w = has in absurd (false≢true (ap is_some no)));
       part_held = λ y p k bundle ws shown there. absurd (none y ws shown);
     },
   )
@@ -204,14 +212,8 @@ module _ (h : Here) (sees : ℕ → Bool) (seeing : Seeing h.typing sees) (settl
     },
   )
     where
-      same_some : (a b : Way) → Some a ≡ Some b → a ≡ b
-      same_some a b e = cc
-
-      same_cell : (a b : ℕ) → machine.Cell a ≡ machine.Cell b → a ≡ b
-      same_cell a b e = cc
-
       same_number : (k : ℕ) (ws : List machine.Word) → Value (machine.Cell n ∷ []) ≡ Value ws → first_word ws ≡ machine.Cell k → n ≡ k
-      same_number k ws is at = same_cell n k (ap first_word (same_values (machine.Cell n ∷ []) ws is) ∙ at)
+      same_number k ws is at = same_cells n k (ap first_word (same_values (machine.Cell n ∷ []) ws is) ∙ at)
 
       way_of : (y : ℕ) (w : Way) → (if y == x then Some (sight.1).way else t.way y) ≡ Some w → IsWay formals e rest x y w (if y == x then n else t.cell y)
       way_of y w has = by_object (y == x) refl has
@@ -221,7 +223,7 @@ module _ (h : Here) (sees : ℕ → Bool) (seeing : Seeing h.typing sees) (settl
             subst (λ z. is_given s z ≡ true) (sym (eqb-true y x same)) formal,
             inl (sym (eqb-true y x same)),
             sight,
-            same_some (sight.1).way w is,
+            same_ways (sight.1).way w is,
             inl (sym (eqb-true y x same), named),
           )
           by_object false same is = (let found = are.way y w is in (found.0, inr found.1, found.2, found.3, inr found.4))
@@ -235,7 +237,7 @@ module _ (h : Here) (sees : ℕ → Bool) (seeing : Seeing h.typing sees) (settl
               → (w : Way) × ((if b then Some (sight.1).way else t.way y) ≡ Some w) × ((if b then n else t.cell y) ≡ k)
           by_object true e (inl here) = ((sight.1).way, refl, same_number k ws here.1 at)
           by_object true e (inr later) = absurd (differ y (shown_has formals passed y ws later) (eqb-true y x e))
-          by_object false e (inl here) = (let no = eq-eqb y x (sym here.0) in let never : true ≡ false = sym no ∙ e in cc)
+          by_object false e (inl here) = (let no = eq-eqb y x (sym here.0) in let never : true ≡ false = sym no ∙ e in absurd (true≢false never))
           by_object false e (inr later) = are.held y k own bare ws later at
 
       bare_of : (y : ℕ) (w : Way) → (if y == x then Some (sight.1).way else t.way y) ≡ Some w → is_bundle h.typing y ≡ false
@@ -260,10 +262,7 @@ module _ (h : Here) (sees : ℕ → Bool) (seeing : Seeing h.typing sees) (settl
 
   -- one with parts has their ways
   same_part : (x : ℕ) (ws : List machine.Word) (p : List Step) (a b : ℕ) → IsPartAt x ws p a → IsPartAt x ws p b → a ≡ b
-  same_part x ws p a b one two = same_cell a b (sym one.word ∙ two.word)
-    where
-      same_cell : (a b : ℕ) → machine.Cell a ≡ machine.Cell b → a ≡ b
-      same_cell a b e = cc
+  same_part x ws p a b one two = same_cells a b (sym one.word ∙ two.word)
 
   -- a formal has such a part, or it doesn't
   part_at : (x : ℕ) (ws : List machine.Word) (p : List Step) → ((k : ℕ) × IsPartAt x ws p k) ⊎ ((k : ℕ) → IsPartAt x ws p k → ⊥)
@@ -273,18 +272,18 @@ module _ (h : Here) (sees : ℕ → Bool) (seeing : Seeing h.typing sees) (settl
           → (d : ℕ) (c n : Bool) → shape_of s.table (type_in s.table (object_at s x).of p) ≡ shape.Access d c n
           → ((k : ℕ) × IsPartAt x ws p k) ⊎ ((k : ℕ) → IsPartAt x ws p k → ⊥)
       by_word (machine.Cell k) word there d c n is = inl (k, record { d = d; c = c; n = n; there = there; access = is; word = word })
-      by_word (machine.Int a) word there d c n is = inr (λ k one. (let no : machine.Int a ≡ machine.Cell k = sym word ∙ one.word in cc))
-      by_word (machine.Enumerated a) word there d c n is = inr (λ k one. (let no : machine.Enumerated a ≡ machine.Cell k = sym word ∙ one.word in cc))
-      by_word machine.Null word there d c n is = inr (λ k one. (let no : machine.Null ≡ machine.Cell k = sym word ∙ one.word in cc))
+      by_word (machine.Int a) word there d c n is = inr (λ k one. (let no : machine.Int a ≡ machine.Cell k = sym word ∙ one.word in absurd (false≢true (ap is_cell_word no))))
+      by_word (machine.Enumerated a) word there d c n is = inr (λ k one. (let no : machine.Enumerated a ≡ machine.Cell k = sym word ∙ one.word in absurd (false≢true (ap is_cell_word no))))
+      by_word machine.Null word there d c n is = inr (λ k one. (let no : machine.Null ≡ machine.Cell k = sym word ∙ one.word in absurd (false≢true (ap is_cell_word no))))
 
       by_shape : (sh : Shape) → shape_of s.table (type_in s.table (object_at s x).of p) ≡ sh → has_part s.table (object_at s x).of p ≡ true
           → ((k : ℕ) × IsPartAt x ws p k) ⊎ ((k : ℕ) → IsPartAt x ws p k → ⊥)
       by_shape (shape.Access d c n) is there = by_word (get_or (fresh ws) (offset_in s.table (object_at s x).of p) no_slot).word refl there d c n is
-      by_shape (shape.Whole a b) is there = inr (λ k one. (let no : shape.Whole a b ≡ shape.Access one.d one.c one.n = sym is ∙ one.access in cc))
-      by_shape (shape.Listed l a b) is there = inr (λ k one. (let no : shape.Listed l a b ≡ shape.Access one.d one.c one.n = sym is ∙ one.access in cc))
-      by_shape (shape.Fields cs) is there = inr (λ k one. (let no : shape.Fields cs ≡ shape.Access one.d one.c one.n = sym is ∙ one.access in cc))
-      by_shape (shape.Elements a b el) is there = inr (λ k one. (let no : shape.Elements a b el ≡ shape.Access one.d one.c one.n = sym is ∙ one.access in cc))
-      by_shape (shape.Same of) is there = inr (λ k one. (let no : shape.Same of ≡ shape.Access one.d one.c one.n = sym is ∙ one.access in cc))
+      by_shape (shape.Whole a b) is there = inr (λ k one. (let no : shape.Whole a b ≡ shape.Access one.d one.c one.n = sym is ∙ one.access in absurd (false≢true (ap is_access_shape no))))
+      by_shape (shape.Listed l a b) is there = inr (λ k one. (let no : shape.Listed l a b ≡ shape.Access one.d one.c one.n = sym is ∙ one.access in absurd (false≢true (ap is_access_shape no))))
+      by_shape (shape.Fields cs) is there = inr (λ k one. (let no : shape.Fields cs ≡ shape.Access one.d one.c one.n = sym is ∙ one.access in absurd (false≢true (ap is_access_shape no))))
+      by_shape (shape.Elements a b el) is there = inr (λ k one. (let no : shape.Elements a b el ≡ shape.Access one.d one.c one.n = sym is ∙ one.access in absurd (false≢true (ap is_access_shape no))))
+      by_shape (shape.Same of) is there = inr (λ k one. (let no : shape.Same of ≡ shape.Access one.d one.c one.n = sym is ∙ one.access in absurd (false≢true (ap is_access_shape no))))
 
       by_part : (b : Bool) → has_part s.table (object_at s x).of p ≡ b → ((k : ℕ) × IsPartAt x ws p k) ⊎ ((k : ℕ) → IsPartAt x ws p k → ⊥)
       by_part true there = by_shape (shape_of s.table (type_in s.table (object_at s x).of p)) refl there
@@ -323,9 +322,6 @@ module _ (h : Here) (sees : ℕ → Bool) (seeing : Seeing h.typing sees) (settl
       cell_in p (inl found) = found.0
       cell_in p (inr none) = 0
 
-      same_some : (a b : Way) → Some a ≡ Some b → a ≡ b
-      same_some a b same = cc
-
       own_part : (y : ℕ) (p : List Step) (w : Way) → x ≡ y → (o : ((k : ℕ) × IsPartAt x ws p k) ⊎ ((k : ℕ) → IsPartAt x ws p k → ⊥)) → way_in p o ≡ Some w
           → IsPartWay (x ∷ formals) (More e rest) y p w (cell_in p o)
       own_part y p w same (inl found) has = record {
@@ -337,9 +333,9 @@ module _ (h : Here) (sees : ℕ → Bool) (seeing : Seeing h.typing sees) (settl
         named = seen_parts.from_named;
         called = seen_parts.called;
         part = part_of p found.0 found.1;
-        is = same_some (part_of p found.0 found.1).way w has;
+        is = same_ways (part_of p found.0 found.1).way w has;
       }
-      own_part y p w same (inr none) has = (let no : None ≡ Some w = has in cc)
+      own_part y p w same (inr none) has = (let no : None ≡ Some w = has in absurd (false≢true (ap is_some no)))
 
       parts_of : (y : ℕ) (p : List Step) (w : Way) (b : Bool) → (y == x) ≡ b → (if b then way_in p (part_at x ws p) else t.part_way y p) ≡ Some w
           → IsPartWay (x ∷ formals) (More e rest) y p w (if b then cell_in p (part_at x ws p) else t.part_cell y p)
@@ -356,7 +352,7 @@ module _ (h : Here) (sees : ℕ → Bool) (seeing : Seeing h.typing sees) (settl
           → (w : Way) × ((if b then way_in p (part_at x ws p) else t.part_way y p) ≡ Some w) × ((if b then cell_in p (part_at x ws p) else t.part_cell y p) ≡ k)
       held_of y p k is us (inl here) there true same =
           own_held p k (subst (λ z. IsPartAt z ws p k) (eqb-true y x same) (subst (λ z. IsPartAt y z p k) (sym (same_values ws us here.1)) there)) (part_at x ws p)
-      held_of y p k is us (inl here) there false same = (let yes = eq-eqb y x (sym here.0) in let never : true ≡ false = sym yes ∙ same in cc)
+      held_of y p k is us (inl here) there false same = (let yes = eq-eqb y x (sym here.0) in let never : true ≡ false = sym yes ∙ same in absurd (true≢false never))
       held_of y p k is us (inr later) there true same = absurd (differ y (shown_has formals passed y us later) (eqb-true y x same))
       held_of y p k is us (inr later) there false same = are.part_held y p k is us later there
 
@@ -564,11 +560,11 @@ module _ (h : Here) (sees : ℕ → Bool) (seeing : Seeing h.typing sees) (settl
       where
         first_true : (a b : Bool) → a && b ≡ true → a ≡ true
         first_true true b e = refl
-        first_true false b e = cc
+        first_true false b e = absurd (false≢true e)
 
         by_kind : (k : ObjectKind) → is_formal_kind k ≡ true → is_temporary k ≡ false
         by_kind object_kind.Formal is = refl
-        by_kind k is = cc
+        by_kind k is = absurd (false≢true is)
 
     pub opened_placed : 0 < h.frame → (program : FlowProgram) (at_first : List Fact) (scope : List ℕ) → flow_typing program ≡ h.typing → ((y : ℕ) → Has formals y → is_given h.typing y ≡ true → is_within y scope ≡ true)
         → ArePlaced program (suc h.frame) at_first t scope
@@ -595,11 +591,11 @@ module _ (h : Here) (sees : ℕ → Bool) (seeing : Seeing h.typing sees) (settl
       where
         first_true : (a b : Bool) → a && b ≡ true → a ≡ true
         first_true true b e = refl
-        first_true false b e = cc
+        first_true false b e = absurd (false≢true e)
 
         by_kind : (k : ObjectKind) → is_formal_kind k ≡ true → is_variable k ≡ false
         by_kind object_kind.Formal is = refl
-        by_kind k is = cc
+        by_kind k is = absurd (false≢true is)
 
     pub opened_first : (f : ℕ) (rest : List ℕ) (c : TraversalCall) → formals ≡ f ∷ rest → actuals ≡ More (Name c.name_pos c.root c.path c.of) c.others → AreDifferent (f ∷ rest)
         → (n : ℕ) (i : Instruction) → IsTakenBy i (call_in n c) → SeesFirst h.typing h.frame i n v (t.way f)
@@ -609,8 +605,8 @@ module _ (h : Here) (sees : ℕ → Bool) (seeing : Seeing h.typing sees) (settl
         nothing first none =
             let place = way_at (home h.typing h.frame) (traversed_name c) in record {
               traverses = record { call = c; taken = taken; place = place.0; named = place.1; called = place.2 };
-              goes = λ w is. (let never : None ≡ Some w = sym none ∙ is in cc);
-              leads = λ w is. (let never : None ≡ Some w = sym none ∙ is in cc);
+              goes = λ w is. (let never : None ≡ Some w = sym none ∙ is in absurd (false≢true (ap is_some never)));
+              leads = λ w is. (let never : None ≡ Some w = sym none ∙ is in absurd (false≢true (ap is_some never)));
             }
 
         is_first : (a : TypedTree) → IsActualOf formals actuals f a → a ≡ Name c.name_pos c.root c.path c.of
@@ -618,9 +614,6 @@ module _ (h : Here) (sees : ℕ → Bool) (seeing : Seeing h.typing sees) (settl
           | inl first ↦ sym first.1
           | inr later ↦ absurd (differ.0 f (actual_has rest c.others f a later) refl)
         ]
-
-        same_way : (a b : Way) → Some a ≡ Some b → a ≡ b
-        same_way a b is = cc
 
         sees_so : (w : Way) → t.way f ≡ Some w → SeesFirst h.typing h.frame i n v (Some w)
         sees_so w has =
@@ -631,7 +624,7 @@ module _ (h : Here) (sees : ℕ → Bool) (seeing : Seeing h.typing sees) (settl
             let root : ways.number_of sight.from ≡ c.root = ap (λ (z : PlaceName). z.root) called in record {
               traverses = record { call = c; taken = taken; place = sight.from; named = sight.from_named; called = called };
               goes = λ z is. subst (λ r. GoesBy h.typing v r (All sight.from)) root sight.goes;
-              leads = λ z is. sym sight.leads ∙ found.3 ∙ same_way w z is;
+              leads = λ z is. sym sight.leads ∙ found.3 ∙ same_ways w z is;
             }
 
         by_way : (o : Option Way) → t.way f ≡ o → SeesFirst h.typing h.frame i n v o

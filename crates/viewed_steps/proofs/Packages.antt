@@ -4,6 +4,7 @@ use Rattle.viewed_steps.proofs.Traversed.{none_given, empty_given, begins_given,
 use Rattle.soundness.specs.Ready.{Fills}
 use Rattle.viewed_steps.proofs.Waited.{within_lasting, lasting_within, lasting_more, plain_unheld}
 use Rattle.std.proofs.Common.{◌≡◌, refl, sym, ap, ◌∙◌, subst, inl, inr, ℕ, ◌<◌, true, false, not, ◌||◌, ◌==◌, eq-eqb, List, [], ◌∷◌, ◌++◌, drop, get_or, arith, Option, Some, None, if◌then◌else◌, length, Bool}
+use Rattle.std.proofs.lemmas.Bool.{false≢true, true≢false}
 use Rattle.spark_base.specs.Lists.{Has}
 use Rattle.spark_base.specs.declared.position.Pos.{Pos}
 use Rattle.spark_base.proofs.Lists.{Has-append_cases, Has-map_from}
@@ -62,6 +63,10 @@ use Rattle.viewed_steps.proofs.Views.{AreAccess, all_held, parts_none}
 use Rattle.soundness.proofs.OwnedLoans.Alone.{viewed_alone, alone_viewed}
 use Rattle.viewed_steps.specs.Seeing.{sees_in}
 use Rattle.viewed_steps.proofs.Sees.{sees_seeing}
+use Rattle.viewed_steps.proofs.Constructors.{is_call_instruction, is_end_scope_instruction, is_finish_instruction, is_nil}
+
+frame_is : (g x y : ℕ) → OfVariable 0 x ≡ OfVariable g y → 0 ≡ g
+frame_is g x y same_there = cc
 
 module _ (table : Table) (typed : TypedProgram) (effects : Effects) (input : List ℕ) (ready : IsReady table typed effects) where
   abbrev sees : ℕ → Bool
@@ -150,7 +155,7 @@ module _ (table : Table) (typed : TypedProgram) (effects : Effects) (input : Lis
         where
           by_points : (points : List NamedPoint) → points ≡ p ∷ rest
               → is_some_point (path_points program effects (flow_sub own (record named { points = points })))
-          by_points [] is = cc
+          by_points [] is = absurd (true≢false (ap is_nil is))
           by_points (q ∷ others) is = tt
 
   -- nothing waits at the first point of a subprogram
@@ -313,7 +318,7 @@ module _ (table : Table) (typed : TypedProgram) (effects : Effects) (input : Lis
 
     -- its instruction is no call
     calls_plain : (x : ℕ) (v : TypedTree) → p.instr ≡ Declare x v → IsNoCall p.instr
-    calls_plain x v e n actuals result is = (let never : Declare x v ≡ Call n actuals result = sym e ∙ is in cc)
+    calls_plain x v e n actuals result is = (let never : Declare x v ≡ Call n actuals result = sym e ∙ is in absurd (false≢true (ap is_call_instruction never)))
 
     module _ (x : ℕ) (v : TypedTree) (e : p.instr ≡ Declare x v) (no_call : has_call v ≡ false) where
       first_takes : taken first_turn.point.instr ≡ 0
@@ -370,7 +375,7 @@ module _ (table : Table) (typed : TypedProgram) (effects : Effects) (input : Lis
       GoodFirst st = IsGood first_turn sees seeing ready.accepted.settled ready.owns nowhere alone_first views ready.class.parts_named no_sources frames first_takes views facts_first st
 
       same_declare : (a b : ℕ) (c : TypedTree) → Declare b c ≡ EndScope a → ⊥
-      same_declare a b c e = cc
+      same_declare a b c e = absurd (false≢true (ap is_end_scope_instruction e))
 
       good_first : GoodFirst state
       good_first = record {
@@ -452,8 +457,8 @@ module _ (table : Table) (typed : TypedProgram) (effects : Effects) (input : Lis
                     tt,
                   ),
                 ) views
-                (steps_on (calls_plain x v e) (λ end. (let never : Declare x v ≡ Finish = sym e ∙ end in cc))
-                (λ y end. (let never : Declare x v ≡ EndScope y = sym e ∙ end in cc)) (refl, refl, refl) (λ y w has. no_views turned_views none_now y w has) refl))
+                (steps_on (calls_plain x v e) (λ end. (let never : Declare x v ≡ Finish = sym e ∙ end in absurd (false≢true (ap is_finish_instruction never))))
+                (λ y end. (let never : Declare x v ≡ EndScope y = sym e ∙ end in absurd (false≢true (ap is_end_scope_instruction never)))) (refl, refl, refl) (λ y w has. no_views turned_views none_now y w has) refl))
             | inr none ↦ (
                 let below : Stage = record { frame = record top.frame { waits = [] }; depth = 0; before = top.frame.next ∷ top.before; returns = [] } in
                 let main_frames : after_step.frames ≡ frame_at_start ready.main [] ∷ (record top.frame { waits = [] } ∷ []) =
@@ -478,9 +483,6 @@ module _ (table : Table) (typed : TypedProgram) (effects : Effects) (input : Lis
           (others_stay first_turn sees seeing ready.accepted.settled ready.owns nowhere alone_first in_formals views ready.class.parts_named no_sources frames first_takes
           (start first_turn).waits x v (subst (IsFine s named.sub.result) e (standing.fine table typed effects input ready state top [] [] named p frames of_sub at_point)))
         where
-          frame_is : (g x y : ℕ) → OfVariable 0 x ≡ OfVariable g y → 0 ≡ g
-          frame_is g x y same_there = cc
-
           each_on : (outcome : Outcome) → Each (λ (st : State). OthersStay s state.memory 0 x st.memory) outcome → Each (λ (st : State). NoneAbove s 0 st.memory) outcome
           each_on (Goes st) stay = (
             λ g y n less view at. above.0 g y n less view (sym (stay g y 0 (λ same_there. (let none = frame_is g x y same_there in omega (arith, less, none)))) ∙ at),

@@ -3,6 +3,7 @@
 use Rattle.std.proofs.Common.{◌≡◌, refl, sym, ap, ◌∙◌, subst, ◌⊎◌, inl, inr, ℕ, Bool, true, false, not, ◌&&◌, ◌||◌, ◌==◌, eqb-true, eq-eqb, List, [], ◌∷◌, ◌++◌, map, flat_map, nat_le, Option, Some, None, is_some, if◌then◌else◌, append-nil, append_assoc}
 use Rattle.std.proofs.lemmas.Grind.{flat_map-append}
 use Rattle.std.specs.List.{list_any, filter}
+use Rattle.std.proofs.lemmas.Bool.{false≢true, true≢false}
 use Rattle.spark_base.specs.Lists.{Has}
 use Rattle.spark_base.proofs.Lists.{Has-append_left, Has-append_right, Has-append_cases, Has-filter, Has-map_from}
 use Rattle.spark_base.specs.declared.position.Pos.{Pos}
@@ -73,12 +74,13 @@ use Rattle.soundness.proofs.Fixed.{plain_word}
 use Rattle.viewed_steps.proofs.Aside.{names_off}
 use Rattle.soundness.specs.ViewedSoundness.Holds.{is_bundle, is_view, Seeing}
 use Rattle.place_names.specs.declared.rule.Loan.TheVariants.{Borrowed}
+use Rattle.viewed_steps.proofs.Constructors.{is_of_cell_loc}
 
 -- ---- what the rules on facts say
 
 either_left : (a b : Bool) → a ≡ true → a || b ≡ true
 either_left true b e = refl
-either_left false b e = cc
+either_left false b e = absurd (false≢true e)
 
 -- nothing that overlaps an actual of mode `out` is lent
 pub out_unlent : (facts : List Fact) (u : Way) (owning access : Bool) → Allows facts (act.Actual (ways.name_of u) mode.Out owning access) → Unlent facts u
@@ -106,19 +108,19 @@ passed_unmoved facts u false access allowed n has over =
 
 equal_flip : (s t : Sel) → is_equal s t ≡ true → is_equal t s ≡ true
 equal_flip (Field i) (Field j) e = eq-eqb j i (sym (eqb-true i j e))
-equal_flip (Field i) Elem e = cc
-equal_flip (Field i) Deref e = cc
-equal_flip Elem (Field j) e = cc
+equal_flip (Field i) Elem e = absurd (false≢true e)
+equal_flip (Field i) Deref e = absurd (false≢true e)
+equal_flip Elem (Field j) e = absurd (false≢true e)
 equal_flip Elem Elem e = refl
-equal_flip Elem Deref e = cc
-equal_flip Deref (Field j) e = cc
-equal_flip Deref Elem e = cc
+equal_flip Elem Deref e = absurd (false≢true e)
+equal_flip Deref (Field j) e = absurd (false≢true e)
+equal_flip Deref Elem e = absurd (false≢true e)
 equal_flip Deref Deref e = refl
 
 begins_agree : (a b : List Sel) → begins a b ≡ true → agree_along b a ≡ true
 begins_agree [] [] e = refl
 begins_agree [] (t ∷ b) e = refl
-begins_agree (s ∷ a) [] e = cc
+begins_agree (s ∷ a) [] e = absurd (false≢true e)
 begins_agree (s ∷ a) (t ∷ b) e =
     let parts = both_parts (is_equal s t) (begins a b) e in both_true (is_equal t s) (agree_along b a) (equal_flip s t parts.0) (begins_agree a b parts.1)
 
@@ -127,6 +129,10 @@ covers_overlaps k n e =
     let prefix = both_parts (k.root == n.root) (begins k.sels n.sels) (both_parts (is_prefix k n) (not (has_elem k.sels)) e).0 in
     both_true (n.root == k.root) (agree_along n.sels k.sels) (eq-eqb n.root k.root (sym (eqb-true k.root n.root prefix.0))) (begins_agree k.sels n.sels prefix.1)
 
+refuted : (b : Bool) → b ≡ true → not b ≡ true → ⊥
+refuted true e none = cc
+refuted false e none = cc
+
 -- after an act of mode `out` no part of its place is known to be moved
 out_cleared : (k : PlaceName) (owning access : Bool) (facts : List Fact) (n : PlaceName) → Has (effect (act.Actual k mode.Out owning access) facts) (Moved n) → covers k n ≡ true → ⊥
 out_cleared k owning access facts n has covered =
@@ -134,10 +140,6 @@ out_cleared k owning access facts n has covered =
       | inl old ↦ refuted (covers k n) covered (Has-filter (λ g. not (removes (act.Actual k mode.Out owning access) g)) facts (Moved n) old).1
       | inr never ↦ never
     ]
-  where
-    refuted : (b : Bool) → b ≡ true → not b ≡ true → ⊥
-    refuted true e none = cc
-    refuted false e none = cc
 
 -- ---- what the rules on actuals say
 
@@ -193,7 +195,7 @@ module _ (program : FlowProgram) (effects : Effects) where
   reports_are : (n : ℕ) (actuals : TypedTree) (o : Option ℕ) → is_some o ≡ false → call_reports all effects (Call n actuals o)
       ≡ (if is_some (sub_at all n).result then [] else passed_reports all effects n (alias.passed (sub_at all n).formals actuals))
   reports_are n actuals None none = refl
-  reports_are n actuals (Some of) none = cc
+  reports_are n actuals (Some of) none = absurd (true≢false none)
 
   -- the actuals of the call of a procedure don't overlap where they may not
   pub apart_there : AreReports program effects [] → (sub : FlowSub) → Has program.subs sub → (p : FlowPoint) → Has sub.points p
@@ -375,7 +377,7 @@ module _ (s : Typing) (sees : ℕ → Bool) (seeing : Seeing s sees) (own_law : 
   }
     where
       no_cell : (n : ℕ) → {f z : ℕ} → ways.OfRoot (ways.OfVariable f z) ≡ ways.OfCell n → ⊥
-      no_cell n e = cc
+      no_cell n e = absurd (false≢true (ap is_of_cell_loc e))
 
       no_left : (a b : Bool) → a || b ≡ false → a ≡ false
       no_left true b e = e
@@ -399,7 +401,7 @@ module _ (s : Typing) (sees : ℕ → Bool) (seeing : Seeing s sees) (own_law : 
       same_cell e = cc
 
       no_cell : {n f z : ℕ} → ways.OfRoot (ways.OfVariable f z) ≡ ways.OfCell n → ⊥
-      no_cell e = cc
+      no_cell e = absurd (false≢true (ap is_of_cell_loc e))
 
   -- another place, by the mode
   own_first : (x : ℕ) (how : Mode) (p : Pos) (y u : ℕ) (path : TypedTree) (k : Place) (a : Passed) (formals : List ℕ) (actuals : TypedTree) (passed : List Passed) (known : List Fact)
@@ -464,10 +466,10 @@ module _ (s : Typing) (sees : ℕ → Bool) (seeing : Seeing s sees) (own_law : 
   back_of x how is other in_mode = other (sym is ∙ in_mode)
 
   no_out : mode.Out ≡ mode.In → ⊥
-  no_out e = cc
+  no_out e = absurd (false≢true (ap is_in_mode e))
 
   no_in_out : mode.InOut ≡ mode.In → ⊥
-  no_in_out e = cc
+  no_in_out e = absurd (false≢true (ap is_in_mode e))
 
   -- its act
   act_allowed : (x : ℕ) (how : Mode) (p : Pos) (y u : ℕ) (path : TypedTree) (known : List Fact) → (object_at s x).mode ≡ how → (how ≡ mode.In → ⊥) → AllowsOne known x (Name p y path u)

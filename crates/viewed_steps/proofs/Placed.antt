@@ -2,6 +2,7 @@
 use Rattle.std.proofs.Common.{◌≡◌, refl, sym, ap, ◌∙◌, subst, ◌⊎◌, inl, inr, ℕ, Bool, true, false, not, ◌&&◌, ◌||◌, ◌==◌, eqb-true, List, [], ◌∷◌, Some, None, length}
 use Rattle.std.specs.List.{AllByRecursion}
 use Rattle.std.proofs.lemmas.List.Folds.{list_any-append}
+use Rattle.std.proofs.lemmas.Bool.{false≢true, true≢false}
 use Rattle.spark_base.specs.Lists.{Has}
 use Rattle.place_names.specs.declared.fact.Fact.{Fact}
 use Rattle.place_names.specs.declared.fact.Fact.TheVariants.{Lent}
@@ -68,15 +69,15 @@ brought_more Fall going scope y within = within
 
 module _ (s : Typing) where
   not_and : (a b : Bool) → not a && b ≡ true → a ≡ false
-  not_and true b e = cc
+  not_and true b e = absurd (false≢true e)
   not_and false b e = refl
 
   not_or : (a b : Bool) → a || b ≡ false → a ≡ false
-  not_or true b e = cc
+  not_or true b e = absurd (true≢false e)
   not_or false b e = refl
 
   silent_in : (x : ℕ) (gone : List ℕ) → AllByRecursion (Silent s) gone → is_within x gone ≡ true → has_scope_end s x ≡ false
-  silent_in x [] all e = cc
+  silent_in x [] all e = absurd (false≢true e)
   silent_in x (y ∷ gone) all e = elim (either (x == y) (is_within x gone) e) [
     | inl same ↦ not_and (has_scope_end s x) (not (is_temporary (object_at s x).kind)) (subst (Silent s) (sym (eqb-true x y same)) all.0)
     | inr later ↦ silent_in x gone all.1 later

@@ -1,5 +1,6 @@
 -- What an actual comes to: a value, or a place, in a variable or in a cell.
 use Rattle.std.proofs.Common.{◌≡◌, refl, sym, ap, ◌∙◌, subst, ◌⊎◌, inl, inr, ℕ, append-nil, Bool, true, false, not, List, [], ◌∷◌, if◌then◌else◌, ◌++◌}
+use Rattle.std.proofs.lemmas.Bool.{false≢true, true≢false}
 use Rattle.spark_base.specs.declared.position.Pos.{Pos}
 use Rattle.place_names.specs.declared.fact.Fact.{Fact}
 use Rattle.type_definitions.specs.Types.{full, is_scalar, is_owning}
@@ -62,6 +63,7 @@ use Rattle.viewed_steps.proofs.Copies.{copy_quiet}
 use Rattle.soundness.proofs.ViewedSoundness.Outcomes.{named_plain}
 use Rattle.soundness.specs.ViewedSoundness.Taken.{types_taken, TakesFit}
 use Rattle.viewed_steps.proofs.Supplied.{Supplies}
+use Rattle.viewed_steps.proofs.Constructors.{is_of_root_loc}
 
 -- ---- names that go through access values
 
@@ -74,7 +76,7 @@ has_deref (Elem ∷ k) = has_deref k
 derefs_part : (k : List Sel) (i : Step) → has_deref k ≡ false → has_deref (k ++ ways.sel_of i ∷ []) ≡ false
 derefs_part [] (ways.Component i) none = refl
 derefs_part [] (ways.Element i) none = refl
-derefs_part (Deref ∷ k) i none = cc
+derefs_part (Deref ∷ k) i none = absurd (true≢false none)
 derefs_part (Field j ∷ k) i none = derefs_part k i none
 derefs_part (Elem ∷ k) i none = derefs_part k i none
 
@@ -84,7 +86,7 @@ along_derefs r (i ∷ p) = derefs_part (ways.sels_of (along (Object r) p)) i (al
 
 path_derefs : (s : Typing) (t u : ℕ) (path : TypedTree) → Leads s t path u → goes_through_none path ≡ false → has_deref (selectors path) ≡ true
 unfolding goes_through_none selectors Leads
-path_derefs s t u typed.NoMore leads some = cc
+path_derefs s t u typed.NoMore leads some = absurd (true≢false some)
 path_derefs s t u (typed.Component i rest) leads some = path_derefs s (component_type s.table t i) u rest leads.1 some
 path_derefs s t u (typed.Element index low high rest) leads some = path_derefs s leads.0 u rest leads.3 some
 path_derefs s t u (typed.Designated rest) leads some = refl
@@ -160,7 +162,7 @@ module _ (h : Here) (sees : ℕ → Bool) (seeing : Seeing h.typing sees) (settl
 
       -- its type has a name, so it is taken
       by_kind : (b : Bool) → b ≡ false → Quiet (at on) Fits (if b then viewed h e (at before) else value h e (at before))
-      by_kind true e = cc
+      by_kind true e = absurd (true≢false e)
       by_kind false same =
           (copy_quiet h sees seeing settled hands leaks m waits other facts v kept well holds alone live index_law own_law parts_named e (object_at h.typing x).of gives plain named fit
           before on takes allowed).0
@@ -217,7 +219,7 @@ module _ (h : Here) (sees : ℕ → Bool) (seeing : Seeing h.typing sees) (settl
       in_owner y f at owns = by_owner (is_view_formal h.typing y) (sym (ap (λ z. (content h.typing m hands z).owns) at) ∙ owns)
         where
           by_owner : (b : Bool) → not b ≡ true → b ≡ false
-          by_owner true e = cc
+          by_owner true e = absurd (false≢true e)
           by_owner false e = refl
 
       home_base : (f : ℕ) × (y : ℕ) × (ways.base_of (expand v w) ≡ OfRoot (OfVariable f y))
@@ -348,10 +350,10 @@ module _ (h : Here) (sees : ℕ → Bool) (seeing : Seeing h.typing sees) (settl
   root_part : (w : Way) (l : Loc) (r : Root) → Reaches (seen h.typing m hands leaks) w l → trunk l ≡ OfRoot r → w ≡ along (Object r) (steps_in l)
   root_part (Object b) l r reach is =
       (let same : OfRoot b ≡ OfRoot r = ap trunk (sym reach) ∙ is in let one : b ≡ r = cc in ap Object one ∙ ap (along (Object r)) (ap steps_in (sym reach)))
-  root_part (Lost n) l r reach is = (let never : OfCell n ≡ OfRoot r = ap trunk (sym reach.1) ∙ is in cc)
+  root_part (Lost n) l r reach is = (let never : OfCell n ≡ OfRoot r = ap trunk (sym reach.1) ∙ is in absurd (false≢true (ap is_of_root_loc never)))
   root_part (Into w i) l r (k, reach, at) is =
       ap (λ z. Into z i) (root_part w k r reach (ap trunk (sym at) ∙ is)) ∙ ap (along (Object r)) (ap steps_in (sym at))
-  root_part (All w) l r (k, n, reach, held, at) is = (let never : OfCell n ≡ OfRoot r = ap trunk (sym at) ∙ is in cc)
+  root_part (All w) l r (k, n, reach, held, at) is = (let never : OfCell n ≡ OfRoot r = ap trunk (sym at) ∙ is in absurd (false≢true (ap is_of_root_loc never)))
 
   -- what goes on from a way to a cell is in a cell
   on_cell : (w : Way) (n : ℕ) → Reaches (seen h.typing m hands leaks) w (OfCell n) → (rest : List Go) (l : Loc) → Reaches (seen h.typing m hands leaks) (on w rest) l
@@ -369,13 +371,13 @@ module _ (h : Here) (sees : ℕ → Bool) (seeing : Seeing h.typing sees) (settl
         let view = seen h.typing m hands leaks in
         let found = on_cell part.way (v.part_cell part.object part.steps) (well.views.1 part.object part.steps part.way part.has).reaches part.rest l
         (subst (λ q. Reaches view q l) (in_part_way v w part) reach) in
-        let never : OfCell found.0 ≡ OfRoot (OfVariable f z) = sym found.1 ∙ base in cc)
+        let never : OfCell found.0 ≡ OfRoot (OfVariable f z) = sym found.1 ∙ base in absurd (false≢true (ap is_of_root_loc never)))
     | inr (inl lift) ↦ (
         let view = seen h.typing m hands leaks in
         let found = on_cell lift.way (v.cell lift.object)
         (reached (home h.typing h.frame) sees other v view facts lift.object lift.way (well.views.0 lift.object lift.way lift.has)) lift.rest l
         (subst (λ q. Reaches view q l) (lifted_way v w lift) reach) in
-        let never : OfCell found.0 ≡ OfRoot (OfVariable f z) = sym found.1 ∙ base in cc)
+        let never : OfCell found.0 ≡ OfRoot (OfVariable f z) = sym found.1 ∙ base in absurd (false≢true (ap is_of_root_loc never)))
   ]
 
   -- where what a name stands for begins

@@ -1,6 +1,7 @@
 -- Input: a number is stored at a scalar place.
 use Rattle.std.proofs.Common.{◌≡◌, refl, sym, ap, ◌∙◌, subst, ◌⊎◌, inl, inr, ℕ, Bool, true, false, List, [], ◌∷◌, ◌++◌, flat_map, length, append-nil, ℤ}
 use Rattle.std.specs.Prelude as int
+use Rattle.std.proofs.lemmas.Bool.{false≢true}
 use Rattle.spark_base.specs.declared.position.Pos.{Pos}
 use Rattle.place_names.specs.declared.act.Act.{Act}
 use Rattle.place_names.specs.declared.act.Act.TheVariants as act
@@ -62,7 +63,7 @@ pub scalar_named : (table : Table) (u : ℕ) → is_scalar (full table u) ≡ tr
 scalar_named table u scalar d c n is = absurd (not_scalar d c n (sym (ap (λ z. is_scalar (view_of_shape z)) is) ∙ scalar))
   where
     not_scalar : (d : ℕ) (c n : Bool) → is_scalar (view_of_shape (shape.Access d c n)) ≡ true → ⊥
-    not_scalar d c n e = cc
+    not_scalar d c n e = absurd (false≢true e)
 
 module _ (t : Turn) (sees : ℕ → Bool) (seeing : Seeing (typing t) sees) (settled : IsSettled (typing t).table) (own_law : OwnsByShape (typing t).table) (other : Around (home (typing t) (length t.outer)))
     (alone : (w : Way) → IsNear (length t.outer) w → other.gone w → ⊥) (in_formals : AreAccess (typing t))

@@ -1,5 +1,6 @@
 -- Releases: a cell is freed, or null is.
 use Rattle.std.proofs.Common.{None, ◌≡◌, refl, sym, ap, ◌∙◌, subst, inl, inr, ℕ, suc, Bool, true, false, not, List, [], ◌∷◌, ◌++◌, map, length, arith, ℤ}
+use Rattle.std.proofs.lemmas.Bool.{false≢true}
 use Rattle.spark_base.specs.Lists.{Has}
 use Rattle.spark_base.specs.declared.position.Pos.{Pos}
 use Rattle.place_names.specs.declared.act.Act.{Act}
@@ -63,6 +64,7 @@ use Rattle.soundness.proofs.ViewedSoundness.Stays.{Goes, no_selectors, steps_tak
 use Rattle.soundness.proofs.ViewedSoundness.Stored.{holds_stored, no_view_place}
 use Rattle.soundness.proofs.ViewedSoundness.Outcomes.{IsGood, Leads_on, raises, unturned, goes_to, goes_on, live}
 use Rattle.viewed_steps.proofs.Views.{AreAccess}
+use Rattle.viewed_steps.proofs.Constructors.{is_cell_word, is_empty_word}
 
 -- ---- facts at a release
 
@@ -79,7 +81,7 @@ module _ (view : View) (k : Way) (at : Loc) (target : Reaches view k at) (empty 
     | inl same ↦ ([], one_location view (All w) l at (m, c, r, h, e) (subst (λ z. Reaches view z at) same target))
     | inr u ↦ (
         let b = ends_there w m r u in
-        let no_number : Held c ≡ Empty = sym h ∙ ap view.word b.1 ∙ empty b.0 in cc)
+        let no_number : Held c ≡ Empty = sym h ∙ ap view.word b.1 ∙ empty b.0 in absurd (false≢true (ap is_empty_word no_number)))
   ]
 
 module _ (home : ℕ → ℕ) (observer : ℕ → Bool) (other : Around home) (v : Views) (s : View) (facts : List Fact)
@@ -110,7 +112,7 @@ module _ (home : ℕ → ℕ) (observer : ℕ → Bool) (other : Around home) (v
                   (is_false (covers (ways.name_of k) (ways.name_of u)) (λ e. (
                   let under = subst (Under (expand v k)) leads (expand_under v k u place (moved_bare u moved.1) (covered_under home k u named moved.0 e)) in
                   let b = ends_there s (expand v k) at target empty w l r under in
-                  let gone : Gone ≡ Empty = sym h ∙ ap s.word b.1 ∙ empty b.0 in cc))),
+                  let gone : Gone ≡ Empty = sym h ∙ ap s.word b.1 ∙ empty b.0 in absurd (false≢true (ap is_empty_word gone))))),
             ),
             leads,
           ))
@@ -133,6 +135,20 @@ module _ (home : ℕ → ℕ) (observer : ℕ → Bool) (other : Around home) (v
       }
 
 -- ---- the outcome
+
+same_access : (d e : ℕ) (b c m n : Bool) → shape.Access d b m ≡ shape.Access e c n → n ≡ m
+same_access d e b c m n is = cc
+
+plain_word : (x : machine.Word) (g : Bool) → ((n : ℕ) → x ≡ machine.Cell n → ⊥) → g ≡ false → owner_at x g ≡ Empty
+plain_word (machine.Int v) false no_cell e = refl
+plain_word (machine.Enumerated v) false no_cell e = refl
+plain_word machine.Null false no_cell e = refl
+plain_word (machine.Cell n) false no_cell e = absurd (no_cell n refl)
+plain_word x true no_cell e = cc
+
+no_null : (k : ℕ) → Has (machine.Null ∷ []) (machine.Cell k) → ⊥
+no_null k (inl e) = cc
+no_null k (inr e) = e
 
 module _ (t : Turn) (sees : ℕ → Bool) (seeing : Seeing (typing t) sees) (settled : IsSettled (typing t).table) (own_law : OwnsByShape (typing t).table) (other : Around (home (typing t) (length t.outer)))
     (alone : (w : Way) → IsNear (length t.outer) w → other.gone w → ⊥) (in_formals : AreAccess (typing t))
@@ -173,9 +189,6 @@ module _ (t : Turn) (sees : ℕ → Bool) (seeing : Seeing (typing t) sees) (set
 
   named_type : (table : Table) (u d : ℕ) → shape_of table u ≡ shape.Access d false true → IsNamed table u
   named_type table u d is e c n e' = same_access d e false c true n (sym is ∙ e')
-    where
-      same_access : (d e : ℕ) (b c m n : Bool) → shape.Access d b m ≡ shape.Access e c n → n ≡ m
-      same_access d e b c m n is = cc
 
   module _ (f : Place → Memory → Outcome) (pos : Pos) (does : Releases f pos) (facts : List Fact) (good : Good facts)
       (u d : ℕ) (access : shape_of s.table u ≡ shape.Access d false true) where
@@ -213,12 +226,6 @@ module _ (t : Turn) (sees : ℕ → Bool) (seeing : Seeing (typing t) sees) (set
         ])
 
     -- where no cell is named, nothing is done
-    plain_word : (x : machine.Word) (g : Bool) → ((n : ℕ) → x ≡ machine.Cell n → ⊥) → g ≡ false → owner_at x g ≡ Empty
-    plain_word (machine.Int v) false no_cell e = refl
-    plain_word (machine.Enumerated v) false no_cell e = refl
-    plain_word machine.Null false no_cell e = refl
-    plain_word (machine.Cell n) false no_cell e = absurd (no_cell n refl)
-    plain_word x true no_cell e = cc
 
     abbrev slot_here : Place → Slot
     slot_here k = slot_at s settled hands t.state.leaks m [] excused good.kept good.viewed.owned good.viewed.known alive_trunk k
@@ -246,10 +253,6 @@ module _ (t : Turn) (sees : ℕ → Bool) (seeing : Seeing (typing t) sees) (set
           there = ap (λ (c : Content). has_part s.table c.of (steps_in l)) same ∙ spot.there;
           of = subst (λ (c : Content). Matches s.table k.of (type_in s.table c.of (steps_in l))) (sym same) spot.of;
         }
-
-    no_null : (k : ℕ) → Has (machine.Null ∷ []) (machine.Cell k) → ⊥
-    no_null k (inl e) = cc
-    no_null k (inr e) = e
 
     -- the variables of views stay
     holds_freed : (n : ℕ) (k : Place) (l : Loc) → Spot s m hands k l → (content s m hands (trunk l)).owns ≡ true → k.of ≡ u → Holds s sees depth v (stored s k (machine.Null ∷ []) (freed n m))
@@ -280,13 +283,13 @@ module _ (t : Turn) (sees : ℕ → Bool) (seeing : Seeing (typing t) sees) (set
           → words_of s m k ≡ (slot_here k).word ∷ [] → (x : machine.Word) → (slot_here k).word ≡ x → LeadsHere fs (f k m)
       by_word k l spot reaches of is word machine.Null e =
           subst (LeadsHere fs) (sym (does.at_null k m (word ∙ ap (λ z. z ∷ []) e)))
-          (nothing k l spot reaches of (λ n a. (let b : machine.Null ≡ machine.Cell n = sym e ∙ a in cc)))
+          (nothing k l spot reaches of (λ n a. (let b : machine.Null ≡ machine.Cell n = sym e ∙ a in absurd (false≢true (ap is_cell_word b)))))
       by_word k l spot reaches of is word (machine.Int i) e =
           subst (LeadsHere fs) (sym (does.at_whole k m i (word ∙ ap (λ z. z ∷ []) e)))
-          (nothing k l spot reaches of (λ n a. (let b : machine.Int i ≡ machine.Cell n = sym e ∙ a in cc)))
+          (nothing k l spot reaches of (λ n a. (let b : machine.Int i ≡ machine.Cell n = sym e ∙ a in absurd (false≢true (ap is_cell_word b)))))
       by_word k l spot reaches of is word (machine.Enumerated i) e =
           subst (LeadsHere fs) (sym (does.at_listed k m i (word ∙ ap (λ z. z ∷ []) e)))
-          (nothing k l spot reaches of (λ n a. (let b : machine.Enumerated i ≡ machine.Cell n = sym e ∙ a in cc)))
+          (nothing k l spot reaches of (λ n a. (let b : machine.Enumerated i ≡ machine.Cell n = sym e ∙ a in absurd (false≢true (ap is_cell_word b)))))
       by_word k l spot reaches of is word (machine.Cell n) e =
           let held = held_there s settled hands t.state.leaks m [] excused good.kept good.viewed.owned good.viewed.known alive_trunk k l (expand v w) d false n spot (owners l reaches) reaches is e clean in
           let alive : (cell m n).freed ≡ false = good.viewed.owned.live l n held in

@@ -70,6 +70,7 @@ use Rattle.viewed_steps.proofs.Innermost as innermost
 use Rattle.viewed_steps.proofs.Alone as alone_value
 use Rattle.viewed_steps.proofs.Within as holding
 use Rattle.std.specs.Prelude.{is_some, flat_map}
+use Rattle.std.proofs.lemmas.Bool.{false≢true}
 use Rattle.type_definitions.specs.Entries.{boolean}
 use Rattle.typed_tree.specs.declared.node.ShortCircuit.{ShortCircuit}
 use Rattle.machine.specs.Run.{no_point}
@@ -91,9 +92,10 @@ use Rattle.place_names.specs.Facts.{place}
 use Rattle.place_names.specs.declared.rule.Loan.{Loan}
 use Rattle.viewed_steps.specs.Seeing.{sees_in}
 use Rattle.viewed_steps.proofs.Sees.{sees_seeing}
+use Rattle.viewed_steps.proofs.Constructors.{is_assign_instruction, is_call_instruction, is_declare_instruction, is_end_scope_instruction, is_finish_instruction}
 
 none_some : (n : ℕ) → None ≡ Some n → ⊥
-none_some n e = cc
+none_some n e = absurd (false≢true (ap is_some e))
 
 module _ (table : Table) (typed : TypedProgram) (effects : Effects) (input : List ℕ) (ready : IsReady table typed effects) where
   abbrev sees : ℕ → Bool
@@ -285,7 +287,7 @@ module _ (table : Table) (typed : TypedProgram) (effects : Effects) (input : Lis
           by_operand None filled = filled.0
 
       no_call_here : IsNoCall p.instr
-      no_call_here n actuals result same = (let never : Evaluate temporary e op ≡ Call n actuals result = sym is ∙ same in cc)
+      no_call_here n actuals result same = (let never : Evaluate temporary e op ≡ Call n actuals result = sym is ∙ same in absurd (false≢true (ap is_call_instruction never)))
 
       plain_operand : Plain
       plain_operand = (plain_here no_call_here (subst StoresNone (sym is) tt)).0
@@ -294,10 +296,10 @@ module _ (table : Table) (typed : TypedProgram) (effects : Effects) (input : Lis
       evaluates = subst (IsFine s named.sub.result) is (standing.fine table typed effects input ready state top older outer named p frames of_sub at_point)
 
       going_here : (x : ℕ) → p.instr ≡ EndScope x → ⊥
-      going_here x same = (let never : Evaluate temporary e op ≡ EndScope x = sym is ∙ same in cc)
+      going_here x same = (let never : Evaluate temporary e op ≡ EndScope x = sym is ∙ same in absurd (false≢true (ap is_end_scope_instruction never)))
 
       no_finish : p.instr ≡ Finish → ⊥
-      no_finish same = (let never : Evaluate temporary e op ≡ Finish = sym is ∙ same in cc)
+      no_finish same = (let never : Evaluate temporary e op ≡ Finish = sym is ∙ same in absurd (false≢true (ap is_finish_instruction never)))
 
       abbrev good_there : IsGood easy sees seeing ready.accepted.settled ready.owns other alone views ready.class.parts_named may refl refl views facts_now easy.state
       good_there = each.good table typed effects input ready state top below more_frames rest named p frames deep stages running awaiting of_sub at_point path views viewed_before kept scope holds placed_before above going_here no_call_here plain_operand
@@ -426,13 +428,13 @@ module _ (table : Table) (typed : TypedProgram) (effects : Effects) (input : Lis
       sub_result = ap (λ (z : FlowSub). z.result) (standing.sub_is table typed effects input ready state top older outer named p frames of_sub at_point) ∙ result
 
       going_then : (x : ℕ) → p.instr ≡ EndScope x → ⊥
-      going_then x same = (let never : Hold (More e last) ≡ EndScope x = sym is ∙ same in cc)
+      going_then x same = (let never : Hold (More e last) ≡ EndScope x = sym is ∙ same in absurd (false≢true (ap is_end_scope_instruction never)))
 
       no_call_then : IsNoCall p.instr
-      no_call_then n actuals temporary same = (let never : Hold (More e last) ≡ Call n actuals temporary = sym is ∙ same in cc)
+      no_call_then n actuals temporary same = (let never : Hold (More e last) ≡ Call n actuals temporary = sym is ∙ same in absurd (false≢true (ap is_call_instruction never)))
 
       no_finish_then : p.instr ≡ Finish → ⊥
-      no_finish_then same = (let never : Hold (More e last) ≡ Finish = sym is ∙ same in cc)
+      no_finish_then same = (let never : Hold (More e last) ≡ Finish = sym is ∙ same in absurd (false≢true (ap is_finish_instruction never)))
 
       acts_then : is_anonymous (full s.table of) ≡ false → acts_of_main p.instr ≡ acts (acts_in s e)
       unfolding acts_in
@@ -768,8 +770,8 @@ module _ (table : Table) (typed : TypedProgram) (effects : Effects) (input : Lis
         pub within_given : TakesTogether s named.sub.result p → IsGivenValue
         unfolding types_taken
         within_given within = elim within.1 [
-          | inl (x, other_instr, owner) ↦ (let never : Hold (More e last) ≡ Declare x (More within.0 NoMore) = sym is ∙ other_instr in cc)
-          | inr (inl (q, x, steps, u, other_instr, place, scalar)) ↦ (let never : Hold (More e last) ≡ Assign (Name q x steps u) within.0 = sym is ∙ other_instr in cc)
+          | inl (x, other_instr, owner) ↦ (let never : Hold (More e last) ≡ Declare x (More within.0 NoMore) = sym is ∙ other_instr in absurd (false≢true (ap is_declare_instruction never)))
+          | inr (inl (q, x, steps, u, other_instr, place, scalar)) ↦ (let never : Hold (More e last) ≡ Assign (Name q x steps u) within.0 = sym is ∙ other_instr in absurd (false≢true (ap is_assign_instruction never)))
           | inr (inr (same_instr, plain_then)) ↦ (
               let both : Hold (More e last) ≡ Hold (More within.0 NoMore) = sym is ∙ same_instr in
               let same_tree : e ≡ within.0 = cc in
@@ -785,9 +787,9 @@ module _ (table : Table) (typed : TypedProgram) (effects : Effects) (input : Lis
         pub alone_given : TakesAlone s p → IsGivenValue
         unfolding acts_in
         alone_given alone_taken = elim (alone_taken.8) [
-          | inl (x, other_instr) ↦ (let never : Hold (More e last) ≡ Declare x (More (CallIn alone_taken.3 alone_taken.4 alone_taken.5) NoMore) = sym is ∙ other_instr in cc)
+          | inl (x, other_instr) ↦ (let never : Hold (More e last) ≡ Declare x (More (CallIn alone_taken.3 alone_taken.4 alone_taken.5) NoMore) = sym is ∙ other_instr in absurd (false≢true (ap is_declare_instruction never)))
           | inr (inl (q, x, steps, u, other_instr, calls)) ↦ (
-              let never : Hold (More e last) ≡ Assign (Name q x steps u) (CallIn alone_taken.3 alone_taken.4 alone_taken.5) = sym is ∙ other_instr in cc)
+              let never : Hold (More e last) ≡ Assign (Name q x steps u) (CallIn alone_taken.3 alone_taken.4 alone_taken.5) = sym is ∙ other_instr in absurd (false≢true (ap is_assign_instruction never)))
           | inr (inr same_instr) ↦ (
               let call : TypedTree = CallIn alone_taken.3 alone_taken.4 alone_taken.5 in
               let both : Hold (More e last) ≡ Hold (More call NoMore) = sym is ∙ same_instr in

@@ -86,6 +86,9 @@ under_or a (All w) = elim (same_ways a (All w)) [
   | inr differs ↦ elim (under_or a w) [ inl u ↦ inl (inr u) | inr none ↦ inr (λ u. elim u [ inl e ↦ differs e | inr u ↦ none u ]) ]
 ]
 
+some_is : (k q : Way) → Some k ≡ Some q → k ≡ q
+some_is k q e = cc
+
 -- what isn't refuted to go on from the way that there is goes on from it
 pub certain : (o : Option Way) (w : Way) → ((((k : Way) × (o ≡ Some k) × Under k w) → ⊥) → ⊥) → (k : Way) × (o ≡ Some k) × Under k w
 certain None w sure = absurd (sure (λ (k, is, u). none_some k is))
@@ -96,9 +99,6 @@ certain (Some k) w sure = elim (under_or k w) [
   | inl u ↦ (k, refl, u)
   | inr differs ↦ absurd (sure (λ (q, is, u). differs (subst (λ z. Under z w) (sym (some_is k q is)) u)))
 ]
-  where
-    some_is : (k q : Way) → Some k ≡ Some q → k ≡ q
-    some_is k q e = cc
 
 -- what begins with a way goes on from it
 pub under_on : (a w : Way) → Under a w → (r : List Go) × (w ≡ on a r)

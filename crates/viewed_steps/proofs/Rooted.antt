@@ -1,6 +1,7 @@
 -- Each view of a frame has a root in the text, and what has the first formal for its one root sees what
 -- that sees, or goes on from there.
 use Rattle.std.proofs.Common.{◌≡◌, refl, sym, ap, ◌∙◌, subst, ◌⊎◌, inl, inr, ℕ, Bool, true, false, not, ◌&&◌, ◌||◌, List, Some, IsTrue, Option}
+use Rattle.std.proofs.lemmas.Bool.{false≢true, true≢false}
 use Rattle.place_names.specs.declared.act.Act.{Act}
 use Rattle.typed_tree.specs.declared.object.ObjectKind.{ObjectKind}
 use Rattle.typed_tree.specs.declared.object.ObjectKind.TheVariants as object_kind
@@ -17,13 +18,13 @@ use Rattle.viewed_steps.specs.Traversals.{IsSourceIn, IsRootedIn, AreRooted}
 -- what is no view holds no loans
 no_loans : (v b o f : Bool) → (b || o) || f ≡ false → not ((v && b) || (v && o)) ≡ true
 no_loans true false false f e = refl
-no_loans true true o f e = cc
-no_loans true false true f e = cc
+no_loans true true o f e = absurd (true≢false e)
+no_loans true false true f e = absurd (true≢false e)
 no_loans false b o f e = refl
 
 is_true : (b : Bool) → b ≡ true → IsTrue b
 is_true true e = refl
-is_true false e = cc
+is_true false e = absurd (false≢true e)
 
 module _ (s : Typing) (acts : List Act) (f : ℕ) (first : Option Way) where
   -- an object that is no view is its own root
@@ -38,15 +39,15 @@ module _ (s : Typing) (acts : List Act) (f : ℕ) (first : Option Way) where
       itself x (is_true (not (holds_loans s x)) (unheld (is_variable (object_at s x).kind) (is_borrowing (view_of s x)) (is_observing (view_of s x)) formal))
     where
       unheld : (v b o : Bool) → v ≡ false → not ((v && b) || (v && o)) ≡ true
-      unheld true b o e = cc
+      unheld true b o e = absurd (true≢false e)
       unheld false b o e = refl
 
   module _ (view : (is_view s f ≡ true) × (is_bundle s f ≡ false)) where
     plain_apart : (r : ℕ) → is_view s r ≡ false → r ≡ f → ⊥
-    plain_apart r plain same = (let no : false ≡ true = sym plain ∙ ap (is_view s) same ∙ view.0 in cc)
+    plain_apart r plain same = (let no : false ≡ true = sym plain ∙ ap (is_view s) same ∙ view.0 in absurd (false≢true no))
 
     bundle_apart : (r : ℕ) → is_bundle s r ≡ true → r ≡ f → ⊥
-    bundle_apart r bundle same = (let no : true ≡ false = sym bundle ∙ ap (is_bundle s) same ∙ view.1 in cc)
+    bundle_apart r bundle same = (let no : true ≡ false = sym bundle ∙ ap (is_bundle s) same ∙ view.1 in absurd (true≢false no))
 
     -- a formal with parts is its own root
     bundle_root : (x : ℕ) → is_bundle s x ≡ true → Roots s acts x x
@@ -54,11 +55,11 @@ module _ (s : Typing) (acts : List Act) (f : ℕ) (first : Option Way) where
       where
         first_true : (a b : Bool) → a && b ≡ true → a ≡ true
         first_true true b e = refl
-        first_true false b e = cc
+        first_true false b e = absurd (false≢true e)
 
         by_kind : (k : ObjectKind) → is_formal_kind k ≡ true → is_variable k ≡ false
         by_kind object_kind.Formal is = refl
-        by_kind k is = cc
+        by_kind k is = absurd (false≢true is)
 
     module _ (before later : Views) where
       -- from what its source has

@@ -1,5 +1,6 @@
 -- The ways of views of a frame go on from places of owners that are lent.
 use Rattle.std.proofs.Common.{◌≡◌, refl, sym, ap, ◌∙◌, subst, ◌⊎◌, inl, inr, ℕ, zero, suc, ◌<◌, Bool, true, false, List, arith, Some}
+use Rattle.std.proofs.lemmas.Bool.{true≢false}
 use Rattle.spark_base.specs.Lists.{Has}
 use Rattle.place_names.specs.declared.fact.Fact.{Fact}
 use Rattle.place_names.specs.Names.{Name as PlaceName}
@@ -113,12 +114,12 @@ module _ (at_home : ℕ → ℕ) (observer : ℕ → Bool) (v : Views) (s : View
         by_kind : (b : Bool) → observer x ≡ b → (l : Loan) × Goes l w × (b ≡ false → l ≡ Borrowed)
         by_kind false e = (Borrowed, borrower_goes x w e has named, λ plain. refl)
         by_kind true e = elim (views.0 x w has) [
-          | inr passed ↦ (let (l, through, changed) = shown.0 x w has passed.given named in (l, inr through, λ plain. (let no : true ≡ false = plain in cc)))
+          | inr passed ↦ (let (l, through, changed) = shown.0 x w has passed.given named in (l, inr through, λ plain. (let no : true ≡ false = plain in absurd (true≢false no))))
           | inl view ↦ elim (plain_lifts at_home observer v s facts views (v.up x) (view.named, view.plain)) [
             | inl own ↦ (
                 let place = own_place x w view own in
                 let held = subst (λ b. HasLoan observer b x facts (name_of (v.loan x))) e view.lent in
-                (Observed, inl (held.0, v.loan x, held.1, place.0, place.1), λ plain. (let no : true ≡ false = plain in cc)))
+                (Observed, inl (held.0, v.loan x, held.1, place.0, place.1), λ plain. (let no : true ≡ false = plain in absurd (true≢false no))))
             | inr z ↦ (
                 let root = lifted_root v (v.up x) z in
                 (Borrowed, further_on Borrowed x w view z (borrower_goes z.object z.way (ap observer (sym root) ∙ view.plain) z.has (front_named w view z named)), λ plain. refl))

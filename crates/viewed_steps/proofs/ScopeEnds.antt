@@ -10,6 +10,7 @@ use Rattle.viewed_steps.proofs.Traversed.{none_given, named_given}
 use Rattle.soundness.specs.ViewedSoundness.Holds.{is_view, is_bundle, Seeing}
 use Rattle.soundness.specs.Ready.{Fills, IsSupplied}
 use Rattle.std.proofs.Common.{◌≡◌, refl, sym, ap, ◌∙◌, subst, ◌⊎◌, inl, inr, ℕ, zero, suc, ◌<◌, true, false, List, [], ◌∷◌, ◌++◌, map, drop, length, arith, Some, None}
+use Rattle.std.proofs.lemmas.Bool.{false≢true}
 use Rattle.spark_base.specs.Lists.{Has}
 use Rattle.place_names.specs.declared.act.Act.{Act}
 use Rattle.place_names.specs.declared.act.Act.TheVariants as act
@@ -64,6 +65,7 @@ use Rattle.viewed_steps.proofs.Packages as packages
 use Rattle.viewed_steps.proofs.Innermost as innermost
 use Rattle.viewed_steps.specs.Seeing.{sees_in}
 use Rattle.viewed_steps.proofs.Sees.{sees_seeing}
+use Rattle.viewed_steps.proofs.Constructors.{is_call_instruction}
 
 only_first : (k : ℕ) → k < 1 → k ≡ 0
 only_first zero less = refl
@@ -227,7 +229,7 @@ module _ (table : Table) (typed : TypedProgram) (effects : Effects) (input : Lis
       no_source a b = ⊥
 
       no_call_here : IsNoCall p.instr
-      no_call_here k actuals result call = (let never : EndScope y ≡ Call k actuals result = sym is ∙ call in cc)
+      no_call_here k actuals result call = (let never : EndScope y ≡ Call k actuals result = sym is ∙ call in absurd (false≢true (ap is_call_instruction never)))
 
       nothing_taken : taken main_turn.point.instr ≡ 0
       nothing_taken = none_takes (EndScope y) is refl

@@ -1,6 +1,7 @@
 -- What is passed for a formal that owns nothing: null, or the number of a cell that a way of the caller leads
 -- to. Nothing that is gone meets that way, and it is foreign in what is called.
 use Rattle.std.proofs.Common.{arith, ◌≡◌, refl, sym, ap, ◌∙◌, subst, ◌⊎◌, inl, inr, ℕ, Bool, true, false, List, [], ◌∷◌, get_or, Option, Some, None}
+use Rattle.std.proofs.lemmas.Bool.{false≢true}
 use Rattle.spark_base.specs.declared.position.Pos.{Pos}
 use Rattle.place_names.specs.declared.fact.Fact.{Fact}
 use Rattle.place_names.specs.Names.{Name as PlaceName}
@@ -53,6 +54,9 @@ IsClear s sees facts e = Unit {0}
 abbrev pub AreClear : Typing → (ℕ → Bool) → List Fact → List ℕ → TypedTree → Type 0
 AreClear s sees facts (x ∷ formals) (More e rest) = (is_given s x ≡ true → IsClear s sees facts e) × AreClear s sees facts formals rest
 AreClear s sees facts formals actuals = Unit {0}
+
+same_designated : (k d : ℕ) (e o c n : Bool) → shape.Access k e o ≡ shape.Access d c n → k ≡ d
+same_designated k d e o c n is = cc
 
 module _ (h : Here) (sees : ℕ → Bool) (seeing : Seeing h.typing sees) (settled : IsSettled h.typing.table) (hands : List Waiting) (leaks : List Leak) (m : Memory) (waits : List (List machine.Word))
     (other : Around (home h.typing h.frame)) (facts : List Fact) (v : Views)
@@ -200,11 +204,8 @@ module _ (h : Here) (sees : ℕ → Bool) (seeing : Seeing h.typing sees) (settl
         by_kind false e = by_owner e
         by_kind true e = by_bundle e (is_bundle s y) refl
 
-  same_designated : (k d : ℕ) (e o c n : Bool) → shape.Access k e o ≡ shape.Access d c n → k ≡ d
-  same_designated k d e o c n is = cc
-
   not_scalar : (d : ℕ) (c n : Bool) → is_scalar (view_of_shape (shape.Access d c n)) ≡ true → ⊥
-  not_scalar d c n e = cc
+  not_scalar d c n e = absurd (false≢true e)
 
   cell_as : (d k n : ℕ) → Matches s.table d k → IsCell s m d n → IsCell s m k n
   cell_as d k n same (some, low, fits) = (some, low, matches_on s.table d k (cell m n).of same fits)

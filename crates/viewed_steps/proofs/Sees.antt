@@ -1,6 +1,7 @@
 -- What only sees: observers, formals that nothing is changed through, and the borrowers of what only sees.
 use Rattle.std.proofs.Common.{◌≡◌, refl, sym, ap, ◌∙◌, ◌⊎◌, inl, inr, ℕ, zero, suc, ◌<◌, ◌≤◌, Bool, true, false, ◌&&◌, ◌||◌, ◌==◌, eqb-true, eq-eqb, List, [], ◌∷◌, arith}
 use Rattle.std.specs.List.{list_any}
+use Rattle.std.proofs.lemmas.Bool.{false≢true}
 use Rattle.spark_base.specs.Lists.{Has}
 use Rattle.place_names.specs.declared.act.Act.{Act}
 use Rattle.place_names.specs.declared.act.Act.TheVariants.{Borrow}
@@ -32,11 +33,11 @@ both a b e f = ap (λ z. z && b) e ∙ f
 
 first : (a b : Bool) → a && b ≡ true → a ≡ true
 first true b e = refl
-first false b e = cc
+first false b e = absurd (false≢true e)
 
 second : (a b : Bool) → a && b ≡ true → b ≡ true
 second true b e = e
-second false b e = cc
+second false b e = absurd (false≢true e)
 
 -- some act declares a borrower of what is as asked
 any_act : (test : ℕ → Bool) (x : ℕ) (acts : List Act) (m : Name) → Has acts (Borrow x m) → test m.root ≡ true → list_any (borrows_from test x) acts ≡ true
@@ -49,11 +50,11 @@ any_act test x (a ∷ acts) m (inr has) is =
 
 act_from : (test : ℕ → Bool) (x : ℕ) (a : Act) → borrows_from test x a ≡ true → (m : Name) × (a ≡ Borrow x m) × (test m.root ≡ true)
 act_from test x (Borrow h m) is = (m, ap (λ z. Borrow z m) (eqb-true h x (first (h == x) (test m.root) is)), second (h == x) (test m.root) is)
-act_from test x _ is = cc
+act_from test x _ is = absurd (false≢true is)
 
 any_from : (test : ℕ → Bool) (x : ℕ) (acts : List Act) → list_any (borrows_from test x) acts ≡ true
     → (m : Name) × Has acts (Borrow x m) × (test m.root ≡ true)
-any_from test x [] is = cc
+any_from test x [] is = absurd (false≢true is)
 any_from test x (a ∷ acts) is = elim (either (borrows_from test x a) (list_any (borrows_from test x) acts) is) [
   | inl here ↦ (let found = act_from test x a here in (found.0, inl found.1, found.2))
   | inr later ↦ (let found = any_from test x acts later in (found.0, inr found.1, found.2))
@@ -93,9 +94,9 @@ module _ (s : Typing) (acts : List Act) where
 
   source_within : (steps x : ℕ) → sees_within steps s acts x ≡ true → sees_only s x ≡ false
       → (less : ℕ) × (m : Name) × Has acts (Borrow x m) × (sees_within less s acts m.root ≡ true)
-  source_within zero x is plain = absurd (let no : false ≡ true = sym plain ∙ zero_within x is in cc)
+  source_within zero x is plain = absurd (let no : false ≡ true = sym plain ∙ zero_within x is in absurd (false≢true no))
   source_within (suc steps) x is plain = elim (from_within steps x is) [
-    | inl only ↦ absurd (let no : false ≡ true = sym plain ∙ only in cc)
+    | inl only ↦ absurd (let no : false ≡ true = sym plain ∙ only in absurd (false≢true no))
     | inr (borrows, m, has, from) ↦ (steps, m, has, from)
   ]
 
@@ -117,7 +118,7 @@ module _ (s : Typing) (acts : List Act) where
 -- a borrower is no formal
 no_variable : (k : ObjectKind) → is_formal_kind k ≡ true → is_variable k ≡ false
 no_variable object_kind.Formal is = refl
-no_variable k is = cc
+no_variable k is = absurd (false≢true is)
 
 module _ (program : FlowProgram) where
   abbrev s : Typing
@@ -158,17 +159,17 @@ module _ (program : FlowProgram) where
       unseen x none = by (sees_only s x) refl
         where
           by : (b : Bool) → sees_only s x ≡ b → b ≡ false
-          by true seen = (let no : false ≡ true = sym none ∙ only_sees x seen in cc)
+          by true seen = (let no : false ≡ true = sym none ∙ only_sees x seen in absurd (false≢true no))
           by false seen = refl
 
       changed : (x : ℕ) → is_given s x ≡ true → sees_only s x ≡ false → (b : Bool) → sees_in program x ≡ b → b ≡ false
       changed x given plain false is = refl
       changed x given plain true is = absurd (elim (kind_seen x is) [
-        | inl seen ↦ (let no : false ≡ true = sym plain ∙ seen in cc)
+        | inl seen ↦ (let no : false ≡ true = sym plain ∙ seen in absurd (false≢true no))
         | inr borrows ↦ (
             let no : false ≡ true =
             sym (no_variable (object_at s x).kind (first (is_formal s x) (is_in (object_at s x).mode) (given_formal s x given))) ∙ first (is_variable (object_at s x).kind) (is_borrowing (view_of s x)) borrows in
-            cc)
+            absurd (false≢true no))
       ])
 
   module _ (less : (x : ℕ) (m : Name) → Has acts (Borrow x m) → m.root < x) where

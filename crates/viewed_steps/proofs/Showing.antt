@@ -1,6 +1,7 @@
 -- What a call shows of package objects to formals that own nothing is lent to these.
-use Rattle.std.proofs.Common.{◌≡◌, refl, sym, subst, inl, inr, ℕ, Bool, true, false, ◌&&◌, List, [], ◌∷◌, get_or, if◌then◌else◌}
+use Rattle.std.proofs.Common.{◌≡◌, refl, sym, subst, inl, inr, ℕ, Bool, true, false, ◌&&◌, List, [], ◌∷◌, get_or, if◌then◌else◌, ap}
 use Rattle.std.specs.Prelude.{flat_map}
+use Rattle.std.proofs.lemmas.Bool.{false≢true}
 use Rattle.spark_base.specs.Lists.{Has}
 use Rattle.spark_base.proofs.Lists.{Has-append_cases}
 use Rattle.place_names.specs.declared.fact.Fact.{Fact}
@@ -16,10 +17,11 @@ use Rattle.machine.specs.Run.{no_point}
 use Rattle.soundness.specs.ViewedSoundness.Holds.{is_given}
 use Rattle.viewed_steps.specs.Sound.{lent_to, shown_one, shown_by, shown_after}
 use Rattle.viewed_steps.proofs.Whole.{flat_has}
+use Rattle.viewed_steps.proofs.Constructors.{is_lent_fact}
 
 both : (a b : Bool) → a && b ≡ true → (a ≡ true) × (b ≡ true)
 both true b e = (refl, e)
-both false b e = cc
+both false b e = absurd (false≢true e)
 
 -- What is shown: a name that is rooted in a package object, to such a formal.
 pub record IsShownOf (s : Typing) (all : List alias.Passed) (f : Fact) : Type 0 where
@@ -75,4 +77,4 @@ after_are program sub (p ∷ before) f has = by_are program (get_or sub.points p
 
 -- nothing of it is moved
 pub none_moved : (program : FlowProgram) (sub : FlowSub) (before : List ℕ) (n : PlaceName) → Has (shown_after program sub before) (Moved n) → ⊥
-none_moved program sub before n has = (let (l, h, m, is, shared) = after_are program sub before (Moved n) has in let no : Moved n ≡ Lent l h m = is in cc)
+none_moved program sub before n has = (let (l, h, m, is, shared) = after_are program sub before (Moved n) has in let no : Moved n ≡ Lent l h m = is in absurd (false≢true (ap is_lent_fact no)))

@@ -2,6 +2,7 @@
 -- sources.
 use Rattle.soundness.proofs.ViewedSoundness.ViewKinds.{variable_given}
 use Rattle.std.proofs.Common.{◌≡◌, refl, sym, ap, ◌∙◌, subst, ◌⊎◌, inl, inr, ℕ, ◌<◌, Bool, true, false, not, ◌&&◌, List, [], ◌∷◌, length, Some}
+use Rattle.std.proofs.lemmas.Bool.{false≢true}
 use Rattle.spark_base.specs.declared.position.Pos.{Pos}
 use Rattle.place_names.specs.declared.fact.Fact.{Fact}
 use Rattle.type_definitions.specs.declared.table.Shape.{Shape}
@@ -35,17 +36,17 @@ use Rattle.viewed_steps.proofs.Views.{AreAccess}
 
 pub view_shape : (sh : Shape) → is_anonymous (view_of_shape sh) ≡ true → (k : ℕ) × (e : Bool) × (o : Bool) × (sh ≡ shape.Access k e o)
 view_shape (shape.Access k e o) view = (k, e, o, refl)
-view_shape (shape.Whole a b) view = cc
-view_shape (shape.Listed l a b) view = cc
-view_shape (shape.Fields cs) view = cc
-view_shape (shape.Elements a b el) view = cc
-view_shape (shape.Same of) view = cc
+view_shape (shape.Whole a b) view = absurd (false≢true view)
+view_shape (shape.Listed l a b) view = absurd (false≢true view)
+view_shape (shape.Fields cs) view = absurd (false≢true view)
+view_shape (shape.Elements a b el) view = absurd (false≢true view)
+view_shape (shape.Same of) view = absurd (false≢true view)
 
 pub view_scalar : (sh : Shape) → is_anonymous (view_of_shape sh) ≡ true → is_scalar (view_of_shape sh) ≡ true → ⊥
 view_scalar sh view scalar = by_shape (view_shape sh view)
   where
     by_shape : ((k : ℕ) × (e : Bool) × (o : Bool) × (sh ≡ shape.Access k e o)) → ⊥
-    by_shape (k, e, o, is) = (let no : false ≡ true = sym (ap (λ z. is_scalar (view_of_shape z)) is) ∙ scalar in cc)
+    by_shape (k, e, o, is) = (let no : false ≡ true = sym (ap (λ z. is_scalar (view_of_shape z)) is) ∙ scalar in absurd (false≢true no))
 
 exclusive : (sh : Shape) → is_observing (view_of_shape sh) ≡ true → is_borrowing (view_of_shape sh) ≡ false
 exclusive (shape.Access k true o) sight = constant o
@@ -54,16 +55,16 @@ exclusive (shape.Access k true o) sight = constant o
     constant true = refl
     constant false = refl
 exclusive (shape.Access k false true) sight = refl
-exclusive (shape.Access k false false) sight = cc
-exclusive (shape.Whole a b) sight = cc
-exclusive (shape.Listed l a b) sight = cc
-exclusive (shape.Fields cs) sight = cc
-exclusive (shape.Elements a b el) sight = cc
-exclusive (shape.Same of) sight = cc
+exclusive (shape.Access k false false) sight = absurd (false≢true sight)
+exclusive (shape.Whole a b) sight = absurd (false≢true sight)
+exclusive (shape.Listed l a b) sight = absurd (false≢true sight)
+exclusive (shape.Fields cs) sight = absurd (false≢true sight)
+exclusive (shape.Elements a b el) sight = absurd (false≢true sight)
+exclusive (shape.Same of) sight = absurd (false≢true sight)
 
 right_part : (a b : Bool) → a && b ≡ true → b ≡ true
 right_part true b e = e
-right_part false b e = cc
+right_part false b e = absurd (false≢true e)
 
 no_and : (a b : Bool) → b ≡ false → a && b ≡ false
 no_and true b e = e
@@ -104,7 +105,7 @@ own_there s x variable = variable_given s x (no_formal (object_at s x).kind vari
     no_formal object_kind.Constant e = refl
     no_formal object_kind.Parameter e = refl
     no_formal object_kind.Temporary e = refl
-    no_formal object_kind.Formal e = cc
+    no_formal object_kind.Formal e = absurd (false≢true e)
 
 module _ (t : Turn) (sees : ℕ → Bool) (seeing : Seeing (typing t) sees) (settled : IsSettled (typing t).table) (own_law : OwnsByShape (typing t).table) (other : Around (home (typing t) (length t.outer)))
     (alone : (w : Way) → IsNear (length t.outer) w → other.gone w → ⊥) (in_formals : AreAccess (typing t))

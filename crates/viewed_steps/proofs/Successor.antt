@@ -8,7 +8,8 @@ use Rattle.viewed_steps.specs.Sound.{ViewStage}
 use Rattle.viewed_steps.specs.Traversals.{IsViewTaker, TraversalCall, call_in, traversed_name}
 use Rattle.soundness.proofs.Points.{flow_at, path_there}
 use Rattle.soundness.specs.Sound.{IsNoCall, Stage, IsNamedSub, IsAtPoint}
-use Rattle.std.proofs.Common.{◌≡◌, refl, sym, ◌∙◌, subst, ◌⊎◌, inl, inr, ℕ, true, false, Option, List, ◌∷◌}
+use Rattle.std.proofs.Common.{◌≡◌, refl, sym, ◌∙◌, subst, ◌⊎◌, inl, inr, ℕ, true, false, Option, List, ◌∷◌, ap}
+use Rattle.std.proofs.lemmas.Bool.{false≢true}
 use Rattle.spark_base.specs.Lists.{Has}
 use Rattle.place_names.specs.declared.act.Placed.{Placed}
 use Rattle.place_names.specs.declared.fact.Fact.{Fact}
@@ -27,14 +28,15 @@ use Rattle.machine.specs.States.{State, Frame, sub_of}
 use Rattle.soundness.specs.OwnedWays.Ways.{Way, AllowsAll}
 use Rattle.soundness.specs.OwnedWays.Ways as ways
 use Rattle.soundness.proofs.OwnedLoans.Allowed.{Cleared}
+use Rattle.viewed_steps.proofs.Constructors.{is_call_instruction}
 
 -- what takes it isn't a call
 pub takes_no_call : (table : Table) (typed : TypedProgram) (n : ℕ) (c : TraversalCall) (result : Option ℕ) (i : Instruction)
     → IsViewTaker (flow_typing (flow_program table typed)) n c result i → IsNoCall i
-takes_no_call table typed n c result i (inl (x, is, sight)) k actuals t call = (let never : Declare x (More (call_in n c) NoMore) ≡ Call k actuals t = sym is ∙ call in cc)
+takes_no_call table typed n c result i (inl (x, is, sight)) k actuals t call = (let never : Declare x (More (call_in n c) NoMore) ≡ Call k actuals t = sym is ∙ call in absurd (false≢true (ap is_call_instruction never)))
 takes_no_call table typed n c result i (inr (inl (p, x, u, is, sight, itself))) k actuals t call =
-    (let never : Assign (Name p x NoMore u) (call_in n c) ≡ Call k actuals t = sym is ∙ call in cc)
-takes_no_call table typed n c result i (inr (inr (is, gives))) k actuals t call = (let never : Hold (More (call_in n c) NoMore) ≡ Call k actuals t = sym is ∙ call in cc)
+    (let never : Assign (Name p x NoMore u) (call_in n c) ≡ Call k actuals t = sym is ∙ call in absurd (false≢true (ap is_call_instruction never)))
+takes_no_call table typed n c result i (inr (inr (is, gives))) k actuals t call = (let never : Hold (More (call_in n c) NoMore) ≡ Call k actuals t = sym is ∙ call in absurd (false≢true (ap is_call_instruction never)))
 
 module _ (table : Table) (typed : TypedProgram) (effects : Effects) (input : List ℕ) (ready : IsReady table typed effects)
     (state : State) (top : Stage) (older : List ViewStage) (outer : List Frame) (named : NamedSub) (p : NamedPoint)

@@ -1,6 +1,7 @@
 -- The values that actuals take where a subprogram is called: they own nothing, and are of the types of what functions gave.
 use Rattle.std.proofs.Common.{false, ◌≡◌, refl, sym, ap, ◌∙◌, subst, ◌⊎◌, inl, inr, ℕ, Bool, true, ◌||◌, List, [], ◌∷◌, ◌++◌}
 use Rattle.std.specs.List.{AllByRecursion}
+use Rattle.std.proofs.lemmas.Bool.{false≢true}
 use Rattle.type_definitions.specs.declared.table.Shape.{Shape}
 use Rattle.type_definitions.specs.declared.table.Shape.TheVariants as shape
 use Rattle.type_definitions.specs.Types.{shape_of, view_of, full, is_scalar, is_owning}
@@ -27,6 +28,7 @@ use Rattle.soundness.proofs.ViewedSoundness.Hands.{first_words, first_both}
 use Rattle.viewed_steps.specs.Awaited.{Fits, AreFor, AreFilled, AreScalar, AreOwnless}
 use Rattle.viewed_steps.specs.Ready.{IsSeen}
 use Rattle.viewed_steps.proofs.Entered.{IsFit}
+use Rattle.viewed_steps.proofs.Constructors.{is_access_shape}
 
 -- ---- values that own nothing
 
@@ -151,11 +153,11 @@ array_parts (shape.Same of) array = array
 
 no_access : (sh : Shape) (d : ℕ) (c n : Bool) → is_scalar (view_of sh) ≡ true → sh ≡ shape.Access d c n → ⊥
 no_access (shape.Access d c n) k e o plain is = cc
-no_access (shape.Fields cs) k e o plain is = cc
-no_access (shape.Elements low high element) k e o plain is = cc
-no_access (shape.Whole a b) k e o plain is = cc
-no_access (shape.Listed l a b) k e o plain is = cc
-no_access (shape.Same of) k e o plain is = cc
+no_access (shape.Fields cs) k e o plain is = absurd (false≢true (ap is_access_shape is))
+no_access (shape.Elements low high element) k e o plain is = absurd (false≢true (ap is_access_shape is))
+no_access (shape.Whole a b) k e o plain is = absurd (false≢true (ap is_access_shape is))
+no_access (shape.Listed l a b) k e o plain is = absurd (false≢true (ap is_access_shape is))
+no_access (shape.Same of) k e o plain is = absurd (false≢true (ap is_access_shape is))
 
 pub scalar_source : (s : Typing) (t u : ℕ) → Matches s.table t u → is_scalar (full s.table u) ≡ true → is_scalar (full s.table t) ≡ true
 scalar_source s t u (inl e) plain = matches_scalar s u t (inl (sym e)) plain

@@ -7,6 +7,7 @@ use Rattle.place_names.specs.declared.act.Act.{Act}
 use Rattle.place_names.specs.declared.act.Act.TheVariants as act
 use Rattle.place_names.specs.Names.{Name as PlaceName}
 use Rattle.std.proofs.Common.{◌≡◌, refl, sym, ap, ◌∙◌, subst, ◌⊎◌, inl, inr, ℕ, Bool, true, false, List, ◌++◌, ◌||◌, ◌&&◌, if◌then◌else◌}
+use Rattle.std.proofs.lemmas.Bool.{true≢false}
 use Rattle.spark_base.specs.declared.position.Pos.{Pos}
 use Rattle.typed_tree.specs.Trees.{NoMore, More, Name}
 use Rattle.flow_paths.specs.Instructions.{Instruction}
@@ -17,6 +18,10 @@ use Rattle.place_names.specs.declared.fact.Fact.{Fact}
 use Rattle.soundness.specs.OwnedWays.Ways.{Way, AllowsAll, Allows, name_of, number_of}
 use Rattle.soundness.proofs.OwnedLoans.Allowed.{Cleared, borrow_clears, observe_clears, reborrow_clears, give_clears}
 use Rattle.viewed_steps.specs.Traversals.{IsSeer, IsViewTaker, TraversalCall, call_in, traversed_name}
+
+sight : (a b : Bool) → a || b ≡ true → a ≡ false → b ≡ true
+sight true b is none = cc
+sight false b is none = is
 
 module _ (s : Typing) (n : ℕ) (c : TraversalCall) where
   abbrev Sees : ℕ → Type 0
@@ -31,10 +36,6 @@ module _ (s : Typing) (n : ℕ) (c : TraversalCall) where
           (sym (ap (λ b. b && is_borrowing (view_of s x)) variable) ∙ none),
     )
   ]
-    where
-      sight : (a b : Bool) → a || b ≡ true → a ≡ false → b ≡ true
-      sight true b is none = cc
-      sight false b is none = is
 
   module _ (f : Frame) (of_frame : f.typing ≡ s) (p : Pos) (facts : List Fact) (u : Way) (called : name_of u ≡ traversed_name c) where
     root_there : number_of u ≡ c.root
@@ -71,7 +72,7 @@ module _ (s : Typing) (n : ℕ) (c : TraversalCall) where
             else (if observes then source_acts s (call_in n c) (observe s x) else stored_acts s (Name q x NoMore t) (call_in n c))))
             → Cleared facts u
         by_kind true false kind own only allowed = reborrow_clears facts x u (root_there ∙ own refl) (by_name (act.Reborrow x) allowed.0)
-        by_kind true true kind own only allowed = (let never : true ≡ false = only refl in cc)
+        by_kind true true kind own only allowed = (let never : true ≡ false = only refl in absurd (true≢false never))
         by_kind false true kind own only allowed = observe_clears facts x (is_observer s (traversed_name c).root) u
             (by_name (λ m. act.Observe x m (is_observer s (traversed_name c).root)) allowed.0)
         by_kind false false (inl never) own only allowed = cc

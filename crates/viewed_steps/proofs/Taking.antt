@@ -8,6 +8,7 @@ use Rattle.machine.specs.Calls.{checks_at}
 use Rattle.spark_base.specs.declared.position.Pos.{Pos}
 use Rattle.soundness.proofs.ViewedSoundness.ViewKinds.{true_false}
 use Rattle.std.proofs.Common.{◌≡◌, refl, sym, ap, ◌∙◌, subst, ◌⊎◌, inl, inr, ℕ, suc, ◌<◌, Bool, true, false, List, [], ◌∷◌, ◌++◌, drop, length, Some, None, map}
+use Rattle.std.proofs.lemmas.Bool.{false≢true}
 use Rattle.spark_base.specs.Lists.{Has}
 use Rattle.place_names.specs.declared.act.Act.{Act}
 use Rattle.place_names.specs.declared.fact.Fact.{Fact}
@@ -88,6 +89,10 @@ use Rattle.flow_paths.specs.Objects.{is_variable, sub_at}
 use Rattle.viewed_steps.proofs.Views.{AreAccess, all_held}
 use Rattle.viewed_steps.specs.Seeing.{sees_in}
 use Rattle.viewed_steps.proofs.Sees.{sees_seeing}
+use Rattle.viewed_steps.proofs.Constructors.{is_assign_instruction, is_declare_instruction, is_hold_instruction}
+
+some_is : (a b : ℕ) → Some a ≡ Some b → a ≡ b
+some_is a b e = cc
 
 module _ (table : Table) (typed : TypedProgram) (effects : Effects) (input : List ℕ) (ready : IsReady table typed effects) where
   abbrev sees : ℕ → Bool
@@ -234,9 +239,6 @@ module _ (table : Table) (typed : TypedProgram) (effects : Effects) (input : Lis
         value_of_view =
             first_there.0
             ∙ some_is (object_at s alone_taken.0).of gives.result (sym alone_taken.6 ∙ ap (λ k. (sub_at s k).result) same_sub ∙ gives.result_is)
-          where
-            some_is : (a b : ℕ) → Some a ≡ Some b → a ≡ b
-            some_is a b e = cc
 
         pub value_anonymous : is_anonymous (full s.table value_there.of) ≡ true
         value_anonymous = ap (λ z. is_anonymous (full s.table z)) value_of_view ∙ gives.anonymous
@@ -253,14 +255,14 @@ module _ (table : Table) (typed : TypedProgram) (effects : Effects) (input : Lis
         -- the value is that of the call
         takes_one : (e c : TypedTree) → IsTakenBy p.instr e → IsTakenBy p.instr c → e ≡ c
         takes_one e c (inl (a, is)) (inl (b, same)) = (let both : Declare a (More e NoMore) ≡ Declare b (More c NoMore) = sym is ∙ same in cc)
-        takes_one e c (inl (a, is)) (inr (inl (k, b, w, o, same, none))) = (let both : Declare a (More e NoMore) ≡ Assign (Name k b w o) c = sym is ∙ same in cc)
-        takes_one e c (inl (a, is)) (inr (inr same)) = (let both : Declare a (More e NoMore) ≡ Hold (More c NoMore) = sym is ∙ same in cc)
-        takes_one e c (inr (inl (k, b, w, o, is, none))) (inl (a, same)) = (let both : Assign (Name k b w o) e ≡ Declare a (More c NoMore) = sym is ∙ same in cc)
+        takes_one e c (inl (a, is)) (inr (inl (k, b, w, o, same, none))) = (let both : Declare a (More e NoMore) ≡ Assign (Name k b w o) c = sym is ∙ same in absurd (false≢true (ap is_assign_instruction both)))
+        takes_one e c (inl (a, is)) (inr (inr same)) = (let both : Declare a (More e NoMore) ≡ Hold (More c NoMore) = sym is ∙ same in absurd (false≢true (ap is_hold_instruction both)))
+        takes_one e c (inr (inl (k, b, w, o, is, none))) (inl (a, same)) = (let both : Assign (Name k b w o) e ≡ Declare a (More c NoMore) = sym is ∙ same in absurd (false≢true (ap is_declare_instruction both)))
         takes_one e c (inr (inl (k, b, w, o, is, none))) (inr (inl (l, d, v, z, same, also))) =
             (let both : Assign (Name k b w o) e ≡ Assign (Name l d v z) c = sym is ∙ same in cc)
-        takes_one e c (inr (inl (k, b, w, o, is, none))) (inr (inr same)) = (let both : Assign (Name k b w o) e ≡ Hold (More c NoMore) = sym is ∙ same in cc)
-        takes_one e c (inr (inr is)) (inl (a, same)) = (let both : Hold (More e NoMore) ≡ Declare a (More c NoMore) = sym is ∙ same in cc)
-        takes_one e c (inr (inr is)) (inr (inl (k, b, w, o, same, none))) = (let both : Hold (More e NoMore) ≡ Assign (Name k b w o) c = sym is ∙ same in cc)
+        takes_one e c (inr (inl (k, b, w, o, is, none))) (inr (inr same)) = (let both : Assign (Name k b w o) e ≡ Hold (More c NoMore) = sym is ∙ same in absurd (false≢true (ap is_hold_instruction both)))
+        takes_one e c (inr (inr is)) (inl (a, same)) = (let both : Hold (More e NoMore) ≡ Declare a (More c NoMore) = sym is ∙ same in absurd (false≢true (ap is_declare_instruction both)))
+        takes_one e c (inr (inr is)) (inr (inl (k, b, w, o, same, none))) = (let both : Hold (More e NoMore) ≡ Assign (Name k b w o) c = sym is ∙ same in absurd (false≢true (ap is_assign_instruction both)))
         takes_one e c (inr (inr is)) (inr (inr same)) = (let both : Hold (More e NoMore) ≡ Hold (More c NoMore) = sym is ∙ same in cc)
 
         pub call_same : call_in given_there.sub call_there ≡ held_call

@@ -5,7 +5,8 @@ use Rattle.viewed_steps.proofs.Ended.{view_kinds}
 use Rattle.soundness.proofs.Scalars.{acts, acts_append}
 use Rattle.place_names.specs.declared.act.Act.{Act}
 use Rattle.place_names.specs.Names.{Name as PlaceName}
-use Rattle.std.proofs.Common.{◌≡◌, refl, sym, ap, ◌∙◌, subst, ◌⊎◌, inl, inr, ℕ, zero, suc, ◌+◌, Bool, true, false, List, [], ◌∷◌, ◌++◌, drop, Some, None, if◌then◌else◌}
+use Rattle.std.proofs.Common.{◌≡◌, refl, sym, ap, ◌∙◌, subst, ◌⊎◌, inl, inr, ℕ, zero, suc, ◌+◌, Bool, true, false, List, [], ◌∷◌, ◌++◌, drop, Some, None, if◌then◌else◌, is_some}
+use Rattle.std.proofs.lemmas.Bool.{false≢true, true≢false}
 use Rattle.spark_base.specs.declared.position.Pos.{Pos}
 use Rattle.spark_base.specs.Lists.{Has}
 use Rattle.spark_base.proofs.Lists.{Has-filter, Has-append_right}
@@ -30,6 +31,7 @@ use Rattle.viewed_steps.specs.Traversals.{IsSourceName, IsSourceIn}
 use Rattle.viewed_steps.specs.Sound.{ViewStage, IsGivenIn, NoneGiven, IsGivenBelow, AreGivenIn}
 use Rattle.viewed_steps.specs.Ready.{AreNamedIn}
 use Rattle.viewed_steps.proofs.Sources.{view_scalar, observer_only}
+use Rattle.viewed_steps.proofs.Constructors.{is_nil}
 
 -- ---- temporaries
 
@@ -37,7 +39,7 @@ module _ (s : Typing) where
   -- a value whose temporary is of no anonymous type is of none
   pub none_of_named : (waits : List Waiting) (xs : List ℕ) → AreFor s waits xs → ((x : ℕ) → Has xs x → is_anonymous (view_of s x) ≡ false)
       → (w : Waiting) (others : List Waiting) → waits ≡ w ∷ others → is_anonymous (full s.table w.of) ≡ true → ⊥
-  none_of_named [] xs all named w others is view = cc
+  none_of_named [] xs all named w others is view = absurd (true≢false (ap is_nil is))
   none_of_named (v ∷ waits) [] all named w others is view = absurd all
   none_of_named (v ∷ waits) (x ∷ xs) ((fits, long), all) named w others is view = by_kind fits
     where
@@ -49,7 +51,7 @@ module _ (s : Typing) where
 
       by_kind : Fits s v.of x → ⊥
       by_kind (inl scalar) = view_scalar (shape_of s.table v.of) there scalar.0
-      by_kind (inr of) = (let no : false ≡ true = sym (named x (inl refl)) ∙ ap (λ z. is_anonymous (full s.table z)) (sym of) ∙ there in cc)
+      by_kind (inr of) = (let no : false ≡ true = sym (named x (inl refl)) ∙ ap (λ z. is_anonymous (full s.table z)) (sym of) ∙ there in absurd (false≢true no))
 
   pub named_temporaries : (xs : List ℕ) → AreNamedIn s xs → (x : ℕ) → Has (temporaries_of s xs) x → is_anonymous (view_of s x) ≡ false
   named_temporaries xs named x has = (let two = Has-filter (is_temporary_object s) xs x has in named x two.0 two.1)
@@ -80,7 +82,7 @@ module _ (s : Typing) where
   brings y xs own named x (inr has) temporary = named x has temporary
 
   no_temporary : (y : ℕ) → is_temporary_object s y ≡ false → is_temporary_object s y ≡ true → is_anonymous (view_of s y) ≡ false
-  no_temporary y none some = (let no : false ≡ true = sym none ∙ some in cc)
+  no_temporary y none some = (let no : false ≡ true = sym none ∙ some in absurd (false≢true no))
 
   scalar_named : (y : ℕ) → is_scalar (full s.table (object_at s y).of) ≡ true → is_anonymous (view_of s y) ≡ false
   scalar_named y scalar = by_kind (is_anonymous (view_of s y)) refl
@@ -193,7 +195,7 @@ module _ (table : Table) (typed : TypedProgram) where
   named_given g xs all named w others is seen = none_of_named s g.stage.frame.waits (temporaries_of s xs) all (named_temporaries s xs named) w others is seen
 
   pub empty_given : (g : ViewStage) → g.stage.frame.waits ≡ [] → NoneGiven s g
-  empty_given g none w others is seen = (let no : [] ≡ w ∷ others = sym none ∙ is in cc)
+  empty_given g none w others is seen = (let no : [] ≡ w ∷ others = sym none ∙ is in absurd (true≢false (ap is_nil no)))
 
   -- where the innermost frame goes on, and has given no result, or could not go on so after it
   pub given_on : (view next : View) (before later : ViewStage) (older : List ViewStage) → IsGivenIn table typed next later
@@ -208,4 +210,4 @@ module _ (table : Table) (typed : TypedProgram) where
 
   -- a procedure traverses nothing
   pub procedure_traverses : (sub : FlowSub) (f : ℕ) → sub.result ≡ None → traversed_formal s sub ≡ Some f → ⊥
-  procedure_traverses sub f none traversed = (let is : None ≡ Some f = sym (ap (λ r. traversed_of (traverses s.table r) sub.formals) none) ∙ traversed in cc)
+  procedure_traverses sub f none traversed = (let is : None ≡ Some f = sym (ap (λ r. traversed_of (traverses s.table r) sub.formals) none) ∙ traversed in absurd (false≢true (ap is_some is)))

@@ -1,6 +1,7 @@
 -- What subprograms write of package objects, by what their points do, and that an act which lends a part
 -- to a borrower, or moves one, writes.
 use Rattle.std.proofs.Common.{◌≡◌, refl, sym, ap, ◌∙◌, inl, inr, ℕ, suc, ◌<◌, Bool, true, false, ◌&&◌, ◌||◌, ◌==◌, eq-eqb, List, [], ◌∷◌, drop, length, IsTrue, Option, None}
+use Rattle.std.proofs.lemmas.Bool.{true≢false}
 use Rattle.spark_base.specs.Lists.{Has}
 use Rattle.spark_base.proofs.Lists.{Has-append_cases, Has-map_from}
 use Rattle.place_names.specs.declared.selector.Sel.{Sel}
@@ -68,6 +69,9 @@ module _ (program : FlowProgram) (effects : Effects) (are : AreEffects program e
 is_there : (x : ℕ) (xs : List ℕ) → Has xs x → is_in x xs ≡ true
 is_there x xs has = any_has (λ y. x == y) xs x has (eq-eqb x x refl)
 
+same_object : (k x : ℕ) (a b : Bool) → act.Global k a ≡ act.Global x b → (k ≡ x) × (a ≡ b)
+same_object k x a b e = (cc, cc)
+
 -- one that only reads is of what isn't written
 only_read : (objects : List Object) (k x : ℕ) (read written : List ℕ) → Has (globals_from k objects read written) (act.Global x false) → is_in x written ≡ false
 only_read [] k x read written has = absurd has
@@ -76,11 +80,8 @@ only_read (o ∷ objects) k x read written has = elim (Has-append_cases (global_
   | inl here ↦ by_kind (is_in k read) (is_in k written) refl here
 ]
   where
-    same_object : (k x : ℕ) (a b : Bool) → act.Global k a ≡ act.Global x b → (k ≡ x) × (a ≡ b)
-    same_object k x a b e = (cc, cc)
-
     by_kind : (r w : Bool) → is_in k written ≡ w → Has (global_act k r w) (act.Global x false) → is_in x written ≡ false
-    by_kind r true is (inl e) = (let never : true ≡ false = (same_object k x true false e).1 in cc)
+    by_kind r true is (inl e) = (let never : true ≡ false = (same_object k x true false e).1 in absurd (true≢false never))
     by_kind r true is (inr never) = absurd never
     by_kind true false is (inl e) = ap (λ z. is_in z written) (sym (same_object k x false false e).0) ∙ is
     by_kind true false is (inr never) = absurd never
@@ -97,7 +98,7 @@ module _ (program : FlowProgram) (effects : Effects) (are : AreEffects program e
       by_use (false, has) =
           let no : true ≡ false =
           sym (is_there x (written_by effects callee) written)
-          ∙ only_read (drop 1 program.objects) 1 x (read_by effects callee) (written_by effects callee) has in cc
+          ∙ only_read (drop 1 program.objects) 1 x (read_by effects callee) (written_by effects callee) has in absurd (true≢false no)
 
   overlaps_whole : (n : Name) → overlaps n (object n.root) ≡ true
   overlaps_whole n = both (n.root == n.root) (agree_along n.sels []) (eq-eqb n.root n.root refl) (nothing n.sels)
@@ -148,15 +149,15 @@ borrowing_writes (act.Global g written) h m never = absurd never
 borrowing_writes (act.Free k) h m never = absurd never
 borrowing_writes (act.Give k borrows) h m never = absurd never
 
+moved_same : (a b : Name) → Moved a ≡ Moved b → a ≡ b
+moved_same a b e = cc
+
 -- so does a move
 pub moving_writes : (a : Act) (m : Name) → Has (adds a) (Moved m) → act_writes m.root a ≡ true
 moving_writes (act.Move k parts) m has =
     let from = Has-map_from (λ q. Moved (extend k q)) parts (Moved m) has in
     let same : extend k from.0 ≡ m = moved_same (extend k from.0) m from.2 in
     ap (λ (z : Name). z.root == m.root) same ∙ eq-eqb m.root m.root refl
-  where
-    moved_same : (a b : Name) → Moved a ≡ Moved b → a ≡ b
-    moved_same a b e = cc
 moving_writes (act.Borrow b k) m (inl e) = cc
 moving_writes (act.Borrow b k) m (inr never) = absurd never
 moving_writes (act.Observe b k true) m never = absurd never

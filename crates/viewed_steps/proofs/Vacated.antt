@@ -1,5 +1,6 @@
 -- What a place has is leaked by the leak checks of the place, and the machine marks it as gone.
 use Rattle.std.proofs.Common.{[], ◌≡◌, refl, sym, ap, ◌∙◌, subst, ◌⊎◌, inl, inr, ℕ, suc, ◌+◌, ◌<◌, Bool, true, false, List, ◌++◌, take, drop, length, get_or, arith}
+use Rattle.std.proofs.lemmas.Bool.{false≢true}
 use Rattle.spark_base.specs.declared.position.Pos.{Pos}
 use Rattle.type_definitions.specs.Types.{words}
 use Rattle.flow_paths.specs.Objects.{Typing, object_at}
@@ -23,6 +24,7 @@ use Rattle.soundness.proofs.Defaults.{blank_word, none_default}
 use Rattle.soundness.proofs.Steps.{content_slots}
 use Rattle.soundness.proofs.Steps.{put_at, put_off, put_count, put_freed, alike, matches_words, taken_slots, room}
 use Rattle.viewed_steps.proofs.Emptied.{IsEmptied}
+use Rattle.viewed_steps.proofs.Constructors.{is_gone_word}
 
 module _ (s : Typing) (settled : IsSettled s.table) (m : Memory) (hands : List Waiting) (leaks : List Leak) (k : Place) (l : Loc)
     (kept : Kept s m hands) (spot : Spot s m hands k l) (owns : (content s m hands (trunk l)).owns ≡ true) where
@@ -90,7 +92,7 @@ module _ (s : Typing) (settled : IsSettled s.table) (m : Memory) (hands : List W
 
   gone_word : (w : machine.Word) (g : Bool) → g ≡ true → owner_at w g ≡ Gone
   gone_word w true e = refl
-  gone_word w false e = cc
+  gone_word w false e = absurd (false≢true e)
 
   off : (z : Loc) → (Below l z → ⊥) → word_in s.table (b (trunk z)) (steps_in z) ≡ word_in s.table (a (trunk z)) (steps_in z)
   off z apart = elim (same_loc (trunk z) (trunk l)) [
@@ -117,7 +119,7 @@ module _ (s : Typing) (settled : IsSettled s.table) (m : Memory) (hands : List W
       let leaf : is_leaf s.table (a (trunk l)).of (p ++ steps_in l) ≡ true = ap (λ t. is_leaf s.table t (p ++ steps_in l)) (sym here.of) ∙ is_shown.leaf in
       let gone = gone_word _ _ (marked p leaf) in
       let at = ap (λ t. owner_word (get_or (b (trunk l)).slots (offset_in s.table t (p ++ steps_in l)) no_slot)) here.of in
-      let is : Held n ≡ Gone = sym is_shown.slot ∙ at ∙ gone in cc
+      let is : Held n ≡ Gone = sym is_shown.slot ∙ at ∙ gone in absurd (false≢true (ap is_gone_word is))
 
   -- the leak checks of the place fail for what it has
   pub place_checks : (pos : Pos) → Checks s.table (content s m hands (trunk l)) (steps_in l) leaks (leaks ++ leaks_at s pos m k)

@@ -1,6 +1,7 @@
 -- What is known of the objects of views, and of ways that belong to other frames.
 use Rattle.soundness.proofs.ViewedSoundness.Given.{IsLow}
-use Rattle.std.proofs.Common.{None, ◌≡◌, refl, sym, ap, ◌∙◌, subst, ◌⊎◌, inl, inr, ℕ, ◌<◌, Bool, true, false, not, List, ◌&&◌, ◌||◌, get_or, Some}
+use Rattle.std.proofs.Common.{None, ◌≡◌, refl, sym, ap, ◌∙◌, subst, ◌⊎◌, inl, inr, ℕ, ◌<◌, Bool, true, false, not, List, ◌&&◌, ◌||◌, get_or, Some, is_some}
+use Rattle.std.proofs.lemmas.Bool.{false≢true, true≢false}
 use Rattle.spark_base.specs.Lists.{Has}
 use Rattle.type_definitions.specs.declared.table.Shape.{Shape}
 use Rattle.type_definitions.specs.declared.table.Shape.TheVariants as shape
@@ -28,11 +29,11 @@ use Rattle.viewed_steps.specs.Ready.{is_shown_type}
 
 access_of : (sh : Shape) → is_anonymous (view_of_shape sh) ≡ true → (d : ℕ) × (c : Bool) × (n : Bool) × (sh ≡ shape.Access d c n)
 access_of (shape.Access d c n) e = (d, c, n, refl)
-access_of (shape.Whole a b) e = cc
-access_of (shape.Listed l a b) e = cc
-access_of (shape.Fields cs) e = cc
-access_of (shape.Elements a b el) e = cc
-access_of (shape.Same of) e = cc
+access_of (shape.Whole a b) e = absurd (false≢true e)
+access_of (shape.Listed l a b) e = absurd (false≢true e)
+access_of (shape.Fields cs) e = absurd (false≢true e)
+access_of (shape.Elements a b el) e = absurd (false≢true e)
+access_of (shape.Same of) e = absurd (false≢true e)
 
 -- a way that begins at a variable of the frame is named
 pub base_named : (at_home : ℕ → ℕ) (w : Way) (y : ℕ) → base_of w ≡ OfRoot (OfVariable (at_home y) y) → Named at_home w
@@ -66,12 +67,12 @@ pub same_lies : (s : Typing) (frame : ℕ) (w k : Way) → base_of w ≡ base_of
 same_lies s frame w k is (inl named) = inl (same_named (home s frame) w k is named)
 same_lies s frame w k is (inr (foreign, low, some)) = inr ((foreign.0, foreign.1, is ∙ foreign.2, foreign.3), low, some)
 
+frames_are : (f x g y : ℕ) → OfRoot (OfVariable f x) ≡ OfRoot (OfVariable g y) → f ≡ g
+frames_are f x g y e = cc
+
 pub lies_far : (s : Typing) (frame : ℕ) (v : Views) → ((x : ℕ) (w : Way) → v.way x ≡ Some w → Lies s frame w) → ArePartsLow s frame v → AreFar (home s frame) v frame
 lies_far s frame v lies low = (λ x w has. one w (lies x w has), λ x p w has. one w (low x p w has).0)
   where
-    frames_are : (f x g y : ℕ) → OfRoot (OfVariable f x) ≡ OfRoot (OfVariable g y) → f ≡ g
-    frames_are f x g y e = cc
-
     one : (w : Way) → Lies s frame w → (foreign : IsForeign (home s frame) w) → foreign.0 < frame
     one w (inl named) foreign = absurd (not_elsewhere (home s frame) w named foreign)
     one w (inr (other, less, some)) foreign =
@@ -90,11 +91,11 @@ AreLowFormals s frame v = ((x : ℕ) (w : Way) → v.way x ≡ Some w → IsLow 
 
 second_true : (a b : Bool) → a && b ≡ true → b ≡ true
 second_true true b e = e
-second_true false b e = cc
+second_true false b e = absurd (false≢true e)
 
 first_true : (a b : Bool) → a && b ≡ true → a ≡ true
 first_true true b e = refl
-first_true false b e = cc
+first_true false b e = absurd (false≢true e)
 
 or_true : (a b : Bool) → b ≡ true → a || b ≡ true
 or_true true b e = refl
@@ -127,10 +128,10 @@ scalar_unseen s x scalar = by_shape (shape_of s.table (object_at s x).of) scalar
     by_shape : (sh : Shape) → is_scalar (view_of_shape sh) ≡ true → is_anonymous (view_of_shape sh) ≡ false
     by_shape (shape.Whole a b) e = refl
     by_shape (shape.Listed l a b) e = refl
-    by_shape (shape.Access d c n) e = cc
-    by_shape (shape.Fields cs) e = cc
-    by_shape (shape.Elements a b el) e = cc
-    by_shape (shape.Same of) e = cc
+    by_shape (shape.Access d c n) e = absurd (false≢true e)
+    by_shape (shape.Fields cs) e = absurd (false≢true e)
+    by_shape (shape.Elements a b el) e = absurd (false≢true e)
+    by_shape (shape.Same of) e = absurd (false≢true e)
 
 -- A formal with parts that see is passed as an object of its own, and not as an access value.
 pub bundle_owns : (s : Typing) (x : ℕ) → is_bundle s x ≡ true → is_owning s.table (object_at s x).of ≡ true
@@ -159,15 +160,15 @@ bundle_passing s x bundle procedure =
 
     in_mode : (m : Mode) → is_in m ≡ true → m ≡ mode.In
     in_mode mode.In e = refl
-    in_mode mode.Out e = cc
-    in_mode mode.InOut e = cc
+    in_mode mode.Out e = absurd (false≢true e)
+    in_mode mode.InOut e = absurd (false≢true e)
 
     none : (b : Bool) → b && false ≡ false
     none true = refl
     none false = refl
 
     unnamed : (v : View) → not (is_access v) ≡ true → (b : Bool) → b && is_named_access v ≡ false
-    unnamed (view.Access d c n) e b = cc
+    unnamed (view.Access d c n) e b = absurd (false≢true e)
     unnamed v e b = none b
 
 -- None is of an anonymous access type.
@@ -181,29 +182,29 @@ given_cases s x given = by_kind (is_view_formal s x) (is_in_formal s x) (is_anon
     by_kind : (a b c : Bool) → a || (b && c) ≡ true → (a ≡ true) ⊎ (c ≡ true)
     by_kind true b c e = inl refl
     by_kind false true true e = inr refl
-    by_kind false true false e = cc
-    by_kind false false c e = cc
+    by_kind false true false e = absurd (false≢true e)
+    by_kind false false c e = absurd (false≢true e)
 
 pub given_type : (s : Typing) (x : ℕ) → is_given s x ≡ true → is_shown_type s x ≡ true
 given_type s x given = by_kind (is_in_formal s x) (is_owning s.table (object_at s x).of) (is_anonymous (view_of s x)) given
   where
     by_kind : (f o a : Bool) → (f && o) || (f && a) ≡ true → o || a ≡ true
     by_kind true o a e = e
-    by_kind false o a e = cc
+    by_kind false o a e = absurd (false≢true e)
 
 pub given_formal : (s : Typing) (x : ℕ) → is_given s x ≡ true → is_in_formal s x ≡ true
 given_formal s x given = by_kind (is_in_formal s x) (is_owning s.table (object_at s x).of) (is_anonymous (view_of s x)) given
   where
     by_kind : (f o a : Bool) → (f && o) || (f && a) ≡ true → f ≡ true
     by_kind true o a e = refl
-    by_kind false o a e = cc
+    by_kind false o a e = absurd (false≢true e)
+
+one_kind : (f o a : Bool) → f ≡ true → o || a ≡ true → (f && o) || (f && a) ≡ true
+one_kind true o a e shown = shown
+one_kind false o a e shown = cc
 
 pub type_given : (s : Typing) (x : ℕ) → is_in_formal s x ≡ true → is_shown_type s x ≡ true → is_given s x ≡ true
-type_given s x formal shown = by_kind (is_in_formal s x) (is_owning s.table (object_at s x).of) (is_anonymous (view_of s x)) formal shown
-  where
-    by_kind : (f o a : Bool) → f ≡ true → o || a ≡ true → (f && o) || (f && a) ≡ true
-    by_kind true o a e shown = shown
-    by_kind false o a e shown = cc
+type_given s x formal shown = one_kind (is_in_formal s x) (is_owning s.table (object_at s x).of) (is_anonymous (view_of s x)) formal shown
 
 -- an anonymous access type owns nothing
 pub unowned_view : (s : Typing) → OwnsByShape s.table → (x : ℕ) → is_anonymous (view_of s x) ≡ true → is_owning s.table (object_at s x).of ≡ false
@@ -211,14 +212,14 @@ unowned_view s own_law x anonymous =
     own_law (object_at s x).of ∙ no_owner (is_owning s.table) (shape_of s.table (object_at s x).of) anonymous
   where
     no_owner : (owns : ℕ → Bool) (sh : Shape) → is_anonymous (view_of_shape sh) ≡ true → owns_of owns sh ≡ false
-    no_owner owns (shape.Access d true true) e = cc
-    no_owner owns (shape.Access d false true) e = cc
+    no_owner owns (shape.Access d true true) e = absurd (false≢true e)
+    no_owner owns (shape.Access d false true) e = absurd (false≢true e)
     no_owner owns (shape.Access d c false) e = refl
-    no_owner owns (shape.Whole a b) e = cc
-    no_owner owns (shape.Listed l a b) e = cc
-    no_owner owns (shape.Fields cs) e = cc
-    no_owner owns (shape.Elements a b el) e = cc
-    no_owner owns (shape.Same of) e = cc
+    no_owner owns (shape.Whole a b) e = absurd (false≢true e)
+    no_owner owns (shape.Listed l a b) e = absurd (false≢true e)
+    no_owner owns (shape.Fields cs) e = absurd (false≢true e)
+    no_owner owns (shape.Elements a b el) e = absurd (false≢true e)
+    no_owner owns (shape.Same of) e = absurd (false≢true e)
 
 -- A formal that owns nothing though its type does is of no anonymous type and of no scalar one; and of an access type, if
 -- it has no parts that see.
@@ -226,6 +227,11 @@ abbrev pub AreAccess : Typing → Type 0
 AreAccess s =
     (x : ℕ) → is_view_formal s x ≡ true
     → (is_bundle s x ≡ false → IsAccess s x) × (is_anonymous (view_of s x) ≡ true → ⊥) × (is_scalar (full s.table (object_at s x).of) ≡ true → ⊥)
+
+access_there : (a b : Bool) → a ≡ true → a && not b ≡ false → b ≡ true
+access_there true true e bare = refl
+access_there true false e bare = cc
+access_there false b e bare = cc
 
 pub formal_access : (s : Typing) → OwnsByShape s.table → AreAccess s
 formal_access s own_law x formal = (
@@ -237,18 +243,13 @@ formal_access s own_law x formal = (
     owns : is_owning s.table (object_at s x).of ≡ true
     owns = second_true (is_in_formal s x) (is_owning s.table (object_at s x).of) formal
 
-    access_there : (a b : Bool) → a ≡ true → a && not b ≡ false → b ≡ true
-    access_there true true e bare = refl
-    access_there true false e bare = cc
-    access_there false b e bare = cc
-
     by_shape : (sh : Shape) → is_access (view_of_shape sh) ≡ true → (d : ℕ) × (c : Bool) × (n : Bool) × (sh ≡ shape.Access d c n)
     by_shape (shape.Access d c n) e = (d, c, n, refl)
-    by_shape (shape.Whole a b) e = cc
-    by_shape (shape.Listed l a b) e = cc
-    by_shape (shape.Fields cs) e = cc
-    by_shape (shape.Elements a b el) e = cc
-    by_shape (shape.Same of) e = cc
+    by_shape (shape.Whole a b) e = absurd (false≢true e)
+    by_shape (shape.Listed l a b) e = absurd (false≢true e)
+    by_shape (shape.Fields cs) e = absurd (false≢true e)
+    by_shape (shape.Elements a b el) e = absurd (false≢true e)
+    by_shape (shape.Same of) e = absurd (false≢true e)
 
 module _ (s : Typing) (sees : ℕ → Bool) (in_formals : AreAccess s) where
   pub view_access : (x : ℕ) → is_view s x ≡ true → is_bundle s x ≡ false → IsAccess s x
@@ -301,7 +302,7 @@ module _ (s : Typing) (sees : ℕ → Bool) (in_formals : AreAccess s) where
   }
     where
       no_way : (x : ℕ) (p : List Step) (w : Way) → v.part_way x p ≡ Some w → ⊥
-      no_way x p w has = (let is : Some w ≡ None = sym has ∙ none x p in cc)
+      no_way x p w has = (let is : Some w ≡ None = sym has ∙ none x p in absurd (true≢false (ap is_some is)))
 
   -- a formal that is a view is given
   pub kind_given : (x : ℕ) → IsKindOfFormal s x → is_view s x ≡ true → is_given s x ≡ true

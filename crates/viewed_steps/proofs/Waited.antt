@@ -1,6 +1,7 @@
 -- The values that wait match the temporaries in scope, one by one.
 use Rattle.std.proofs.Common.{◌≡◌, refl, sym, ap, ◌∙◌, subst, ◌⊎◌, inl, inr, ℕ, zero, suc, Bool, true, false, not, ◌&&◌, ◌||◌, ◌==◌, eqb-true, List, [], ◌∷◌, ◌++◌, take, drop, length, Option, Some, None, is_some}
 use Rattle.std.specs.List.{AllByRecursion}
+use Rattle.std.proofs.lemmas.Bool.{false≢true}
 use Rattle.type_definitions.specs.Types.{full, is_scalar}
 use Rattle.typed_tree.specs.Trees.{TypedTree}
 use Rattle.flow_paths.specs.Instructions.{Instruction, Skip, Declare, Assign, Call, Output, Input, Release, Test, Choose, Start, Next, Evaluate, LeaveLoop, Hold, EndScope, Finish, Fall}
@@ -33,7 +34,7 @@ any_either false b e = inr e
 
 or_first : (a b : Bool) → a ≡ true → a || b ≡ true
 or_first true b e = refl
-or_first false b e = cc
+or_first false b e = absurd (false≢true e)
 
 or_second : (a b : Bool) → b ≡ true → a || b ≡ true
 or_second true b e = refl
@@ -56,9 +57,9 @@ module _ (s : Typing) where
   ]
 
   second_not : (a b : Bool) → a && not b ≡ true → b ≡ false
-  second_not true true e = cc
+  second_not true true e = absurd (false≢true e)
   second_not true false e = refl
-  second_not false b e = cc
+  second_not false b e = absurd (false≢true e)
 
   silent_none : (gone : List ℕ) → AllByRecursion (Silent s) gone → temporaries_of s gone ≡ []
   silent_none [] silent = refl
@@ -112,7 +113,7 @@ module _ (s : Typing) where
 
   -- what lasts is in scope
   pub lasting_within : (x : ℕ) (scope : List ℕ) → is_within x (lasting_of s scope) ≡ true → (is_within x scope ≡ true) × (is_held s x ≡ false)
-  lasting_within x [] within = cc
+  lasting_within x [] within = absurd (false≢true within)
   lasting_within x (y ∷ scope) within = elim (bool_cases (is_held s y)) [
     | inl is ↦ (
         let later = lasting_within x scope (ap (is_within x) (sym (temporary_out y scope is)) ∙ within) in

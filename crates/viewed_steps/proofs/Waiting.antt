@@ -1,8 +1,9 @@
 -- Frames that wait for a call to end, with views: what they keep concerns the innermost frame as ways
 -- of others, and they wait still after its steps.
 use Rattle.soundness.specs.ViewedSoundness.Holds.{is_view}
-use Rattle.std.proofs.Common.{◌≡◌, refl, sym, ap, ◌∙◌, subst, ◌⊎◌, inl, inr, ℕ, ◌<◌, ◌≤◌, Bool, true, false, ◌&&◌, nat_lt, ltb-true, lt-ltb, List, [], ◌∷◌, ◌++◌, length, arith, Some, None, if◌then◌else◌, append-nil}
+use Rattle.std.proofs.Common.{◌≡◌, refl, sym, ap, ◌∙◌, subst, ◌⊎◌, inl, inr, ℕ, ◌<◌, ◌≤◌, Bool, true, false, ◌&&◌, nat_lt, ltb-true, lt-ltb, List, [], ◌∷◌, ◌++◌, length, arith, Some, None, if◌then◌else◌, append-nil, is_some}
 use Rattle.std.specs.Prelude.{flat_map}
+use Rattle.std.proofs.lemmas.Bool.{false≢true}
 use Rattle.spark_base.specs.Lists.{Has}
 use Rattle.spark_base.proofs.Lists.{Has-append_left, Has-append_cases}
 use Rattle.place_names.specs.declared.fact.Fact.{Fact}
@@ -40,6 +41,7 @@ use Rattle.viewed_steps.proofs.Withheld.{kept_cases, kept_root, kept_fact, taken
 use Rattle.viewed_steps.proofs.Views.{base_named, same_lies}
 use Rattle.machine.specs.Owners.{waiting_in}
 use Rattle.viewed_steps.specs.Seeing.{sees_in}
+use Rattle.viewed_steps.proofs.Constructors.{is_lent_fact, is_of_cell_loc}
 
 -- ---- near ways
 
@@ -58,7 +60,7 @@ same_reaches s t e (All w) l (m, n, h, held, is) = (m, n, same_reaches s t e w m
 
 both_first : (a b : Bool) → a && b ≡ true → a ≡ true
 both_first true b e = refl
-both_first false b e = cc
+both_first false b e = absurd (false≢true e)
 
 -- the words of a cell, as owners see them
 pub cell_word : (s : Typing) (state : State) (n : ℕ) (p : List Step)
@@ -95,6 +97,12 @@ root_under f y (All w) base = inr (root_under f y w base)
 pub some_frames : (k : ViewStage) (older : List ViewStage) (outer : List Frame) → AreStages (stages_of (k ∷ older)) outer → 0 < length outer
 some_frames k older [] stages = absurd stages
 some_frames k older (f ∷ outer) stages = omega arith
+
+loan_same : (l k : Loan) (h b : ℕ) (n m : Name) → Lent l h n ≡ Lent k b m → (l ≡ k) × (h ≡ b) × (n ≡ m)
+loan_same l k h b n m e = (cc, cc, cc)
+
+same_object : (f x g y : ℕ) → OfRoot (OfVariable f x) ≡ OfRoot (OfVariable g y) → x ≡ y
+same_object f x g y e = cc
 
 module _ (table : Table) (typed : TypedProgram) (effects : Effects)
     (unmoved : (e : Stage) → e.frame.sub ≡ 0 → (name : Name) → Has (facts_of (flow_program table typed) effects e) (Moved name) → ⊥)
@@ -176,7 +184,7 @@ module _ (table : Table) (typed : TypedProgram) (effects : Effects)
       unused_there state h.stage.frame.sub h.stage.frame.returns (k ∷ older) waiting.1 g has name moved shared ((waiting.0).uses name.root used)
 
   none_some : {A : Type 0} (o : ℕ) (w : Way) (v : Views) → v.way o ≡ None → v.way o ≡ Some w → A
-  none_some o w v none has = (let no : None ≡ Some w = sym none ∙ has in cc)
+  none_some o w v none has = (let no : None ≡ Some w = sym none ∙ has in absurd (false≢true (ap is_some no)))
 
   -- The ways of others, with their cells.
   abbrev pub KeptElsewhere : List ViewStage → Way → ℕ → Type 0
@@ -214,9 +222,9 @@ module _ (table : Table) (typed : TypedProgram) (effects : Effects)
 
   -- the frame of the package objects has none
   no_cells : (g : ViewStage) (w : Way) (n : ℕ) → IsFirst g → IsWayOf g w n → ⊥
-  no_cells g w n first (inl (x, is, cell)) = (let no : None ≡ Some w = sym (first.2 x) ∙ is in cc)
+  no_cells g w n first (inl (x, is, cell)) = (let no : None ≡ Some w = sym (first.2 x) ∙ is in absurd (false≢true (ap is_some no)))
   no_cells g w n first (inr (inl (c, has, is, cell))) = subst (λ z. Has z c) first.4 has
-  no_cells g w n first (inr (inr (x, p, is, cell))) = (let no : None ≡ Some w = sym (first.5 x p) ∙ is in cc)
+  no_cells g w n first (inr (inr (x, p, is, cell))) = (let no : None ≡ Some w = sym (first.5 x p) ∙ is in absurd (false≢true (ap is_some no)))
 
   -- What a frame keeps of package objects, as loans that the objects hold themselves.
   loan_of : Fact → List Fact
@@ -231,9 +239,6 @@ module _ (table : Table) (typed : TypedProgram) (effects : Effects)
   -- A place of a package object that a frame that waits keeps.
   abbrev pub LentElsewhere : List ViewStage → Loan → Name → Type 0
   LentElsewhere older l n = LentBy program effects older l n
-
-  loan_same : (l k : Loan) (h b : ℕ) (n m : Name) → Lent l h n ≡ Lent k b m → (l ≡ k) × (h ≡ b) × (n ≡ m)
-  loan_same l k h b n m e = (cc, cc, cc)
 
   one_from : (f g : Fact) → Has (loan_of f) g → (g ≡ Lent (loan_by f) (place f).root (place f)) × (is_package_object s (place f).root ≡ true)
   unfolding loan_of
@@ -585,9 +590,6 @@ module _ (table : Table) (typed : TypedProgram) (effects : Effects)
         base_there : base_of z ≡ OfRoot (OfVariable foreign.0 foreign.1)
         base_there = elim meets [ inl above ↦ sym (longer z w above).base ∙ foreign.2 | inr below ↦ (longer w z below).base ∙ foreign.2 ]
 
-        same_object : (f x g y : ℕ) → OfRoot (OfVariable f x) ≡ OfRoot (OfVariable g y) → x ≡ y
-        same_object f x g y e = cc
-
         at_home : Named (home s depth) z → ⊥
         at_home named =
             let is = sym (named_base (home s depth) z named) ∙ base_there in
@@ -620,7 +622,7 @@ module _ (table : Table) (typed : TypedProgram) (effects : Effects)
       where
         same_cell : OfCell c.cell ≡ OfCell n → c.cell ≡ n
         same_cell e = cc
-    bare_reached w n p (g, has, (taken, inr (y, shared, is, root))) = (let never : OfRoot (OfVariable 0 y) ≡ OfCell n = root in cc)
+    bare_reached w n p (g, has, (taken, inr (y, shared, is, root))) = (let never : OfRoot (OfVariable 0 y) ≡ OfCell n = root in absurd (false≢true (ap is_of_cell_loc never)))
 
     pub bare_rests : (w : Way) (l : Loc) (p : List Step) → BareElsewhere older w l p
         → ((n : ℕ) × KeptElsewhere older w n × (l ≡ OfCell n)) ⊎ ((r : Root) × (w ≡ Object r) × (l ≡ OfRoot r))
@@ -688,7 +690,7 @@ module _ (table : Table) (typed : TypedProgram) (effects : Effects)
     handed_lent f has = loans_from older f has
 
     pub none_moved : (name : Name) → Has handed (Moved name) → ⊥
-    none_moved name has = (let found = loans_from older (Moved name) has in let no : Moved name ≡ Lent found.0 (found.1).root found.1 = found.2 in cc)
+    none_moved name has = (let found = loans_from older (Moved name) has in let no : Moved name ≡ Lent found.0 (found.1).root found.1 = found.2 in absurd (false≢true (ap is_lent_fact no)))
 
     pub lent_handed : (l : Loan) (h : ℕ) (name : Name) → Has handed (Lent l h name) → (h ≡ name.root) × LentElsewhere older l name
     lent_handed l h name has =

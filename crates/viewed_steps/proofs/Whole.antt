@@ -2,6 +2,7 @@
 use Rattle.std.proofs.Common.{◌≡◌, refl, sym, ap, ◌∙◌, subst, inl, inr, ℕ, zero, suc, ◌+◌, ◌<◌, ◌≤◌, Bool, true, false, not, ◌&&◌, ◌||◌, ◌==◌, eq-eqb, eqb-true, List, [], ◌∷◌, length, arith, None, if◌then◌else◌}
 use Rattle.std.specs.Prelude.{filter, flat_map}
 use Rattle.std.specs.List.{list_any}
+use Rattle.std.proofs.lemmas.Bool.{false≢true, true≢false}
 use Rattle.spark_base.specs.Lists.{Has}
 use Rattle.spark_base.specs.declared.position.Pos.{Pos}
 use Rattle.spark_base.proofs.Lists.{Has-append_left, Has-append_right, Has-filter_passes, Has-map, Has-map_from}
@@ -97,7 +98,7 @@ module _ (s : Typing) (facts : List Fact) (x : ℕ) (shared : is_formal s x || i
         | inl e ↦ (
             let yes : true ≡ b = sym kept_there ∙ sym (ap is_kept (eqb-true n x e)) ∙ is in
             subst (λ z. Has (if z then n ∷ kept_roots s (suc n) objects facts else kept_roots s (suc n) objects facts) x) yes (inl (eqb-true n x e)))
-        | inr e ↦ later b (more (past n x low (λ same. (let yes : true ≡ false = sym (eq-eqb n x same) ∙ e in cc))))
+        | inr e ↦ later b (more (past n x low (λ same. (let yes : true ≡ false = sym (eq-eqb n x same) ∙ e in absurd (true≢false yes)))))
       ]
         where
           later : (b : Bool) → Has (kept_roots s (suc n) objects facts) x → Has (if b then n ∷ kept_roots s (suc n) objects facts else kept_roots s (suc n) objects facts) x
@@ -132,7 +133,7 @@ module _ (program : FlowProgram) (effects : Effects) (are : AreEffects program e
       (Has-map (λ (b : Placed). b.act) (acts_of (frame_of own named.sub []) (point.0).pos (point.0).instr) from.1 other)) from.4)
 
   own_less : (objects : List Object) (x : ℕ) → is_formal (record own { objects = objects }) x || is_package_object (record own { objects = objects }) x ≡ true → x < length objects
-  own_less [] x shared = cc
+  own_less [] x shared = absurd (false≢true shared)
   own_less (o ∷ objects) zero shared = omega arith
   own_less (o ∷ objects) (suc x) shared = (let less = own_less objects x shared in omega (arith, less))
 

@@ -2,6 +2,7 @@
 use Rattle.std.proofs.Common.{◌≡◌, refl, sym, ap, ◌∙◌, ◌⊎◌, inl, inr, ℕ, Bool, true, false, not, ◌||◌, ◌==◌, eqb-true, eq-eqb, List, [], ◌∷◌, filter, if◌then◌else◌, subst}
 use Rattle.std.specs.Prelude.{map, flat_map}
 use Rattle.std.specs.List.{list_any}
+use Rattle.std.proofs.lemmas.Bool.{false≢true}
 use Rattle.spark_base.specs.Lists.{Has}
 use Rattle.spark_base.proofs.Lists.{Has-append_left, Has-append_right, Has-append_cases, Has-map, Has-map_from, Has-filter, Has-filter_passes}
 use Rattle.place_names.specs.declared.fact.Fact.{Fact}
@@ -18,9 +19,10 @@ use Rattle.soundness.proofs.Used.{any_has}
 use Rattle.viewed_steps.specs.Taken.{Lodge}
 use Rattle.viewed_steps.specs.Sound.{ViewStage, known_at, passed_roots, is_passed, withheld, shared_root}
 use Rattle.viewed_steps.proofs.Whole.{flat_has}
+use Rattle.viewed_steps.proofs.Constructors.{is_moved_fact}
 
 any_root : (ys : List ℕ) (x : ℕ) → list_any (λ y. y == x) ys ≡ true → Has ys x
-any_root [] x e = cc
+any_root [] x e = absurd (false≢true e)
 any_root (y ∷ ys) x e = elim (bool_cases (y == x)) [
   | inl same ↦ inl (eqb-true y x same)
   | inr other ↦ inr (any_root ys x (sym (ap (λ b. b || list_any (λ z. z == x) ys) other) ∙ e))
@@ -67,7 +69,7 @@ module _ (program : FlowProgram) (effects : Effects) (g : ViewStage) where
       → Has (known_at program effects g.stage) (Lent l h n) × (Has (passed_roots effects g) n.root → ⊥)
   kept_loan l h n has = elim (kept_cases (Lent l h n) has) [
     | inl fact ↦ fact
-    | inr (y, passed, is) ↦ (let no : Lent l h n ≡ Moved (object y) = is in cc)
+    | inr (y, passed, is) ↦ (let no : Lent l h n ≡ Moved (object y) = is in absurd (false≢true (ap is_moved_fact no)))
   ]
 
 -- what is taken, and cells, are of such objects

@@ -77,6 +77,7 @@ use Rattle.soundness.proofs.Taking.{Takes}
 use Rattle.viewed_steps.proofs.Packages as packages
 use Rattle.viewed_steps.proofs.Innermost as innermost
 use Rattle.std.specs.Prelude.{flat_map, Bool}
+use Rattle.std.proofs.lemmas.Bool.{false≢true}
 use Rattle.machine.specs.Step.{led}
 use Rattle.machine.specs.Evaluate.{Raises, Traps}
 use Rattle.soundness.proofs.Numbers.{index_law}
@@ -88,6 +89,7 @@ use Rattle.viewed_steps.proofs.Supplied.{of_types}
 use Rattle.viewed_steps.proofs.Views.{AreAccess, all_held}
 use Rattle.viewed_steps.specs.Seeing.{sees_in}
 use Rattle.viewed_steps.proofs.Sees.{sees_seeing}
+use Rattle.viewed_steps.proofs.Constructors.{is_declare_instruction}
 
 module _ (table : Table) (typed : TypedProgram) (effects : Effects) (input : List ℕ) (ready : IsReady table typed effects) where
   abbrev sees : ℕ → Bool
@@ -301,7 +303,7 @@ module _ (table : Table) (typed : TypedProgram) (effects : Effects) (input : Lis
         pub allowed_here : AllowsAll facts_now (acts (acts_in s held))
         allowed_here =
             subst (AllowsAll facts_now) acts_same (subst (λ i. AllowsAll facts_now (acts_of_main i)) is
-            (allowed_there (λ finish. (let never : Finish ≡ Declare y v = sym finish ∙ is in cc))))
+            (allowed_there (λ finish. (let never : Finish ≡ Declare y v = sym finish ∙ is in absurd (false≢true (ap is_declare_instruction never))))))
 
         pub keeps_here : AllKeep (is_fixed s sees) (acts (acts_in s held))
         keeps_here = subst (AllKeep (is_fixed s sees)) acts_same (subst (λ i. AllKeep (is_fixed s sees) (acts_of_main i)) is keeps_there)

@@ -1,5 +1,6 @@
 -- A function writes no package object.
 use Rattle.std.proofs.Common.{◌≡◌, refl, sym, ap, ◌∙◌, subst, ◌⊎◌, inl, inr, ℕ, Bool, true, false, ◌&&◌, ◌||◌, ◌==◌, eqb-true, List, [], ◌∷◌, Option, Some, None, is_some}
+use Rattle.std.proofs.lemmas.Bool.{false≢true}
 use Rattle.spark_base.specs.Lists.{Has}
 use Rattle.place_names.specs.declared.act.Act.{Act}
 use Rattle.place_names.specs.declared.act.Act.TheVariants as act
@@ -27,11 +28,11 @@ use Rattle.typed_tree.specs.Programs.{TypedProgram}
 
 first : (a b : Bool) → a && b ≡ true → a ≡ true
 first true b e = refl
-first false b e = cc
+first false b e = absurd (false≢true e)
 
 second : (a b : Bool) → a && b ≡ true → b ≡ true
 second true b e = e
-second false b e = cc
+second false b e = absurd (false≢true e)
 
 both : (a b : Bool) → a ≡ true → b ≡ true → a && b ≡ true
 both a b e f = ap (λ z. z && b) e ∙ f
@@ -47,6 +48,9 @@ either false b e = inr e
 never_both : (b : Bool) → b ≡ true → b ≡ false → ⊥
 never_both b e f = cc
 
+same_name : (m k : Name) → Some m ≡ Some k → m ≡ k
+same_name m k e = cc
+
 module _ (program : FlowProgram) (effects : Effects) (none : AreReports program effects []) (are : AreEffects program effects)
     (text : is_package_object (flow_typing program) 0 ≡ false)
     (borrower_local : (x : ℕ) → is_borrower (flow_typing program) x ≡ true → is_package_object (flow_typing program) x ≡ false) where
@@ -55,9 +59,6 @@ module _ (program : FlowProgram) (effects : Effects) (none : AreReports program 
 
   module _ (sub : FlowSub) (in_program : Has program.subs sub) (function : is_function sub ≡ true)
       (formals : (f : ℕ) → traversed_formal (flow_typing program) sub ≡ Some f → is_package_object (flow_typing program) f ≡ false) where
-    same_name : (m k : Name) → Some m ≡ Some k → m ≡ k
-    same_name m k e = cc
-
     outer : (m : Name) → is_package_object s m.root ≡ true → is_function sub && is_outer s m.root ≡ true
     outer m shared = both (is_function sub) (is_outer s m.root) function (or_second _ (is_package_object s m.root) shared)
 
@@ -112,6 +113,11 @@ AreAnswered table typed =
     × (is_some (sub_of (flow_program table typed) n).result ≡ is_some result)
     × ((f : ℕ) → Has (sub_of (flow_program table typed) n).formals f → is_package_object (flow_typing (flow_program table typed)) f ≡ false)
 
+traversed_has : (b : Bool) (xs : List ℕ) (f : ℕ) → traversed_of b xs ≡ Some f → Has xs f
+traversed_has true (x ∷ xs) f e = inl (let same : x ≡ f = cc in same)
+traversed_has true [] f e = cc
+traversed_has false xs f e = cc
+
 module _ (table : Table) (typed : TypedProgram) (effects : Effects) (none : AreReports (flow_program table typed) effects [])
     (are : AreEffects (flow_program table typed) effects) (text : is_package_object (flow_typing (flow_program table typed)) 0 ≡ false)
     (borrower_local : (x : ℕ) → is_borrower (flow_typing (flow_program table typed)) x ≡ true
@@ -122,12 +128,7 @@ module _ (table : Table) (typed : TypedProgram) (effects : Effects) (none : AreR
 
   call_of : (i : Instruction) (q : ℕ) → calls q i ≡ true → (n : ℕ) × (actuals : TypedTree) × (result : Option ℕ) × (i ≡ Call n actuals result) × (n ≡ q)
   call_of (Call n actuals result) q e = (n, actuals, result, refl, eqb-true n q e)
-  call_of i q e = cc
-
-  traversed_has : (b : Bool) (xs : List ℕ) (f : ℕ) → traversed_of b xs ≡ Some f → Has xs f
-  traversed_has true (x ∷ xs) f e = inl (let same : x ≡ f = cc in same)
-  traversed_has true [] f e = cc
-  traversed_has false xs f e = cc
+  call_of i q e = absurd (false≢true e)
 
   chain_writes : (n : ℕ) (named : NamedSub) → IsNamedSub (flow_named table typed) n named → is_some (sub_of all n).result ≡ true
       → ((f : ℕ) → Has (sub_of all n).formals f → is_package_object (flow_typing all) f ≡ false)

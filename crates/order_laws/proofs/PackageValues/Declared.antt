@@ -1,6 +1,7 @@
 -- The points of the package objects declare them, and do nothing else.
 use Rattle.std.proofs.Common.{◌≡◌, refl, ℕ, Bool, true, false, not, ◌||◌, List, [], ◌∷◌, ◌++◌, if◌then◌else◌}
 use Rattle.std.specs.List.{AllByRecursion}
+use Rattle.std.proofs.lemmas.Bool.{false≢true, true≢false}
 use Rattle.typed_tree.specs.Trees.{TypedTree, TypedCode, Name, Component, Designated, Element, Image, Parens, Unary, Binary, Short, IsNull, Aggregate, Alike, New}
 use Rattle.typed_tree.specs.Trees as typed
 use Rattle.typed_tree.specs.Programs.{TypedSub}
@@ -16,11 +17,11 @@ use Rattle.order_laws.specs.PackageValues.Calls.{calls_nothing}
 
 neither : (a b : Bool) → a || b ≡ false → (a ≡ false) × (b ≡ false)
 neither false b e = (refl, e)
-neither true b e = cc
+neither true b e = absurd (true≢false e)
 
 no_call : (b : Bool) → not b ≡ true → b ≡ false
 no_call false e = refl
-no_call true e = cc
+no_call true e = absurd (false≢true e)
 
 abbrev IsNone : NamedPoint → Type 0
 IsNone p = ⊥
@@ -30,12 +31,12 @@ Empty ps = AllByRecursion IsNone ps
 
 other : (b : Bool) (ps qs : List NamedPoint) → b ≡ false → Empty qs → Empty (if b then ps else qs)
 other false ps qs e h = h
-other true ps qs e h = cc
+other true ps qs e h = absurd (true≢false e)
 
 -- An expression without calls has no points of its own.
 prep_none : (s : Setting) (e : TypedTree) (at : Place) (scope : List ℕ) (k : List PointName) → has_call e ≡ false → Empty (prep s e at scope k)
 unfolding prep has_call
-prep_none s (typed.Call p sub actuals) at scope k none = cc
+prep_none s (typed.Call p sub actuals) at scope k none = absurd (true≢false none)
 prep_none s (Short op p a q b) at scope k none =
     let both = neither (has_call a) (has_call b) none in
     let behind : List NamedPoint = prep s b (1 ∷ at) (with_held s a (0 ∷ at) scope) k in
@@ -89,7 +90,7 @@ laid_declare s (typed.Declare p x v) at w k only none =
     all_one Declares (prep s v (0 ∷ at) w.scope (row_at at 0 ∷ [])) (point (row_at at 0) p (Declare x v) (with_held s v (0 ∷ at) w.scope) k)
     (none_declare (prep s v (0 ∷ at) w.scope (row_at at 0 ∷ [])) (prep_none s v (0 ∷ at) w.scope (row_at at 0 ∷ []) (no_call (has_call v) none))) (x, v, refl, no_call (has_call v) none)
 laid_declare s typed.NoMore at w k only none = tt
-laid_declare s _ at w k only none = cc
+laid_declare s _ at w k only none = absurd (false≢true only)
 
 pub package_declares : (s : Setting) (sub : TypedSub) → declares_only sub.body ≡ true → calls_nothing sub.body ≡ true → AllByRecursion Declares (elaboration_points s sub)
 package_declares s sub only none =

@@ -2,6 +2,7 @@
 use Rattle.std.proofs.Common.{◌≡◌, refl, sym, ap, ◌∙◌, inl, inr, ℕ, ◌+◌, Bool, true, false, not, ◌&&◌, ◌||◌, List, [], ◌∷◌, ◌++◌, map, None}
 use Rattle.std.specs.Prelude.{is_none}
 use Rattle.std.specs.List.{AllByRecursion}
+use Rattle.std.proofs.lemmas.Bool.{false≢true}
 use Rattle.spark_base.specs.Lists.{Has}
 use Rattle.resolved_tree.specs.Trees.{Tree, Code, Incomplete, Private, TypeDecl, Subtype, ConstrainedSubtype, Objects, Numbers, Instance, SubDecl, SubBody, Package, PackageBody, NoMore, More, code_items}
 use Rattle.resolved_tree.specs.Trees as resolved
@@ -41,6 +42,12 @@ unfolding calls_nothing
 each_calls s v h [] = tt
 each_calls s v h (d ∷ ids) = (ap not h, each_calls s v h ids)
 
+named_indication : (a x y z : Bool) → y ≡ true → not a || (x && (not y && z)) ≡ true → a ≡ false
+named_indication false x y z e h = refl
+named_indication true true true z e h = absurd (false≢true h)
+named_indication true true false z e h = absurd (false≢true e)
+named_indication true false y z e h = absurd (false≢true h)
+
 -- code of a package
 module _ (s : Site) (packaged : s.context.sub ≡ None) where
   started : in_package s.context ≡ true
@@ -59,15 +66,6 @@ module _ (s : Site) (packaged : s.context.sub ≡ None) where
       one_none (typed_expression s given e)
       (none_there e want (nothing_right (around (starting s.context) stands.Stored want e) (inside (starting s.context) false want e) faults) given)
   optional_none _ want given faults = refl
-
-  named_indication : (a x y z : Bool) → y ≡ true → not a || (x && (not y && z)) ≡ true → a ≡ false
-  named_indication false x y z e h = refl
-  named_indication true x y z e h = absurd (never x y z e h)
-    where
-      never : (x y z : Bool) → y ≡ true → x && (not y && z) ≡ true → ⊥
-      never true true z e h = cc
-      never true false z e h = cc
-      never false y z e h = cc
 
   objects_none : (ids : Code) (constant : Bool) (i : Code) (v : Tree) (want given : ℕ) → objects_faults s.context ids constant i v want ≡ []
       → has_call (typed_optional s given v) ≡ false
@@ -97,7 +95,7 @@ module _ (s : Site) (packaged : s.context.sub ≡ None) where
   declaration_none n (Instance d m args) e faults = tt
   declaration_none n (SubDecl front) e faults = tt
   declaration_none n NoMore e faults = tt
-  declaration_none n _ e faults = cc
+  declaration_none n _ e faults = absurd (false≢true e)
 
   declarations_none : (n : ℕ) (c : Code) → are_declarations c ≡ true → code_faults s.context c ≡ [] → AllByRecursion CallsNone (statements s n c)
   unfolding statements code_faults are_declarations
@@ -107,7 +105,7 @@ module _ (s : Site) (packaged : s.context.sub ≡ None) where
       (declarations_none (n + scope_count a) rest (and_second (is_declaration a) (are_declarations rest) e)
       (nothing_right (code_faults s.context a) (code_faults s.context rest) faults))
   declarations_none n NoMore e faults = tt
-  declarations_none n _ e faults = cc
+  declarations_none n _ e faults = absurd (false≢true e)
 
   part_none : (n : ℕ) (c : Code) → is_declaration c || is_body c ≡ true → code_faults s.context c ≡ [] → AllByRecursion CallsNone (statements s n c)
   unfolding statements
@@ -122,7 +120,7 @@ module _ (s : Site) (packaged : s.context.sub ≡ None) where
   part_none n (Instance d m args) e faults = tt
   part_none n (SubDecl front) e faults = tt
   part_none n NoMore e faults = tt
-  part_none n _ e faults = cc
+  part_none n _ e faults = absurd (false≢true e)
 
   parts_none : (n : ℕ) (c : Code) → are_parts c ≡ true → code_faults s.context c ≡ [] → AllByRecursion CallsNone (statements s n c)
   unfolding statements code_faults are_parts
@@ -132,7 +130,7 @@ module _ (s : Site) (packaged : s.context.sub ≡ None) where
       (parts_none (n + scope_count a) rest (and_second (is_declaration a || is_body a) (are_parts rest) e)
       (nothing_right (code_faults s.context a) (code_faults s.context rest) faults))
   parts_none n NoMore e faults = tt
-  parts_none n _ e faults = cc
+  parts_none n _ e faults = absurd (false≢true e)
 
 -- ---- units
 

@@ -1,6 +1,7 @@
 -- The initial values of package objects call no function of the program: a sentence of typing forbids it.
 use Rattle.std.proofs.Common.{◌≡◌, refl, subst, ℕ, ◌+◌, Bool, true, false, not, ◌||◌, nat_eq, List, [], ◌∷◌, ◌++◌, map, ℤ, if◌then◌else◌}
 use Rattle.std.specs.List.{AllByRecursion}
+use Rattle.std.proofs.lemmas.Bool.{false≢true, true≢false}
 use Rattle.spark_base.specs.declared.position.Pos.{Pos}
 use Rattle.resolved_tree.specs.declared.operator.Operator.{Operator}
 use Rattle.resolved_tree.specs.declared.operator.Operator.TheVariants as operator
@@ -27,16 +28,20 @@ use Rattle.flow_paths.specs.Names.{has_call}
 use Rattle.order_laws.proofs.Mains.{nothing_left, nothing_right, demanded}
 use Rattle.typed_laws.proofs.TypedPoints.Flags.{flagged, reading_same}
 
+none_both : (x y : Bool) → x ≡ false → y ≡ false → x || y ≡ false
+none_both false y h g = g
+none_both true y h g = absurd (true≢false h)
+
+never : (x : Bool) → x ≡ true → not x ≡ true → ⊥
+never true e f = false≢true f
+never false e f = false≢true e
+
 module _ (s : Site) (looped b : Bool) (started : b ≡ true) where
   abbrev c : Context
   c = flagged looped b s.context
 
   abbrev Still : TypedTree → Type 0
   Still e = has_call e ≡ false
-
-  none_both : (x y : Bool) → x ≡ false → y ≡ false → x || y ≡ false
-  none_both false y h g = g
-  none_both true y h g = cc
 
   list_none : (vs : List TypedTree) → AllByRecursion Still vs → Still (typed_list vs)
   unfolding has_call
@@ -104,10 +109,6 @@ module _ (s : Site) (looped b : Bool) (started : b ≡ true) where
   name_none p d loose given (reading.Value t v) steps actuals imaged faults h g = number_none t v
   name_none p d loose given (reading.Call f) steps actuals imaged faults h g =
       absurd (never b started (demanded 8 p (not b) (nothing_left (demand 8 p (not b)) _ faults)))
-    where
-      never : (x : Bool) → x ≡ true → not x ≡ true → ⊥
-      never true e f = cc
-      never false e f = cc
   name_none p d loose given (reading.Image t) steps actuals imaged faults h g = g
   name_none p d loose given reading.EndOfFile steps actuals imaged faults h g = refl
 

@@ -1,6 +1,7 @@
 -- The package objects are declared one by one, and nothing is moved for them.
 use Rattle.std.proofs.Common.{◌≡◌, refl, ap, ◌∙◌, inl, inr, ℕ, Bool, true, false, not, List, [], ◌∷◌, ◌++◌}
 use Rattle.std.specs.List.{AllByRecursion}
+use Rattle.std.proofs.lemmas.Bool.{false≢true}
 use Rattle.spark_base.specs.Lists.{Has}
 use Rattle.type_definitions.specs.Types.{is_owning}
 use Rattle.typed_tree.specs.Trees.{TypedTree, Name, Component, Designated, Element, Image, Parens, Unary, Binary, Short, IsNull, Aggregate, Alike, New, TypedCode}
@@ -88,7 +89,7 @@ laid_declare t s (typed.Declare p x v) at w k only none =
     all_one (Declares t) (prep s v (0 ∷ at) w.scope (row_at at 0 ∷ [])) (point (row_at at 0) p (Declare x v) (with_held s v (0 ∷ at) w.scope) k)
     (calls_declare t (prep s v (0 ∷ at) w.scope (row_at at 0 ∷ [])) (prep_calls s v (0 ∷ at) w.scope (row_at at 0 ∷ []))) (λ calls. (x, v, refl, none))
 laid_declare t s typed.NoMore at w k only none = tt
-laid_declare t s _ at w k only none = cc
+laid_declare t s _ at w k only none = absurd (false≢true only)
 
 pub package_declares : (t : Typing) (s : Setting) (sub : TypedSub) → declares_only sub.body ≡ true → names_no_owner t sub.body ≡ true
     → (p : NamedPoint) → Has (elaboration_points s sub) p → Declares t p
@@ -104,6 +105,6 @@ owns_none t (y ∷ xs) x none (inl e) owns =
     (and_first (not (is_owning t.table (object_at t y).of)) (own_nothing t xs) none)
   where
     refused : (b : Bool) → b ≡ true → not b ≡ true → ⊥
-    refused true e h = cc
-    refused false e h = cc
+    refused true e h = false≢true h
+    refused false e h = false≢true e
 owns_none t (y ∷ xs) x none (inr has) owns = owns_none t xs x (and_second (not (is_owning t.table (object_at t y).of)) (own_nothing t xs) none) has owns

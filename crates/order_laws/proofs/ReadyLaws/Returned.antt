@@ -4,6 +4,7 @@ use Rattle.std.specs.Bool.{Decides}
 use Rattle.std.specs.List.{AllByRecursion, position_or_len}
 use Rattle.std.specs.Cmp.Lexicographic.{pointwise_decides}
 use Rattle.std.proofs.lemmas.Bool.Decides.{Decides-eqb}
+use Rattle.std.proofs.lemmas.Bool.{false≢true, true≢false}
 use Rattle.spark_base.specs.Lists.{Has}
 use Rattle.type_definitions.specs.Types.{Table}
 use Rattle.typed_tree.specs.Programs.{TypedProgram}
@@ -37,7 +38,7 @@ point_decides a b =
   where
     both_parts : (a b : Bool) → a && b ≡ true → (a ≡ true) × (b ≡ true)
     both_parts true b e = (refl, e)
-    both_parts false b e = cc
+    both_parts false b e = absurd (false≢true e)
 
     both_true : (a b : Bool) → a ≡ true → b ≡ true → a && b ≡ true
     both_true a b e f = ap (λ x. x && b) e ∙ f
@@ -76,37 +77,37 @@ one_point (r ∷ rest) p q (apart, differ) (inr has) (inr also) same = one_point
 
 -- In a function each return has a value.
 pub valued : (s : Typing) (result : Option ℕ) (i : Instruction) → is_some result ≡ true → IsFine s result i → is_return i ≡ true → returns_value i ≡ true
-valued s None i some fine is = cc
+valued s None i some fine is = absurd (false≢true some)
 valued s (Some t) (Hold v) some (e, one, source) is = ap (λ z. returns_value (Hold z)) one
-valued s (Some t) i some fine is = cc
+valued s (Some t) i some fine is = absurd (false≢true is)
 
 is_a_return : (i : Instruction) → returns_value i ≡ true → is_return i ≡ true
 is_a_return (Hold v) is = refl
-is_a_return i is = cc
+is_a_return i is = absurd (false≢true is)
 
 no_return : (i : Instruction) → IsClosing i → is_return i ≡ false
 no_return i (inl (x, is)) = ap is_return is
 no_return i (inr is) = ap is_return is
 
 no_value : (i : Instruction) → is_return i ≡ false → returns_value i ≡ false
-no_value (Hold v) none = cc
+no_value (Hold v) none = absurd (true≢false none)
 no_value i none = refl
 
 not_both : (b : Bool) → b ≡ true → b ≡ false → ⊥
-not_both true is none = cc
-not_both false is none = cc
+not_both true is none = true≢false none
+not_both false is none = false≢true is
 
 or_later : (a b : Bool) → b ≡ true → a || b ≡ true
 or_later true b e = refl
 or_later false b e = e
 
 or_neither : (a b : Bool) → a ≡ false → b ≡ false → a || b ≡ false
-or_neither true b e f = cc
+or_neither true b e f = absurd (true≢false e)
 or_neither false b e f = f
 
 or_first : (a b : Bool) → a ≡ true → a || b ≡ true
 or_first true b e = refl
-or_first false b e = cc
+or_first false b e = absurd (false≢true e)
 
 module _ (table : Table) (typed : TypedProgram) (effects : Effects) (s : Typing) (named : NamedSub) (laid : IsLaid s named)
     (stands : AllByRecursion (Stands named.points) named.points) (starts : StartsAtZero named.points)

@@ -1,7 +1,7 @@
 -- Actuals: each is a value for its formal, or a place of its type.
 use Rattle.std.proofs.Common.{◌≡◌, ◌⊎◌, refl, sym, ap, ◌∙◌, subst, inl, inr, ℕ, suc, ◌+◌, ◌<◌, Bool, true, false, not, ◌||◌, List, [], ◌∷◌, ◌++◌, map, length, get_or, nat_eq, Some, None, if◌then◌else◌, arith}
 use Rattle.std.specs.Prelude.{is_some}
-use Rattle.std.proofs.lemmas.Bool.{eqb-true}
+use Rattle.std.proofs.lemmas.Bool.{eqb-true, false≢true, true≢false}
 use Rattle.spark_base.specs.declared.position.Pos.{Pos}
 use Rattle.place_names.specs.declared.act.Mode.{Mode}
 use Rattle.place_names.specs.declared.act.Mode.TheVariants as mode
@@ -28,7 +28,7 @@ use Rattle.flow_paths.specs.Objects.{Typing, Signature, object_at, sub_at}
 use Rattle.flow_paths.specs.Objects as flow
 use Rattle.type_definitions.specs.Types.{is_owning}
 use Rattle.typed_laws.specs.Fine.{Agree, Has, Laws, IsMeant, AreArguments}
-use Rattle.typed_laws.proofs.Agreeing.{of_known, holds, nil_left, nil_right, and_left, and_right, agree_trans, agree_access, agree_owns, retyped}
+use Rattle.typed_laws.proofs.Agreeing.{of_known, holds, nil_left, nil_right, and_left, and_right, agree_trans, agree_access, agree_owns, retyped, is_free}
 use Rattle.typed_laws.proofs.Assigns as assigns
 use Rattle.typed_laws.proofs.Main.{has_type}
 use Rattle.type_definitions.specs.declared.table.Shape.{Shape}
@@ -50,14 +50,14 @@ use Rattle.typed_files.specs.TypedRuns.Formals.{AreSameViews, IsFormal, AreForma
 use Rattle.typed_files.proofs.TypedRuns.Owners.{anonymous_apart, owner_named, object_named}
 
 refused : (p : Pos) (b : Bool) → demand 1 p b ++ demand 2 p false ≡ [] → ⊥
-refused p true e = cc
-refused p false e = cc
+refused p true e = false≢true (ap is_free e)
+refused p false e = false≢true (ap is_free e)
 
 other_refused : (a b : List Fault) (p : Pos) → (a ++ demand 2 p false) ++ b ≡ [] → ⊥
-other_refused a b p e = let f = nil_right a (demand 2 p false) (nil_left (a ++ demand 2 p false) b e) in cc
+other_refused a b p e = let f = nil_right a (demand 2 p false) (nil_left (a ++ demand 2 p false) b e) in false≢true (ap is_free f)
 
 two_refused : (a : List Fault) (p : Pos) → a ++ demand 2 p false ≡ [] → ⊥
-two_refused a p e = let f = nil_right a (demand 2 p false) e in cc
+two_refused a p e = let f = nil_right a (demand 2 p false) e in false≢true (ap is_free f)
 
 not_zero : (n : ℕ) → nat_eq n 1 ≡ true → n ≡ 0 → ⊥
 not_zero n e f = let g = eqb-true n 1 e in omega (arith, g, f)
@@ -73,9 +73,9 @@ agree_back table t u (inr e) = inr (kind_back (shape_of table t) (shape_of table
     kind_back : (a b : Shape) → same_kind a b ≡ true → same_kind b a ≡ true
     kind_back (shape.Whole u v) (shape.Whole w x) e = refl
     kind_back (shape.Listed k u v) (shape.Listed l w x) e = refl
-    kind_back (shape.Whole u v) b e = cc
-    kind_back (shape.Listed k u v) b e = cc
-    kind_back a b e = cc
+    kind_back (shape.Whole u v) b e = absurd (false≢true e)
+    kind_back (shape.Listed k u v) b e = absurd (false≢true e)
+    kind_back a b e = absurd (false≢true e)
 
 module _ (s : Site) (objects : List Object) (subs : List Signature) (made : ℕ → Type 0) (laws : Laws s.context.known made) where
   abbrev y : Typing
@@ -108,7 +108,7 @@ module _ (s : Site) (objects : List Object) (subs : List Signature) (made : ℕ 
           (u, place (typed_expression s t (Named p d rest)) u found.1, laws.same t u m found.0 (sym one))
       by reading.Off is around within = (
           let f = nil_left (reading_faults c p d false (given_names (call_arguments rest)) (reading_of c d rest)) _ within in
-          let g : reading_faults c p d false (given_names (call_arguments rest)) reading.Off ≡ [] = rw is at f in cc)
+          let g : reading_faults c p d false (given_names (call_arguments rest)) reading.Off ≡ [] = rw is at f in absurd (false≢true (ap is_free g)))
       by (reading.Value u v) is around within = absurd (refused p (is_of c.known t (own.Of u)) around)
       by (reading.Call f) is around within = absurd (refused p (is_of c.known t (own_of c.known (reading.Call f))) around)
       by (reading.Image u) is around within = absurd (refused p false around)
@@ -119,7 +119,7 @@ module _ (s : Site) (objects : List Object) (subs : List Signature) (made : ℕ 
   unfolding inside
   off_read p d want rest is within =
       let f = nil_left (reading_faults c p d true (given_names (call_arguments rest)) (reading_of c d rest)) _ within in
-      let g : reading_faults c p d true (given_names (call_arguments rest)) reading.Off ≡ [] = rw is at f in cc
+      let g : reading_faults c p d true (given_names (call_arguments rest)) reading.Off ≡ [] = rw is at f in false≢true (ap is_free g)
 
   pub tight : (e : Tree) (want : ℕ) → is_object_name c e ≡ true → inside c true want e ≡ [] → inside c false want e ≡ []
   unfolding inside
@@ -131,8 +131,8 @@ module _ (s : Site) (objects : List Object) (subs : List Signature) (made : ℕ 
       by : (r : Reading) → is_object r ≡ true → reading_faults c p d true (given_names (call_arguments rest)) r ++ more ≡ []
           → reading_faults c p d false (given_names (call_arguments rest)) r ++ more ≡ []
       by (reading.Place t) o h = h
-      by r o h = cc
-  tight e want is within = cc
+      by r o h = absurd (false≢true o)
+  tight e want is within = absurd (false≢true is)
 
   variable_object : (e : Tree) (t : ℕ) → around_variable c t e ≡ [] → inside c true t e ≡ [] → is_object_name c e ≡ true
   variable_object (Named p d rest) t demands within = by (reading_of c d rest) refl demands
@@ -156,7 +156,7 @@ module _ (s : Site) (objects : List Object) (subs : List Signature) (made : ℕ 
 
   known_faults : (b : Bool) (xs : List Fault) → b ≡ false → (if b then [] else xs) ≡ [] → xs ≡ []
   known_faults false xs e h = h
-  known_faults true xs e h = cc
+  known_faults true xs e h = absurd (true≢false e)
 
   -- ---- what a traversal goes through
 
@@ -184,7 +184,7 @@ module _ (s : Site) (objects : List Object) (subs : List Signature) (made : ℕ 
   no_name : (p : Pos) (o : Own) → traversed_value c p o ≡ [] → ⊥
   no_name p o e =
       let f = nil_right (demand 5 p (not (own_owning c.known o))) (K6 p) (nil_right (demand 1 p (reading_access c o)) _ e) in
-      cc
+      false≢true (ap is_free f)
 
   -- where the formal is of an anonymous access type
   anonymous_viewed : (e : Tree) (want : ℕ) → IsMeant s y e → made want → is_anonymous (full table want) ≡ true → traversed_anonymous c want e ≡ [] → inside c true want e ≡ []
@@ -201,7 +201,7 @@ module _ (s : Site) (objects : List Object) (subs : List Signature) (made : ℕ 
       on (reading.Image u) is g = absurd (no_name p (own_of c.known (reading.Image u)) g)
       on reading.EndOfFile is g = absurd (no_name p (own_of c.known reading.EndOfFile) g)
   anonymous_viewed e want meant m anonymous h within =
-      absurd (let f = nil_right (demand 1 (position e) (traversed_fits c want e)) (K6 (position e)) h in cc)
+      absurd (let f = nil_right (demand 1 (position e) (traversed_fits c want e)) (K6 (position e)) h in false≢true (ap is_free f))
 
   traversed : (e : Tree) (want : ℕ) → IsMeant s y e → made want → around_traversed c want e ≡ [] → inside c true want e ≡ [] → Taken y want (typed_expression s want e)
   traversed e want meant m demands within = by (is_anonymous (full table want)) refl demands
@@ -221,7 +221,7 @@ module _ (s : Site) (objects : List Object) (subs : List Signature) (made : ℕ 
       on (reading.Call f) is g = absurd (no_name p (own_of c.known (reading.Call f)) g)
       on (reading.Image u) is g = absurd (no_name p (own_of c.known (reading.Image u)) g)
       on reading.EndOfFile is g = absurd (no_name p (own_of c.known reading.EndOfFile) g)
-  anonymous_object e want h within = absurd (let f = nil_right (demand 1 (position e) (traversed_fits c want e)) (K6 (position e)) h in cc)
+  anonymous_object e want h within = absurd (let f = nil_right (demand 1 (position e) (traversed_fits c want e)) (K6 (position e)) h in false≢true (ap is_free f))
 
   traversed_object : (e : Tree) (want : ℕ) → around_traversed c want e ≡ [] → inside c true want e ≡ [] → is_object_name c e ≡ true
   traversed_object e want demands within = by (is_anonymous (full table want)) demands
@@ -297,8 +297,8 @@ module _ (s : Site) (objects : List Object) (subs : List Signature) (made : ℕ 
           → (if not (is_in k) then around_variable c f.of e else if f.traversed then around_traversed c f.of e else around c stands.Actual f.of e) ≡ []
           → IsActual y x (typed_expression s f.of e)
       by mode.In has k h = rw k (value is.1 h)
-      by mode.Out has k h = rw k (placed mode.Out has (λ e. cc) is.1 h)
-      by mode.InOut has k h = rw k (placed mode.InOut has (λ e. cc) is.1 h)
+      by mode.Out has k h = rw k (placed mode.Out has (λ e. false≢true (ap is_in e)) is.1 h)
+      by mode.InOut has k h = rw k (placed mode.InOut has (λ e. false≢true (ap is_in e)) is.1 h)
 
   -- One that owns is null, or a name of its type.
   owner_given : (f : FormalInfo) (x : ℕ) (e : Tree) → IsFormal y x f → made f.of → IsMeant s y e
@@ -315,12 +315,12 @@ module _ (s : Site) (objects : List Object) (subs : List Signature) (made : ℕ 
           → (if not (is_in k) then around_variable c f.of e else if f.traversed then around_traversed c f.of e else around c stands.Actual f.of e) ≡ []
           → (if f.traversed then around_traversed c f.of e else around c stands.Actual f.of e) ≡ []
       plain mode.In at h = h
-      plain mode.Out at h = absurd (let no : mode.In ≡ mode.Out = sym of_in ∙ at in cc)
-      plain mode.InOut at h = absurd (let no : mode.In ≡ mode.InOut = sym of_in ∙ at in cc)
+      plain mode.Out at h = absurd (true≢false (ap is_in (sym of_in ∙ at)))
+      plain mode.InOut at h = absurd (true≢false (ap is_in (sym of_in ∙ at)))
 
       allowed_there : (a b : Bool) → a ≡ true → not a || b ≡ true → b ≡ true
       allowed_there true b is h = h
-      allowed_there false b is h = cc
+      allowed_there false b is h = absurd (false≢true is)
 
       had : Agree table f.of (object_at y x).of → is_owning table f.of ≡ true → around c stands.Actual f.of e ≡ [] → inside c false f.of e ≡ [] → IsOwner
       had agree owner h w =
@@ -410,7 +410,7 @@ module _ (s : Site) (objects : List Object) (subs : List Signature) (made : ℕ 
           by_position more (i + 1) xs rest are.1 (λ j. ap (λ n. get_or fs n no_formal) (let z : i + 1 + j ≡ i + suc j = omega arith in z) ∙ same (suc j))
               (let n = count in omega (arith, n)) all meant.1 (nil_right (inside c info.traversed info.of e) _ later),
         )
-    by_position (Argument (Some w) e more) i xs rest are same count all meant none = cc
+    by_position (Argument (Some w) e more) i xs rest are same count all meant none = absurd (false≢true all)
     by_position (Argument None e more) i [] [] are same count all meant none = cc
     by_position (Argument None e more) i (x ∷ xs) [] are same count all meant none = absurd are
     by_position (Argument None e more) i [] (k ∷ rest) are same count all meant none = absurd are

@@ -1,6 +1,7 @@
 -- Statements that call: a procedure, an instance of Unchecked_Deallocation, input and output.
 use Rattle.std.proofs.Common.{◌≡◌, refl, sym, ap, ◌∙◌, subst, ℕ, ◌+◌, Bool, true, false, ◌&&◌, List, [], ◌∷◌, ◌++◌, map, Option, Some, None}
 use Rattle.std.specs.Prelude.{is_none, is_some}
+use Rattle.std.proofs.lemmas.Bool.{false≢true}
 use Rattle.spark_base.specs.declared.position.Pos.{Pos}
 use Rattle.resolved_tree.specs.Trees.{Tree, Named, Applied, Argument, NoMore, More}
 use Rattle.type_definitions.specs.declared.table.Entry.{Entry}
@@ -27,7 +28,7 @@ use Rattle.typed_tree.specs.Statements.{typed_text, typed_call, call_of, predefi
 use Rattle.flow_paths.specs.Instructions as instruction
 use Rattle.flow_paths.specs.Objects.{Typing, Signature}
 use Rattle.typed_laws.specs.Fine.{Agree, Laws, IsMeant, AreSuffixes, IsSuffix, AreArguments}
-use Rattle.typed_laws.proofs.Agreeing.{holds, nil_left, nil_right, and_left, and_right, agree_access, agree_counts}
+use Rattle.typed_laws.proofs.Agreeing.{holds, nil_left, nil_right, and_left, and_right, agree_access, agree_counts, is_free}
 use Rattle.typed_laws.proofs.TypedPoints.Flags.{flagged, at_flags, typed_same, meant_same}
 use Rattle.typed_laws.proofs.TypedPoints.Strings.{string_own}
 use Rattle.typed_laws.specs.TypedSteps.Steps.{IsPlaceOf, FirstText, IsText, IsCall}
@@ -48,7 +49,7 @@ with_arguments s y rest P F never good meant none = absurd (never none)
 
 none_given : (o : Option ℕ) → is_none o ≡ true → is_some o ≡ false
 none_given None is = refl
-none_given (Some t) is = cc
+none_given (Some t) is = absurd (false≢true is)
 
 -- ---- whether in a loop, a call means the same
 
@@ -107,7 +108,7 @@ module _ (s : Site) (objects : List Object) (subs : List Signature) (made : ℕ 
         let law = laws.freed d t is in
         let found = placed e t meant.0 law.0 (nil_right (demand 3 p (associates (name_x ∷ []) (given_names (Argument w e rest)))) _ none) in
         ((found.0.0, law.1, found.0.1, agree_access table t found.0.0 law.1 false true found.0.2 law.2), found.1)
-    released p d t args is meant none = cc
+    released p d t args is meant none = absurd (false≢true (ap is_free none))
 
     -- ---- input and output
 
@@ -122,7 +123,7 @@ module _ (s : Site) (objects : List Object) (subs : List Signature) (made : ℕ 
           (refl, subst (IsText y) (typed_same looped starts s integer e) (written z objects subs made laws e integer kept text into)),
           (inner s objects subs made laws profiled looped starts e integer meant.0 laws.integers into, tt),
         )
-    put p args meant none = cc
+    put p args meant none = absurd (false≢true (ap is_free none))
 
     get : (p : Pos) (args : Tree) → AreArguments s y args → demand 3 p (is_one (given_names args)) ++ variable_argument c integer args ≡ []
         → IsTypedUse y None (instruction.Input (typed_first s integer args))
@@ -130,7 +131,7 @@ module _ (s : Site) (objects : List Object) (subs : List Signature) (made : ℕ 
     get p (Argument w e rest) meant none =
         let found = placed e integer meant.0 laws.integers (nil_right (demand 3 p (is_one (given_names (Argument w e rest)))) _ none) in
         ((found.0.0, found.0.1, agree_counts table integer found.0.0 found.0.2 laws.whole), found.1)
-    get p args meant none = cc
+    get p args meant none = absurd (false≢true (ap is_free none))
 
     -- ---- procedures
 
@@ -160,7 +161,7 @@ module _ (s : Site) (objects : List Object) (subs : List Signature) (made : ℕ 
         by (More (Applied args) NoMore) h none =
             at (More (Applied args) NoMore) args refl h (ap (λ xs. xs ++ []) (nil_right (demand 3 p (is_none profile.result && associates (map (λ (f : FormalInfo). f.name) profile.formals) (given_names args))) _ none))
             (holds 3 p _ (nil_left _ (arguments c (role.Actuals d) 0 args) none))
-        by rest h none = cc
+        by rest h none = absurd (false≢true (ap is_free none))
 
     module _ (result : Option ℕ) where
       abbrev IsTypedCall : TypedCode → Type 0
@@ -182,10 +183,10 @@ module _ (s : Site) (objects : List Object) (subs : List Signature) (made : ℕ 
           by : (e : Entry) → entry_of s.context.known d ≡ e → called c p d e (actuals_of rest) ≡ [] → IsTypedCall (call_of s p d e rest)
           by (entry.Subprogram profile) is h = (let call = procedure_called p d profile rest is meant h in (call.0, (call.1, call.2)))
           by (entry.Instance t) is h =
-              with_arguments s y rest (λ args. IsTypedUse y None (instruction.Release (typed_first s t args))) (λ o. called c p d (entry.Instance t) o) (λ e. cc)
+              with_arguments s y rest (λ args. IsTypedUse y None (instruction.Release (typed_first s t args))) (λ o. called c p d (entry.Instance t) o) (λ e. false≢true (ap is_free e))
               (λ args m n. released p d t args is m n) meant.1 h
           by (entry.Predefined which) is h =
-              with_arguments s y rest (λ args. IsTypedCall (predefined_call s p which args)) (λ o. called c p d (entry.Predefined which) o) (λ e. cc)
+              with_arguments s y rest (λ args. IsTypedCall (predefined_call s p which args)) (λ o. called c p d (entry.Predefined which) o) (λ e. false≢true (ap is_free e))
               (λ args m n. predefined_typed p which args m n) meant.1 h
           by e is h = tt
       call_typed name meant none = tt

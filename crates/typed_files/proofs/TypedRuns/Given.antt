@@ -1,6 +1,7 @@
 -- What functions give in typed code: scalar values in names and scalar expressions, values that own nothing in actuals; and where a
 -- value is made of it, or it stands alone for a place of an anonymous access type.
 use Rattle.std.proofs.Common.{◌≡◌, refl, sym, ap, ◌∙◌, subst, ◌⊎◌, inl, inr, ℕ, zero, suc, Bool, true, false, ◌||◌, List, [], ◌∷◌, get_or, Option, Some, None}
+use Rattle.std.proofs.lemmas.Bool.{false≢true, true≢false}
 use Rattle.spark_base.specs.Lists.{Has as Holds}
 use Rattle.spark_base.specs.declared.position.Pos.{Pos}
 use Rattle.place_names.specs.declared.act.Mode.{Mode}
@@ -34,69 +35,69 @@ same_some e = cc
 kind_scalar : (a b : Shape) → same_kind a b ≡ true → is_scalar (view_of b) ≡ true → is_scalar (view_of a) ≡ true
 kind_scalar (shape.Whole x y) b e h = refl
 kind_scalar (shape.Listed k x y) b e h = refl
-kind_scalar (shape.Access d c n) b e h = cc
-kind_scalar (shape.Fields cs) b e h = cc
-kind_scalar (shape.Elements x y z) b e h = cc
-kind_scalar (shape.Same of) b e h = cc
+kind_scalar (shape.Access d c n) b e h = absurd (false≢true e)
+kind_scalar (shape.Fields cs) b e h = absurd (false≢true e)
+kind_scalar (shape.Elements x y z) b e h = absurd (false≢true e)
+kind_scalar (shape.Same of) b e h = absurd (false≢true e)
 
 agree_scalar : (table : Table) (t u : ℕ) → Agree table t u → is_scalar (full table u) ≡ true → is_scalar (full table t) ≡ true
 agree_scalar table t u (inl e) h = ap (λ z. is_scalar (view_of z)) (one_shape table t u e) ∙ h
 agree_scalar table t u (inr e) h = kind_scalar (shape_of table t) (shape_of table u) e h
 
 scalar_whole : (z : Shape) → is_record z || is_array z ≡ true → is_scalar (view_of z) ≡ true → ⊥
-scalar_whole (shape.Fields cs) made scalar = cc
-scalar_whole (shape.Elements x y of) made scalar = cc
-scalar_whole (shape.Whole x y) made scalar = cc
-scalar_whole (shape.Listed k x y) made scalar = cc
-scalar_whole (shape.Access d c n) made scalar = cc
-scalar_whole (shape.Same of) made scalar = cc
+scalar_whole (shape.Fields cs) made scalar = absurd (false≢true scalar)
+scalar_whole (shape.Elements x y of) made scalar = absurd (false≢true scalar)
+scalar_whole (shape.Whole x y) made scalar = absurd (false≢true made)
+scalar_whole (shape.Listed k x y) made scalar = absurd (false≢true made)
+scalar_whole (shape.Access d c n) made scalar = absurd (false≢true made)
+scalar_whole (shape.Same of) made scalar = absurd (false≢true made)
 
 scalar_access : (z : Shape) (d : ℕ) (c n : Bool) → z ≡ shape.Access d c n → is_scalar (view_of z) ≡ true → ⊥
-scalar_access z d c n is scalar = (let no : is_scalar (view_of (shape.Access d c n)) ≡ true = ap (λ k. is_scalar (view_of k)) (sym is) ∙ scalar in cc)
+scalar_access z d c n is scalar = false≢true (ap (λ k. is_scalar (view_of k)) (sym is) ∙ scalar)
 
 none_of : (owns : ℕ → Bool) → owns integer ≡ false → (cs : List Part) (i : ℕ) → any_owns owns cs ≡ false → owns (get_or cs i no_component).of ≡ false
 none_of owns plain [] i none = plain
 none_of owns plain (c ∷ cs) zero none = first (owns c.of) (any_owns owns cs) none
   where
     first : (a b : Bool) → a || b ≡ false → a ≡ false
-    first true b e = cc
+    first true b e = absurd (true≢false e)
     first false b e = refl
 none_of owns plain (c ∷ cs) (suc i) none = none_of owns plain cs i (later (owns c.of) (any_owns owns cs) none)
   where
     later : (a b : Bool) → a || b ≡ false → b ≡ false
-    later true b e = cc
+    later true b e = absurd (true≢false e)
     later false b e = e
 
 part_none : (owns : ℕ → Bool) → owns integer ≡ false → (z : Shape) (i : ℕ) → is_record z || is_array z ≡ true → owns_of owns z ≡ false → owns (part_type z i) ≡ false
 part_none owns plain (shape.Fields cs) i made none = none_of owns plain cs i none
 part_none owns plain (shape.Elements x y of) i made none = none
-part_none owns plain (shape.Whole x y) i made none = cc
-part_none owns plain (shape.Listed k x y) i made none = cc
-part_none owns plain (shape.Access d c n) i made none = cc
-part_none owns plain (shape.Same of) i made none = cc
+part_none owns plain (shape.Whole x y) i made none = absurd (false≢true made)
+part_none owns plain (shape.Listed k x y) i made none = absurd (false≢true made)
+part_none owns plain (shape.Access d c n) i made none = absurd (false≢true made)
+part_none owns plain (shape.Same of) i made none = absurd (false≢true made)
 
 scalar_none : (f : ℕ → Bool) (z : Shape) → is_scalar (view_of z) ≡ true → owns_of f z ≡ false
 scalar_none f (shape.Whole x y) e = refl
 scalar_none f (shape.Listed k x y) e = refl
-scalar_none f (shape.Access d c n) e = cc
-scalar_none f (shape.Fields cs) e = cc
-scalar_none f (shape.Elements x y of) e = cc
-scalar_none f (shape.Same of) e = cc
+scalar_none f (shape.Access d c n) e = absurd (false≢true e)
+scalar_none f (shape.Fields cs) e = absurd (false≢true e)
+scalar_none f (shape.Elements x y of) e = absurd (false≢true e)
+scalar_none f (shape.Same of) e = absurd (false≢true e)
 
 scalar_named : (z : Shape) → is_scalar (view_of z) ≡ true → is_anonymous (view_of z) ≡ false
 scalar_named (shape.Whole x y) e = refl
 scalar_named (shape.Listed k x y) e = refl
-scalar_named (shape.Access d c n) e = cc
-scalar_named (shape.Fields cs) e = cc
-scalar_named (shape.Elements x y of) e = cc
-scalar_named (shape.Same of) e = cc
+scalar_named (shape.Access d c n) e = absurd (false≢true e)
+scalar_named (shape.Fields cs) e = absurd (false≢true e)
+scalar_named (shape.Elements x y of) e = absurd (false≢true e)
+scalar_named (shape.Same of) e = absurd (false≢true e)
 
 -- an access type that owns nothing is anonymous
 seen_access : (f : ℕ → Bool) (d : ℕ) (c n : Bool) → owns_of f (shape.Access d c n) ≡ false → is_anonymous (view_of (shape.Access d c n)) ≡ false → ⊥
-seen_access f d true true none named = cc
-seen_access f d false true none named = cc
-seen_access f d true false none named = cc
-seen_access f d false false none named = cc
+seen_access f d true true none named = absurd (true≢false none)
+seen_access f d false true none named = absurd (true≢false none)
+seen_access f d true false none named = absurd (true≢false named)
+seen_access f d false false none named = absurd (true≢false named)
 
 -- What is known of types, and of formals of anonymous access types.
 pub record AreSettled (y : Typing) : Type 0 where
@@ -143,10 +144,10 @@ module _ (y : Typing) (settled : AreSettled y) where
   part_named : (t i : ℕ) (z : Shape) → shape_of y.table t ≡ z → is_record z || is_array z ≡ true → is_anonymous (full y.table (part_type z i)) ≡ false
   part_named t i (shape.Fields cs) e whole = ap (λ k. is_anonymous (full y.table (get_or (components_of k) i no_component).of)) (sym e) ∙ settled.component t i
   part_named t i (shape.Elements x z of) e whole = ap (λ k. is_anonymous (full y.table (element_of k))) (sym e) ∙ settled.element t
-  part_named t i (shape.Whole x z) e whole = cc
-  part_named t i (shape.Listed k x z) e whole = cc
-  part_named t i (shape.Access d c n) e whole = cc
-  part_named t i (shape.Same of) e whole = cc
+  part_named t i (shape.Whole x z) e whole = absurd (false≢true whole)
+  part_named t i (shape.Listed k x z) e whole = absurd (false≢true whole)
+  part_named t i (shape.Access d c n) e whole = absurd (false≢true whole)
+  part_named t i (shape.Same of) e whole = absurd (false≢true whole)
 
   part : (k : Kind) (t want i : ℕ) → Agree y.table t want → fine k want → is_record (shape_of y.table t) || is_array (shape_of y.table t) ≡ true → fine k (part_type (shape_of y.table t) i)
   part AreScalars t want i agree scalar whole = absurd (scalar_whole (shape_of y.table t) whole (agree_scalar y.table t want agree scalar))
@@ -176,7 +177,7 @@ module _ (y : Typing) (settled : AreSettled y) where
   element_is : (z : Shape) (of : ℕ) → is_array z ≡ true → part_type z 0 ≡ of → is_record z || is_array z ≡ true
   element_is (shape.Elements low high e) of array is = refl
   element_is (shape.Fields cs) of array is = refl
-  element_is z of array is = cc
+  element_is z of array is = absurd (false≢true array)
 
   -- ---- an actual
 
@@ -285,7 +286,7 @@ module _ (y : Typing) (settled : AreSettled y) where
     others_fit : (formals : List ℕ) (a : TypedTree) → ((z : ℕ) → Holds formals z → is_anonymous (object_view y z) ≡ false) → ActualsTaken y formals a → NamesOwners y formals a
         → Within y a → PassedFit (GivesScalar y) (GivesOwnless y) a
     others_fit (x ∷ formals) (More e rest) plain (actual, actuals) (owner, owners) (within, others) = (
-      one_fit x e (λ k want is_fine has. fit k e want is_fine has within) actual owner (λ view. absurd (let no : true ≡ false = sym view ∙ plain x (inl refl) in cc)),
+      one_fit x e (λ k want is_fine has. fit k e want is_fine has within) actual owner (λ view. absurd (true≢false (sym view ∙ plain x (inl refl)))),
       others_fit formals rest (λ z has. plain z (inr has)) actuals owners others,
     )
     others_fit [] NoMore plain actuals owners within = tt
@@ -334,7 +335,7 @@ module _ (y : Typing) (settled : AreSettled y) where
       by_kind : GivesNoView y n ⊎ (is_anonymous (full y.table want) ≡ true) → (b : Bool) → traverses y.table (sub_at y n).result ≡ b
           → Fit (GivesNamed y) (typed.Call p n a) ⊎ (IsSingle (typed.Call p n a) × (is_anonymous (full y.table want) ≡ true))
       by_kind kind false plain = inl ((λ u is. named_result n u is plain), inner)
-      by_kind (inl none) true gives_one = (let no : true ≡ false = sym gives_one ∙ none in cc)
+      by_kind (inl none) true gives_one = absurd (true≢false (sym gives_one ∙ none))
       by_kind (inr view) true gives_one =
           let found = result_taken p n a want taken in
           inr ((p, n, a, refl, (found.0, found.1, ap (traverses y.table) (sym found.1) ∙ gives_one), inner), view)
@@ -363,10 +364,10 @@ module _ (y : Typing) (settled : AreSettled y) where
   -- what is of an anonymous access type is all of an object
   whole_place : (steps : TypedTree) (t u : ℕ) → Leads y t steps u → is_anonymous (full y.table u) ≡ true → has_call steps ≡ false
   unfolding Leads has_call
-  whole_place (Component i rest) t u (less, lead) view = (let no : true ≡ false = sym view ∙ leads_plain rest (component_type y.table t i) u lead (settled.component t i) in cc)
+  whole_place (Component i rest) t u (less, lead) view = absurd (true≢false (sym view ∙ leads_plain rest (component_type y.table t i) u lead (settled.component t i)))
   whole_place (Element index low high rest) t u (e, is, has, lead) view =
-      (let no : true ≡ false = sym view ∙ leads_plain rest e u lead (ap (λ k. is_anonymous (full y.table (element_of k))) (sym is) ∙ settled.element t) in cc)
-  whole_place (Designated rest) t u (d, c, n, is, lead) view = (let no : true ≡ false = sym view ∙ leads_plain rest d u lead (settled.designated t d c n is) in cc)
+      absurd (true≢false (sym view ∙ leads_plain rest e u lead (ap (λ k. is_anonymous (full y.table (element_of k))) (sym is) ∙ settled.element t)))
+  whole_place (Designated rest) t u (d, c, n, is, lead) view = absurd (true≢false (sym view ∙ leads_plain rest d u lead (settled.designated t d c n is)))
   whole_place NoMore t u lead view = refl
   whole_place steps t u lead view = absurd lead
 

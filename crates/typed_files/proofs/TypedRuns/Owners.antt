@@ -1,5 +1,6 @@
 -- An actual that owns is null, or a name.
 use Rattle.std.proofs.Common.{◌≡◌, refl, sym, ◌∙◌, ℕ, Bool, true, false, List, negsuc, if◌then◌else◌}
+use Rattle.std.proofs.lemmas.Bool.{false≢true, true≢false}
 use Rattle.spark_base.specs.declared.position.Pos.{Pos}
 use Rattle.resolved_tree.specs.declared.operator.Operator.{Operator}
 use Rattle.resolved_tree.specs.declared.operator.Operator.TheVariants as operator
@@ -38,10 +39,10 @@ module _ (s : Site) (objects : List Object) (subs : List Signature) (made : ℕ 
   -- ---- values that own nothing
 
   counted : (t : ℕ) → counts (shape_of table t) ≡ true → is_owning table t ≡ true → ⊥
-  counted t is owns = (let no : true ≡ false = sym owns ∙ scalar_owns table t laws.owns (either_left _ _ is) in cc)
+  counted t is owns = true≢false (sym owns ∙ scalar_owns table t laws.owns (either_left _ _ is))
 
   listed : (t : ℕ) → lists (shape_of table t) ≡ true → is_owning table t ≡ true → ⊥
-  listed t is owns = (let no : true ≡ false = sym owns ∙ scalar_owns table t laws.owns (either_right _ _ is) in cc)
+  listed t is owns = true≢false (sym owns ∙ scalar_owns table t laws.owns (either_right _ _ is))
 
   whole_apart : (t : ℕ) → Agree table integer t → is_owning table t ≡ true → ⊥
   whole_apart t agree owns = counted t (agree_counts table integer t agree laws.whole) owns
@@ -79,11 +80,11 @@ module _ (s : Site) (objects : List Object) (subs : List Signature) (made : ℕ 
 
   anonymous_owns : (f : ℕ → Bool) (z : Shape) → is_anonymous (view_of z) ≡ true → owns_of f z ≡ false
   anonymous_owns f (shape.Access d k false) e = refl
-  anonymous_owns f (shape.Access d k true) e = cc
-  anonymous_owns f z e = cc
+  anonymous_owns f (shape.Access d k true) e = absurd (false≢true e)
+  anonymous_owns f z e = absurd (false≢true e)
 
   pub anonymous_apart : (t : ℕ) → is_anonymous (full table t) ≡ true → is_owning table t ≡ true → ⊥
-  anonymous_apart t is owns = (let no : true ≡ false = sym owns ∙ laws.owns t ∙ anonymous_owns (is_owning table) (shape_of table t) is in cc)
+  anonymous_apart t is owns = true≢false (sym owns ∙ laws.owns t ∙ anonymous_owns (is_owning table) (shape_of table t) is)
 
   -- ---- an owning expression where an actual stands
 
@@ -96,10 +97,10 @@ module _ (s : Site) (objects : List Object) (subs : List Signature) (made : ℕ 
       by : (r : Reading) (steps actuals imaged : TypedTree) → (if is_object r then true else false) ≡ true → IsNamedOwner (typed_name s p d r steps actuals imaged)
       by (reading.Place u) steps actuals imaged h = tt
       by reading.Off steps actuals imaged h = tt
-      by r steps actuals imaged h = cc
+      by r steps actuals imaged h = absurd (false≢true h)
   owner_named (Number p n) t has owns at = absurd (counted t has.0 owns)
   owner_named (Text p v) t has owns at = absurd has
-  owner_named (Parens p e) t has owns at = cc
+  owner_named (Parens p e) t has owns at = absurd (false≢true at)
   owner_named (Unary p op e) t has owns at = absurd (by (is_alone op e) has)
     where
       by : (b : Bool) → Has y t (if b then typed.Number (negsuc 2147483647) else typed.Unary op (typed_expression s (unary_type op) e)) → ⊥
@@ -107,9 +108,9 @@ module _ (s : Site) (objects : List Object) (subs : List Signature) (made : ℕ 
       by false h = unary_apart op t h.0 owns
   owner_named (Binary p op a b) t has owns at =
       absurd (operands_apart op (position a) (position b) (is_null a) (is_null b) (typed_expression s (operand_type op) a) (typed_expression s (operand_type op) b) t has owns)
-  owner_named (Aggregate p args) t has owns at = cc
-  owner_named (Others p e) t has owns at = cc
-  owner_named (New p m v) t has owns at = cc
+  owner_named (Aggregate p args) t has owns at = absurd (false≢true at)
+  owner_named (Others p e) t has owns at = absurd (false≢true at)
+  owner_named (New p m v) t has owns at = absurd (false≢true at)
   owner_named e t has owns at = tt
 
   -- a name of an object
@@ -120,5 +121,5 @@ module _ (s : Site) (objects : List Object) (subs : List Signature) (made : ℕ 
     where
       by : (r : Reading) (steps actuals imaged : TypedTree) → is_object r ≡ true → IsName (typed_name s p d r steps actuals imaged)
       by (reading.Place u) steps actuals imaged h = tt
-      by r steps actuals imaged h = cc
-  object_named e t is = cc
+      by r steps actuals imaged h = absurd (false≢true h)
+  object_named e t is = absurd (false≢true is)

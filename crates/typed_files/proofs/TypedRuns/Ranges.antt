@@ -1,5 +1,6 @@
 -- Ranges of loops.
 use Rattle.std.proofs.Common.{◌≡◌, refl, sym, ap, ◌∙◌, subst, inl, inr, ℕ, ℤ, Bool, true, false, not, ◌&&◌, ◌||◌, List, []}
+use Rattle.std.proofs.lemmas.Bool.{false≢true}
 use Rattle.resolved_tree.specs.declared.node.Mark.{Mark}
 use Rattle.resolved_tree.specs.Trees.{Tree, Named, position, Code, Bounds, Marked, Constrained, RangeOf}
 use Rattle.type_definitions.specs.declared.table.Entry.{Entry}
@@ -27,7 +28,7 @@ use Rattle.typed_tree.specs.Statements.{typed_range, range_of, bounds_seen, arra
 use Rattle.flow_paths.specs.Objects.{Typing, Signature, object_at}
 use Rattle.typed_laws.specs.Fine.{Agree, Has, Laws, counts, lists}
 use Rattle.machine.specs.Typed.{same_kind}
-use Rattle.typed_laws.proofs.Agreeing.{of_known, holds, and_left, nil_left, nil_right, one_shape, retyped}
+use Rattle.typed_laws.proofs.Agreeing.{of_known, holds, and_left, nil_left, nil_right, one_shape, retyped, is_free}
 use Rattle.typed_laws.proofs.Steps.{seen_elements}
 use Rattle.typed_laws.specs.TypedPoints.Meant.{IsParameter, IsMeantRange}
 use Rattle.typed_laws.proofs.TypedPoints.Flags.{flagged, reading_same, own_same}
@@ -40,7 +41,7 @@ use Rattle.typed_files.proofs.TypedRuns.Sources.{inner, bound_had}
 
 elements_view : (v : View) → is_array v ≡ true → (low : ℤ) × (high : ℤ) × (of : ℕ) × (v ≡ view.Elements low high of)
 elements_view (view.Elements low high of) e = (low, high, of, refl)
-elements_view v e = cc
+elements_view v e = absurd (false≢true e)
 
 number_within : (y : Typing) (v : ℤ) → Within y (typed.Number v)
 unfolding Within
@@ -72,9 +73,9 @@ module _ (s : Site) (objects : List Object) (subs : List Signature) (made : ℕ 
       kind_scalar : (a b : Shape) → same_kind a b ≡ true → is_scalar (view_of b) ≡ true
       kind_scalar (shape.Whole u v) (shape.Whole w x) k = refl
       kind_scalar (shape.Listed m u v) (shape.Listed l w x) k = refl
-      kind_scalar (shape.Whole u v) b k = cc
-      kind_scalar (shape.Listed m u v) b k = cc
-      kind_scalar a b k = cc
+      kind_scalar (shape.Whole u v) b k = absurd (false≢true k)
+      kind_scalar (shape.Listed m u v) b k = absurd (false≢true k)
+      kind_scalar a b k = absurd (false≢true k)
 
   agreed : (t u : ℕ) (b : TypedTree × TypedTree) → Agree table t u → AreBounds t b → AreBounds u b
   agreed t u b agree h = (agree_scalar t u agree h.0, retyped y laws.owns b.0 t u agree h.1, retyped y laws.owns b.1 t u agree h.2, h.3, h.4)
@@ -92,7 +93,7 @@ module _ (s : Site) (objects : List Object) (subs : List Signature) (made : ℕ 
       by (shape.Listed names low high) is h =
           let named : lists (shape_of table t) ≡ true = ap lists is in
           (scalar, named, named, literal_within y low, literal_within y high)
-      by z is h = cc
+      by z is h = absurd (false≢true h)
 
   -- those of an array's index
   array_bounds : (v : View) (t : ℕ) → seen s.context t ≡ v → is_array v ≡ true → AreBounds integer (bounds_seen v)
@@ -110,9 +111,9 @@ module _ (s : Site) (objects : List Object) (subs : List Signature) (made : ℕ 
 
     split : (a b d : Bool) → a && b && d ≡ true → (a ≡ true) × (d ≡ true)
     split true true true e = (refl, refl)
-    split true true false e = cc
-    split true false d e = cc
-    split false b d e = cc
+    split true true false e = absurd (false≢true e)
+    split true false d e = absurd (false≢true e)
+    split false b d e = absurd (false≢true e)
 
     mark_scalar : (m : Mark) → scalar_mark c m ≡ [] → made (marked known m) × (is_scalar (full table (marked known m)) ≡ true)
     mark_scalar m none =
@@ -124,7 +125,7 @@ module _ (s : Site) (objects : List Object) (subs : List Signature) (made : ℕ 
     array_read : (e : Entry) (d : ℕ) (r : Reading) → ranged s.context e d r ≡ true → (t : ℕ) × (array_seen s.context d r ≡ seen s.context t) × (is_array (seen s.context t) ≡ true)
     array_read entry.Type d reading.Off h = (d, refl, h)
     array_read e d (reading.Place t) h = (t, refl, of_known (is_untyped table t) (is_array (seen s.context t)) (bounds.certain t) h)
-    array_read e d r h = cc
+    array_read e d r h = absurd (false≢true h)
 
     range_of_bounds : (e : Tree) → range_of_faults c e ≡ [] → AreBounds integer (range_of s.context e)
     unfolding seen
@@ -140,8 +141,8 @@ module _ (s : Site) (objects : List Object) (subs : List Signature) (made : ℕ 
         unflagged : (e : Entry) (d : ℕ) (r : Reading) → ranged c e d r ≡ true → ranged s.context e d r ≡ true
         unflagged entry.Type d reading.Off h = h
         unflagged e d (reading.Place t) h = h
-        unflagged e d r h = cc
-    range_of_bounds e none = cc
+        unflagged e d r h = absurd (false≢true h)
+    range_of_bounds e none = absurd (false≢true (ap is_free none))
 
     -- A type is one with that which it is based on.
     based_agree : (t : ℕ) → made t → Agree table t (base table t)

@@ -1,5 +1,6 @@
 -- Expressions and sources at their places, and what stands within them.
-use Rattle.std.proofs.Common.{◌≡◌, refl, sym, ◌&&◌, Some, subst, inl, ℕ, Bool, true, false, List, [], ◌++◌, if◌then◌else◌}
+use Rattle.std.proofs.Common.{◌≡◌, refl, sym, ◌&&◌, Some, subst, inl, ℕ, Bool, true, false, List, [], ◌++◌, if◌then◌else◌, ap}
+use Rattle.std.proofs.lemmas.Bool.{false≢true}
 use Rattle.resolved_tree.specs.Trees.{Tree, Null, Named, position}
 use Rattle.type_definitions.specs.declared.judgement.Fault.{Fault}
 use Rattle.type_definitions.specs.declared.judgement.Where.{Where}
@@ -17,7 +18,7 @@ use Rattle.typed_tree.specs.Trees.{TypedTree}
 use Rattle.typed_tree.specs.Expressions.{Site, typed_expression, typed_name, typed_steps, typed_actuals, typed_imaged, called_function, object_type}
 use Rattle.flow_paths.specs.Objects.{Typing, Signature}
 use Rattle.typed_laws.specs.Fine.{Has, Laws, IsMeant}
-use Rattle.typed_laws.proofs.Agreeing.{holds, nil_left, nil_right, and_left}
+use Rattle.typed_laws.proofs.Agreeing.{holds, nil_left, nil_right, and_left, is_free}
 use Rattle.typed_laws.proofs.TypedPoints.Flags.{flagged, at_flags, typed_same, meant_same}
 use Rattle.typed_laws.proofs.TypedPoints.Values.{has_at, unwanted, scalar_own_type}
 use Rattle.typed_laws.specs.TypedSteps.Steps.{Taken}
@@ -30,7 +31,7 @@ use Rattle.typed_files.proofs.TypedRuns.Within.{view_shown, call_read, function_
 source_inside : (c : Context) (want : ℕ) (e : Tree) → source_faults c want e ≡ [] → inside c true want e ≡ []
 unfolding inside
 source_inside c want (Named p d rest) none = nil_right (source_name c want p (reading_of c d rest)) (inside c true integer (Named p d rest)) none
-source_inside c want e none = absurd (let f = nil_left (K6 (position e)) _ (nil_right (demand 1 (position e) (source_fits c want e)) _ none) in cc)
+source_inside c want e none = absurd (let f = nil_left (K6 (position e)) _ (nil_right (demand 1 (position e) (source_fits c want e)) _ none) in false≢true (ap is_free f))
 
 return_inside : (c : Context) (want : ℕ) (e : Tree) → return_source c want e ≡ [] → inside c true want e ≡ []
 unfolding inside
@@ -126,10 +127,10 @@ module _ (s : Site) (objects : List Object) (subs : List Signature) (made : ℕ 
             (and_left (is_traversal_call c.known (reading.Call f)) _ (holds 6 p (is_source c.known (reading.Call f) && keeps_constant c.known want (own_of c.known (reading.Call f)))
             (nil_right (demand 1 p (designates c want (own_of c.known (reading.Call f)))) _ h)))
         by (reading.Value t v) is steps actuals imaged h =
-            absurd (let g = nil_right (demand 1 p (designates c want (own_of c.known (reading.Value t v)))) _ h in cc)
-        by (reading.Image t) is steps actuals imaged h = absurd (let g = nil_right (demand 1 p (designates c want (own_of c.known (reading.Image t)))) _ h in cc)
-        by reading.EndOfFile is steps actuals imaged h = absurd (let g = nil_right (demand 1 p (designates c want (own_of c.known reading.EndOfFile))) _ h in cc)
-    form want e meant none = absurd (let f = nil_left (K6 (position e)) _ (nil_right (demand 1 (position e) (source_fits c want e)) _ none) in cc)
+            absurd (let g = nil_right (demand 1 p (designates c want (own_of c.known (reading.Value t v)))) _ h in false≢true (ap is_free g))
+        by (reading.Image t) is steps actuals imaged h = absurd (let g = nil_right (demand 1 p (designates c want (own_of c.known (reading.Image t)))) _ h in false≢true (ap is_free g))
+        by reading.EndOfFile is steps actuals imaged h = absurd (let g = nil_right (demand 1 p (designates c want (own_of c.known reading.EndOfFile))) _ h in false≢true (ap is_free g))
+    form want e meant none = absurd (let f = nil_left (K6 (position e)) _ (nil_right (demand 1 (position e) (source_fits c want e)) _ none) in false≢true (ap is_free f))
 
     pub returned_form : (e : Tree) (want : ℕ) → IsMeant s y e → return_source c want e ≡ [] → IsViewSource y (typed_expression s want e)
     returned_form e want meant none = subst (IsViewSource y) (same want e) (form want e (meant_same looped starts s y e meant) none)

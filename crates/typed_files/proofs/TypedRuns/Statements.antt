@@ -2,6 +2,7 @@
 use Rattle.std.proofs.Common.{◌≡◌, refl, sym, ap, ◌∙◌, subst, inl, ℕ, Bool, true, false, not, ◌&&◌, ◌||◌, List, [], ◌++◌, map, Option, Some, None, if◌then◌else◌}
 use Rattle.std.specs.Prelude.{is_none, is_some}
 use Rattle.std.specs.List.{AllByRecursion}
+use Rattle.std.proofs.lemmas.Bool.{false≢true}
 use Rattle.spark_base.specs.declared.position.Pos.{Pos}
 use Rattle.resolved_tree.specs.declared.node.Mark.{Mark}
 use Rattle.resolved_tree.specs.Trees.{Tree, Named, NoMore, More, position, Code, Plain, Anonymous, code_items}
@@ -26,7 +27,7 @@ use Rattle.typed_tree.specs.Statements.{type_read, typed_object, returned_type}
 use Rattle.flow_paths.specs.Objects.{Typing, Signature}
 use Rattle.flow_paths.specs.Objects as flow
 use Rattle.typed_laws.specs.Fine.{Has, Laws, IsMeant}
-use Rattle.typed_laws.proofs.Agreeing.{holds, and_left, nil_left, nil_right}
+use Rattle.typed_laws.proofs.Agreeing.{holds, and_left, nil_left, nil_right, is_free}
 use Rattle.typed_laws.proofs.Assigns as assigns
 use Rattle.typed_laws.specs.TypedPoints.Meant.{IsMeantOptional, AreDeclared, AreNumbers}
 use Rattle.typed_laws.proofs.TypedPoints.Flags.{flagged, at_flags, typed_same, meant_same, reading_same}
@@ -80,7 +81,7 @@ module _ (s : Site) (objects : List Object) (subs : List Signature) (made : ℕ 
         → AreTyped (map (typed_object s v) (code_items ids))
     unfolding IsTypedCode
     one_typed (More d NoMore) i v single h source = ((subst (λ x. FirstTaken y x v) (sym h.0) source.0, subst (λ x. FirstWithin y x v) (sym h.0) source.1), tt)
-    one_typed ids i v single h source = cc
+    one_typed ids i v single h source = absurd (false≢true single)
 
     numbers_typed : (ids : Code) (v : TypedTree) → AreNumbers s y ids → TakenWithin y integer v → AreTyped (map (typed_object s v) (code_items ids))
     unfolding IsTypedCode
@@ -115,7 +116,7 @@ module _ (s : Site) (objects : List Object) (subs : List Signature) (made : ℕ 
 
     single : (a b d : Bool) → not true || (a && (not b && d)) ≡ true → a ≡ true
     single true b d e = refl
-    single false b d e = cc
+    single false b d e = absurd (false≢true e)
 
     initial : (ids i : Code) (constant : Bool) (v : Tree) (t : ℕ) → objects_faults c ids constant i v t ≡ [] → initial_faults (starting c) (is_anonymous_indication i) t v ≡ []
     initial ids i constant v t none =
@@ -139,7 +140,7 @@ module _ (s : Site) (objects : List Object) (subs : List Signature) (made : ℕ 
       where
         type_of : (ids : Code) → AreDeclared s y made (Anonymous p k m) ids → is_single ids ≡ true → made (first_number ids) × (is_anonymous (full table (first_number ids)) ≡ true)
         type_of (More d rest) h one = (h.1.0, ap (λ x. is_anonymous (view_of x)) h.1.2)
-        type_of ids h one = cc
+        type_of ids h one = absurd (false≢true one)
     objects_typed result ids i constant v h meant none =
         each_typed result ids i (typed_optional s integer v) integer h (λ d. refl) (first_given v integer meant laws.integers (initial ids i constant v integer none))
 
@@ -176,7 +177,7 @@ module _ (s : Site) (objects : List Object) (subs : List Signature) (made : ℕ 
         else faults c stands.Stored (result_type r) e) ≡ []
         → Returned y r (typed.More (typed_expression s (result_type r) e) typed.NoMore) × ReturnedWithin y r (typed.More (typed_expression s (result_type r) e) typed.NoMore)
     unfolding Within
-    value_returned p e None meant types none = cc
+    value_returned p e None meant types none = absurd (false≢true (ap is_free none))
     value_returned p e (Some t) meant types none =
         let found = by (is_anonymous (full table t)) refl none in ((typed_expression s t e, refl, found.0), ((found.1, tt), found.2))
       where
@@ -187,16 +188,16 @@ module _ (s : Site) (objects : List Object) (subs : List Signature) (made : ℕ 
             (found.0, found.1, λ view. returned_form s objects subs made laws profiled looped starts e t meant h)
         by false is h =
             let found = plain_source s objects subs made laws profiled looped starts e t meant (types t refl) h in
-            (found.0, found.1, λ view. absurd (let no : false ≡ true = sym (view_plain (full table t) is) ∙ view in cc))
+            (found.0, found.1, λ view. absurd (false≢true (sym (view_plain (full table t) is) ∙ view)))
 
     none_returned : (p : Pos) (r : Option ℕ) → demand 3 p (is_none r) ≡ [] → Returned y r typed.NoMore × ReturnedWithin y r typed.NoMore
     unfolding Within
     none_returned p None none = (refl, tt)
-    none_returned p (Some t) none = cc
+    none_returned p (Some t) none = absurd (false≢true (ap is_free none))
 
     pub return_typed : (p : Pos) (v : Tree) (sub : Option ℕ) → IsMeantOptional s y v → returned c p (sub_profile known sub) v ≡ []
         → Returned y (result_given (sub_profile known sub)) (typed_optional s (returned_type s.context sub) v) × ReturnedWithin y (result_given (sub_profile known sub)) (typed_optional s (returned_type s.context sub) v)
-    return_typed p v None meant none = cc
+    return_typed p v None meant none = absurd (false≢true (ap is_free none))
     return_typed p (More e rest) (Some f) meant none = value_returned p e (profile_of (entry_of known f)).result meant (λ t is. laws.result f t is) none
     return_typed p NoMore (Some f) meant none = none_returned p (profile_of (entry_of known f)).result none
     return_typed p v (Some f) meant none = absurd meant
@@ -213,8 +214,8 @@ module _ (s : Site) (objects : List Object) (subs : List Signature) (made : ℕ 
             else K2 p ++ behind c (way_of s.context.known d (entry_of s.context.known d)) rest) ≡ []
             → (t : ℕ) × (reading_of c d rest ≡ reading.Place t)
         by true (reading.Place t) is h = (t, is)
-        by true r is h = cc
-        by false r is h = cc
+        by true r is h = absurd (false≢true (ap is_free h))
+        by false r is h = absurd (false≢true (ap is_free h))
 
     source_assigned : (whole_target : Bool) (root : Entry) (e : Tree) (t : ℕ) → IsMeant s y e → made t
         → (if not (whole_target && is_anonymous (full table t)) then faults c stands.Stored t e else if is_formal root then formal_source c t e else source_faults c t e) ≡ []
@@ -248,7 +249,7 @@ module _ (s : Site) (objects : List Object) (subs : List Signature) (made : ℕ 
         let at = assigns.target_placed z objects subs made laws p d t rest (meant_same looped starts s y (Named p d rest) meant) none read.1 in
         let takes = source_assigned (is_end rest) (entry_of s.context.known d) e t value at.0 (rw read.1 at source) in
         let into = target_inside (is_object_entry (entry_of s.context.known d)) (demand 2 p (is_variable (entry_of s.context.known d) (reading_of c d rest)))
-        (inside c false integer (Named p d rest)) (K2 p ++ behind c (way_of s.context.known d (entry_of s.context.known d)) rest) none (λ e f. cc) in
+        (inside c false integer (Named p d rest)) (K2 p ++ behind c (way_of s.context.known d (entry_of s.context.known d)) rest) none (λ e f. false≢true (ap is_free f)) in
         let there = subst (λ x. IsPlaceOf y t x) (typed_same looped starts s integer (Named p d rest)) (place z objects subs made laws (typed_expression z integer (Named p d rest)) t at.1) in (
           (
             t,
@@ -259,4 +260,4 @@ module _ (s : Site) (objects : List Object) (subs : List Signature) (made : ℕ 
               (subst (λ r. WithinSource y t (typed_expression s (type_read r) e)) (sym here) takes.1),
           inner s objects subs made laws profiled looped starts (Named p d rest) integer meant laws.integers into,
         )
-    assigned_typed target e meant value none source = cc
+    assigned_typed target e meant value none source = absurd (false≢true (ap is_free none))

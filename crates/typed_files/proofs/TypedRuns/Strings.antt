@@ -1,5 +1,6 @@
 -- String expressions.
 use Rattle.std.proofs.Common.{◌≡◌, refl, sym, ap, ◌∙◌, subst, ℕ, true, false, List, [], ◌++◌, None}
+use Rattle.std.proofs.lemmas.Bool.{false≢true}
 use Rattle.resolved_tree.specs.declared.operator.Operator.{Operator}
 use Rattle.resolved_tree.specs.declared.operator.Operator.TheVariants as operator
 use Rattle.resolved_tree.specs.Trees.{Tree, Number, Text, Named, Parens, Unary, Binary, Applied, Attr, Argument, NoMore, More, position}
@@ -12,7 +13,7 @@ use Rattle.type_definitions.specs.declared.judgement.Where.TheVariants as stands
 use Rattle.type_definitions.specs.Types.{base, full, is_scalar}
 use Rattle.type_definitions.specs.Entries.{entry_of}
 use Rattle.type_definitions.specs.Names.{Context, is_index, reading_of}
-use Rattle.type_definitions.specs.Expressions.{own_of, own_type, inside, around, around_string, around_operands, around_parens, arguments, behind, within_suffix, way_of, reading_faults, given_names, call_arguments, operand_type, is_null}
+use Rattle.type_definitions.specs.Expressions.{own_of, own_type, inside, around, around_string, around_operands, around_parens, arguments, behind, within_suffix, way_of, reading_faults, given_names, call_arguments, operand_type, is_null, is_string, is_join}
 use Rattle.typed_tree.specs.declared.object.Object.{Object}
 use Rattle.typed_tree.specs.Expressions.{Site, typed_expression, typed_name, typed_imaged, typed_first, typed_steps, typed_actuals, object_type, called_function, operands}
 use Rattle.flow_paths.specs.Objects.{Typing, Signature}
@@ -22,7 +23,7 @@ use Rattle.typed_laws.proofs.Main.{has_type}
 use Rattle.typed_laws.proofs.TypedPoints.Statements.{based_scalar}
 use Rattle.typed_laws.proofs.TypedPoints.Strings.{string_own}
 use Rattle.typed_laws.specs.TypedSteps.Steps.{IsText}
-use Rattle.typed_files.proofs.TypedRuns.Images.{IsImage, image_read, join_only}
+use Rattle.typed_laws.proofs.TypedPoints.Images.{IsImage, image_read, join_only}
 use Rattle.typed_files.proofs.TypedRuns.Within.{imaged_same}
 
 module _ (s : Site) (objects : List Object) (subs : List Signature) (made : ℕ → Type 0) (laws : Laws s.context.known made) where
@@ -58,7 +59,7 @@ module _ (s : Site) (objects : List Object) (subs : List Signature) (made : ℕ 
           let inner = nil_left (inside c false b e) _ (nil_right (around c stands.Elsewhere b e) _ own) in
           subst (Has y b) (imaged_same s objects subs made laws d e h.1.0.0 m is.6 around_none inner)
           (has_type s objects subs made laws e stands.Elsewhere b h.1.0.0 (laws.based d m) around_none inner)
-      argument args one m h none = cc
+      argument args one m h none = absurd (false≢true one)
 
   -- An operand of `&` that is a string.
   abbrev IsWritten : Tree → Type 0
@@ -68,7 +69,7 @@ module _ (s : Site) (objects : List Object) (subs : List Signature) (made : ℕ 
   pub written : (e : Tree) (want : ℕ) → IsMeant s y e → own_type c e ≡ own.Text → inside c false want e ≡ [] → IsText y (typed_expression s want e)
   unfolding own_type inside typed_expression IsMeant IsText
   written (Text p v) want meant is none = tt
-  written (Number p n) want meant is none = cc
+  written (Number p n) want meant is none = absurd (false≢true (ap is_string is))
   written (Named p d rest) want meant is none = by (reading_of c d rest) refl is
     where
       by : (r : Reading) → reading_of c d rest ≡ r → own_of c.known r ≡ own.Text
@@ -76,13 +77,13 @@ module _ (s : Site) (objects : List Object) (subs : List Signature) (made : ℕ 
       by (reading.Image t) read own =
           rw read (image_given d t rest (image_read c d t rest read) meant.1
           (nil_right (reading_faults c p d false (given_names (call_arguments rest)) (reading_of c d rest)) _ none))
-      by (reading.Place t) read own = cc
-      by (reading.Value t v) read own = cc
-      by (reading.Call f) read own = cc
-      by reading.EndOfFile read own = cc
-      by reading.Off read own = cc
+      by (reading.Place t) read own = absurd (false≢true (ap is_string own))
+      by (reading.Value t v) read own = absurd (false≢true (ap is_string own))
+      by (reading.Call f) read own = absurd (false≢true (ap is_string own))
+      by reading.EndOfFile read own = absurd (false≢true (ap is_string own))
+      by reading.Off read own = absurd (false≢true (ap is_string own))
   written (Parens p e) want meant is none = written e want meant is (nil_right (around_parens c p want e) _ none)
-  written (Unary p op e) want meant is none = cc
+  written (Unary p op e) want meant is none = absurd (false≢true (ap is_string is))
   written (Binary p op a b) want meant is none =
       let t = operand_type operator.Concatenate in
       by op (join_only op is) none (λ own within. written a t meant.0 own within) (λ own within. written b t meant.1 own within)
@@ -99,5 +100,5 @@ module _ (s : Site) (objects : List Object) (subs : List Signature) (made : ℕ 
             first (string_own s objects subs made laws a t meant.0 (nil_left (around_string c a) _ around) left) left,
             second (string_own s objects subs made laws b t meant.1 (nil_right (around_string c a) _ around) right) right,
           )
-      by o e h first second = cc
-  written e want meant is none = cc
+      by o e h first second = absurd (false≢true (ap is_join e))
+  written e want meant is none = absurd (false≢true (ap is_string is))

@@ -1,5 +1,6 @@
 -- Sources that are looked at, for places of anonymous access types.
 use Rattle.std.proofs.Common.{◌≡◌, refl, sym, ap, ◌∙◌, subst, ◌⊎◌, inl, inr, ℕ, Bool, true, false, ◌&&◌, ◌||◌, List, [], if◌then◌else◌}
+use Rattle.std.proofs.lemmas.Bool.{false≢true}
 use Rattle.spark_base.specs.declared.position.Pos.{Pos}
 use Rattle.resolved_tree.specs.declared.operator.UnaryOperator.{UnaryOperator}
 use Rattle.resolved_tree.specs.declared.operator.UnaryOperator.TheVariants as unary
@@ -23,7 +24,7 @@ use Rattle.typed_tree.specs.Expressions.{Site, typed_expression, typed_name, typ
 use Rattle.flow_paths.specs.Objects.{Typing, Signature}
 use Rattle.machine.specs.Typed.{is_record, is_array, same_kind}
 use Rattle.typed_laws.specs.Fine.{Agree, Has, Laws, IsMeant, counts, lists}
-use Rattle.typed_laws.proofs.Agreeing.{of_known, holds, nil_left, nil_right, and_left, and_right, agree_trans, agree_counts, agree_lists, one_shape}
+use Rattle.typed_laws.proofs.Agreeing.{of_known, holds, nil_left, nil_right, and_left, and_right, agree_trans, agree_counts, agree_lists, one_shape, is_free}
 use Rattle.typed_laws.proofs.Steps.{seen_access}
 use Rattle.typed_laws.proofs.Named.{named_has}
 use Rattle.typed_laws.proofs.Cases.{is_access_view, not_off, one_base}
@@ -34,22 +35,29 @@ use Rattle.typed_files.proofs.TypedRuns.Actuals.{agree_back}
 
 -- ---- shapes
 
+abbrev target_in : Shape → ℕ
+target_in (shape.Access d k n) = d
+target_in z = 0
+
+one_target : (z : Shape) (u v : ℕ) (c k n l : Bool) → z ≡ shape.Access u c n → z ≡ shape.Access v k l → u ≡ v
+one_target z u v c k n l e f = sym (ap target_in e) ∙ ap target_in f
+
 no_number : (z : Shape) (d : ℕ) (k n : Bool) → z ≡ shape.Access d k n → counts z ≡ true → ⊥
-no_number z d k n e h = let g = ap counts e in cc
+no_number z d k n e h = false≢true (sym (ap counts e) ∙ h)
 
 no_literal : (z : Shape) (d : ℕ) (k n : Bool) → z ≡ shape.Access d k n → lists z ≡ true → ⊥
-no_literal z d k n e h = let g = ap lists e in cc
+no_literal z d k n e h = false≢true (sym (ap lists e) ∙ h)
 
 no_composite : (z : Shape) (d : ℕ) (k n : Bool) → z ≡ shape.Access d k n → is_record z || is_array z ≡ true → ⊥
-no_composite z d k n e h = let g = ap (λ x. is_record x || is_array x) e in cc
+no_composite z d k n e h = false≢true (sym (ap (λ x. is_record x || is_array x) e) ∙ h)
 
 kind_access : (a b : Shape) (d : ℕ) (k n : Bool) → b ≡ shape.Access d k n → same_kind a b ≡ true → ⊥
 kind_access a b d k n e f = none a d k n (subst (λ z. same_kind a z ≡ true) e f)
   where
     none : (a : Shape) (d : ℕ) (k n : Bool) → same_kind a (shape.Access d k n) ≡ true → ⊥
-    none (shape.Whole u v) d k n h = cc
-    none (shape.Listed l u v) d k n h = cc
-    none a d k n h = cc
+    none (shape.Whole u v) d k n h = absurd (false≢true h)
+    none (shape.Listed l u v) d k n h = absurd (false≢true h)
+    none a d k n h = absurd (false≢true h)
 
 access_from : (table : Table) (t u d : ℕ) (k n : Bool) → Agree table t u → shape_of table u ≡ shape.Access d k n → shape_of table t ≡ shape.Access d k n
 access_from table t u d k n (inl e) h = one_shape table t u e ∙ h
@@ -84,9 +92,6 @@ module _ (y : Typing) (whole : counts (shape_of y.table integer) ≡ true) (list
   view_taken (typed.New u v) t want d k c n a m is wants agree bare has =
       let same : has.0 ≡ d = one_target (shape_of y.table t) has.0 d has.1 c has.2 n has.3 is in
       inl (k, a, m, wants, agree_trans y.table k d u (agree_back y.table d k agree) (subst (λ z. Agree y.table z u) same has.4), has.5)
-    where
-      one_target : (z : Shape) (u v : ℕ) (c k n l : Bool) → z ≡ shape.Access u c n → z ≡ shape.Access v k l → u ≡ v
-      one_target z u v c k n l e f = let g : shape.Access u c n ≡ shape.Access v k l = sym e ∙ f in cc
   view_taken (typed.Parens e) t want d k c n a m is wants agree bare has = elim (view_taken e t want d k c n a m is wants agree bare has.1) [ inl h ↦ inl (bare, h) | inr h ↦ inr h ]
   view_taken (typed.Number v) t want d k c n a m is wants agree bare has = absurd (no_number (shape_of y.table t) d c n is has.0)
   view_taken (typed.Literal v) t want d k c n a m is wants agree bare has = absurd (no_literal (shape_of y.table t) d c n is has)
@@ -103,14 +108,14 @@ module _ (y : Typing) (whole : counts (shape_of y.table integer) ≡ true) (list
 
 anonymous_owns : (f : ℕ → Bool) (z : Shape) → is_anonymous (view_of z) ≡ true → owns_of f z ≡ false
 anonymous_owns f (shape.Access d c false) e = refl
-anonymous_owns f (shape.Access d c true) e = cc
-anonymous_owns f z e = cc
+anonymous_owns f (shape.Access d c true) e = absurd (false≢true e)
+anonymous_owns f z e = absurd (false≢true e)
 
 -- A type by itself, or none: then a place decides.
 no_own : (c : Context) (want : ℕ) (o : Own) → designates c want o ≡ true → (o ≡ own.Unknown) ⊎ (t : ℕ) × (o ≡ own.Of t)
 no_own c want own.Unknown e = inl refl
 no_own c want (own.Of t) e = inr (t, refl)
-no_own c want o e = cc
+no_own c want o e = absurd (false≢true e)
 
 module _ (s : Site) (objects : List Object) (subs : List Signature) (made : ℕ → Type 0) (laws : Laws s.context.known made) where
   abbrev y : Typing
@@ -188,7 +193,7 @@ module _ (s : Site) (objects : List Object) (subs : List Signature) (made : ℕ 
         by (reading.Call f) h = holds 1 p (designates c want (own_of c.known (reading.Call f))) (nil_left _ _ h)
         by (reading.Image t) h = holds 1 p (designates c want (own_of c.known (reading.Image t))) (nil_left _ _ h)
         by reading.EndOfFile h = holds 1 p (designates c want (own_of c.known reading.EndOfFile)) (nil_left _ _ h)
-    source_taken e meant none = absurd (let f = nil_left (K6 (position e)) _ (nil_right (demand 1 (position e) (source_fits c want e)) _ none) in cc)
+    source_taken e meant none = absurd (let f = nil_left (K6 (position e)) _ (nil_right (demand 1 (position e) (source_fits c want e)) _ none) in false≢true (ap is_free f))
 
     pub return_taken : (e : Tree) → IsMeant s y e → return_source c want e ≡ [] → Taken y want (typed_expression s want e)
     unfolding typed_expression
@@ -209,11 +214,11 @@ module _ (s : Site) (objects : List Object) (subs : List Signature) (made : ℕ 
     fitting (New p k v) loose meant fit within = inl ((fine s objects subs made laws (New p k v) meant).by_place want m fit within (λ o. refl))
     fitting (Parens p e) loose meant fit within = enclosed (typed_expression s want e) (fitting e false meant fit (nil_right (around_parens c p want e) _ within))
     fitting (Number p n) loose meant fit within = own_taken (Number p n) meant fit within
-    fitting (Text p v) loose meant fit within = cc
+    fitting (Text p v) loose meant fit within = absurd (false≢true fit)
     fitting (Unary p op e) loose meant fit within = own_taken (Unary p op e) meant fit within
     fitting (Binary p op e f) loose meant fit within = own_taken (Binary p op e f) meant fit within
-    fitting (Aggregate p args) loose meant fit within = cc
-    fitting (Others p e) loose meant fit within = cc
+    fitting (Aggregate p args) loose meant fit within = absurd (false≢true fit)
+    fitting (Others p e) loose meant fit within = absurd (false≢true fit)
     fitting e loose meant fit within = absurd meant
 
     pub formal_taken : (e : Tree) → IsMeant s y e → formal_source c want e ≡ [] → Taken y want (typed_expression s want e)

@@ -1,7 +1,8 @@
 -- The calls and the operands of short circuits within an expression that breaks no sentence.
-use Rattle.std.proofs.Common.{◌≡◌, refl, sym, ap, ◌∙◌, subst, inl, inr, ℕ, suc, ◌+◌, Bool, true, false, ◌&&◌, List, [], ◌∷◌, ◌++◌, map, get_or, nat_eq, ℤ, negsuc, not, Option, Some, None, if◌then◌else◌}
+use Rattle.std.proofs.Common.{◌≡◌, refl, sym, ap, ◌∙◌, subst, inl, inr, ℕ, suc, ◌+◌, Bool, true, false, ◌&&◌, List, [], ◌∷◌, ◌++◌, map, get_or, nat_eq, ℤ, negsuc, not, Option, Some, None, if◌then◌else◌, is_some}
 use Rattle.std.specs.Prelude.{is_some}
 use Rattle.std.specs.List.{AllByRecursion}
+use Rattle.std.proofs.lemmas.Bool.{false≢true, true≢false}
 use Rattle.spark_base.specs.declared.position.Pos.{Pos}
 use Rattle.resolved_tree.specs.declared.node.Mark.{Mark}
 use Rattle.resolved_tree.specs.declared.operator.Operator.{Operator}
@@ -51,7 +52,7 @@ use Rattle.typed_laws.specs.TypedSteps.Steps.{IsCall}
 use Rattle.typed_files.specs.TypedRuns.Code.{ArePassed, GivesNoView, Within, WithinSource}
 use Rattle.typed_files.specs.TypedRuns.Formals.{formals_of, IsProfiled, AreProfiled}
 use Rattle.typed_files.proofs.TypedRuns.Actuals.{tight, traversed_named, call_given}
-use Rattle.typed_files.proofs.TypedRuns.Images.{IsImage, image_read, join_only}
+use Rattle.typed_laws.proofs.TypedPoints.Images.{IsImage, image_read, join_only}
 
 -- What stands within an expression; it may be what a traversal function gives where that may stand.
 abbrev WithinAs : Typing → Bool → TypedTree → Type 0
@@ -82,7 +83,7 @@ plain_within y want e h = h
 
 pub view_plain : (v : View) → is_anonymous v ≡ false → flow.is_anonymous v ≡ false
 view_plain (view.Access d k true) e = refl
-view_plain (view.Access d k false) e = cc
+view_plain (view.Access d k false) e = absurd (true≢false e)
 view_plain (view.Whole low high) e = refl
 view_plain (view.Listed low high) e = refl
 view_plain (view.Elements low high of) e = refl
@@ -91,8 +92,8 @@ view_plain v e = refl
 pub view_shown : (v : View) → is_anonymous v ≡ true → flow.is_anonymous v ≡ true
 view_shown (view.Access d true false) e = refl
 view_shown (view.Access d false false) e = refl
-view_shown (view.Access d k true) e = cc
-view_shown v e = cc
+view_shown (view.Access d k true) e = absurd (false≢true e)
+view_shown v e = absurd (false≢true e)
 
 -- ---- lists of values
 
@@ -185,7 +186,7 @@ formal_made made w (k ∷ fs) m all = by (same_word w k.name) (formal_made made 
 -- A subprogram with a result gives what its actuals are for.
 function_way : (known : Known) (d t : ℕ) (e : Entry) → (profile_of e).result ≡ Some t → way_of known d e ≡ way.Giving (role.Actuals d)
 function_way known d t (entry.Subprogram p) is = refl
-function_way known d t e is = cc
+function_way known d t e is = absurd (false≢true (ap is_some is))
 
 place_read : (c : Context) (d t : ℕ) (rest : Tree) → reading_of c d rest ≡ reading.Place t → (o : ObjectInfo) × (entry_of c.known d ≡ entry.Object o)
 unfolding reading_of
@@ -216,7 +217,7 @@ function_entry known d t is = by (entry_of known d) is
   where
     by : (e : Entry) → (profile_of e).result ≡ Some t → (p : Profile) × (e ≡ entry.Subprogram p)
     by (entry.Subprogram p) h = (p, refl)
-    by e h = cc
+    by e h = absurd (false≢true (ap is_some h))
 
 module _ (s : Site) (objects : List Object) (subs : List Signature) (made : ℕ → Type 0) (laws : Laws s.context.known made) where
   abbrev y : Typing
@@ -294,7 +295,7 @@ module _ (s : Site) (objects : List Object) (subs : List Signature) (made : ℕ 
     -- what isn't loose is no traversal call
     no_view : (loose : Bool) (f : ℕ) (p : Pos) → IsProfiled s.context.known s.bodies y made f → traversal_faults loose (is_traversal c.known (profile_of (entry_of c.known f))) p ≡ []
         → loose ≡ false → GivesNoView y (sub_number s f)
-    no_view true f p of none is = cc
+    no_view true f p of none is = absurd (true≢false is)
     no_view false f p of none is =
         ap (flow.traverses table) of.result ∙ by (profile_of (entry_of c.known f)).result (not_true (is_traversal c.known (profile_of (entry_of c.known f))) (holds 6 p (not (is_traversal c.known (profile_of (entry_of c.known f)))) none))
       where
@@ -308,7 +309,7 @@ module _ (s : Site) (objects : List Object) (subs : List Signature) (made : ℕ 
     view_given f of is = ap (flow.traverses table) of.result ∙ by (profile_of (entry_of c.known f)).result is
       where
         by : (r : Option ℕ) → is_some r && is_anonymous (full table (result_type r)) ≡ true → flow.traverses table r ≡ true
-        by None e = cc
+        by None e = absurd (false≢true e)
         by (Some t) e = view_shown (full table t) e
 
     mutual

@@ -1,6 +1,6 @@
 -- A step whose expressions have the types of their places is typed as the machine says it.
 use Rattle.std.proofs.Common.{◌≡◌, refl, sym, ap, ◌∙◌, subst, ◌⊎◌, inl, inr, ℕ, Bool, true, false, ◌&&◌, ◌||◌, List, [], ◌∷◌, nat_eq, Option, Some, None}
-use Rattle.std.proofs.lemmas.Bool.{eq-eqb}
+use Rattle.std.proofs.lemmas.Bool.{eq-eqb, false≢true}
 use Rattle.spark_base.specs.declared.position.Pos.{Pos}
 use Rattle.place_names.specs.declared.act.Mode.{Mode}
 use Rattle.place_names.specs.declared.act.Mode.TheVariants as mode
@@ -29,15 +29,15 @@ nat_same n = eq-eqb n n refl
 scalar_sort : (z : Shape) → is_scalar (view_of z) ≡ true → (counts z ≡ true) ⊎ (lists z ≡ true)
 scalar_sort (shape.Whole a b) e = inl refl
 scalar_sort (shape.Listed k a b) e = inr refl
-scalar_sort z e = cc
+scalar_sort z e = absurd (false≢true e)
 
 counted_sorts : (f : ℕ → List Sort) (z : Shape) → counts z ≡ true → sorts_of f z ≡ Whole ∷ []
 counted_sorts f (shape.Whole a b) e = refl
-counted_sorts f z e = cc
+counted_sorts f z e = absurd (false≢true e)
 
 listed_sorts : (f : ℕ → List Sort) (z : Shape) → lists z ≡ true → sorts_of f z ≡ Position ∷ []
 listed_sorts f (shape.Listed k a b) e = refl
-listed_sorts f z e = cc
+listed_sorts f z e = absurd (false≢true e)
 
 -- The sorts of a type go by its definition.
 abbrev pub SortsLaw : Table → Type 0

@@ -1,6 +1,6 @@
 -- Statements that call: an instance of Unchecked_Deallocation, input and output.
-use Rattle.std.proofs.Common.{◌≡◌, refl, sym, subst, ℕ, Bool, true, false, List, [], ◌∷◌, ◌++◌, nat_eq, Option, Some, None}
-use Rattle.std.proofs.lemmas.Bool.{eqb-true}
+use Rattle.std.proofs.Common.{◌≡◌, refl, sym, subst, ℕ, Bool, true, false, List, [], ◌∷◌, ◌++◌, nat_eq, Option, Some, None, ap}
+use Rattle.std.proofs.lemmas.Bool.{eqb-true, false≢true}
 use Rattle.spark_base.specs.declared.position.Pos.{Pos}
 use Rattle.resolved_tree.specs.Trees.{Tree, Named, Applied, Argument, NoMore, More, position}
 use Rattle.type_definitions.specs.declared.table.Entry.{Entry}
@@ -27,7 +27,7 @@ use Rattle.flow_paths.specs.Instructions as instruction
 use Rattle.flow_paths.specs.Objects.{Typing, Signature}
 use Rattle.typed_laws.specs.Fine.{Agree, Laws, IsMeant, AreSuffixes, IsSuffix, AreArguments}
 use Rattle.typed_laws.specs.Needed.{IsPlace, IsFine, Writes, FirstWrites}
-use Rattle.typed_laws.proofs.Agreeing.{of_known, holds, nil_left, nil_right, agree_access, agree_counts, either_left}
+use Rattle.typed_laws.proofs.Agreeing.{of_known, holds, nil_left, nil_right, agree_access, agree_counts, either_left, is_free}
 use Rattle.typed_laws.proofs.Assigns as assigns
 use Rattle.typed_laws.proofs.Cases.{shape_view}
 use Rattle.typed_laws.specs.TypedPoints.Code.{IsFineCode}
@@ -44,11 +44,11 @@ with_arguments s y (More (Applied args) NoMore) P F never good meant none = good
 with_arguments s y rest P F never good meant none = absurd (never none)
 
 refused : (p : Pos) (b : Bool) → demand 1 p b ++ demand 2 p false ≡ [] → ⊥
-refused p true e = cc
-refused p false e = cc
+refused p true e = false≢true (ap is_free e)
+refused p false e = false≢true (ap is_free e)
 
 other_refused : (a b : List Fault) (p : Pos) → (a ++ demand 2 p false) ++ b ≡ [] → ⊥
-other_refused a b p e = let f = nil_right a (demand 2 p false) (nil_left (a ++ demand 2 p false) b e) in cc
+other_refused a b p e = let f = nil_right a (demand 2 p false) (nil_left (a ++ demand 2 p false) b e) in false≢true (ap is_free f)
 
 module _ (s : Site) (objects : List Object) (subs : List Signature) (made : ℕ → Type 0) (laws : Laws s.context.known made) where
   abbrev y : Typing
@@ -84,7 +84,7 @@ module _ (s : Site) (objects : List Object) (subs : List Signature) (made : ℕ 
             )
         by reading.Off is around within = (
             let f = nil_left (reading_faults c p d false (given_names (call_arguments rest)) (reading_of c d rest)) _ within in
-            let g : reading_faults c p d false (given_names (call_arguments rest)) reading.Off ≡ [] = rw is at f in cc)
+            let g : reading_faults c p d false (given_names (call_arguments rest)) reading.Off ≡ [] = rw is at f in absurd (false≢true (ap is_free g)))
         by (reading.Value u v) is around within = absurd (refused p (is_of c.known t (own.Of u)) around)
         by (reading.Call f) is around within = absurd (refused p (is_of c.known t (own_of c.known (reading.Call f))) around)
         by (reading.Image u) is around within = absurd (refused p false around)
@@ -100,7 +100,7 @@ module _ (s : Site) (objects : List Object) (subs : List Signature) (made : ℕ 
         let law = laws.freed d t is in
         let found = variable_placed e t meant.0 law.0 (nil_right (demand 3 p (associates (name_x ∷ []) (given_names (Argument w e rest)))) _ none) in
         (found.0, law.1, found.1, agree_access table t found.0 law.1 false true found.2 law.2)
-    released p d t args is meant none = cc
+    released p d t args is meant none = absurd (false≢true (ap is_free none))
 
     -- ---- input and output
 
@@ -111,7 +111,7 @@ module _ (s : Site) (objects : List Object) (subs : List Signature) (made : ℕ 
         let within = nil_right (around_string c e) _ more in
         let text = string_own z objects subs made laws e integer (meant_same looped starts s y e meant.0) (nil_left (around_string c e) _ more) within in
         (refl, subst (Writes y) (typed_same looped starts s integer e) (written z objects subs made laws e integer (meant_same looped starts s y e meant.0) text within))
-    put p args meant none = cc
+    put p args meant none = absurd (false≢true (ap is_free none))
 
     get : (p : Pos) (args : Tree) → AreArguments s y args → demand 3 p (is_one (given_names args)) ++ variable_argument c integer args ≡ []
         → IsFine y None (instruction.Input (typed_first s integer args))
@@ -119,7 +119,7 @@ module _ (s : Site) (objects : List Object) (subs : List Signature) (made : ℕ 
     get p (Argument w e rest) meant none =
         let found = variable_placed e integer meant.0 laws.integers (nil_right (demand 3 p (is_one (given_names (Argument w e rest)))) _ none) in
         (found.0, found.1, shape_view (shape_of table found.0) (either_left _ _ (agree_counts table integer found.0 found.2 laws.whole)))
-    get p args meant none = cc
+    get p args meant none = absurd (false≢true (ap is_free none))
 
     module _ (result : Option ℕ) where
       abbrev IsFineCall : TypedCode → Type 0
@@ -141,10 +141,10 @@ module _ (s : Site) (objects : List Object) (subs : List Signature) (made : ℕ 
           by : (e : Entry) → entry_of s.context.known d ≡ e → called c p d e (actuals_of rest) ≡ [] → IsFineCall (call_of s p d e rest)
           by (entry.Subprogram profile) is h = tt
           by (entry.Instance t) is h =
-              with_arguments s y rest (λ args. IsFine y None (instruction.Release (typed_first s t args))) (λ o. called c p d (entry.Instance t) o) (λ e. cc)
+              with_arguments s y rest (λ args. IsFine y None (instruction.Release (typed_first s t args))) (λ o. called c p d (entry.Instance t) o) (λ e. false≢true (ap is_free e))
               (λ args m n. released p d t args is m n) meant.1 h
           by (entry.Predefined which) is h =
-              with_arguments s y rest (λ args. IsFineCall (predefined_call s p which args)) (λ o. called c p d (entry.Predefined which) o) (λ e. cc)
+              with_arguments s y rest (λ args. IsFineCall (predefined_call s p which args)) (λ o. called c p d (entry.Predefined which) o) (λ e. false≢true (ap is_free e))
               (λ args m n. predefined_fine p which args m n) meant.1 h
           by e is h = tt
       call_fine name meant none = tt

@@ -1,7 +1,8 @@
 -- The points of code whose instructions are as soundness needs them are so.
-use Rattle.std.proofs.Common.{◌≡◌, ℕ, suc, Bool, true, false, List, [], ◌∷◌, ◌++◌, length, if◌then◌else◌}
+use Rattle.std.proofs.Common.{ℕ, suc, Bool, true, false, List, [], ◌∷◌, ◌++◌, length, if◌then◌else◌}
 use Rattle.std.specs.Prelude.{Option, Some, None, flat_map, drop, reverse, is_some}
 use Rattle.std.specs.List.{AllByRecursion}
+use Rattle.std.proofs.lemmas.Bool.{false≢true}
 use Rattle.spark_base.specs.declared.position.Pos.{Pos}
 use Rattle.typed_tree.specs.Trees.{TypedTree, Name, Component, Designated, Element, Image, Parens, Unary, Binary, Short, IsNull, Aggregate, Alike, New, TypedCode, Declare, Assign, Skip, Output, Input, Release, If, Branch, Case, When, Loop, While, For, Exit, Return, Block}
 use Rattle.typed_tree.specs.Trees as typed
@@ -32,9 +33,6 @@ module _ (s : Typing) (result : Option ℕ) where
   either true ps qs h g = h
   either false ps qs h g = g
 
-  never : false ≡ true → ⊥
-  never e = cc
-
   -- ---- before a use
 
   prep_fine : (g : Setting) (e : TypedTree) (at : Place) (scope : List ℕ) (k : List PointName) → Fine (prep g e at scope k)
@@ -47,8 +45,8 @@ module _ (s : Typing) (result : Option ℕ) where
       let behind : List NamedPoint = prep g b (1 ∷ at) (with_held g a (0 ∷ at) scope) k in
       either (has_call b) _ _
       (both (prep g a (0 ∷ at) scope (row_at at 0 ∷ [])) _ (prep_fine g a (0 ∷ at) scope (row_at at 0 ∷ [])) (
-        λ e. absurd (never e),
-        both right _ (prep_fine g b (1 ∷ at) (g.temporary at ∷ scope) (row_at at 1 ∷ [])) (λ e. absurd (never e), tt),
+        λ e. absurd (false≢true e),
+        both right _ (prep_fine g b (1 ∷ at) (g.temporary at ∷ scope) (row_at at 1 ∷ [])) (λ e. absurd (false≢true e), tt),
       ))
       (both (prep g a (0 ∷ at) scope (entry behind k)) behind (prep_fine g a (0 ∷ at) scope (entry behind k))
       (prep_fine g b (1 ∷ at) (with_held g a (0 ∷ at) scope) k))

@@ -1,5 +1,6 @@
 -- Sources of assignments, of objects and of results, those of anonymous access types among them.
 use Rattle.std.proofs.Common.{◌≡◌, refl, sym, ap, ◌∙◌, subst, inl, ℕ, Bool, true, false, not, ◌&&◌, List, [], ◌++◌, nat_eq, ℤ, negsuc, if◌then◌else◌}
+use Rattle.std.proofs.lemmas.Bool.{false≢true, true≢false}
 use Rattle.spark_base.specs.declared.position.Pos.{Pos}
 use Rattle.resolved_tree.specs.declared.operator.Operator.{Operator}
 use Rattle.resolved_tree.specs.declared.operator.Operator.TheVariants as operator
@@ -30,7 +31,7 @@ use Rattle.flow_paths.specs.Objects as flow
 use Rattle.typed_laws.specs.Fine.{Laws, IsMeant}
 use Rattle.typed_laws.specs.Fine as fine
 use Rattle.typed_laws.specs.Needed.{IsPlace, IsView, Source}
-use Rattle.typed_laws.proofs.Agreeing.{holds, nil_left, nil_right}
+use Rattle.typed_laws.proofs.Agreeing.{holds, nil_left, nil_right, is_free}
 use Rattle.typed_laws.proofs.Assigns as assigns
 use Rattle.typed_laws.proofs.Sound.{leads, matches}
 use Rattle.typed_laws.proofs.TypedPoints.Flags.{flagged, at_flags, typed_same, meant_same, reading_same}
@@ -43,7 +44,7 @@ is_named (Name p x steps t) = true
 is_named e = false
 
 unnamed_view : (y : Typing) (want : ℕ) (e : TypedTree) → is_named e ≡ false → IsView y want e
-unnamed_view y want (Name p x steps t) plain = cc
+unnamed_view y want (Name p x steps t) plain = absurd (true≢false plain)
 unnamed_view y want e plain = tt
 
 value_unnamed : (t : ℕ) (v : ℤ) → is_named (value_of_type t v) ≡ false
@@ -64,7 +65,7 @@ operands_unnamed op p q l r a b = refl
 
 other_unnamed : (s : Site) (want : ℕ) (e : Tree) → is_name e ≡ false → is_named (typed_expression s want e) ≡ false
 unfolding typed_expression
-other_unnamed s want (Named p d rest) plain = cc
+other_unnamed s want (Named p d rest) plain = absurd (true≢false plain)
 other_unnamed s want (Unary p op e) plain = by (is_alone op e)
   where
     by : (b : Bool) → is_named (if b then typed.Number (negsuc 2147483647) else typed.Unary op (typed_expression s (unary_type op) e)) ≡ false
@@ -78,17 +79,22 @@ other_unnamed s want e plain = refl
 pub one_anonymous : (w : View) → is_anonymous w ≡ true → flow.is_anonymous w ≡ true
 one_anonymous (view.Access d true false) e = refl
 one_anonymous (view.Access d false false) e = refl
-one_anonymous (view.Access d k true) e = cc
-one_anonymous w e = cc
+one_anonymous (view.Access d true true) e = absurd (false≢true e)
+one_anonymous (view.Access d false true) e = absurd (false≢true e)
+one_anonymous w e = absurd (false≢true e)
 
 pub anonymous_shape : (z : Shape) → is_anonymous (view_of z) ≡ true → (to : ℕ) × (constant : Bool) × (named : Bool) × (z ≡ shape.Access to constant named)
 anonymous_shape (shape.Access to constant named) e = (to, constant, named, refl)
-anonymous_shape z e = cc
+anonymous_shape z e = absurd (false≢true e)
+
+abbrev is_place : Reading → Bool
+is_place (reading.Place t) = true
+is_place r = false
 
 name_source : (known : Context) (want : ℕ) (p : Pos) (r : Reading) (t : ℕ) → r ≡ reading.Place t → source_name known want p r ≡ [] → designates known want (own_of known.known r) ≡ true
 name_source c want p (reading.Place u) t is none =
     holds 1 p (designates c want (own_of c.known (reading.Place u))) (nil_left (demand 1 p (designates c want (own_of c.known (reading.Place u)))) _ none)
-name_source c want p r t is none = cc
+name_source c want p r t is none = absurd (false≢true (ap is_place is))
 
 module _ (s : Site) (objects : List Object) (subs : List Signature) (made : ℕ → Type 0) (laws : Laws s.context.known made) where
   abbrev y : Typing
@@ -167,8 +173,8 @@ module _ (s : Site) (objects : List Object) (subs : List Signature) (made : ℕ 
             else K2 p ++ behind c (way_of s.context.known d (entry_of s.context.known d)) rest) ≡ []
             → (t : ℕ) × (reading_of c d rest ≡ reading.Place t)
         by true (reading.Place t) is h = (t, is)
-        by true r is h = cc
-        by false r is h = cc
+        by true r is h = absurd (false≢true (ap is_free h))
+        by false r is h = absurd (false≢true (ap is_free h))
 
     source_assigned : (whole_target : Bool) (root : Entry) (e : Tree) (t : ℕ) → IsMeant s y e → made t
         → (if not (whole_target && is_anonymous (full table t)) then faults c stands.Stored t e else if is_formal root then formal_source c t e else source_faults c t e) ≡ []
@@ -200,4 +206,4 @@ module _ (s : Site) (objects : List Object) (subs : List Signature) (made : ℕ 
           subst (λ x. IsPlace y x t) (typed_same looped starts s integer (Named p d rest)) (place (typed_expression z integer (Named p d rest)) t at.1),
           subst (λ r. Source y t (typed_expression s (type_read r) e)) (sym here) takes,
         )
-    assigned_fine target e meant value none source = cc
+    assigned_fine target e meant value none source = absurd (false≢true (ap is_free none))

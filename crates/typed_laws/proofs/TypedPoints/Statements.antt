@@ -2,6 +2,7 @@
 use Rattle.std.proofs.Common.{◌≡◌, refl, sym, ap, ◌∙◌, subst, inl, inr, ℕ, Bool, true, false, not, ◌&&◌, ◌||◌, List, [], ◌++◌, map, Option, Some, None, if◌then◌else◌}
 use Rattle.std.specs.Prelude.{is_none, is_some}
 use Rattle.std.specs.List.{AllByRecursion}
+use Rattle.std.proofs.lemmas.Bool.{false≢true}
 use Rattle.spark_base.specs.declared.position.Pos.{Pos}
 use Rattle.resolved_tree.specs.declared.node.Mark.{Mark}
 use Rattle.resolved_tree.specs.Trees.{Tree, Named, NoMore, More, position, Code, Plain, Anonymous, Bounds, Marked, Constrained, RangeOf, code_items}
@@ -26,7 +27,7 @@ use Rattle.typed_tree.specs.Statements.{typed_object, returned_type, typed_range
 use Rattle.flow_paths.specs.Objects.{Typing, Signature}
 use Rattle.typed_laws.specs.Fine.{Laws, IsMeant}
 use Rattle.typed_laws.specs.Needed.{Stays, FirstSource, Source, Returns}
-use Rattle.typed_laws.proofs.Agreeing.{holds, and_left, nil_left, nil_right, either_right, agree_lists}
+use Rattle.typed_laws.proofs.Agreeing.{holds, and_left, nil_left, nil_right, either_right, agree_lists, is_free}
 use Rattle.typed_laws.proofs.Readings.{seen_scalar}
 use Rattle.typed_laws.proofs.Cases.{mark_denotes, marked_is, shape_view}
 use Rattle.typed_laws.specs.TypedPoints.Code.{IsFineCode}
@@ -79,7 +80,7 @@ module _ (s : Site) (objects : List Object) (subs : List Signature) (made : ℕ 
         → Fine (map (typed_object s v) (code_items ids))
     unfolding IsFineCode
     one_fine (More d NoMore) i v single h source = (subst (λ x. FirstSource y x v) (sym h.0) source, tt)
-    one_fine ids i v single h source = cc
+    one_fine ids i v single h source = absurd (false≢true single)
 
     numbers_fine : (ids : Code) (v : TypedTree) → AreNumbers s y ids → FirstSource y integer v → Fine (map (typed_object s v) (code_items ids))
     unfolding IsFineCode
@@ -104,7 +105,7 @@ module _ (s : Site) (objects : List Object) (subs : List Signature) (made : ℕ 
 
     single : (a b d : Bool) → not true || (a && (not b && d)) ≡ true → a ≡ true
     single true b d e = refl
-    single false b d e = cc
+    single false b d e = absurd (false≢true e)
 
     initial : (ids i : Code) (constant : Bool) (v : Tree) (t : ℕ) → objects_faults c ids constant i v t ≡ [] → initial_faults (starting c) (is_anonymous_indication i) t v ≡ []
     initial ids i constant v t none =
@@ -128,7 +129,7 @@ module _ (s : Site) (objects : List Object) (subs : List Signature) (made : ℕ 
       where
         type_of : (ids : Code) → AreDeclared s y made (Anonymous p k m) ids → is_single ids ≡ true → made (first_number ids) × (is_anonymous (full table (first_number ids)) ≡ true)
         type_of (More d rest) h one = (h.1.0, ap (λ x. is_anonymous (view_of x)) h.1.2)
-        type_of ids h one = cc
+        type_of ids h one = absurd (false≢true one)
     objects_fine result ids i constant v h meant none =
         each_fine result ids i (typed_optional s integer v) integer h (λ d. refl) (first_given v integer meant laws.integers (initial ids i constant v integer none))
 
@@ -149,7 +150,7 @@ module _ (s : Site) (objects : List Object) (subs : List Signature) (made : ℕ 
         else if is_some r && is_anonymous (full table (result_type r)) then return_source c (result_type r) e
         else faults c stands.Stored (result_type r) e) ≡ []
         → Returns y r (typed.More (typed_expression s (result_type r) e) typed.NoMore)
-    value_returned p e None meant types none = cc
+    value_returned p e None meant types none = absurd (false≢true (ap is_free none))
     value_returned p e (Some t) meant types none = (typed_expression s t e, refl, by (is_anonymous (full table t)) refl none)
       where
         by : (b : Bool) → is_anonymous (full table t) ≡ b → (if b then return_source c t e else faults c stands.Stored t e) ≡ [] → Source y t (typed_expression s t e)
@@ -158,11 +159,11 @@ module _ (s : Site) (objects : List Object) (subs : List Signature) (made : ℕ 
 
     none_returned : (p : Pos) (r : Option ℕ) → demand 3 p (is_none r) ≡ [] → Returns y r typed.NoMore
     none_returned p None none = refl
-    none_returned p (Some t) none = cc
+    none_returned p (Some t) none = absurd (false≢true (ap is_free none))
 
     pub return_fine : (p : Pos) (v : Tree) (sub : Option ℕ) → IsMeantOptional s y v → returned c p (sub_profile known sub) v ≡ []
         → Returns y (result_given (sub_profile known sub)) (typed_optional s (returned_type s.context sub) v)
-    return_fine p v None meant none = cc
+    return_fine p v None meant none = absurd (false≢true (ap is_free none))
     return_fine p (More e rest) (Some f) meant none = value_returned p e (profile_of (entry_of known f)).result meant (λ t is. laws.result f t is) none
     return_fine p NoMore (Some f) meant none = none_returned p (profile_of (entry_of known f)).result none
     return_fine p v (Some f) meant none = absurd meant
@@ -171,9 +172,9 @@ module _ (s : Site) (objects : List Object) (subs : List Signature) (made : ℕ 
 
     split : (a b d : Bool) → a && b && d ≡ true → (a ≡ true) × (d ≡ true)
     split true true true e = (refl, refl)
-    split true true false e = cc
-    split true false d e = cc
-    split false b d e = cc
+    split true true false e = absurd (false≢true e)
+    split true false d e = absurd (false≢true e)
+    split false b d e = absurd (false≢true e)
 
     mark_scalar : (m : Mark) → scalar_mark c m ≡ [] → made (marked known m) × (is_scalar (seen c (marked known m)) ≡ true)
     mark_scalar m none =

@@ -1,5 +1,6 @@
 -- Expressions at their places in statements.
-use Rattle.std.proofs.Common.{◌≡◌, refl, ap, subst, inl, inr, ℕ, ℤ, Bool, true, false, ◌||◌, List, [], if◌then◌else◌}
+use Rattle.std.proofs.Common.{◌≡◌, refl, ap, subst, inl, inr, ℕ, ℤ, Bool, true, false, ◌||◌, List, [], if◌then◌else◌, sym, ◌∙◌}
+use Rattle.std.proofs.lemmas.Bool.{false≢true}
 use Rattle.resolved_tree.specs.Trees.{Tree, Number, Text, Null, Named, Parens, Unary, Binary, Aggregate, Others, New, NoMore, More}
 use Rattle.type_definitions.specs.declared.table.Shape.{Shape}
 use Rattle.type_definitions.specs.declared.table.Shape.TheVariants as shape
@@ -10,7 +11,7 @@ use Rattle.type_definitions.specs.declared.judgement.Where.TheVariants as stands
 use Rattle.type_definitions.specs.Types.{Table, full, shape_of, view_of, is_untyped, is_scalar}
 use Rattle.type_definitions.specs.Entries.{integer, boolean}
 use Rattle.type_definitions.specs.Names.{Context, seen, reading_of}
-use Rattle.type_definitions.specs.Expressions.{own_type, around, inside, faults, scalar_own, is_join, is_arithmetic}
+use Rattle.type_definitions.specs.Expressions.{own_type, around, inside, faults, scalar_own, is_join, is_arithmetic, is_demanding}
 use Rattle.type_definitions.specs.Statements.{condition}
 use Rattle.typed_tree.specs.Trees.{TypedTree}
 use Rattle.typed_tree.specs.Trees as typed
@@ -32,15 +33,15 @@ use Rattle.typed_laws.proofs.TypedPoints.Flags.{flagged, at_flags, typed_same, m
 -- ---- where the place decides nothing
 
 no_access : (a : Shape) (d : ℕ) (k n : Bool) → a ≡ shape.Access d k n → is_scalar (view_of a) ≡ true → ⊥
-no_access a d k n e h = let g = ap (λ x. is_scalar (view_of x)) e in cc
+no_access a d k n e h = false≢true (sym (ap (λ x. is_scalar (view_of x)) e) ∙ h)
 
 no_composite : (a : Shape) → is_record a || is_array a ≡ true → is_scalar (view_of a) ≡ true → ⊥
-no_composite (shape.Whole a b) e f = cc
-no_composite (shape.Listed k a b) e f = cc
-no_composite a e f = cc
+no_composite (shape.Whole a b) e f = false≢true e
+no_composite (shape.Listed k a b) e f = false≢true e
+no_composite a e f = false≢true f
 
 no_elements : (a : Shape) (low high : ℤ) (of : ℕ) → a ≡ shape.Elements low high of → is_scalar (view_of a) ≡ true → ⊥
-no_elements a low high of e h = let g = ap (λ x. is_scalar (view_of x)) e in cc
+no_elements a low high of e h = false≢true (sym (ap (λ x. is_scalar (view_of x)) e) ∙ h)
 
 -- An expression with a type of its own means the same wherever it stands.
 pub unwanted : (s : Site) (e : Tree) (t u : ℕ) → (own_type s.context e ≡ own.Demanding → ⊥) → typed_expression s t e ≡ typed_expression s u e
@@ -54,18 +55,18 @@ unwanted s (Parens p e) t u own = ap typed.Parens (unwanted s e t u own)
 unwanted s e t u own = absurd (own refl)
 
 no_demand : (j k : Bool) → (if j then own.Text else if k then own.Of integer else own.Of boolean) ≡ own.Demanding → ⊥
-no_demand true k e = cc
-no_demand false true e = cc
-no_demand false false e = cc
+no_demand true k e = false≢true (ap is_demanding e)
+no_demand false true e = false≢true (ap is_demanding e)
+no_demand false false e = false≢true (ap is_demanding e)
 
 -- What has a scalar type has a type of its own.
 pub scalar_own_type : (s : Site) (y : Typing) (e : Tree) (t : ℕ) → IsMeant s y e → Has y t (typed_expression s t e) → is_scalar (full y.table t) ≡ true
     → own_type s.context e ≡ own.Demanding → ⊥
 unfolding own_type IsMeant typed_expression Has
-scalar_own_type s y (Number p n) t meant has scalar is = cc
-scalar_own_type s y (Text p v) t meant has scalar is = cc
+scalar_own_type s y (Number p n) t meant has scalar is = false≢true (ap is_demanding is)
+scalar_own_type s y (Text p v) t meant has scalar is = false≢true (ap is_demanding is)
 scalar_own_type s y (Named p d rest) t meant has scalar is = not_demanding s.context.known (reading_of s.context d rest) is
-scalar_own_type s y (Unary p op e) t meant has scalar is = cc
+scalar_own_type s y (Unary p op e) t meant has scalar is = false≢true (ap is_demanding is)
 scalar_own_type s y (Binary p op a b) t meant has scalar is = no_demand (is_join op) (is_arithmetic op) is
 scalar_own_type s y (Parens p e) t meant has scalar is = scalar_own_type s y e t meant has.1 scalar is
 scalar_own_type s y (Null p) t meant has scalar is = no_access (shape_of y.table t) has.0 has.1 has.2 has.3 scalar
@@ -128,8 +129,8 @@ module _ (s : Site) (objects : List Object) (subs : List Signature) (made : ℕ 
       where
         by : (o : Own) → own_type c e ≡ o → (t : ℕ) × (own_type c e ≡ own.Of t) × made t × (is_scalar (seen c t) ≡ true) × Has y t (typed_expression s want e)
         by own.Unknown is = absurd (known_at e want meant is none)
-        by own.Demanding is = let f : scalar_own c own.Demanding ≡ true = subst (λ x. scalar_own c x ≡ true) is scalar in cc
-        by own.Text is = let f : scalar_own c own.Text ≡ true = subst (λ x. scalar_own c x ≡ true) is scalar in cc
+        by own.Demanding is = absurd (false≢true (subst (λ x. scalar_own c x ≡ true) is scalar))
+        by own.Text is = absurd (false≢true (subst (λ x. scalar_own c x ≡ true) is scalar))
         by (own.Of t) is =
             let f : scalar_own c (own.Of t) ≡ true = subst (λ x. scalar_own c x ≡ true) is scalar in
             let has = own_at e want t meant is none in
