@@ -73,6 +73,19 @@ mode_in mode.InOut e = cc
 abbrev no_signature : Signature
 no_signature = record { formals = []; result = None }
 
+plain_view : (v : View) → is_anonymous v ≡ false → anonymous_view v ≡ false
+plain_view (view.Access d k true) e = refl
+plain_view (view.Access d k false) e = cc
+plain_view (view.Whole low high) e = refl
+plain_view (view.Listed low high) e = refl
+plain_view (view.Elements low high of) e = refl
+plain_view v e = refl
+
+some_there : (a b : Bool) → a ≡ true → not (a && b) ≡ true → b ≡ false
+some_there true true is h = cc
+some_there true false is h = refl
+some_there false b is h = cc
+
 module _ (p : Program) (formed : IsTrue (all_formed p.units)) (orderly : IsOrderly p) (none_broken : type_fault p ≡ None) (own_numbers : AreViewsApart p.units)
     (made : ℕ → Type 0) (laws : Laws (known_of p) made) (once : Once (map (λ (o : DeclaredObject). o.number) (program_objects (known_of p) p.units)))
     (laid : (d : ℕ) → Has (site_in p).objects d → object_at (typing_laid p) (object_number (site_in p) d) ≡ get_or (map (λ (o : DeclaredObject). o.object) (program_objects (known_of p) p.units)) (position_or_len (nat_eq d) (site_in p).objects) text_io)
@@ -103,14 +116,6 @@ module _ (p : Program) (formed : IsTrue (all_formed p.units)) (orderly : IsOrder
   type_at : (m : Mode) (of d more : Code) → AllDeclared m (More d more) → AreOf known of (More d more) → (object_at y (object_number s (declared_number d))).of ≡ indicated known (declared_number d) of
   type_at m of d more declared typed =
       named (declared_number d) typed.0.0 typed.0.1 (profiled.there p formed orderly none_broken own_numbers made laws once laid named m (declared_number d) declared.0) ∙ typed.0.2
-
-  plain_view : (v : View) → is_anonymous v ≡ false → anonymous_view v ≡ false
-  plain_view (view.Access d k true) e = refl
-  plain_view (view.Access d k false) e = cc
-  plain_view (view.Whole low high) e = refl
-  plain_view (view.Listed low high) e = refl
-  plain_view (view.Elements low high of) e = refl
-  plain_view v e = refl
 
   -- what isn't indicated as such is none
   indicated_plain : (d : ℕ) (of : Code) → anonymous_view (full table (indicated known d of)) ≡ true → is_anonymous_indication of ≡ true
@@ -258,11 +263,6 @@ module _ (p : Program) (formed : IsTrue (all_formed p.units)) (orderly : IsOrder
       (nil_right formals_free _ (nil_right (result_faults c.known result) _ (profiled.faultless p formed orderly none_broken own_numbers made laws once laid named x formals result good))) in
       first_there c good.same (is_some q.result) q.result formals good.apart.1 (some_there (is_traversal c.known q) (has_none formals) traversal last) none
       (profiled.declared p formed orderly none_broken own_numbers made laws once laid named x formals result good) good.typed
-    where
-      some_there : (a b : Bool) → a ≡ true → not (a && b) ≡ true → b ≡ false
-      some_there true true is h = cc
-      some_there true false is h = refl
-      some_there false b is h = cc
 
   -- ---- all subprograms
 

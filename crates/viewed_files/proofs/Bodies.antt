@@ -2,7 +2,7 @@
 -- is their own or was declared before them.
 use Rattle.std.proofs.Common.{◌≡◌, refl, sym, ap, ◌∙◌, inl, inr, ℕ, suc, ◌+◌, ◌≤◌, true, false, ◌&&◌, ◌||◌, nat_lt, lt-ltb, nat_eq, List, [], ◌∷◌, ◌++◌, map, length, arith}
 use Rattle.std.specs.List.{position_or_len}
-use Rattle.std.proofs.lemmas.Bool.{ltb-true}
+use Rattle.std.proofs.lemmas.Bool.{false≢true, ltb-true}
 use Rattle.std.proofs.lemmas.List.{length-append}
 use Rattle.spark_base.specs.declared.position.Pos.{Pos}
 use Rattle.spark_base.specs.Lists.{Has}
@@ -73,7 +73,7 @@ module _ (units : List Code) (s : Site) (own : Typing) (scopes : List ℕ) (obje
   part_before h a n k (Instance d m args) scope e at before = nothing_before k [] scope before
   part_before h a n k (SubDecl front) scope e at before = nothing_before k [] scope before
   part_before h a n k NoMore scope e at before = nothing_before k [] scope before
-  part_before h a n k _ scope e at before = cc
+  part_before h a n k _ scope e at before = absurd (false≢true e)
 
   -- what two codes have, one after the other
   further : (k : ℕ) (os us : List DeclaredObject) (scope : List ℕ) → Before (k + length os + length us) scope → Before (k + length (os ++ us)) scope
@@ -89,7 +89,7 @@ module _ (units : List Code) (s : Site) (own : Typing) (scopes : List ℕ) (obje
       (parts_before h a (n + scope_count c) (k + length os) rest (scope_after c scope) (and_second (is_declaration c || is_body c) (are_parts rest) e) (at_right s own k os us at)
       (part_before h a n k c scope (and_first (is_declaration c || is_body c) (are_parts rest) e) (at_left s own k os us at) before))
   parts_before h a n k NoMore scope e at before = nothing_before k [] scope before
-  parts_before h a n k _ scope e at before = cc
+  parts_before h a n k _ scope e at before = absurd (false≢true e)
 
   one_part : (c : Code) → is_declaration c ≡ true → is_declaration c || is_body c ≡ true
   one_part c e = ap (λ b. b || is_body c) e
@@ -104,7 +104,7 @@ module _ (units : List Code) (s : Site) (own : Typing) (scopes : List ℕ) (obje
       (declarations_before h a (n + scope_count c) (k + length os) rest (scope_after c scope) (and_second (is_declaration c) (are_declarations rest) e) (at_right s own k os us at)
       (part_before h a n k c scope (one_part c (and_first (is_declaration c) (are_declarations rest) e)) (at_left s own k os us at) before))
   declarations_before h a n k NoMore scope e at before = nothing_before k [] scope before
-  declarations_before h a n k _ scope e at before = cc
+  declarations_before h a n k _ scope e at before = absurd (false≢true e)
 
   unit_before : (h : Home) (n k : ℕ) (u : Code) (scope : List ℕ) → is_unit u ≡ true → At k (objects_in units h 0 n u) → Before k scope
       → Before (k + length (objects_in units h 0 n u)) (unit_scope u scope)
@@ -118,7 +118,7 @@ module _ (units : List Code) (s : Site) (own : Typing) (scopes : List ℕ) (obje
       (declarations_before inner 0 n k visible scope (and_first (are_declarations visible) (are_declarations hidden) e) (at_left s own k os us at) before))
   unit_before h n k (PackageBody d parts) scope e at before = parts_before (in_package (package_text units (declared_number d)) h) 0 n k parts scope e at before
   unit_before h n k (SubBody front items stmts end) scope e at before = nothing_before k (objects_in units h 0 n (SubBody front items stmts end)) scope before
-  unit_before h n k _ scope e at before = cc
+  unit_before h n k _ scope e at before = absurd (false≢true e)
 
   -- ---- bodies
 
@@ -168,7 +168,7 @@ module _ (units : List Code) (s : Site) (own : Typing) (scopes : List ℕ) (obje
   part_laid z known same h a n k (Instance d m args) scope less e at around before fits sub has = absurd has
   part_laid z known same h a n k (SubDecl front) scope less e at around before fits sub has = absurd has
   part_laid z known same h a n k NoMore scope less e at around before fits sub has = absurd has
-  part_laid z known same h a n k _ scope less e at around before fits sub has = cc
+  part_laid z known same h a n k _ scope less e at around before fits sub has = absurd (false≢true e)
 
   parts_laid : (z : Site) → IsKnown z object → z.objects ≡ s.objects → (h : Home) (a n k : ℕ) (c : Code) (scope : List ℕ) → a ≤ n
       → are_parts c ≡ true → At k (objects_in units h a n c) → AreAround scopes n (scopes_in a n c) → Before k scope → Fits object scope c
@@ -186,7 +186,7 @@ module _ (units : List Code) (s : Site) (own : Typing) (scopes : List ℕ) (obje
             (at_right s own k os us at) both.1 (part_before h a n k c scope one (at_left s own k os us at) before) fits.1 sub later
       ]
   parts_laid z known same h a n k NoMore scope less e at around before fits sub has = absurd has
-  parts_laid z known same h a n k _ scope less e at around before fits sub has = cc
+  parts_laid z known same h a n k _ scope less e at around before fits sub has = absurd (false≢true e)
 
   unit_laid : IsKnown s object → (h : Home) (n k : ℕ) (u : Code) (scope : List ℕ) → is_unit u ≡ true → At k (objects_in units h 0 n u)
       → AreAround scopes n (scopes_in 0 n u) → Before k scope → UnitFits object scope u → (sub : TypedSub) → Has (subs_in s n u) sub → IsLaid sub
@@ -196,7 +196,7 @@ module _ (units : List Code) (s : Site) (own : Typing) (scopes : List ℕ) (obje
   unit_laid known h n k (Package d visible hidden) scope e at around before fits sub has = absurd has
   unit_laid known h n k (PackageBody d parts) scope e at around before fits sub has =
       parts_laid (placed (in_hidden (declared_number d)) s) known refl (in_package (package_text units (declared_number d)) h) 0 n k parts scope (omega arith) e at around before fits sub has
-  unit_laid known h n k _ scope e at around before fits sub has = cc
+  unit_laid known h n k _ scope e at around before fits sub has = absurd (false≢true e)
 
   pub units_laid : IsKnown s object → (h : Home) (n k : ℕ) (us : List Code) (scope : List ℕ) → ((u : Code) → Has us u → is_unit u ≡ true)
       → At k (over_units (objects_in units h 0) n us) → AreAround scopes n (over_units (scopes_in 0) n us) → Before k scope → AllFit object scope us

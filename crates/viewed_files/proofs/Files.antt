@@ -1,6 +1,7 @@
 -- Borrowers and observers of files that break no rule are in order, and the runs of their program are sound where
 -- nothing is reported, if it is of the class.
 use Rattle.std.proofs.Common.{◌≡◌, refl, sym, ap, ◌∙◌, subst, ◌⊎◌, inl, inr, ℕ, suc, Bool, true, false, not, ◌&&◌, ◌||◌, List, [], ◌∷◌, get_or, Some, None}
+use Rattle.std.proofs.lemmas.Bool.{true≢false, false≢true}
 use Rattle.spark_base.specs.declared.position.Pos.{Pos}
 use Rattle.spark_base.specs.Lists.{Has}
 use Rattle.place_names.specs.declared.act.Mode.{Mode}
@@ -117,6 +118,12 @@ is_mode_in : (m : Mode) → is_in m ≡ true → m ≡ mode.In
 is_mode_in mode.In e = refl
 is_mode_in m e = cc
 
+out_apart : mode.Out ≡ mode.In → ⊥
+out_apart e = cc
+
+both_apart : mode.InOut ≡ mode.In → ⊥
+both_apart e = cc
+
 number_of : (gs : List flow.Signature) (g : flow.Signature) → Has gs g → (n : ℕ) × (get_or gs n (record { formals = []; result = None }) ≡ g)
 number_of [] g has = absurd has
 number_of (z ∷ gs) g (inl same) = (0, same)
@@ -146,6 +153,10 @@ and_false false = refl
 whole_named : (z : Shape) (d : ℕ) (c n : Bool) → counts z ≡ true → z ≡ shape.Access d c n → n ≡ true
 whole_named (shape.Access e k m) d c n whole is = cc
 whole_named z d c n whole is = cc
+
+formal_kind : (k : ObjectKind) → flow.is_formal_kind k ≡ true → flow.is_variable k ≡ true → ⊥
+formal_kind object_kind.Formal e f = cc
+formal_kind k e f = cc
 
 module _ (files : List (List SourceUnit)) where
   abbrev p : Program
@@ -305,7 +316,7 @@ module _ (files : List (List SourceUnit)) where
           same_object (inr same) = same
           same_object (inl is) = elim (alike.object x) [
             | inl same ↦ same
-            | inr others ↦ absurd (let no : false ≡ true = sym others.0.1 ∙ is in cc)
+            | inr others ↦ absurd (false≢true (sym others.0.1 ∙ is))
           ]
 
           by : flow.object_at wide x ≡ flow.object_at (typing_in p) x → (flow.is_variable (flow.object_at wide x).kind ≡ true) ⊎ (is_in_formal wide x ≡ true)
@@ -323,10 +334,6 @@ module _ (files : List (List SourceUnit)) where
         | inl variable ↦ absurd (formal_kind (flow.object_at wide x).kind is variable)
         | inr formal ↦ formal
       ]
-        where
-          formal_kind : (k : ObjectKind) → flow.is_formal_kind k ≡ true → flow.is_variable k ≡ true → ⊥
-          formal_kind object_kind.Formal e f = cc
-          formal_kind k e f = cc
 
       kinds : (x : ℕ) → flow.is_formal wide x ≡ true → IsKindOfFormal wide x
       kinds x is = by (flow.object_at wide x).mode refl
@@ -354,8 +361,8 @@ module _ (files : List (List SourceUnit)) where
 
           by : (m : Mode) → (flow.object_at wide x).mode ≡ m → IsKindOfFormal wide x
           by mode.In at = owner at (is_owning wide.table (flow.object_at wide x).of) refl (flow.is_anonymous (flow.view_of wide x)) refl
-          by mode.Out at = back mode.Out at (λ e. cc)
-          by mode.InOut at = back mode.InOut at (λ e. cc)
+          by mode.Out at = back mode.Out at out_apart
+          by mode.InOut at = back mode.InOut at both_apart
 
       -- a formal of a scalar type owns nothing
       scalar_none : (x : ℕ) → IsScalarObject wide x → is_view_formal wide x ≡ false
@@ -366,7 +373,7 @@ module _ (files : List (List SourceUnit)) where
           (let none : is_given wide x ≡ false
           = ap (λ b. b || (is_in_formal wide x && flow.is_anonymous (flow.view_of wide x))) (scalar_none x plain)
           ∙ ap (λ b. is_in_formal wide x && b) (scalar_plain (flow.view_of wide x) plain) ∙ and_false (is_in_formal wide x) in
-          let no : true ≡ false = sym given ∙ none in cc)
+          true≢false (sym given ∙ none))
 
       modes : (n t : ℕ) → (flow.sub_at wide n).result ≡ Some t → (x : ℕ) → Has (flow.sub_at wide n).formals x → (flow.object_at wide x).mode ≡ mode.In
       modes = modes_there p (functions_in p (units_faultless p no_fault) text_orderly.once)

@@ -311,7 +311,7 @@ module _ (own : Typing) (scopes : List ℕ) (inner : (b : ℕ) → get_or scopes
       one_declaration k a m sc (Instance d mark args) e laid below = nothing k a sc [] below
       one_declaration k a m sc (SubDecl front) e laid below = nothing k a sc [] below
       one_declaration k a m sc NoMore e laid below = nothing k a sc [] below
-      one_declaration k a m sc _ e laid below = cc
+      one_declaration k a m sc _ e laid below = never e
 
       later : (a m : ℕ) (c : Code) → a < m → a < m + scope_count c
       later a m c less = omega (arith, less)
@@ -423,7 +423,7 @@ module _ (own : Typing) (scopes : List ℕ) (inner : (b : ℕ) → get_or scopes
       plain_goes k a m sc (Exit p when) e below = still k a sc [] _ below refl refl
       plain_goes k a m sc (Return p v) e below = still k a sc [] _ below refl refl
       plain_goes k a m sc NoMore e below = nothing k a sc [] below
-      plain_goes k a m sc _ e below = cc
+      plain_goes k a m sc _ e below = never e
 
       none_apart : (m : ℕ) (sc : List ℕ) → EachWent m sc NoMore
       unfolding IsLaid Went EachWent statements is_each_layered

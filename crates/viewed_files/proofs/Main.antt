@@ -1,6 +1,7 @@
 -- Borrowers and observers of a program are in order, where typing finds no fault and no formal is of an anonymous
 -- access type.
 use Rattle.std.proofs.Common.{◌≡◌, refl, sym, ap, ◌∙◌, subst, ◌⊎◌, inl, inr, ℕ, zero, suc, ◌+◌, ◌≤◌, ◌<◌, Bool, true, false, not, ◌&&◌, ◌||◌, ◌==◌, nat_eq, List, [], ◌∷◌, ◌++◌, map, length, get_or, arith, None, is_some}
+use Rattle.std.proofs.lemmas.Bool.{false≢true}
 use Rattle.std.specs.Prelude.{reverse, flat_map}
 use Rattle.std.specs.List.{AllByRecursion, position_or_len}
 use Rattle.spark_base.specs.Lists.{Has}
@@ -88,16 +89,16 @@ formals_scope h n [] = tt
 formals_scope h n (g ∷ groups) =
     all_both (λ (o : DeclaredObject). o.object.scope ≡ n) (formals_of h n g) (flat_map (formals_of h n) groups) (group_scope h n g) (formals_scope h n groups)
 
+by_formals_apart : (k : ObjectKind) (a b : Bool) → is_formal_kind k ≡ true → not ((is_variable k && a) && b) ≡ true
+by_formals_apart object_kind.Formal a b e = refl
+by_formals_apart k a b e = cc
+
 -- No formal is an observer.
 formals_apart : (own : Typing) (n : ℕ) (xs : List ℕ) → ((x : ℕ) → Has xs x → is_formal own x ≡ true) → are_apart own n xs ≡ true
 formals_apart own n [] formal = refl
 formals_apart own n (x ∷ xs) formal =
-    both_true (not (is_observer own x && (scope_of own x == n))) (are_apart own n xs) (by (object_at own x).kind (is_observing (view_of own x)) (scope_of own x == n) (formal x (inl refl)))
+    both_true (not (is_observer own x && (scope_of own x == n))) (are_apart own n xs) (by_formals_apart (object_at own x).kind (is_observing (view_of own x)) (scope_of own x == n) (formal x (inl refl)))
     (formals_apart own n xs (λ z has. formal z (inr has)))
-  where
-    by : (k : ObjectKind) (a b : Bool) → is_formal_kind k ≡ true → not ((is_variable k && a) && b) ≡ true
-    by object_kind.Formal a b e = refl
-    by k a b e = cc
 
 true_false : (b : Bool) → b ≡ true → b ≡ false → ⊥
 true_false true e f = cc
@@ -141,7 +142,7 @@ module _ (own : Typing) (outer : ℕ → Bool) (shared : (x : ℕ) → outer x �
       more : ArePlain (x ∷ sc)
       more z (inl same) = ap (λ n. is_anonymous (view_of own n)) (sym same) ∙ all.0
       more z (inr has) = plain z has
-  declarations_plain (_ ∷ cs) sc declare all plain seen = cc
+  declarations_plain (_ ∷ cs) sc declare all plain seen = absurd (false≢true declare.0)
 
 -- ---- which objects are views
 
@@ -150,13 +151,13 @@ IsLocalObject table o =
     is_anonymous (full table o.of) ≡ true
     → ((is_formal_kind o.kind ≡ true) × (o.mode ≡ mode.In)) ⊎ ((is_variable o.kind ≡ true) × (is_some o.«package» && not (is_state o.kind) ≡ false))
 
+by_never : (b : Bool) → b ≡ true → b ≡ false → ⊥
+by_never true e f = cc
+by_never false e f = cc
+
 module _ (table : Table) (whole : is_anonymous (full table integer) ≡ false) where
   never : is_anonymous (full table integer) ≡ true → ⊥
-  never view = by (is_anonymous (full table integer)) view whole
-    where
-      by : (b : Bool) → b ≡ true → b ≡ false → ⊥
-      by true e f = cc
-      by false e f = cc
+  never view = by_never (is_anonymous (full table integer)) view whole
 
   objects_local : (os : List DeclaredObject) → AllByRecursion (IsLocalView table) os → (x : ℕ) → IsLocalObject table (get_or (map (λ (o : DeclaredObject). o.object) os) x text_io)
   objects_local [] all x view = absurd (never view)
@@ -242,12 +243,8 @@ module _ (p : Program) (made : ℕ → Type 0) (laws : Laws (known_of p) made) (
     shared_plain : (x : ℕ) → is_package_object own x ≡ true → is_anonymous (view_of own x) ≡ false
     shared_plain x shared = by (is_anonymous (view_of own x)) refl
       where
-        no : (b : Bool) → b ≡ true → b ≡ false → ⊥
-        no true e f = cc
-        no false e f = cc
-
         by : (b : Bool) → is_anonymous (view_of own x) ≡ b → is_anonymous (view_of own x) ≡ false
-        by true view = absurd (no (is_package_object own x) shared (local_views x view).1)
+        by true view = absurd (by_never (is_package_object own x) shared (local_views x view).1)
         by false plain = plain
 
     pub package_values : names_no_view own (elaboration s p.units).body ≡ true

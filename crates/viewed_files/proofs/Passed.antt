@@ -57,6 +57,9 @@ abbrev NamesViews : Typing → List ℕ → TypedTree → Type 0
 NamesViews s (x ∷ formals) (More e rest) = NamesView s x e × NamesViews s formals rest
 NamesViews s formals e = Unit {0}
 
+one_views_named : (x z : ℕ) → Some x ≡ Some z → x ≡ z
+one_views_named x z e = cc
+
 module _ (y : Typing) (whole : counts (shape_of y.table integer) ≡ true) (listed : lists (shape_of y.table boolean) ≡ true)
     (word_law : (t : ℕ) → words y.table t ≡ words_of (words y.table) (shape_of y.table t)) where
   -- an actual that is copied back to is a name of what the formal may hold
@@ -145,10 +148,7 @@ module _ (y : Typing) (whole : counts (shape_of y.table integer) ≡ true) (list
   views_named : (b : Bool) (formals : List ℕ) (actuals : TypedTree) → Once formals → ((x : ℕ) → Holds formals x → is_anonymous (view_of y x) ≡ true → traversed_of b formals ≡ Some x)
       → ((e rest : TypedTree) → actuals ≡ More e rest → b ≡ true → IsName e) → NamesViews y formals actuals
   views_named true (x ∷ formals) (More e rest) once firsts first =
-      ((λ view. first e rest refl refl), later_named formals rest (λ z has view. once.0 (subst (Holds formals) (sym (one x z (firsts z (inr has) view))) has)))
-    where
-      one : (x z : ℕ) → Some x ≡ Some z → x ≡ z
-      one x z e = cc
+      ((λ view. first e rest refl refl), later_named formals rest (λ z has view. once.0 (subst (Holds formals) (sym (one_views_named x z (firsts z (inr has) view))) has)))
   views_named false (x ∷ formals) (More e rest) once firsts first = later_named (x ∷ formals) (More e rest) (λ z has view. (let none : None ≡ Some z = firsts z has view in cc))
   views_named b [] actuals once firsts first = tt
   views_named b (x ∷ formals) actuals once firsts first = tt

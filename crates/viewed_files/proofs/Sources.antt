@@ -3,6 +3,7 @@
 use Rattle.std.proofs.Common.{◌≡◌, refl, sym, ap, ◌∙◌, subst, ◌⊎◌, inl, inr, ℕ, Bool, true, false, not, ◌&&◌, ◌||◌, List, [], ◌∷◌, ◌++◌, map, Option, Some, None, is_some, ℤ, if◌then◌else◌}
 use Rattle.std.specs.Prelude.{flat_map}
 use Rattle.std.specs.List.{AllByRecursion}
+use Rattle.std.proofs.lemmas.Bool.{true≢false, false≢true}
 use Rattle.spark_base.specs.declared.position.Pos.{Pos}
 use Rattle.place_names.specs.declared.act.Mode.{Mode}
 use Rattle.place_names.specs.declared.act.Mode.TheVariants as mode
@@ -18,6 +19,7 @@ use Rattle.type_definitions.specs.declared.table.Known.{Known}
 use Rattle.type_definitions.specs.declared.table.Profile.{Profile}
 use Rattle.type_definitions.specs.declared.table.Shape.{Shape}
 use Rattle.type_definitions.specs.declared.table.Shape.TheVariants as shape
+use Rattle.type_definitions.specs.declared.judgement.Fault.{Fault}
 use Rattle.type_definitions.specs.declared.judgement.View.{View}
 use Rattle.type_definitions.specs.declared.judgement.View.TheVariants as view
 use Rattle.type_definitions.specs.declared.judgement.Next.{Next}
@@ -25,7 +27,7 @@ use Rattle.type_definitions.specs.declared.judgement.Next.TheVariants.{Goes, Giv
 use Rattle.type_definitions.specs.declared.judgement.Reading.{Reading}
 use Rattle.type_definitions.specs.declared.judgement.Reading.TheVariants as reading
 use Rattle.type_definitions.specs.declared.judgement.Where.TheVariants as stands
-use Rattle.type_definitions.specs.Types.{Table, full, shape_of, view_of, untyped, is_untyped, is_owning, is_scalar}
+use Rattle.type_definitions.specs.Types.{Table, full, shape_of, view_of, untyped, is_untyped, is_owning, is_scalar, is_nil}
 use Rattle.type_definitions.specs.Entries.{entry_of, integer, marked, denotes_type}
 use Rattle.type_definitions.specs.Faults.{demand, K2, K6}
 use Rattle.type_definitions.specs.Names.{Context, extent, seen, step, along, led_on, ended, reached, through, indexed, is_index, array_value, array_attribute, of_entry, reading_of, is_end}
@@ -86,6 +88,76 @@ abbrev pub DeclaresPlain : Typing → TypedCode → Type 0
 DeclaresPlain s (typed.Declare p x v) = flow.is_anonymous (flow.view_of s x) ≡ false
 DeclaresPlain s c = Unit {0}
 
+view_anonymous : (w : View) → is_anonymous w ≡ true → flow.is_anonymous w ≡ true
+view_anonymous (view.Access d k true) e = cc
+view_anonymous (view.Access d true false) e = refl
+view_anonymous (view.Access d false false) e = refl
+view_anonymous w e = cc
+
+no_source : (a b : Bool) → a ≡ false → a && b ≡ true → ⊥
+no_source true b e f = cc
+no_source false b e f = cc
+
+by_listed_source : (a b : Bool) → a || b ≡ true → (a && true) || b ≡ true
+by_listed_source true b h = refl
+by_listed_source false true h = refl
+by_listed_source false false h = cc
+
+anonymous_test : (a b d e : Bool) → not true || (a && (not b && (not d && e))) ≡ true → (b ≡ false) × (d ≡ false) × (e ≡ true)
+anonymous_test true false false true h = (refl, refl, refl)
+anonymous_test true false false false h = cc
+anonymous_test true false true e h = cc
+anonymous_test true true d e h = cc
+anonymous_test false b d e h = cc
+
+in_mode : (m : Mode) → is_in m ≡ true → m ≡ mode.In
+in_mode mode.In e = refl
+in_mode mode.Out e = cc
+in_mode mode.InOut e = cc
+
+reached_mode_of : (a b c : Bool) → not true || a ≡ true → b ≡ true → not (a && b) || c ≡ true → c ≡ true
+reached_mode_of true true c e g h = h
+reached_mode_of true false c e g h = cc
+reached_mode_of false b c e g h = cc
+
+both_first : (a b : Bool) → a && b ≡ true → a ≡ true
+both_first true b e = refl
+both_first false b e = cc
+
+no_end : (b : Bool) (v : ℤ) (u : ℕ) → ended b v ≡ reading.Place u → ⊥
+no_end true v u e = cc
+no_end false v u e = cc
+
+abbrev is_goes : Next → Bool
+is_goes (Goes w) = true
+is_goes n = false
+
+-- What is neither a name nor a call is no source.
+never_source : (p : Pos) (b : Bool) (more : List Fault) → demand 1 p b ++ (K6 p ++ more) ≡ [] → ⊥
+never_source p b more h = false≢true (ap is_nil (nil_left (K6 p) more (nil_right (demand 1 p b) (K6 p ++ more) h)))
+
+goes_on : (on : ℕ → Reading) (rest : Tree) (u : ℕ) (n : Next) → led_on on rest n ≡ reading.Place u → (w : ℕ) × (n ≡ Goes w)
+goes_on on rest u (Goes w) e = (w, refl)
+goes_on on rest u (Gives v) e = absurd (no_end (is_end rest) v u e)
+goes_on on rest u Stops e = cc
+
+other_anonymous : (w : View) → flow.is_anonymous w ≡ true → is_anonymous w ≡ true
+other_anonymous (view.Access d k true) e = cc
+other_anonymous (view.Access d k false) e = refl
+other_anonymous w e = cc
+
+one_place : (t u : ℕ) → reading.Place t ≡ reading.Place u → t ≡ u
+one_place t u e = cc
+
+named : (a f b c : Bool) → a ≡ false → ((not a || f) || b) || c ≡ true
+named true f b c e = cc
+named false f b c e = refl
+
+passed : (a f b c : Bool) → f ≡ true → ((not a || f) || b) || c ≡ true
+passed true true b c e = refl
+passed false true b c e = refl
+passed a false b c e = cc
+
 module _ (s : Site) (objects : List Object) (subs : List Signature) (made : ℕ → Type 0) (laws : Laws s.context.known made) where
   abbrev y : Typing
   y = record { table = s.context.known.table; objects = objects; subs = subs }
@@ -119,12 +191,6 @@ module _ (s : Site) (objects : List Object) (subs : List Signature) (made : ℕ 
   unfolding reading_of
   read_entry c d rest = refl
 
-  view_anonymous : (w : View) → is_anonymous w ≡ true → flow.is_anonymous w ≡ true
-  view_anonymous (view.Access d k true) e = cc
-  view_anonymous (view.Access d true false) e = refl
-  view_anonymous (view.Access d false false) e = refl
-  view_anonymous w e = cc
-
   -- A function with an anonymous result by what is known of it has one by the text.
   traversal : (d f : ℕ) → (f ≡ d) × (t : ℕ) × ((profile_of (entry_of known d)).result ≡ Some t) → Denotes s y d → is_traversal known (profile_of (entry_of known f)) ≡ true
       → flow.traverses table (sub_at y (sub_number s f)).result ≡ true
@@ -149,13 +215,9 @@ module _ (s : Site) (objects : List Object) (subs : List Signature) (made : ℕ 
       c : Context
       c = flagged looped starts s.context
 
-      no_source : (a b : Bool) → a ≡ false → a && b ≡ true → ⊥
-      no_source true b e f = cc
-      no_source false b e f = cc
-
       by : (steps actuals imaged : TypedTree) (r : Reading) → reading_of (flagged looped starts s.context) d rest ≡ r → source_name c want p r ≡ [] → reading_faults c p d true (given_names (call_arguments rest)) r ≡ []
           → IsNameOrCall (typed_name s p d r steps actuals imaged)
-      by steps actuals imaged reading.Off is a b = cc
+      by steps actuals imaged reading.Off is a b = absurd (false≢true (ap is_nil b))
       by steps actuals imaged (reading.Place t) is a b = refl
       by steps actuals imaged (reading.Call f) is a b =
           traversal d f (call_of (flagged looped starts s.context) d f (entry_of known d) rest (sym (read_entry (flagged looped starts s.context) d rest) ∙ is)) meant.0
@@ -175,8 +237,7 @@ module _ (s : Site) (objects : List Object) (subs : List Signature) (made : ℕ 
           (holds 6 p (is_source c.known reading.EndOfFile && keeps_constant c.known want (own_of c.known reading.EndOfFile))
           (nil_right (demand 1 p (designates c want (own_of c.known reading.EndOfFile))) _ a)))
   source_fit looped starts want given e meant none =
-      (let c : Context = flagged looped starts s.context in
-      let six = nil_left (K6 (position e)) (inside c false want e) (nil_right (demand 1 (position e) (source_fits c want e)) (K6 (position e) ++ inside c false want e) none) in cc)
+      absurd (never_source (position e) (source_fits (flagged looped starts s.context) want e) (inside (flagged looped starts s.context) false want e) none)
 
   -- ---- declarations
 
@@ -217,23 +278,11 @@ module _ (s : Site) (objects : List Object) (subs : List Signature) (made : ℕ 
       right false e = e
 
   listed_source : (e : TypedTree) → IsNameOrCall e → is_one_name_of is_any (typed.More e nothing_more) || gives_view y (first (typed.More e nothing_more)) ≡ true
-  listed_source e h = by (is_name_of is_any e) (gives_view y e) h
-    where
-      by : (a b : Bool) → a || b ≡ true → (a && true) || b ≡ true
-      by true b h = refl
-      by false true h = refl
-      by false false h = cc
+  listed_source e h = by_listed_source (is_name_of is_any e) (gives_view y e) h
 
   module _ (looped : Bool) (marks : AreMarksPlain) where
     abbrev c : Context
     c = flagged looped s.context.starts s.context
-
-    anonymous_test : (a b d e : Bool) → not true || (a && (not b && (not d && e))) ≡ true → (b ≡ false) × (d ≡ false) × (e ≡ true)
-    anonymous_test true false false true h = (refl, refl, refl)
-    anonymous_test true false false false h = cc
-    anonymous_test true false true e h = cc
-    anonymous_test true true d e h = cc
-    anonymous_test false b d e h = cc
 
     test_of : (ids i : Code) (constant : Bool) (v : Tree) → object_faults c ids constant i v ≡ []
         → not (is_anonymous_indication i) || (is_single ids && (not (in_package c) && (not constant && has_one v))) ≡ true
@@ -251,7 +300,7 @@ module _ (s : Site) (objects : List Object) (subs : List Signature) (made : ℕ 
     first_source : (v : Tree) (t : ℕ) → IsMeantOptional s y v → has_one v ≡ true → initial_faults (starting c) true t v ≡ []
         → is_one_name_of is_any (typed_optional s t v) || gives_view y (first (typed_optional s t v)) ≡ true
     first_source (More e rest) t meant one none = listed_source (typed_expression s t e) (source_fit looped (in_package s.context) t t e meant none)
-    first_source v t meant one none = cc
+    first_source v t meant one none = absurd (false≢true one)
 
     pub objects_fit : (ids i : Code) (constant : Bool) (v : Tree) → AreDeclared s y made i ids → IsMeantOptional s y v → object_faults c ids constant i v ≡ []
         → Fits (map (typed_object s (typed_optional s (indicated known (first_number ids) i) v)) (code_items ids))
@@ -314,11 +363,6 @@ module _ (s : Site) (objects : List Object) (subs : List Signature) (made : ℕ 
   -- ---- formals
 
   module _ (marks : AreMarksPlain) (h : Home) (same : h.known ≡ known) where
-    in_mode : (m : Mode) → is_in m ≡ true → m ≡ mode.In
-    in_mode mode.In e = refl
-    in_mode mode.Out e = cc
-    in_mode mode.InOut e = cc
-
     -- one of an anonymous access type is traversed, so it is of mode `in`
     mode_of : (f : Bool) (r : Option ℕ) (traversed : Bool) (how : Mode) (of d : Code) → indication_faults known of ≡ [] → formal_faults s.context f r traversed how of d ≡ []
         → flow.is_anonymous (full table (indicated known (declared_number d) of)) ≡ true → how ≡ mode.In
@@ -328,16 +372,7 @@ module _ (s : Site) (objects : List Object) (subs : List Signature) (made : ℕ 
         let last = holds 6 (declared_pos d) (not (traversed && indicates_type known (Anonymous p k m)) || is_traversable s.context r how (indicated known (declared_number d) (Anonymous p k m)))
         (nil_right (demand 6 (declared_pos d) (not true || traversed)) _ late) in
         let denotes : indicates_type known (Anonymous p k m) ≡ true = holds 1 m.pos (denotes_type known m.decl) (nil_left _ _ none) in
-        in_mode how (both_first (is_in how) _ (reached traversed (indicates_type known (Anonymous p k m)) _ through denotes last))
-      where
-        reached : (a b c : Bool) → not true || a ≡ true → b ≡ true → not (a && b) || c ≡ true → c ≡ true
-        reached true true c e g h = h
-        reached true false c e g h = cc
-        reached false b c e g h = cc
-
-        both_first : (a b : Bool) → a && b ≡ true → a ≡ true
-        both_first true b e = refl
-        both_first false b e = cc
+        in_mode how (both_first (is_in how) _ (reached_mode_of traversed (indicates_type known (Anonymous p k m)) _ through denotes last))
     mode_of f r traversed how (Plain m) d none faults view = absurd (true_false (flow.is_anonymous (full table (marked known m))) view (marks m))
     mode_of f r traversed how of d none faults view = absurd (true_false (flow.is_anonymous (full table integer)) view integer_plain)
 
@@ -382,28 +417,19 @@ module _ (s : Site) (objects : List Object) (subs : List Signature) (made : ℕ 
 
   -- ---- assignments
 
-  no_end : (b : Bool) (v : ℤ) (u : ℕ) → ended b v ≡ reading.Place u → ⊥
-  no_end true v u e = cc
-  no_end false v u e = cc
-
-  goes_on : (on : ℕ → Reading) (rest : Tree) (u : ℕ) (n : Next) → led_on on rest n ≡ reading.Place u → (w : ℕ) × (n ≡ Goes w)
-  goes_on on rest u (Goes w) e = (w, refl)
-  goes_on on rest u (Gives v) e = absurd (no_end (is_end rest) v u e)
-  goes_on on rest u Stops e = cc
-
   stops : (t w : ℕ) → is_untyped table t ≡ false → reached table t Stops ≡ Goes w → ⊥
   stops t w typed e = by (is_untyped table t) typed e
     where
       by : (b : Bool) → b ≡ false → (if b then Goes untyped else Stops) ≡ Goes w → ⊥
-      by true f g = cc
-      by false f g = cc
+      by true f g = absurd (true≢false f)
+      by false f g = absurd (false≢true (ap is_goes g))
 
   gives : (t w : ℕ) (v : ℤ) → is_untyped table t ≡ false → reached table t (Gives v) ≡ Goes w → ⊥
   gives t w v typed e = by (is_untyped table t) typed e
     where
       by : (b : Bool) → b ≡ false → (if b then Goes untyped else Gives v) ≡ Goes w → ⊥
-      by true f g = cc
-      by false f g = cc
+      by true f g = absurd (true≢false f)
+      by false f g = absurd (false≢true (ap is_goes g))
 
   -- the index of an array
   index_part : (x t w : ℕ) (b : Bool) (index steps : TypedTree) (v : View) → is_untyped table t ≡ false
@@ -444,7 +470,7 @@ module _ (s : Site) (objects : List Object) (subs : List Signature) (made : ℕ 
       by All goes = refl
       by (Applied args) goes = index_part x t goes.0 (is_index args) (typed_first s integer args) _ (seen s.context t) typed_type goes.1
       by (Attr a) goes = absurd (attribute_part t goes.0 a (seen s.context t) typed_type goes.1)
-      by e goes = cc
+      by e goes = absurd (false≢true (ap is_goes goes.1))
 
   whole_named : (p : Pos) (d t : ℕ) (rest : Tree) → reading_of s.context d rest ≡ reading.Place t
       → whole (typed_expression s integer (Named p d rest)) ≡ whole_object (object_number s d) (typed_steps s (object_type (entry_of known d)) rest)
@@ -455,14 +481,6 @@ module _ (s : Site) (objects : List Object) (subs : List Signature) (made : ℕ 
   read_along : (d : ℕ) (o : ObjectInfo) (rest : Tree) → entry_of known d ≡ entry.Object o → reading_of s.context d rest ≡ along s.context o.of rest
   unfolding reading_of
   read_along d o rest is = ap (λ e. of_entry s.context d e rest) is
-
-  other_anonymous : (w : View) → flow.is_anonymous w ≡ true → is_anonymous w ≡ true
-  other_anonymous (view.Access d k true) e = cc
-  other_anonymous (view.Access d k false) e = refl
-  other_anonymous w e = cc
-
-  one_place : (t u : ℕ) → reading.Place t ≡ reading.Place u → t ≡ u
-  one_place t u e = cc
 
   module _ (looped starts : Bool) where
     abbrev z : Context
@@ -481,8 +499,8 @@ module _ (s : Site) (objects : List Object) (subs : List Signature) (made : ℕ 
             else K2 p ++ behind z (way_of known d e) rest) ≡ []
             → (o : ObjectInfo) × (t : ℕ) × (e ≡ entry.Object o) × (r ≡ reading.Place t)
         by (entry.Object o) (reading.Place t) h = (o, t, refl, refl)
-        by (entry.Object o) r h = cc
-        by e r h = cc
+        by (entry.Object o) r h = absurd (false≢true (ap is_nil h))
+        by e r h = absurd (false≢true (ap is_nil h))
 
     abbrev IsStored : Tree → Tree → Type 0
     IsStored target e = all_fit (has_source y) (typed_assign s target e) ≡ true
@@ -495,19 +513,10 @@ module _ (s : Site) (objects : List Object) (subs : List Signature) (made : ℕ 
         object_is : flow.is_anonymous (full table (object_at y (object_number s d)).of) ≡ flow.is_anonymous (full table t)
         object_is = ap (λ u. flow.is_anonymous (full table u)) (denotes.0 o is ∙ of)
 
-        named : (a f b c : Bool) → a ≡ false → ((not a || f) || b) || c ≡ true
-        named true f b c e = cc
-        named false f b c e = refl
-
         either : (a f b c : Bool) → b || c ≡ true → ((not a || f) || b) || c ≡ true
         either true true b c e = refl
         either true false b c e = e
         either false f b c e = refl
-
-        passed : (a f b c : Bool) → f ≡ true → ((not a || f) || b) || c ≡ true
-        passed true true b c e = refl
-        passed false true b c e = refl
-        passed a false b c e = cc
 
         Stored : Type 0
         Stored = stores_name y (Some (object_number s d)) value || gives_view y value ≡ true
@@ -525,7 +534,7 @@ module _ (s : Site) (objects : List Object) (subs : List Signature) (made : ℕ 
             → (if not (true && a) then faults z stands.Stored t e else if f then formal_source z t e else source_faults z t e) ≡ []
             → (if f then formal_source z t e else source_faults z t e) ≡ []
         unfolded true f h g view k = k
-        unfolded false f h g view k = cc
+        unfolded false f h g view k = absurd (false≢true view)
 
         by : (b : Bool) → flow.is_anonymous (full table t) ≡ b → Stored
         by false plain =
@@ -554,4 +563,4 @@ module _ (s : Site) (objects : List Object) (subs : List Signature) (made : ℕ 
             ∙ part_named o.of t a more (laws.object d o is) (sym (read_along d o (More a more) is) ∙ place) (object_number s d)))
             refl
         by other o t value suffixes is place h source = absurd suffixes
-    assign_fit target e uses meant value_meant none stored = cc
+    assign_fit target e uses meant value_meant none stored = absurd (false≢true (ap is_nil none))

@@ -2,6 +2,7 @@
 use Rattle.std.proofs.Common.{◌≡◌, refl, subst, inl, inr, ℕ, ◌+◌, Bool, true, false, ◌&&◌, ◌||◌, List, [], ◌∷◌, ◌++◌, None, true≢false}
 use Rattle.std.specs.Prelude.{flat_map}
 use Rattle.std.specs.List.{AllByRecursion}
+use Rattle.std.proofs.lemmas.Bool.{false≢true}
 use Rattle.spark_base.specs.Lists.{Has}
 use Rattle.spark_base.specs.declared.position.Pos.{Pos}
 use Rattle.resolved_tree.specs.Trees.{Code, Incomplete, Private, TypeDecl, Subtype, ConstrainedSubtype, Objects, Numbers, Instance, SubDecl, SubBody, Package, PackageBody, NoMore, More}
@@ -32,6 +33,9 @@ about s objects subs = record { table = s.context.known.table; objects = objects
 
 abbrev IsSourced : Typing → TypedSub → Type 0
 IsSourced y sub = all_fit (has_source y) sub.body ≡ true
+
+sym_both : {b : Bool} → b ≡ true → b ≡ false → true ≡ false
+sym_both e f = cc
 
 module _ (s : Site) (objects : List Object) (subs : List Signature) (made : ℕ → Type 0) (laws : Laws s.context.known made)
     (marks : source.AreMarksPlain s objects subs made laws) (units : List Code) where
@@ -83,9 +87,6 @@ module _ (s : Site) (objects : List Object) (subs : List Signature) (made : ℕ 
   module _ (h : Home) (same : h.known ≡ s.context.known) (shared : in_package s.context ≡ true) (flat : s.context.in_loop ≡ false) where
     never : in_package s.context ≡ false → h.identifier ≡ None
     never none = absurd (true≢false (sym_both shared none))
-      where
-        sym_both : {b : Bool} → b ≡ true → b ≡ false → true ≡ false
-        sym_both e f = cc
 
     declaration_went : (a n m : ℕ) (c : Code) → is_declaration c ≡ true → IsMeantCode s y made c → AreTyped made s.context c → code_faults s.context c ≡ [] → Went h a n m c
     unfolding subs_in
@@ -107,7 +108,7 @@ module _ (s : Site) (objects : List Object) (subs : List Signature) (made : ℕ 
         no_bodies (Instance d mark args) e = tt
         no_bodies (SubDecl front) e = tt
         no_bodies NoMore e = tt
-        no_bodies _ e = cc
+        no_bodies _ e = absurd (false≢true e)
 
     either_went : (a n m : ℕ) (b : Bool) (c : Code) → is_declaration c ≡ b → b || is_body c ≡ true → Rooted c → IsMeantCode s y made c → AreMeantBodies s y made c → AreTyped made s.context c
         → code_faults s.context c ≡ [] → Went h a n m c
@@ -115,7 +116,7 @@ module _ (s : Site) (objects : List Object) (subs : List Signature) (made : ℕ 
     either_went a n m true c declares e roots meant bodies are none = declaration_went a n m c declares meant are none
     either_went a n m false (SubBody front items stmts end) declares e roots meant bodies are none =
         (let one = body_here h same a n m front items stmts end e roots bodies are none in (one.0, one.1, tt))
-    either_went a n m false c declares e roots meant bodies are none = cc
+    either_went a n m false c declares e roots meant bodies are none = absurd (false≢true e)
 
     pub parts_went : (a n m : ℕ) (c : Code) → are_parts c ≡ true → Rooted c → IsMeantCode s y made c → AreMeantBodies s y made c → AreTyped made s.context c → code_faults s.context c ≡ [] → Went h a n m c
     unfolding subs_in objects_in statements are_parts AreDenoted IsMeantCode AreMeantBodies AreTyped code_faults
@@ -129,7 +130,7 @@ module _ (s : Site) (objects : List Object) (subs : List Signature) (made : ℕ 
           all_both (DeclaresPlain y) (statements s n c) (statements s k rest) first.2 second.2,
         )
     parts_went a n m NoMore e roots meant bodies are none = (tt, tt, tt)
-    parts_went a n m _ e roots meant bodies are none = cc
+    parts_went a n m _ e roots meant bodies are none = absurd (false≢true e)
 
     -- the declarations of a package
     pub declarations_went : (a n m : ℕ) (c : Code) → are_declarations c ≡ true → IsMeantCode s y made c → AreTyped made s.context c → code_faults s.context c ≡ []
@@ -177,7 +178,7 @@ module _ (known : Known) (units : List Code) (objects : List Object) (subs : Lis
   unit_went h same n m (SubBody front items stmts end) e roots bodies meant are none =
       let one = body_here s objects subs made laws marks units h same 0 n m front items stmts end
       (and_second (is_procedure front) (are_declarations items && are_statements false stmts) e) roots bodies are none in (one.0, one.1, tt)
-  unit_went h same n m _ e roots bodies meant are none = cc
+  unit_went h same n m _ e roots bodies meant are none = absurd (false≢true e)
 
   pub units_went : (h : Home) → h.known ≡ known → (n m : ℕ) (us : List Code) → ((u : Code) → Has us u → is_unit u ≡ true)
       → ((u : Code) → Has us u → Rooted_unit u) → ((u : Code) → Has us u → AreMeantBodies s typing made u × AreMeantObjects s typing made u) → ((u : Code) → Has us u → AreTyped made (outside known) u)

@@ -1,6 +1,7 @@
 -- So it is in all of the code: views have sources, and are variables of subprograms.
 use Rattle.std.proofs.Common.{◌≡◌, refl, ℕ, ◌+◌, Bool, true, false, ◌&&◌, List, [], ◌∷◌, ◌++◌, None}
 use Rattle.std.specs.List.{AllByRecursion}
+use Rattle.std.proofs.lemmas.Bool.{false≢true}
 use Rattle.place_names.specs.declared.act.Mode.TheVariants as mode
 use Rattle.resolved_tree.specs.Trees.{Tree, Code, Incomplete, Private, TypeDecl, Subtype, ConstrainedSubtype, Objects, Numbers, Instance, SubDecl, SubBody, Package, PackageBody, Skip, Assign, Call, Exit, Return, If, Branch, Case, When, Loop, While, For, Block, NoMore, More, code_items}
 use Rattle.resolved_tree.specs.Trees as resolved
@@ -117,7 +118,7 @@ module _ (s : Site) (objects : List Object) (subs : List Signature) (made : ℕ 
   one_declaration looped a n m (Instance d mark args) e meant are none = (tt, tt)
   one_declaration looped a n m (SubDecl front) e meant are none = (tt, tt)
   one_declaration looped a n m NoMore e meant are none = (tt, tt)
-  one_declaration looped a n m _ e meant are none = cc
+  one_declaration looped a n m _ e meant are none = absurd (false≢true e)
 
   pub declarations_went : (looped : Bool) (a n m : ℕ) (c : Code) → are_declarations c ≡ true → IsMeantCode s y made c → AreTyped made s.context c → Faultless looped c → Went a n m c
   unfolding statements objects_in IsMeantCode AreTyped code_faults are_declarations
@@ -127,7 +128,7 @@ module _ (s : Site) (objects : List Object) (subs : List Signature) (made : ℕ 
       (one_declaration looped a n m c (and_first (is_declaration c) (are_declarations rest) e) meant.0 are.0 (nil_left (code_faults z c) (code_faults z rest) none))
       (declarations_went looped a (n + scope_count c) (m + scope_count c) rest (and_second (is_declaration c) (are_declarations rest) e) meant.1 are.1 (nil_right (code_faults z c) (code_faults z rest) none))
   declarations_went looped a n m NoMore e meant are none = (tt, tt)
-  declarations_went looped a n m _ e meant are none = cc
+  declarations_went looped a n m _ e meant are none = absurd (false≢true e)
 
   -- What a package declares is no view.
   pub declaration_plain : (n : ℕ) (c : Code) → in_package s.context ≡ true → is_declaration c ≡ true → IsMeantCode s y made c → Faultless false c → AllByRecursion (DeclaresPlain y) (statements s n c)
@@ -142,7 +143,7 @@ module _ (s : Site) (objects : List Object) (subs : List Signature) (made : ℕ 
   declaration_plain n (Instance d mark args) shared e meant none = tt
   declaration_plain n (SubDecl front) shared e meant none = tt
   declaration_plain n NoMore shared e meant none = tt
-  declaration_plain n _ shared e meant none = cc
+  declaration_plain n _ shared e meant none = absurd (false≢true e)
 
   pub declarations_plain : (n : ℕ) (c : Code) → in_package s.context ≡ true → are_declarations c ≡ true → IsMeantCode s y made c → Faultless false c → AllByRecursion (DeclaresPlain y) (statements s n c)
   unfolding statements IsMeantCode code_faults are_declarations
@@ -152,7 +153,7 @@ module _ (s : Site) (objects : List Object) (subs : List Signature) (made : ℕ 
       (declaration_plain n c shared (and_first (is_declaration c) (are_declarations rest) e) meant.0 (nil_left (code_faults z c) (code_faults z rest) none))
       (declarations_plain (n + scope_count c) rest shared (and_second (is_declaration c) (are_declarations rest) e) meant.1 (nil_right (code_faults z c) (code_faults z rest) none))
   declarations_plain n NoMore shared e meant none = tt
-  declarations_plain n _ shared e meant none = cc
+  declarations_plain n _ shared e meant none = absurd (false≢true e)
 
   mutual
     unfolding statements objects_in IsMeantCode AreAlternatives AreDenoted AreTyped code_faults alternatives_faults alternative_faults all_fit are_statements is_statement are_branches is_branch are_alternatives is_alternative
@@ -165,7 +166,7 @@ module _ (s : Site) (objects : List Object) (subs : List Signature) (made : ℕ 
         (statements_went looped inside a (n + scope_count c) (m + scope_count c) rest (and_second (is_statement inside c) (are_statements inside rest) e) roots.1 meant.1 are.1
         (nil_right (code_faults z c) (code_faults z rest) none))
     statements_went looped inside a n m NoMore e roots meant are none = (tt, tt)
-    statements_went looped inside a n m _ e roots meant are none = cc
+    statements_went looped inside a n m _ e roots meant are none = absurd (false≢true e)
 
     one_went : (looped inside : Bool) (a n m : ℕ) (c : Code) → is_statement inside c ≡ true → Rooted c → IsMeantCode s y made c → AreTyped made s.context c → Faultless looped c → Went a n m c
     one_went looped inside a n m (Skip p) e roots meant are none = ((refl, tt), tt)
@@ -218,7 +219,7 @@ module _ (s : Site) (objects : List Object) (subs : List Signature) (made : ℕ 
         (statements_went looped inside m k l stmts (and_second (are_declarations items) (are_statements inside stmts) e) roots.1 meant.1 are.1 (nil_right (code_faults z items) (code_faults z stmts) none)) in
         ((listed (statements s (n + 1) items ++ statements s k stmts) whole.0, tt), whole.1)
     one_went looped inside a n m NoMore e roots meant are none = (tt, tt)
-    one_went looped inside a n m _ e roots meant are none = cc
+    one_went looped inside a n m _ e roots meant are none = absurd (false≢true e)
 
     branches_went : (looped inside : Bool) (a n m : ℕ) (c : Code) → are_branches inside c ≡ true → Rooted c → IsMeantCode s y made c → AreTyped made s.context c → Faultless looped c → Went a n m c
     branches_went looped inside a n m (More c rest) e roots meant are none =
@@ -228,14 +229,14 @@ module _ (s : Site) (objects : List Object) (subs : List Signature) (made : ℕ 
         (branches_went looped inside a (n + scope_count c) (m + scope_count c) rest (and_second (is_branch inside c) (are_branches inside rest) e) roots.1 meant.1 are.1
         (nil_right (code_faults z c) (code_faults z rest) none))
     branches_went looped inside a n m NoMore e roots meant are none = (tt, tt)
-    branches_went looped inside a n m _ e roots meant are none = cc
+    branches_went looped inside a n m _ e roots meant are none = absurd (false≢true e)
 
     branch_went : (looped inside : Bool) (a n m : ℕ) (c : Code) → is_branch inside c ≡ true → Rooted c → IsMeantCode s y made c → AreTyped made s.context c → Faultless looped c → Went a n m c
     branch_went looped inside a n m (Branch p v stmts) e roots meant are none =
         let z : Context = flagged looped s.context.starts s.context in
         let first = statements_went looped inside a n m stmts e roots.1 meant.1 are (nil_right (faults z stands.Elsewhere boolean v) _ none) in ((listed (statements s n stmts) first.0, tt), first.1)
     branch_went looped inside a n m NoMore e roots meant are none = (tt, tt)
-    branch_went looped inside a n m _ e roots meant are none = cc
+    branch_went looped inside a n m _ e roots meant are none = absurd (false≢true e)
 
     alternatives_went : (looped inside : Bool) (a n m t : ℕ) (c : Code) → are_alternatives inside c ≡ true → Rooted c → AreAlternatives s y made c → AreTyped made s.context c
         → alternatives_faults (flagged looped s.context.starts s.context) t c ≡ [] → Went a n m c

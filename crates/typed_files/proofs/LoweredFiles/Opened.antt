@@ -1,6 +1,7 @@
 -- Each object that code declares has a point that gives it room.
 use Rattle.std.proofs.Common.{◌≡◌, refl, inl, inr, ℕ, true, ◌&&◌, ◌||◌, List, [], ◌∷◌, ◌++◌}
 use Rattle.std.specs.Prelude.{flat_map, reverse}
+use Rattle.std.proofs.lemmas.Bool.{false≢true}
 use Rattle.spark_base.specs.Lists.{Has}
 use Rattle.spark_base.proofs.Lists.{Has-append_left, Has-append_right, Has-append_cases}
 use Rattle.typed_tree.specs.Trees.{TypedTree, TypedCode}
@@ -99,7 +100,7 @@ module _ (s : Setting) (x : ℕ) where
               (branches_stand rest (1 ∷ at) w k otherwise (and_second (is_placed stmts && is_undeclaring stmts) (are_placed_branches rest) h) later)
         ]
     branches_stand typed.NoMore at w k otherwise h has = absurd has
-    branches_stand _ at w k otherwise h has = cc
+    branches_stand _ at w k otherwise h has = absurd (false≢true h)
 
     alternatives_stand : (c : TypedCode) (at : Place) (w : Around) (k : List PointName) → are_placed_alternatives c ≡ true → Has (declared_within c) x
         → Stands x (flat_map (λ ps. ps) (laid_whens s c at w k))
@@ -112,4 +113,4 @@ module _ (s : Setting) (x : ℕ) where
               (alternatives_stand rest (1 ∷ at) w k (and_second (is_placed stmts && is_undeclaring stmts) (are_placed_alternatives rest) h) later)
         ]
     alternatives_stand typed.NoMore at w k h has = absurd has
-    alternatives_stand _ at w k h has = cc
+    alternatives_stand _ at w k h has = absurd (false≢true h)

@@ -2,7 +2,7 @@
 use Rattle.std.proofs.Common.{◌≡◌, refl, sym, ap, ◌∙◌, subst, ◌⊎◌, inl, inr, ℕ, zero, suc, ◌+◌, Bool, true, false, not, ◌&&◌, ◌||◌, nat_eq, List, [], ◌∷◌, ◌++◌, map, get_or, arith, Some, None}
 use Rattle.std.specs.Prelude.{flat_map, is_some}
 use Rattle.std.specs.List.{AllByRecursion, position_or_len}
-use Rattle.std.proofs.lemmas.Bool.{eq-eqb}
+use Rattle.std.proofs.lemmas.Bool.{eq-eqb, false≢true}
 use Rattle.spark_base.specs.declared.position.Pos.{Pos}
 use Rattle.spark_base.specs.Lists.{Has}
 use Rattle.spark_base.proofs.Lists.{Has-append_left, Has-append_right, Has-append_cases, Has-map}
@@ -83,7 +83,7 @@ module _ (units : List Code) (h : Home) (outside : h.identifier ≡ None) where
   declaration_local a n (Instance d m args) e = tt
   declaration_local a n (SubDecl front) e = tt
   declaration_local a n NoMore e = tt
-  declaration_local a n _ e = cc
+  declaration_local a n _ e = absurd (false≢true e)
 
   declarations_local : (a n : ℕ) (c : Code) → are_declarations c ≡ true → AreLocal (objects_in units h a n c)
   unfolding objects_in are_declarations
@@ -91,7 +91,7 @@ module _ (units : List Code) (h : Home) (outside : h.identifier ≡ None) where
       both (objects_in units h a n c) (objects_in units h a (n + scope_count c) rest) (declaration_local a n c (and_first (is_declaration c) (are_declarations rest) e))
       (declarations_local a (n + scope_count c) rest (and_second (is_declaration c) (are_declarations rest) e))
   declarations_local a n NoMore e = tt
-  declarations_local a n _ e = cc
+  declarations_local a n _ e = absurd (false≢true e)
 
   mutual
     unfolding objects_in are_statements is_statement are_branches is_branch are_alternatives is_alternative
@@ -101,7 +101,7 @@ module _ (units : List Code) (h : Home) (outside : h.identifier ≡ None) where
         both (objects_in units h a n c) (objects_in units h a (n + scope_count c) rest) (one_local a n looped c (and_first (is_statement looped c) (are_statements looped rest) e))
         (statements_local a (n + scope_count c) looped rest (and_second (is_statement looped c) (are_statements looped rest) e))
     statements_local a n looped NoMore e = tt
-    statements_local a n looped _ e = cc
+    statements_local a n looped _ e = absurd (false≢true e)
 
     one_local : (a n : ℕ) (looped : Bool) (c : Code) → is_statement looped c ≡ true → AreLocal (objects_in units h a n c)
     one_local a n looped (If p branches otherwise) e =
@@ -122,19 +122,19 @@ module _ (units : List Code) (h : Home) (outside : h.identifier ≡ None) where
     one_local a n looped (Exit p when) e = tt
     one_local a n looped (Return p v) e = tt
     one_local a n looped NoMore e = tt
-    one_local a n looped _ e = cc
+    one_local a n looped _ e = absurd (false≢true e)
 
     branches_local : (a n : ℕ) (looped : Bool) (c : Code) → are_branches looped c ≡ true → AreLocal (objects_in units h a n c)
     branches_local a n looped (More c rest) e =
         both (objects_in units h a n c) (objects_in units h a (n + scope_count c) rest) (branch_local a n looped c (and_first (is_branch looped c) (are_branches looped rest) e))
         (branches_local a (n + scope_count c) looped rest (and_second (is_branch looped c) (are_branches looped rest) e))
     branches_local a n looped NoMore e = tt
-    branches_local a n looped _ e = cc
+    branches_local a n looped _ e = absurd (false≢true e)
 
     branch_local : (a n : ℕ) (looped : Bool) (c : Code) → is_branch looped c ≡ true → AreLocal (objects_in units h a n c)
     branch_local a n looped (Branch p v stmts) e = statements_local a n looped stmts e
     branch_local a n looped NoMore e = tt
-    branch_local a n looped _ e = cc
+    branch_local a n looped _ e = absurd (false≢true e)
 
     alternatives_local : (a n : ℕ) (looped : Bool) (c : Code) → are_alternatives looped c ≡ true → AreLocal (objects_in units h a n c)
     alternatives_local a n looped (More c rest) e =
@@ -142,12 +142,12 @@ module _ (units : List Code) (h : Home) (outside : h.identifier ≡ None) where
         (alternative_local a n looped c (and_first (is_alternative looped c) (are_alternatives looped rest) e))
         (alternatives_local a (n + scope_count c) looped rest (and_second (is_alternative looped c) (are_alternatives looped rest) e))
     alternatives_local a n looped NoMore e = tt
-    alternatives_local a n looped _ e = cc
+    alternatives_local a n looped _ e = absurd (false≢true e)
 
     alternative_local : (a n : ℕ) (looped : Bool) (c : Code) → is_alternative looped c ≡ true → AreLocal (objects_in units h a n c)
     alternative_local a n looped (When choices stmts) e = statements_local a n looped stmts e
     alternative_local a n looped NoMore e = tt
-    alternative_local a n looped _ e = cc
+    alternative_local a n looped _ e = absurd (false≢true e)
 
   group_local : (a : ℕ) (g : Code) → AreLocal (formals_of h a g)
   group_local a (Formals ids m of) = each_local a m (code_items ids)
@@ -156,6 +156,10 @@ module _ (units : List Code) (h : Home) (outside : h.identifier ≡ None) where
   formals_local : (a : ℕ) (groups : List Code) → AreLocal (flat_map (formals_of h a) groups)
   formals_local a [] = tt
   formals_local a (g ∷ groups) = both (formals_of h a g) (flat_map (formals_of h a) groups) (group_local a g) (formals_local a groups)
+
+or_first : (x y : Bool) → x ≡ true → x || y ≡ true
+or_first true y e = refl
+or_first false y e = cc
 
 module _ (units : List Code) where
   abbrev AllLocal : List DeclaredObject → Type 0
@@ -186,10 +190,6 @@ module _ (units : List Code) where
 
   split_whole : (s : Site) (cs : List TypedCode) (all : List DeclaredObject) → declared_in s cs ≡ numbers s all → AllByRecursion IsPackaged all → IsSplit s cs all
   split_whole s cs all same packaged = (all, same, part_whole all, packaged, λ o has. inl has)
-
-  or_first : (x y : Bool) → x ≡ true → x || y ≡ true
-  or_first true y e = refl
-  or_first false y e = cc
 
   body_local : (h : Home) (a n : ℕ) (front items stmts : Code) (end : Pos) → are_declarations items && are_statements false stmts ≡ true
       → AllLocal (objects_in units h a n (SubBody front items stmts end))
@@ -222,7 +222,7 @@ module _ (units : List Code) where
   part_split site h text a n m (Instance d mark args) is e = split_none site [] tt
   part_split site h text a n m (SubDecl front) is e = split_none site [] tt
   part_split site h text a n m NoMore is e = split_none site [] tt
-  part_split site h text a n m c is e = cc
+  part_split site h text a n m c is e = absurd (false≢true e)
 
   parts_split : (site : Site) (h : Home) (text : List ℕ) (a n m : ℕ) (c : Code) → h.identifier ≡ Some text → are_parts c ≡ true
       → IsSplit site (statements site n c) (objects_in units h a m c)
@@ -232,7 +232,7 @@ module _ (units : List Code) where
       (part_split site h text a n m c is (and_first (is_declaration c || is_body c) (are_parts rest) e))
       (parts_split site h text a (n + scope_count c) (m + scope_count c) rest is (and_second (is_declaration c || is_body c) (are_parts rest) e))
   parts_split site h text a n m NoMore is e = split_none site [] tt
-  parts_split site h text a n m c is e = cc
+  parts_split site h text a n m c is e = absurd (false≢true e)
 
   list_split : (site : Site) (h : Home) (text : List ℕ) (a n m : ℕ) (c : Code) → h.identifier ≡ Some text → are_declarations c ≡ true
       → IsSplit site (statements site n c) (objects_in units h a m c)
@@ -242,7 +242,7 @@ module _ (units : List Code) where
       (part_split site h text a n m c is (or_first (is_declaration c) (is_body c) (and_first (is_declaration c) (are_declarations rest) e)))
       (list_split site h text a (n + scope_count c) (m + scope_count c) rest is (and_second (is_declaration c) (are_declarations rest) e))
   list_split site h text a n m NoMore is e = split_none site [] tt
-  list_split site h text a n m c is e = cc
+  list_split site h text a n m c is e = absurd (false≢true e)
 
   unit_split : (s : Site) (h : Home) (a n : ℕ) (u : Code) → is_unit u ≡ true → IsSplit s (elaborated s n u) (objects_in units h a n u)
   unfolding objects_in
@@ -256,7 +256,7 @@ module _ (units : List Code) where
       parts_split (placed (in_hidden (declared_number d)) s) (in_package (package_text units (declared_number d)) h) (package_text units (declared_number d)) a n n body refl e
   unit_split s h a n (SubBody front items stmts end) e =
       split_none s (objects_in units h a n (SubBody front items stmts end)) (body_local h a n front items stmts end (and_second (is_procedure front) (are_declarations items && are_statements false stmts) e))
-  unit_split s h a n u e = cc
+  unit_split s h a n u e = absurd (false≢true e)
 
   pub units_split : (s : Site) (h : Home) (n : ℕ) (us : List Code) → ((u : Code) → Has us u → is_unit u ≡ true)
       → IsSplit s (over_units (elaborated s) n us) (over_units (objects_in units h 0) n us)
@@ -293,6 +293,9 @@ at_number (o ∷ all) once (suc k) is =
     other : (d : ℕ) → Has (map number_of all) d → nat_eq d o.number ≡ false
     other d has = differs (nat_eq d o.number) (λ same. once.0 (subst (λ z. Has (map number_of all) z) (same_number d o.number same) has))
 
+refused : false ≡ true → ⊥
+refused e = cc
+
 module _ (units : List Code) (s : Site) (all : List DeclaredObject) (same : s.objects ≡ map number_of all) (once : Once (map number_of all)) where
   -- what the code declares, of which all is split
   module _ (cs : List TypedCode) (split : IsSplit units s cs all) where
@@ -310,9 +313,6 @@ module _ (units : List Code) (s : Site) (all : List DeclaredObject) (same : s.ob
       where
         more : (n : ℕ) → n + 1 ≡ suc n
         more n = omega arith
-
-        refused : false ≡ true → ⊥
-        refused e = cc
 
         never : (o : Object) → o.«package» ≡ None → is_packaged o ≡ true → ⊥
         never o none is = refused (sym (ap (λ z. is_some z && not (is_state o.kind)) none) ∙ is)

@@ -145,6 +145,11 @@ borrower_anonymous s x e = or_left (is_borrowing (view_of s x)) (is_observing (v
 abbrev pub Lasts : Typing → ℕ → Type 0
 Lasts s t = is_owning s.table t || is_anonymous (full s.table t) ≡ true
 
+in_mode : (m : Mode) → (m ≡ mode.In → ⊥) → is_in m ≡ true → ⊥
+in_mode mode.In back e = back refl
+in_mode mode.Out back e = cc
+in_mode mode.InOut back e = cc
+
 module _ (s : Typing) (own_law : OwnsByShape s.table) (parts_named : PartsAreNamed s.table) where
   -- A part that lasts and isn't anonymous owns.
   part_owns : (t : ℕ) → IsNamed s.table t → Lasts s t → is_owning s.table t ≡ true
@@ -712,11 +717,6 @@ module _ (s : Typing) (own_law : OwnsByShape s.table) (parts_named : PartsAreNam
       flipped : (a b : ℕ) → Matches s.table a b → Matches s.table b a
       flipped a b (inl e) = inl (sym e)
       flipped a b (inr (e, f)) = inr (f, e)
-
-      in_mode : (m : Mode) → (m ≡ mode.In → ⊥) → is_in m ≡ true → ⊥
-      in_mode mode.In back e = back refl
-      in_mode mode.Out back e = cc
-      in_mode mode.InOut back e = cc
 
       named_kind : IsKindOfFormal s x → IsNamed s.table (object_at s x).of
       named_kind (inl scalar) = scalar_named s.table (object_at s x).of scalar

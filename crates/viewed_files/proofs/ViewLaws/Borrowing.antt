@@ -38,6 +38,15 @@ of_name : (w : Option Written) (a : PlaceName → Act) → ((k : PlaceName) → 
 of_name None a plain = none
 of_name (Some m) a plain = one (placed m.pos (a m.name)) (plain m.name)
 
+actual_plain : (way : Passing) (e : TypedTree) → ArePlain (actual_act way e)
+actual_plain (Place m owning access) e = of_name (written e) (λ k. act.Actual k m owning access) (λ k h n is. cc)
+actual_plain ByValue e = none
+actual_plain Traversed e = none
+
+reborrow_plain : (p : Pos) (x : ℕ) (w : Option Written) → ArePlain (reborrow p x w)
+reborrow_plain p x None = none
+reborrow_plain p x (Some m) = one (placed p (act.Reborrow x m.name)) (λ h k is. cc)
+
 module _ (s : Typing) where
   used_plain : (m : PlaceName) (t : ℕ) → IsPlain (used s m t)
   used_plain m t = by (is_owning s.table t)
@@ -87,11 +96,6 @@ module _ (s : Typing) where
   values_plain (Place m owning access ∷ ways) (More e rest) = both (index_acts s e) (actual_values s ways rest) (index_plain e) (values_plain ways rest)
   values_plain _ actuals = none
 
-  actual_plain : (way : Passing) (e : TypedTree) → ArePlain (actual_act way e)
-  actual_plain (Place m owning access) e = of_name (written e) (λ k. act.Actual k m owning access) (λ k h n is. cc)
-  actual_plain ByValue e = none
-  actual_plain Traversed e = none
-
   actuals_plain : (ways : List Passing) (actuals : TypedTree) → ArePlain (actual_acts ways actuals)
   actuals_plain (way ∷ ways) (More e rest) = both (actual_act way e) (actual_acts ways rest) (actual_plain way e) (actuals_plain ways rest)
   actuals_plain _ actuals = none
@@ -102,10 +106,6 @@ module _ (s : Typing) where
   stored_plain target e =
       both (acts_in s e ++ index_acts s target) (naming (written target) act.Write) (both (acts_in s e) (index_acts s target) (value_plain e) (index_plain target))
       (of_name (written target) act.Write (λ k h m is. cc))
-
-  reborrow_plain : (p : Pos) (x : ℕ) (w : Option Written) → ArePlain (reborrow p x w)
-  reborrow_plain p x None = none
-  reborrow_plain p x (Some m) = one (placed p (act.Reborrow x m.name)) (λ h k is. cc)
 
   assigned_plain : (p : Pos) (w : Option ℕ) (target e : TypedTree) → ArePlain (assigned_to s p w target e)
   assigned_plain p None target e = stored_plain target e

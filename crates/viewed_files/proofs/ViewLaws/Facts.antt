@@ -85,11 +85,11 @@ behind_within (Hold v) scope x ends within = within
 behind_within Finish scope x ends within = within
 behind_within Fall scope x ends within = within
 
-module _ (s : Typing) where
-  not_silent : (lasts temporary : Bool) → lasts ≡ true → not lasts && not temporary ≡ true → ⊥
-  not_silent true temporary e h = cc
-  not_silent false temporary e h = cc
+not_silent : (lasts temporary : Bool) → lasts ≡ true → not lasts && not temporary ≡ true → ⊥
+not_silent true temporary e h = cc
+not_silent false temporary e h = cc
 
+module _ (s : Typing) where
   lasting_stays : (x : ℕ) (gone : List ℕ) → AllByRecursion (Silent s) gone → has_scope_end s x ≡ true → is_within x gone ≡ true → ⊥
   lasting_stays x [] all lasts within = cc
   lasting_stays x (y ∷ gone) all lasts within = elim (any_either (x == y) (is_within x gone) within) [
@@ -117,18 +117,23 @@ facts_kept P (a ∷ more) facts old new name has =
       | inr now ↦ new a (inl refl) other now
     ]) (λ b there. new b (inr there)) name has
 
+gone_ended_fact : (b : Bool) → b ≡ true → not b ≡ true → ⊥
+gone_ended_fact true e h = cc
+gone_ended_fact false e h = cc
+
 -- After the end of its scope no fact is rooted in an object.
 ended_fact : (x : ℕ) (borrower : Bool) (facts : List Fact) (name : PlaceName) → Has (after (act.EndScope x borrower ∷ []) facts) (Moved name) → name.root ≡ x → ⊥
 ended_fact x borrower facts name has root = elim (Has-append_cases (filter (λ f. not (removes (act.EndScope x borrower) f)) facts) [] (Moved name) has) [
-  | inl before ↦ gone (name.root == x) (eq-eqb name.root x root) (Has-filter (λ f. not (removes (act.EndScope x borrower) f)) facts (Moved name) before).1
+  | inl before ↦ gone_ended_fact (name.root == x) (eq-eqb name.root x root) (Has-filter (λ f. not (removes (act.EndScope x borrower) f)) facts (Moved name) before).1
   | inr never ↦ never
 ]
-  where
-    gone : (b : Bool) → b ≡ true → not b ≡ true → ⊥
-    gone true e h = cc
-    gone false e h = cc
 
 -- ---- paths
+
+not_both_lasting : (a b : Bool) → a ≡ true → b ≡ true → a && b ≡ false → ⊥
+not_both_lasting true true e f h = cc
+not_both_lasting true false e f h = cc
+not_both_lasting false b e f h = cc
 
 module _ (table : Table) (typed : TypedProgram) (effects : Effects) (owns : OwnsByShape (flow_program table typed).table)
     (parts_named : PartsAreNamed (flow_program table typed).table) (fine : AreFine (flow_program table typed))
@@ -149,12 +154,7 @@ module _ (table : Table) (typed : TypedProgram) (effects : Effects) (owns : Owns
 
   -- the scope of what is named ends at a point of its own, or it is no temporary
   lasting : (x : ℕ) → has_scope_end s x ≡ true → is_held s x ≡ false → is_temporary_object s x ≡ true → ⊥
-  lasting x lasts unheld held = not_both (is_temporary_object s x) (has_scope_end s x) held lasts unheld
-    where
-      not_both : (a b : Bool) → a ≡ true → b ≡ true → a && b ≡ false → ⊥
-      not_both true true e f h = cc
-      not_both true false e f h = cc
-      not_both false b e f h = cc
+  lasting x lasts unheld held = not_both_lasting (is_temporary_object s x) (has_scope_end s x) held lasts unheld
 
   -- One subprogram, in which what has an end of its scope and is named is in scope, or in an object from
   -- outside.
@@ -289,12 +289,8 @@ module _ (table : Table) (typed : TypedProgram) (effects : Effects) (owns : Owns
           λ has. unknown p there declares (known name has).2,
         )
       where
-        not_both : (b : Bool) → b ≡ true → not b ≡ true → ⊥
-        not_both true e h = cc
-        not_both false e h = cc
-
         unknown : (p : NamedPoint) → Has named.points p → p.instr ≡ Declare x v → outer name.root ⊎ (is_within name.root p.scope ≡ true) → ⊥
         unknown p there declares (inl out) = not_outer x ((ordered p there).declares x v declares) (subst outer root out)
         unknown p there declares (inr within) =
-            not_both (is_within x p.scope) (subst (λ z. is_within z p.scope ≡ true) root within)
+            gone_ended_fact (is_within x p.scope) (subst (λ z. is_within z p.scope ≡ true) root within)
             (subst (λ i. is_ready p i ≡ true) declares (ordered p there).ready)

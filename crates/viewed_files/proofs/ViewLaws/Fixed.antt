@@ -92,6 +92,10 @@ all_keep fixed (a ∷ acts) h g =
 
 -- ---- programs
 
+unnamed_access : (v : Shape) → is_named_access (types.view_of v) ≡ true → (d : ℕ) × (k : Bool) × (n : Bool) × (v ≡ shape.Access d k n)
+unnamed_access (shape.Access d k n) is = (d, k, n, refl)
+unnamed_access v is = cc
+
 module _ (table : Table) (typed : TypedProgram) (effects : Effects) (given : IsViewProgram table typed effects) where
   abbrev program : FlowProgram
   program = flow_program table typed
@@ -306,10 +310,6 @@ module _ (table : Table) (typed : TypedProgram) (effects : Effects) (given : IsV
     no_part z (Designated rest) t leads d k n is none some = cc
     no_part z NoMore t leads d k n is none some = cc
     no_part z steps t leads d k n is none some = absurd leads
-
-    unnamed_access : (v : Shape) → is_named_access (types.view_of v) ≡ true → (d : ℕ) × (k : Bool) × (n : Bool) × (v ≡ shape.Access d k n)
-    unnamed_access (shape.Access d k n) is = (d, k, n, refl)
-    unnamed_access v is = cc
 
     root_own : (z : ℕ) (steps : TypedTree) (u : ℕ) → Leads s (object_at s z).of steps u → goes_through_none steps ≡ true → (y : ℕ) → Has (z ∷ []) y
         → (a : Placed) → Has at.acts a → changes a.act ≡ Some (name_of z steps) → is_view_formal s y ≡ false

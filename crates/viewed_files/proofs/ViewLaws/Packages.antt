@@ -94,15 +94,15 @@ module _ (t : Typing) (s : Setting) where
       all_has (IsPlain t) (elaboration_points s sub) p
       (both (laid s sub.body (0 ∷ []) (around_body s sub) []) [] (laid_plain sub.body (0 ∷ []) (around_body s sub) [] only none) tt) has
 
+refused : (b : Bool) → b ≡ true → not b ≡ true → ⊥
+refused true e h = cc
+refused false e h = cc
+
 -- a view isn't among them
 pub no_view : (t : Typing) (xs : List ℕ) (x : ℕ) → no_views t xs ≡ true → Has xs x → is_anonymous (view_of t x) ≡ true → ⊥
 no_view t [] x none has anonymous = has
 no_view t (y ∷ xs) x none (inl e) anonymous =
     refused (is_anonymous (view_of t y)) (ap (λ z. is_anonymous (view_of t z)) e ∙ anonymous) (and_first (not (is_anonymous (view_of t y))) (no_views t xs) none)
-  where
-    refused : (b : Bool) → b ≡ true → not b ≡ true → ⊥
-    refused true e h = cc
-    refused false e h = cc
 no_view t (y ∷ xs) x none (inr has) anonymous = no_view t xs x (and_second (not (is_anonymous (view_of t y))) (no_views t xs) none) has anonymous
 
 -- ---- what is named in them

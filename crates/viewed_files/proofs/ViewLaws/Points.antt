@@ -287,6 +287,14 @@ no_view s e none = refl
 
 -- ---- programs
 
+first_shown_apart : (a b : Bool) → a && b ≡ true → a ≡ true
+first_shown_apart true b e = refl
+first_shown_apart false b e = cc
+
+not_true : (b : Bool) → not b ≡ true → b ≡ false
+not_true true e = cc
+not_true false e = refl
+
 module _ (table : Table) (typed : TypedProgram) (effects : Effects) (given : IsViewProgram table typed effects) where
   abbrev program : FlowProgram
   program = flow_program table typed
@@ -654,11 +662,7 @@ module _ (table : Table) (typed : TypedProgram) (effects : Effects) (given : IsV
   shown_apart x shown =
       package_same s own (scoped.alike table typed effects given) x
       ∙ given.views.apart x (sym (formal_same s own (scoped.alike table typed effects given) x)
-      ∙ first (is_formal s x) (is_in (object_at s x).mode) (first (is_in_formal s x) (is_owning s.table (object_at s x).of) shown))
-    where
-      first : (a b : Bool) → a && b ≡ true → a ≡ true
-      first true b e = refl
-      first false b e = cc
+      ∙ first_shown_apart (is_formal s x) (is_in (object_at s x).mode) (first_shown_apart (is_in_formal s x) (is_owning s.table (object_at s x).of) shown))
 
   -- ---- the package objects
 
@@ -669,7 +673,3 @@ module _ (table : Table) (typed : TypedProgram) (effects : Effects) (given : IsV
       let found = scoped.declares table typed effects given named e p there (scoped.still_there table typed effects given named e p there) in
       let plain = scoped.plain_there table typed effects given named e p there found.0 found.1 found.2 in
       (found.0, found.1, found.2, anonymous_same found.0 (begins_lasts named has p there found.0 found.1 found.2) ∙ not_true (is_anonymous (view_of own found.0)) (and_first _ _ plain))
-    where
-      not_true : (b : Bool) → not b ≡ true → b ≡ false
-      not_true true e = cc
-      not_true false e = refl

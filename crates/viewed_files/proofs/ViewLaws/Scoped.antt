@@ -105,6 +105,16 @@ stored_gives true false b is none e = e
 stored_gives true true b is none e = cc
 stored_gives false f b is none e = cc
 
+by_kind_variable_lasts : (k : ObjectKind) → is_variable k ≡ true → is_temporary k ≡ false
+by_kind_variable_lasts object_kind.Variable is = refl
+by_kind_variable_lasts k is = cc
+
+some_same : (a b : ℕ) → Some a ≡ Some b → a ≡ b
+some_same a b is = cc
+
+not_scalar : (d : ℕ) (c n : Bool) → is_scalar (view_of_shape (shape.Access d c n)) ≡ true → ⊥
+not_scalar d c n is = cc
+
 module _ (table : Table) (typed : TypedProgram) (effects : Effects) (given : IsViewProgram table typed effects) where
   abbrev pub program : FlowProgram
   program = flow_program table typed
@@ -205,11 +215,7 @@ module _ (table : Table) (typed : TypedProgram) (effects : Effects) (given : IsV
 
   -- a variable is no temporary
   pub variable_lasts : (x : ℕ) → is_variable (object_at s x).kind ≡ true → is_temporary_object s x ≡ false
-  variable_lasts x variable = by_kind (object_at s x).kind variable
-    where
-      by_kind : (k : ObjectKind) → is_variable k ≡ true → is_temporary k ≡ false
-      by_kind object_kind.Variable is = refl
-      by_kind k is = cc
+  variable_lasts x variable = by_kind_variable_lasts (object_at s x).kind variable
 
   -- ---- calls
 
@@ -236,16 +242,10 @@ module _ (table : Table) (typed : TypedProgram) (effects : Effects) (given : IsV
   firsts_there n x has anonymous =
       (λ j. traversed_of (traverses s.table (sym (result_same n) j)) (sym (formals_same n) j)) ∙ given.firsts n x (subst (λ z. Has z x) (sym (formals_same n)) has) anonymous
 
-  some_same : (a b : ℕ) → Some a ≡ Some b → a ≡ b
-  some_same a b is = cc
-
   access_type_lasts : (u d : ℕ) (c n : Bool) → shape_of s.table u ≡ shape.Access d c n → is_owning s.table u || is_anonymous (full s.table u) ≡ true
   access_type_lasts u d c n is =
       ap (λ b. b || is_anonymous (full s.table u)) (given.owns u) ∙ ap (λ z. owns_of (is_owning s.table) z || is_anonymous (view_of_shape z)) is
       ∙ access_lasts (is_owning s.table) d c n
-
-  not_scalar : (d : ℕ) (c n : Bool) → is_scalar (view_of_shape (shape.Access d c n)) ≡ true → ⊥
-  not_scalar d c n is = cc
 
   seen_lasts : (f u : ℕ) → IsAccess s f → IsAccessAs s u (object_at s f).of → is_owning s.table u || is_anonymous (full s.table u) ≡ true
   seen_lasts f u (d, c, n, is) (inl (inl alike_type)) = access_type_lasts u d c n (alike_type ∙ is)

@@ -108,13 +108,13 @@ declared_fit true false l true view e = refl
 declared_fit true false l false view e = cc
 declared_fit false n l g view e = cc
 
+first_of : (a b : Bool) → a && b ≡ true → a ≡ true
+first_of true b e = refl
+first_of false b e = cc
+
 -- what a traversal function gives that is called with such a name
 pub from_gives : (s : Typing) (test : ℕ → Bool) (e : TypedTree) → gives_from test s e ≡ true → gives_view s e ≡ true
 from_gives s test (typed_tree.Call p sub actuals) is = first_of (traverses s.table (sub_at s sub).result) (is_rooted_in test (first actuals)) is
-  where
-    first_of : (a b : Bool) → a && b ≡ true → a ≡ true
-    first_of true b e = refl
-    first_of false b e = cc
 from_gives s test e is = cc
 
 gives_so : (n g h : Bool) → (g ≡ true → h ≡ true) → n || g ≡ true → n || h ≡ true

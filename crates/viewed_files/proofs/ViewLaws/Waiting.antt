@@ -31,6 +31,9 @@ use Rattle.viewed_files.specs.ViewLaws.Program.{IsViewProgram}
 use Rattle.viewed_files.proofs.ViewLaws.Acts.{no_anonymous}
 use Rattle.viewed_files.proofs.ViewLaws.Valued as valued
 
+next_same : (t x : ℕ) (rest others : List ℕ) → t ∷ rest ≡ x ∷ others → rest ≡ others
+next_same t x rest others same = cc
+
 module _ (table : Table) (typed : TypedProgram) (effects : Effects) (given : IsViewProgram table typed effects) where
   abbrev program : FlowProgram
   program = flow_program table typed
@@ -130,9 +133,6 @@ module _ (table : Table) (typed : TypedProgram) (effects : Effects) (given : IsV
         (let no : true ≡ false = sym temporary ∙ valued.text_object table typed effects given x
         ((given.order.bodies body.0 (ordered.in_subs table typed effects given.accepted given.owns given.order given.answered given.passed given.still body.0 body.1)).numbered x object).1 in cc))
         p (valued.in_laid table typed effects given named has inside p there)
-
-    next_same : (t x : ℕ) (rest others : List ℕ) → t ∷ rest ≡ x ∷ others → rest ≡ others
-    next_same t x rest others same = cc
 
     body_named : (p : NamedPoint) → Has named.points p → AreNamedIn s p.scope ⊎ ((alone : TakesAlone s p) × AreNamedIn s alone.1)
     body_named p there = elim (body_lone p there) [
