@@ -1,5 +1,6 @@
 -- The main procedure of a program without a fault of typing has no formals.
 use Rattle.std.proofs.Common.{◌≡◌, refl, sym, ap, ◌∙◌, subst, inl, inr, ℕ, suc, ◌+◌, Bool, true, false, ◌&&◌, nat_eq, List, [], ◌∷◌, ◌++◌, map, length, arith, Some, None}
+use Rattle.std.proofs.lemmas.Bool.{false≢true}
 use Rattle.std.specs.Prelude.{flat_map}
 use Rattle.std.specs.List.{position_or_len}
 use Rattle.spark_base.specs.Lists.{Has}
@@ -39,24 +40,24 @@ same_none table (f ∷ fs) e = cc
 abbrev formals_in : Known → ℕ → List FormalInfo
 formals_in known d = (profile_of (entry_of known d)).formals
 
+nothing_front : (a b : List FormalInfo) → a ++ b ≡ [] → a ≡ []
+nothing_front [] b e = refl
+nothing_front (x ∷ a) b e = cc
+
+nothing_behind : (a b : List FormalInfo) → a ++ b ≡ [] → b ≡ []
+nothing_behind [] b e = e
+nothing_behind (x ∷ a) b e = cc
+
+both : (a b : List ℕ) → a ≡ [] → b ≡ [] → a ++ b ≡ []
+both [] b e f = f
+both (x ∷ a) b e f = cc
+
 -- Where nothing is gathered of formals, none has a number.
 each_none : (s : Site) (known : Known) (first : Bool) (formals : Code) → formal_infos known first formals ≡ [] → flat_map (formal_numbers s) (code_items formals) ≡ []
 each_none s known first (More group rest) none =
     both (formal_numbers s group) (flat_map (formal_numbers s) (code_items rest)) (group_none group (nothing_front (formal_groups known first group) (formal_infos known false rest) none))
     (each_none s known false rest (nothing_behind (formal_groups known first group) (formal_infos known false rest) none))
   where
-    nothing_front : (a b : List FormalInfo) → a ++ b ≡ [] → a ≡ []
-    nothing_front [] b e = refl
-    nothing_front (x ∷ a) b e = cc
-
-    nothing_behind : (a b : List FormalInfo) → a ++ b ≡ [] → b ≡ []
-    nothing_behind [] b e = e
-    nothing_behind (x ∷ a) b e = cc
-
-    both : (a b : List ℕ) → a ≡ [] → b ≡ [] → a ++ b ≡ []
-    both [] b e f = f
-    both (x ∷ a) b e f = cc
-
     group_none : (group : Code) → formal_groups known first group ≡ [] → formal_numbers s group ≡ []
     group_none (Formals ids m of) e = ids_none ids e
       where
@@ -84,11 +85,11 @@ front_plain s known (Front d formals result) agree none =
 front_plain s known front agree none = refl
 
 main_plain : (known : Known) (front : Code) → is_procedure front ≡ true → agrees known front ≡ true → is_formless front ≡ true → formals_in known (front_number front) ≡ []
-main_plain known (Front d (More a rest) NoMore) procedure agree none = cc
+main_plain known (Front d (More a rest) NoMore) procedure agree none = absurd (false≢true none)
 main_plain known (Front d formals NoMore) procedure agree none =
     same_none known.table (formals_in known (declared_number d))
     (and_first (same_formals known.table (formals_in known (declared_number d)) []) (same_result known (profile_of (entry_of known (declared_number d))).result NoMore) agree)
-main_plain known front procedure agree none = cc
+main_plain known front procedure agree none = absurd (false≢true procedure)
 
 -- ---- subprograms and the numbers of their declarations
 
@@ -123,15 +124,18 @@ first_sub : (s sub : TypedSub) (subs : List TypedSub) → IsSub (s ∷ subs) 0 s
 first_sub s sub subs ([], rest, is, long) = cc
 first_sub s sub subs (x ∷ front, rest, is, long) = cc
 
+tails : (s x : TypedSub) (xs ys : List TypedSub) → s ∷ xs ≡ x ∷ ys → xs ≡ ys
+tails s x xs ys e = cc
+
+less : (a b : ℕ) → suc a ≡ suc b → a ≡ b
+less a b e = cc
+
 later_sub : (s sub : TypedSub) (subs : List TypedSub) (k : ℕ) → IsSub (s ∷ subs) (suc k) sub → IsSub subs k sub
 later_sub s sub subs k ([], rest, is, long) = cc
 later_sub s sub subs k (x ∷ front, rest, is, long) = (front, rest, tails s x subs (front ++ sub ∷ rest) is, less (length front) k long)
-  where
-    tails : (s x : TypedSub) (xs ys : List TypedSub) → s ∷ xs ≡ x ∷ ys → xs ≡ ys
-    tails s x xs ys e = cc
 
-    less : (a b : ℕ) → suc a ≡ suc b → a ≡ b
-    less a b e = cc
+suc_is : (n : ℕ) → 1 + n ≡ suc n
+suc_is n = omega arith
 
 -- The first body of a declaration without formals has none.
 aligned_at : (known : Known) (ds : List ℕ) (subs : List TypedSub) → Aligned known ds subs → (d : ℕ) (sub : TypedSub) → IsSub subs (position_or_len (nat_eq d) ds) sub
@@ -147,11 +151,11 @@ aligned_at known (e ∷ ds) (s ∷ subs) h d sub stands none = elim (either (nat
   | inr other ↦ aligned_at known ds subs h.1 d sub
       (later_sub s sub subs (position_or_len (nat_eq d) ds) (subst (λ k. IsSub (s ∷ subs) k sub) (number_later d e ds other ∙ suc_is (position_or_len (nat_eq d) ds)) stands)) none
 ]
-  where
-    suc_is : (n : ℕ) → 1 + n ≡ suc n
-    suc_is n = omega arith
 
 -- ---- the main procedure
+
+one_less : (a b : ℕ) → suc a ≡ b + 1 → a ≡ b
+one_less a b e = omega arith
 
 module _ (p : Program) (no_fault : type_fault p ≡ None) (written : (u : Code) → Has p.units u → is_unit u ≡ true) where
   abbrev site : Site
@@ -168,8 +172,5 @@ module _ (p : Program) (no_fault : type_fault p ≡ None) (written : (u : Code) 
       let formless = demanded 3 (front_pos front) (is_formless front) (mains_faultless p no_fault (SubBody front unit.1 unit.2 unit.3) unit.4) in
       aligned_at (known_of p) (flat_map bodies_in p.units) (over_units (subs_in site) 1 p.units)
       (units_aligned site 1 (outside (known_of p)) p.units (units_faultless p no_fault)) (front_number front) sub
-      (subst (λ k. IsSub (bodies_of p) k sub) (less n (position_or_len (nat_eq (front_number front)) (flat_map bodies_in p.units)) unit.5) stands)
+      (subst (λ k. IsSub (bodies_of p) k sub) (one_less n (position_or_len (nat_eq (front_number front)) (flat_map bodies_in p.units)) unit.5) stands)
       (main_plain (known_of p) front procedure agree formless)
-    where
-      less : (a b : ℕ) → suc a ≡ b + 1 → a ≡ b
-      less a b e = grind (arith, e)

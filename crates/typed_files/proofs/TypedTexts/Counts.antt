@@ -1,6 +1,7 @@
 -- Points have as many successors as their instructions lead to, where the resolved code is as the grammar has it.
 use Rattle.std.proofs.Common.{◌≡◌, refl, sym, ap, ◌∙◌, subst, inl, inr, ℕ, ◌+◌, true, false, List, [], ◌∷◌, ◌++◌, map, length, None}
 use Rattle.std.specs.List.{AllByRecursion}
+use Rattle.std.proofs.lemmas.Bool.{false≢true}
 use Rattle.std.proofs.lemmas.List.{length-map}
 use Rattle.spark_base.specs.Lists.{Has}
 use Rattle.spark_base.proofs.Lists.{Has-map_from}
@@ -101,7 +102,7 @@ declared_counted g (typed.Declare p x v ∷ cs) all at w =
         append_nil [] = refl
         append_nil (x ∷ xs) = ap (λ ys. x ∷ ys) (append_nil xs)
     by (q ∷ rest) h = before (prepared ++ own (q.name ∷ []) ∷ []) q rest (one_more prepared (own (q.name ∷ [])) counted refl) h
-declared_counted g (c ∷ cs) all at w = cc
+declared_counted g (c ∷ cs) all at w = absurd (false≢true all.0)
 
 flow_elaborated : (f : Frame) (number : PointName → ℕ) (ps : List NamedPoint) → Elaborated ps → AreElaborated (map (flow_point f number) ps)
 unfolding Elaborated AreElaborated
