@@ -29,8 +29,8 @@ use Rattle.flow_paths.specs.Effects.{asks_for_end, path_points}
 use Rattle.flow_paths.specs.Aliases.{alias_reports}
 use Rattle.flow_paths.specs.Views.{encloses_within}
 use Rattle.program_check.specs.Sources.{flow_of}
-use Rattle.file_positions.specs.Texts.{AreParsed}
-use Rattle.file_positions.proofs.Cuts.{cut_in_order}
+use Rattle.settled_types.specs.FilePositions.Texts.{AreParsed}
+use Rattle.settled_types.proofs.FilePositions.Cuts.{cut_in_order}
 use Rattle.order_laws.specs.Orderly.{typed_of}
 use Rattle.viewed_files.proofs.Files.{parsed_called_sound}
 use Rattle.accepted_runs.proofs.Runs.{RunsAreSound}

@@ -10,3 +10,7 @@ pub mod Headline
 pub mod Endings
 -- of what a type keeps
 pub mod Kept
+-- what `check` accepts is lowered and passes the tests of run_ready
+pub mod AcceptedLowered
+-- what `check` accepts gives the same over a heap that uses its slots again
+pub mod AcceptedRecycled

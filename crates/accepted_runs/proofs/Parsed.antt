@@ -4,8 +4,8 @@ use Rattle.ada_lexer.specs.Tokens.{Cut, CutResult, tokens}
 use Rattle.ada_tree.specs.declared.unit.SourceUnit.{SourceUnit}
 use Rattle.source_trees.specs.Cuts.{AllTokens, with_tokens, then_files, all_tokens}
 use Rattle.source_trees.specs.Trees.{AreTreesOf}
-use Rattle.file_positions.specs.Texts.{AreParsed}
-use Rattle.file_positions.proofs.Cuts.{cut_in_order}
+use Rattle.settled_types.specs.FilePositions.Texts.{AreParsed}
+use Rattle.settled_types.proofs.FilePositions.Cuts.{cut_in_order}
 
 pub are_parsed : (texts : List (List ℕ)) (file room : ℕ) (cuts : List (List Cut)) (trees : List (List SourceUnit)) → all_tokens file room texts ≡ Ok cuts
     → AreTreesOf cuts trees → AreParsed file cuts trees

@@ -7,8 +7,8 @@ use Rattle.flow_paths.specs.declared.report.Effects.{Effects}
 use Rattle.soundness.specs.Sound.{RunIsSound}
 use Rattle.program_check.specs.Sources.{flow_of}
 use Rattle.order_laws.specs.Orderly.{typed_of}
-use Rattle.exact_facts.specs.Exact.{RunHolds}
-use Rattle.null_places.specs.Cleared.{RunsWithNull}
+use Rattle.soundness.specs.ExactFacts.Exact.{RunHolds}
+use Rattle.viewed_facts.specs.NullPlaces.Cleared.{RunsWithNull}
 
 -- Each moment of each run of such a program is well owned, and none is a trap.
 abbrev pub RunsAreSound : List (List SourceUnit) → Type 0

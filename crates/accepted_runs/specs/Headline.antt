@@ -7,7 +7,7 @@ use Rattle.machine.specs.States.{Ending}
 use Rattle.machine.specs.Owners.{WellOwned}
 use Rattle.machine.specs.Run.{moment, run_of, main_of}
 use Rattle.soundness.specs.Sound.{IsTrap, ending_of}
-use Rattle.exact_facts.specs.Exact.{RunHolds}
+use Rattle.soundness.specs.ExactFacts.Exact.{RunHolds}
 
 -- No freed cell is touched, and none is freed twice: no moment is a trap. Every cell is freed, has one owner, or was
 -- named by a leak check that failed: each moment is well owned. At no step a leak check fails that the leak plan

@@ -1,5 +1,7 @@
 pub mod Passed
 pub mod Mains
 pub mod Headline
--- libraries that the crates above name through this one
-pub use Rattle.program_check.specs as program_check
+-- what `check` accepts is lowered and passes the tests of run_ready
+pub mod AcceptedLowered
+-- what `check` accepts gives the same over a heap that uses its slots again
+pub mod AcceptedRecycled

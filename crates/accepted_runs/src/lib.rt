@@ -3,11 +3,30 @@
 //!
 //! Texts pass if their tokens spell sources, and the program breaks no rule of names and of types
 //! and no limit, and there are no reports (`specs/Passed.antt`). The files are parsed then, as
-//! `file_positions` has it (`proofs/Parsed.antt`). So the laws of `viewed_files` speak of such
-//! texts (`proofs/Views.antt`), and so do those of `viewed_facts` (`proofs/ViewFacts.antt`) and of
-//! `viewed_nulls` (`proofs/ViewNulls.antt`), where there is a main procedure (`specs/Mains.antt`).
+//! `settled_types` has it (`proofs/Parsed.antt`). So the laws of `viewed_files` speak of such texts
+//! (`proofs/Views.antt`), and so do those of `viewed_facts` (`proofs/ViewFacts.antt`) and of
+//! `viewed_facts` (`proofs/ViewNulls.antt`), where there is a main procedure (`specs/Mains.antt`).
 //! Of one run `specs/Headline.antt` has it all (`proofs/Headline.antt`). The type of an accepted
 //! program keeps that it is that of texts that pass (`proofs/Kept.antt`): so `execute` says that
 //! what it runs runs soundly. That what `check` accepts passes, `answered_runs` says. Nothing here
 //! runs.
+//!
+//! # Accepted lowered
+//!
+//! What `check` accepts is lowered and passes the tests before a run: laws, for readers.
+//!
+//! A program whose texts pass a check has codes to run by (`proofs/Main.antt`): its texts have at most
+//! as many tokens as there is room for (`Rooms`). It passes the tests of `run_ready`, too, however it
+//! is laid out in rows (`Runnable`). Nothing here runs.
+//!
+//! # Accepted recycled
+//!
+//! The runs of what `check` accepts give the same over a heap that uses its slots again:
+//! definitions and laws, for readers.
+//!
+//! `recycled_runs` has the law for programs that are ready, as the laws on steps ask. Those that
+//! `check` accepts, with a main procedure, are ready, and pass the tests before a run
+//! (`AcceptedLowered`). So what such a run gives is what the machine's run gives, or memory is out
+//! (`specs/AcceptedRecycled/Runs.antt`, `proofs/AcceptedRecycled/Main.antt`). Nothing here runs.
 #![tactic(auto)]
+pub use tested_files::lower_ready;

@@ -4,10 +4,10 @@ use Rattle.spark_base.specs.declared.limits.TheConstants.{SOURCE_BYTES}
 use Rattle.flow_paths.specs.Laid.{FlowProgram}
 use Rattle.tool_answers.specs.Reading.{Sources, sources}
 use Rattle.tool_answers.specs.Product.{Finding, Ends, Rejects, Passes as Found, Checks, IsUntrapped}
-use Rattle.tool_answers.specs.accepted_recycled.accepted_runs.Headline.{IsSoundRun}
-use Rattle.tool_answers.proofs.accepted_recycled.accepted_runs.Headline.{passed_run}
-use Rattle.tool_answers.proofs.accepted_recycled.accepted_runs.Endings.{sound_untrapped}
-use Rattle.tool_answers.proofs.accepted_recycled.accepted_runs.Kept.{has_main}
+use Rattle.accepted_runs.specs.Headline.{IsSoundRun}
+use Rattle.accepted_runs.proofs.Headline.{passed_run}
+use Rattle.accepted_runs.proofs.Endings.{sound_untrapped}
+use Rattle.accepted_runs.proofs.Kept.{has_main}
 use Rattle.answered_runs.specs.Headline.{IsRunSoundly}
 use Rattle.answered_runs.proofs.Passing.{IsOf, found_passed}
 

@@ -3,16 +3,16 @@ use Rattle.std.proofs.Common.{◌≡◌, ℕ, Bool, List, Option, Some, None, re
 use Rattle.spark_base.specs.declared.limits.TheConstants.{SOURCE_BYTES}
 use Rattle.laid_program.specs.declared.laid.Laid.{Laid}
 use Rattle.laid_program.specs.Programs.{program_of}
-use Rattle.tool_answers.specs.accepted_recycled.accepted_runs.program_check.Sources.{flow_of}
+use Rattle.program_check.specs.Sources.{flow_of}
 use Rattle.run_codes.specs.Programs.{lowered_program}
 use Rattle.command_words.specs.Words.{Command, Check, Run, Leaks, Make, Selftest}
 use Rattle.tool_answers.specs.run_command.Answers.{Answer}
 use Rattle.tool_answers.specs.Commands.{command_of}
 use Rattle.tool_answers.specs.Reading.{Sources, sources}
 use Rattle.tool_answers.specs.Product.{Finding, Passes as Found, Checks, Answers, Product, usage, check, run, leaks, make, selftest}
-use Rattle.tool_answers.specs.accepted_recycled.accepted_lowered.Runs.{IsRunnable}
-use Rattle.tool_answers.proofs.accepted_recycled.accepted_lowered.Main.{passed_lowered}
-use Rattle.tool_answers.proofs.accepted_recycled.accepted_lowered.Runnable.{passed_runnable}
+use Rattle.accepted_runs.specs.AcceptedLowered.Runs.{IsRunnable}
+use Rattle.accepted_runs.proofs.AcceptedLowered.Main.{passed_lowered}
+use Rattle.accepted_runs.proofs.AcceptedLowered.Runnable.{passed_runnable}
 use Rattle.answered_runs.specs.Runs.{RunsOn}
 use Rattle.answered_runs.proofs.Passing.{Passed, IsOf, product_passed, found_passed}
 

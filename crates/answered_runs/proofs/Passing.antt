@@ -6,13 +6,13 @@ use Rattle.ada_tree.specs.declared.unit.SourceUnit.{SourceUnit}
 use Rattle.flow_paths.specs.declared.report.Effects.{Effects}
 use Rattle.flow_paths.specs.Laid.{FlowProgram}
 use Rattle.flow_paths.specs.Reports.{AreReports}
-use Rattle.tool_answers.specs.accepted_recycled.accepted_runs.program_check.Sources.{flow_of}
+use Rattle.program_check.specs.Sources.{flow_of}
 use Rattle.command_words.specs.Words.{Command, Check, Run, Leaks, Make, Selftest}
 use Rattle.tool_answers.specs.run_command.Answers.{Answer}
 use Rattle.tool_answers.specs.Commands.{command_of}
 use Rattle.tool_answers.specs.Reading.{Sources, Texts, sources}
 use Rattle.tool_answers.specs.Product.{Finding, Passes as Found, check_answer, judged, Checks, missing, too_large, lexical, syntactic, unresolved, mistyped, beyond, checked, Answers, Product, usage, check, run, leaks, make, selftest}
-use Rattle.tool_answers.specs.accepted_recycled.accepted_runs.Passed.{Passes}
+use Rattle.accepted_runs.specs.Passed.{Passes}
 
 -- Such texts, with what their program is.
 pub record Passed (found : Sources) : Type 0 where

@@ -3,15 +3,15 @@ use Rattle.std.proofs.Common.{◌≡◌, ℕ, List, Some}
 use Rattle.spark_base.specs.declared.limits.TheConstants.{SOURCE_BYTES}
 use Rattle.laid_program.specs.declared.laid.Laid.{Laid}
 use Rattle.laid_program.specs.Programs.{program_of as laid_out}
-use Rattle.tool_answers.specs.accepted_recycled.accepted_runs.program_check.Sources.{flow_of}
+use Rattle.program_check.specs.Sources.{flow_of}
 use Rattle.command_words.specs.Words.{Check}
 use Rattle.tool_answers.specs.run_command.Answers.{Answer}
 use Rattle.tool_answers.specs.Commands.{command_of}
 use Rattle.tool_answers.specs.Reading.{sources}
 use Rattle.tool_answers.specs.Product.{Product}
-use Rattle.tool_answers.specs.accepted_recycled.accepted_runs.Mains.{HasMain}
-use Rattle.tool_answers.specs.accepted_recycled.Runs.{RunsAreRecycled}
-use Rattle.tool_answers.proofs.accepted_recycled.Main.{passed_recycled}
+use Rattle.accepted_runs.specs.Mains.{HasMain}
+use Rattle.accepted_runs.specs.AcceptedRecycled.Runs.{RunsAreRecycled}
+use Rattle.accepted_runs.proofs.AcceptedRecycled.Main.{passed_recycled}
 use Rattle.answered_runs.proofs.Passing.{Passed, product_passed}
 
 -- If the tool answers a check with status 0, and the program has a main procedure, its runs give the same.

@@ -7,11 +7,11 @@ use Rattle.tool_answers.specs.run_command.Answers.{Answer}
 use Rattle.tool_answers.specs.Commands.{command_of}
 use Rattle.tool_answers.specs.Reading.{sources}
 use Rattle.tool_answers.specs.Product.{Product}
-use Rattle.tool_answers.specs.accepted_recycled.accepted_runs.Mains.{HasMain}
-use Rattle.tool_answers.proofs.accepted_recycled.accepted_runs.Runs.{RunsAreSound, RunsHold, RunsAreWithNull}
-use Rattle.tool_answers.proofs.accepted_recycled.accepted_runs.Views.{passed_sound}
-use Rattle.tool_answers.proofs.accepted_recycled.accepted_runs.ViewFacts.{passed_hold}
-use Rattle.tool_answers.proofs.accepted_recycled.accepted_runs.ViewNulls.{passed_with_null}
+use Rattle.accepted_runs.specs.Mains.{HasMain}
+use Rattle.accepted_runs.proofs.Runs.{RunsAreSound, RunsHold, RunsAreWithNull}
+use Rattle.accepted_runs.proofs.Views.{passed_sound}
+use Rattle.accepted_runs.proofs.ViewFacts.{passed_hold}
+use Rattle.accepted_runs.proofs.ViewNulls.{passed_with_null}
 use Rattle.answered_runs.proofs.Passing.{Passed, product_passed}
 
 -- If the tool answers a check with status 0, and the program has a main procedure, its runs are sound.

@@ -6,7 +6,7 @@ use Rattle.command_words.specs.Words.{Run}
 use Rattle.tool_answers.specs.Commands.{command_of}
 use Rattle.tool_answers.specs.Reading.{sources}
 use Rattle.tool_answers.specs.Product.{Checks, Passes as Found}
-use Rattle.tool_answers.specs.accepted_recycled.accepted_runs.Headline.{IsSoundRun}
+use Rattle.accepted_runs.specs.Headline.{IsSoundRun}
 
 -- The program that `run` is given runs soundly: that of the named files, where nothing is reported of it and it has a main
 -- procedure.

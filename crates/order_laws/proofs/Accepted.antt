@@ -4,9 +4,9 @@ use Rattle.resolved_tree.specs.Trees.{Program}
 use Rattle.type_definitions.specs.Types.{Table}
 use Rattle.type_definitions.specs.Whole.{known_of, type_fault}
 use Rattle.flow_paths.specs.declared.report.Effects.{Effects}
-use Rattle.ready_laws.specs.soundness.Typed.{OwnsByShape}
-use Rattle.ready_laws.specs.soundness.Sound.{Accepted}
-use Rattle.ready_laws.specs.InOrder.{IsInOrder}
+use Rattle.soundness.specs.Typed.{OwnsByShape}
+use Rattle.soundness.specs.Sound.{Accepted}
+use Rattle.order_laws.specs.ReadyLaws.InOrder.{IsInOrder}
 use Rattle.order_laws.specs.Orderly.{typed_of, IsOrderly}
 use Rattle.order_laws.proofs.Faults.{units_faultless}
 use Rattle.order_laws.proofs.Unmoved.{package_values}

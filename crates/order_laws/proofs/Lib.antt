@@ -1,3 +1,5 @@
+-- which programs are ready, by their typed code, so that soundness speaks of their runs
+pub mod ReadyLaws
 -- typed bodies, and what the layout asks of them
 pub mod Bodies
 pub mod Settled
@@ -15,3 +17,5 @@ pub mod Unmoved
 -- all of a program
 pub mod Whole
 pub mod Accepted
+-- package objects are declared with values that call no function
+pub mod PackageValues

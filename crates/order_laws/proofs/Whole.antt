@@ -30,15 +30,15 @@ use Rattle.flow_paths.specs.Points.{NamedPoint, entry}
 use Rattle.flow_paths.specs.Layout.{laid}
 use Rattle.flow_paths.specs.Laid.{temporary_object, declared_within, NamedSub, around_body, procedure_end, function_end, sub_temporaries, named_sub, named_subs, all_named, flow_sub, typing_of, flow_typing, flow_program, flow_named}
 use Rattle.flow_paths.specs.Scopes.{is_temporary, is_settled}
-use Rattle.ready_laws.specs.soundness.Typed.{OwnsByShape}
-use Rattle.ready_laws.specs.soundness.Needed.{IsFine, AreFine}
-use Rattle.ready_laws.proofs.soundness.Points.{flow_at}
-use Rattle.ready_laws.specs.scope_laws.Code.{Once, is_formed, body_seen}
-use Rattle.ready_laws.specs.scope_laws.Code as code
-use Rattle.ready_laws.proofs.scope_laws.Lists.{and_first, all_both, all_has}
-use Rattle.ready_laws.proofs.scope_laws.Filled.{temporaries_of, object_before}
-use Rattle.ready_laws.specs.InOrder.{IsBody, names_no_owner, IsInOrder}
-use Rattle.ready_laws.proofs.Subs.{setting_from}
+use Rattle.soundness.specs.Typed.{OwnsByShape}
+use Rattle.soundness.specs.Needed.{IsFine, AreFine}
+use Rattle.soundness.proofs.Points.{flow_at}
+use Rattle.scope_laws.specs.Code.{Once, is_formed, body_seen}
+use Rattle.scope_laws.specs.Code as code
+use Rattle.scope_laws.proofs.Lists.{and_first, all_both, all_has}
+use Rattle.scope_laws.proofs.Filled.{temporaries_of, object_before}
+use Rattle.order_laws.specs.ReadyLaws.InOrder.{IsBody, names_no_owner, IsInOrder}
+use Rattle.order_laws.proofs.ReadyLaws.Subs.{setting_from}
 use Rattle.order_laws.specs.Written.{are_declarations, are_statements, is_procedure, is_unit}
 use Rattle.order_laws.specs.Placed.{is_placed, parameters}
 use Rattle.order_laws.proofs.Bodies.{IsDeclare, typed_body_written}

@@ -1,5 +1,8 @@
+-- which programs are ready, by their typed code, so that soundness speaks of their runs
+pub mod ReadyLaws
+-- the crate itself
 pub mod Written
 pub mod Placed
 pub mod Orderly
--- libraries that the crates above name through this one
-pub use Rattle.ready_laws.specs as ready_laws
+-- package objects are declared with values that call no function
+pub mod PackageValues

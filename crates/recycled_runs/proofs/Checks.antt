@@ -9,9 +9,9 @@ use Rattle.flow_paths.specs.Instructions.{Instruction, Skip, Declare, Assign, Ca
 use Rattle.flow_paths.specs.Objects.{Typing, object_at, sub_at, passings, is_package_object}
 use Rattle.flow_paths.specs.Points.{FlowPoint}
 use Rattle.flow_paths.specs.Laid.{FlowProgram, flow_typing}
-use Rattle.part_offsets.specs.Parts.{owns_one, IsSettled}
-use Rattle.part_offsets.proofs.Leaves.{leaf_at}
-use Rattle.owned_ways.specs.Ways.{Owned}
+use Rattle.soundness.specs.PartOffsets.Parts.{owns_one, IsSettled}
+use Rattle.soundness.proofs.PartOffsets.Leaves.{leaf_at}
+use Rattle.soundness.specs.OwnedWays.Ways.{Owned}
 use Rattle.soundness.specs.Seen.{is_view_formal}
 use Rattle.soundness.specs.Typed.{Kept}
 use Rattle.machine.specs.Owners.{waiting_in}
@@ -24,7 +24,7 @@ use Rattle.machine.specs.Memory.{Slot, OfVariable, slots_at}
 use Rattle.machine.specs.States.{sub_of}
 use Rattle.machine.specs.States as machine
 use Rattle.machine.specs.Run.{no_point}
-use Rattle.null_places.specs.Agrees.{SameState}
+use Rattle.viewed_facts.specs.NullPlaces.Agrees.{SameState}
 use Rattle.run_codes.specs.Codes.{Does, Point}
 use Rattle.run_codes.specs.Codes as codes
 use Rattle.run_codes.specs.Flat.{Got, Given, Stops, Broken, and_then, front, is_word, kind_of}

@@ -9,8 +9,8 @@ use Rattle.flow_paths.specs.Names.{waiting}
 use Rattle.flow_paths.specs.Objects.{Typing, object_at}
 use Rattle.flow_paths.specs.Points.{FlowPoint}
 use Rattle.flow_paths.specs.Laid.{FlowProgram, flow_typing}
-use Rattle.part_offsets.specs.Parts.{IsSettled}
-use Rattle.owned_ways.specs.Ways.{Owned}
+use Rattle.soundness.specs.PartOffsets.Parts.{IsSettled}
+use Rattle.soundness.specs.OwnedWays.Ways.{Owned}
 use Rattle.soundness.specs.Seen.{is_view_formal, content}
 use Rattle.soundness.specs.Typed.{Kept, loc_of}
 use Rattle.soundness.specs.Sound.{view_of}
@@ -22,8 +22,8 @@ use Rattle.machine.specs.Memory.{Slot, Memory, Base, OfVariable, OfCell, cell, s
 use Rattle.machine.specs.Evaluate.{Evaluated, place_of}
 use Rattle.machine.specs.Memory as machine_memory
 use Rattle.machine.specs.States as machine
-use Rattle.null_places.specs.Agrees.{SameState}
-use Rattle.null_places.proofs.Memories.{cell_agree}
+use Rattle.viewed_facts.specs.NullPlaces.Agrees.{SameState}
+use Rattle.viewed_facts.proofs.NullPlaces.Memories.{cell_agree}
 use Rattle.run_codes.specs.Codes.{Point}
 use Rattle.run_codes.specs.Flat.{Flat, Given, Broken, kinds, Spot, InStack, InCell, spot, words_at, words_in}
 use Rattle.run_codes.specs.Lowered.{Placed, place}

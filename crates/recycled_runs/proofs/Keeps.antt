@@ -5,16 +5,16 @@ use Rattle.flow_paths.specs.Objects.{Typing, object_at}
 use Rattle.machine.specs.Words.{Word, Cell, default}
 use Rattle.machine.specs.Memory.{Slot, Memory, Base, OfVariable, OfCell, fresh, cell, slots_at, no_slot}
 use Rattle.machine.specs.States.{Waiting}
-use Rattle.owned_ways.specs.Ways.{Step, Loc, OfRoot, OfHand, Inside}
-use Rattle.owned_ways.specs.Ways as ways
-use Rattle.part_offsets.specs.Parts.{type_in, offset_in, has_part}
+use Rattle.soundness.specs.OwnedWays.Ways.{Step, Loc, OfRoot, OfHand, Inside}
+use Rattle.soundness.specs.OwnedWays.Ways as ways
+use Rattle.soundness.specs.PartOffsets.Parts.{type_in, offset_in, has_part}
 use Rattle.soundness.specs.Seen.{content}
 use Rattle.soundness.specs.Typed.{Matches, IsCell, Kept, Points}
-use Rattle.null_places.specs.Cleared.{cleared_slot}
-use Rattle.null_places.specs.Cleared as null_places
-use Rattle.null_places.specs.Agrees.{AgreeSlot, AgreeSlots, Agrees}
-use Rattle.null_places.proofs.Lists.{pair_length}
-use Rattle.null_places.proofs.Memories.{cell_agree, count_agree, slots_agree}
+use Rattle.viewed_facts.specs.NullPlaces.Cleared.{cleared_slot}
+use Rattle.viewed_facts.specs.NullPlaces.Cleared as null_places
+use Rattle.viewed_facts.specs.NullPlaces.Agrees.{AgreeSlot, AgreeSlots, Agrees}
+use Rattle.viewed_facts.proofs.NullPlaces.Lists.{pair_length}
+use Rattle.viewed_facts.proofs.NullPlaces.Memories.{cell_agree, count_agree, slots_agree}
 use Rattle.recycled_runs.proofs.Nulls.{variable_clear, cell_clear}
 
 -- ---- nothing is gone

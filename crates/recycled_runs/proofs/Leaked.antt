@@ -5,10 +5,10 @@ use Rattle.spark_base.specs.Lists.{Has}
 use Rattle.type_definitions.specs.Types.{Table}
 use Rattle.flow_paths.specs.Objects.{Typing}
 use Rattle.flow_paths.specs.Laid.{FlowProgram, flow_typing}
-use Rattle.part_offsets.specs.Parts.{IsSettled}
-use Rattle.part_offsets.proofs.Leaves.{leaf_from}
-use Rattle.owned_ways.specs.Ways.{Held, Loc, Step, OfRoot, Owned}
-use Rattle.owned_ways.specs.Ways as ways
+use Rattle.soundness.specs.PartOffsets.Parts.{IsSettled}
+use Rattle.soundness.proofs.PartOffsets.Leaves.{leaf_from}
+use Rattle.soundness.specs.OwnedWays.Ways.{Held, Loc, Step, OfRoot, Owned}
+use Rattle.soundness.specs.OwnedWays.Ways as ways
 use Rattle.soundness.specs.Seen.{Content, content, word_in, owner_word, owner_at}
 use Rattle.soundness.specs.Typed.{loc_of}
 use Rattle.soundness.specs.Sound.{view_of}
@@ -18,9 +18,9 @@ use Rattle.machine.specs.Words.{Cell, access_offsets}
 use Rattle.machine.specs.Typed.{Sort, Pointer, sorts}
 use Rattle.machine.specs.Memory.{Slot, HeapCell, Base, OfVariable, OfCell, slots_at, no_slot, cell}
 use Rattle.machine.specs.States as machine
-use Rattle.null_places.specs.Cleared.{cleared_slot}
-use Rattle.null_places.specs.Agrees.{AgreeSlot, AgreeSlots, SameState}
-use Rattle.null_places.proofs.Memories.{cell_agree, slots_agree}
+use Rattle.viewed_facts.specs.NullPlaces.Cleared.{cleared_slot}
+use Rattle.viewed_facts.specs.NullPlaces.Agrees.{AgreeSlot, AgreeSlots, SameState}
+use Rattle.viewed_facts.proofs.NullPlaces.Memories.{cell_agree, slots_agree}
 use Rattle.run_codes.specs.Points.{State}
 use Rattle.run_codes.specs.Related.{types, SlotStands, AllStand, IsTable}
 use Rattle.run_points.specs.States.{StateStands}

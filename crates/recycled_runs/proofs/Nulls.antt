@@ -10,18 +10,18 @@ use Rattle.run_values.specs.declared.value.Kind.TheVariants as sort
 use Rattle.run_values.specs.Values.{kind}
 use Rattle.flow_paths.specs.Objects.{Typing, object_at}
 use Rattle.flow_paths.specs.Laid.{FlowProgram, flow_typing}
-use Rattle.part_offsets.specs.Parts.{IsSettled}
-use Rattle.part_offsets.proofs.Leaves.{leaf_at}
+use Rattle.soundness.specs.PartOffsets.Parts.{IsSettled}
+use Rattle.soundness.proofs.PartOffsets.Leaves.{leaf_at}
 use Rattle.machine.specs.Words.{Word, Null, default, access_offsets}
 use Rattle.machine.specs.Typed.{Sort, Whole, Position, Pointer, sorts}
 use Rattle.machine.specs.Memory.{Slot, Variable, HeapCell, Memory, OfVariable, OfCell, fresh, is_variable, variable_slots, slots_at, no_slot, no_cell, cell}
 use Rattle.machine.specs.Evaluate.{heap_words}
 use Rattle.machine.specs.States as machine
-use Rattle.null_places.specs.Cleared.{cleared_slot, cleared_state}
-use Rattle.null_places.specs.Cleared as null_places
-use Rattle.null_places.specs.Agrees.{AgreeSlot, AgreeSlots, Agrees, SameState}
-use Rattle.null_places.proofs.Memories.{clear_agrees, cell_agree, slots_agree, count_agree, room_agree, freed_count}
-use Rattle.null_places.proofs.Only.{IsGone, OnlyOwners}
+use Rattle.viewed_facts.specs.NullPlaces.Cleared.{cleared_slot, cleared_state}
+use Rattle.viewed_facts.specs.NullPlaces.Cleared as null_places
+use Rattle.viewed_facts.specs.NullPlaces.Agrees.{AgreeSlot, AgreeSlots, Agrees, SameState}
+use Rattle.viewed_facts.proofs.NullPlaces.Memories.{clear_agrees, cell_agree, slots_agree, count_agree, room_agree, freed_count}
+use Rattle.viewed_facts.proofs.NullPlaces.Only.{IsGone, OnlyOwners}
 use Rattle.kept_cells.specs.Cells.{Cell}
 use Rattle.run_codes.specs.Flat.{Flat, most_cells, gone_from, kind_of, kinds, word_of, words_in}
 use Rattle.run_codes.specs.Points.{State}

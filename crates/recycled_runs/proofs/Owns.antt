@@ -31,8 +31,8 @@ use Rattle.soundness.proofs.Points.{frame_in, flow_at}
 use Rattle.soundness.proofs.Passing.{signature_is}
 use Rattle.soundness.proofs.Typings.{flow_agrees, formal_same}
 use Rattle.typed_laws.specs.Needed.{Leads, IsPlace, IsFine}
-use Rattle.viewed_soundness.specs.Holds.{is_bundle, is_given, is_fixed, AllKeep, IsAccess}
-use Rattle.viewed_soundness.proofs.Evaluated.{keep_both}
+use Rattle.soundness.specs.ViewedSoundness.Holds.{is_bundle, is_given, is_fixed, AllKeep, IsAccess}
+use Rattle.soundness.proofs.ViewedSoundness.Evaluated.{keep_both}
 use Rattle.viewed_steps.specs.Ready.{IsReady, IsActualTo, AreActualsTo, AreUnobserved}
 use Rattle.viewed_steps.proofs.Standing as standing
 use Rattle.viewed_steps.proofs.Views.{AreAccess}

@@ -4,9 +4,9 @@ use Rattle.spark_base.specs.Lists.{Has}
 use Rattle.type_definitions.specs.Types.{Table}
 use Rattle.flow_paths.specs.Objects.{Typing}
 use Rattle.flow_paths.specs.Laid.{FlowProgram, flow_typing}
-use Rattle.part_offsets.specs.Parts.{type_in, offset_in, is_leaf, IsSettled}
-use Rattle.part_offsets.proofs.Leaves.{leaf_from, leaf_at}
-use Rattle.owned_ways.specs.Ways.{Loc, Owned}
+use Rattle.soundness.specs.PartOffsets.Parts.{type_in, offset_in, is_leaf, IsSettled}
+use Rattle.soundness.proofs.PartOffsets.Leaves.{leaf_from, leaf_at}
+use Rattle.soundness.specs.OwnedWays.Ways.{Loc, Owned}
 use Rattle.soundness.specs.Seen.{content, trunk, steps_in}
 use Rattle.soundness.specs.Typed.{Spot, loc_of}
 use Rattle.soundness.specs.Sound.{view_of}
@@ -17,8 +17,8 @@ use Rattle.machine.specs.Words.{access_offsets}
 use Rattle.machine.specs.Typed.{sorts}
 use Rattle.machine.specs.Memory.{Base, OfVariable, OfCell, Place, slots_at}
 use Rattle.machine.specs.States as machine
-use Rattle.null_places.specs.Agrees.{SameState}
-use Rattle.null_places.proofs.Memories.{cell_agree}
+use Rattle.viewed_facts.specs.NullPlaces.Agrees.{SameState}
+use Rattle.viewed_facts.proofs.NullPlaces.Memories.{cell_agree}
 use Rattle.run_codes.specs.Points.{State}
 use Rattle.run_codes.specs.Related.{types, AllStand, IsTable}
 use Rattle.run_points.specs.States.{StateStands}

@@ -9,13 +9,13 @@ use Rattle.machine.specs.States.{Ending, Normal, Raised, Spent, Trapped, sub_of,
 use Rattle.machine.specs.States as machine
 use Rattle.machine.specs.Run.{Run, ended, run_with, then_on, within, empty_memory}
 use Rattle.machine.specs.Run as machine_run
-use Rattle.part_offsets.specs.Parts.{IsSettled}
-use Rattle.null_places.specs.Cleared.{cleared_state}
-use Rattle.null_places.specs.Agrees.{Agrees, SameState}
-use Rattle.null_places.proofs.Memories.{itself, agrees_right, count_agree, freed_count}
-use Rattle.null_places.proofs.Only.{OnlyOwners}
-use Rattle.null_places.proofs.Instructions.{SameStepBy}
-use Rattle.null_places.proofs.Runs.{GoesOn}
+use Rattle.soundness.specs.PartOffsets.Parts.{IsSettled}
+use Rattle.viewed_facts.specs.NullPlaces.Cleared.{cleared_state}
+use Rattle.viewed_facts.specs.NullPlaces.Agrees.{Agrees, SameState}
+use Rattle.viewed_facts.proofs.NullPlaces.Memories.{itself, agrees_right, count_agree, freed_count}
+use Rattle.viewed_facts.proofs.NullPlaces.Only.{OnlyOwners}
+use Rattle.viewed_facts.proofs.NullPlaces.Instructions.{SameStepBy}
+use Rattle.viewed_facts.proofs.NullPlaces.Runs.{GoesOn}
 use Rattle.run_codes.specs.Codes.{Point}
 use Rattle.run_codes.specs.Points.{Frame, State, ran_of}
 use Rattle.run_codes.specs.Points as points

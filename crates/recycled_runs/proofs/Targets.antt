@@ -16,10 +16,10 @@ use Rattle.flow_paths.specs.Objects.{Typing, Passing, ByValue, Traversed, object
 use Rattle.flow_paths.specs.Objects as objects
 use Rattle.flow_paths.specs.Points.{FlowPoint}
 use Rattle.flow_paths.specs.Laid.{FlowProgram, flow_typing}
-use Rattle.part_offsets.specs.Parts.{IsSettled}
-use Rattle.part_offsets.proofs.Leaves.{leaf_from}
-use Rattle.owned_ways.specs.Ways.{Owned}
-use Rattle.owned_ways.specs.Ways as ways
+use Rattle.soundness.specs.PartOffsets.Parts.{IsSettled}
+use Rattle.soundness.proofs.PartOffsets.Leaves.{leaf_from}
+use Rattle.soundness.specs.OwnedWays.Ways.{Owned}
+use Rattle.soundness.specs.OwnedWays.Ways as ways
 use Rattle.soundness.specs.Seen.{is_view_formal, content}
 use Rattle.soundness.specs.Typed.{Kept, Spot}
 use Rattle.soundness.specs.Sound.{view_of}
@@ -31,8 +31,8 @@ use Rattle.machine.specs.Owners.{waiting_in}
 use Rattle.machine.specs.Memory.{HeapCell, cell, words_of}
 use Rattle.machine.specs.Evaluate.{Use, AsView, cell_place, place_of}
 use Rattle.machine.specs.States as machine
-use Rattle.null_places.specs.Agrees.{SameState}
-use Rattle.null_places.proofs.Memories.{cell_agree}
+use Rattle.viewed_facts.specs.NullPlaces.Agrees.{SameState}
+use Rattle.viewed_facts.proofs.NullPlaces.Memories.{cell_agree}
 use Rattle.kept_cells.specs.Cells.{Cell as StoredCell}
 use Rattle.run_codes.specs.Codes.{Place, Fill, Checked, Pointer as LookedAt, Does, Put, Store, Point, Actual, From, To, InFrame, InPackages, Behind, Number}
 use Rattle.run_codes.specs.Codes as codes

@@ -14,9 +14,9 @@ use Rattle.machine.specs.Memory.{Slot, Memory, Base, OfVariable, OfCell, Place, 
 use Rattle.machine.specs.Evaluate.{Here, Now, AsValue, Evaluated, Done, Raises, Traps, followed_by, component_place, element_place, cell_place, designated_place, variable_place, evaluate, indexed, steps_of, walked, stepped, place_of}
 use Rattle.machine.specs.Evaluate as run
 use Rattle.machine.specs.States.{Waiting}
-use Rattle.owned_ways.specs.Ways.{Component, Element, Loc, OfRoot, Inside}
-use Rattle.owned_ways.specs.Ways as ways
-use Rattle.part_offsets.specs.Parts.{type_in, offset_in}
+use Rattle.soundness.specs.OwnedWays.Ways.{Component, Element, Loc, OfRoot, Inside}
+use Rattle.soundness.specs.OwnedWays.Ways as ways
+use Rattle.soundness.specs.PartOffsets.Parts.{type_in, offset_in}
 use Rattle.soundness.specs.Seen.{content, trunk, steps_in}
 use Rattle.soundness.specs.Typed.{Kept, Spot}
 use Rattle.soundness.proofs.Numbers.{index_law}

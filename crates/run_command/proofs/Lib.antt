@@ -1,4 +1,2 @@
 pub mod Taken
 pub mod Fronts
--- libraries that the crates above name through this one
-pub use Rattle.slot_execute.proofs.accepted_recycled

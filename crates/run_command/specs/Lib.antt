@@ -7,4 +7,3 @@ pub mod Inputs
 pub mod Faults
 -- libraries that the crates above name through this one
 pub use Rattle.slot_execute.specs as slot_execute
-pub use Rattle.slot_execute.specs.accepted_recycled

@@ -24,3 +24,5 @@ pub mod Fitted
 pub mod Followed
 pub mod Begun
 pub mod Values
+-- in which order objects stand in scope, and what follows where scopes end
+pub mod LayeredScopes

@@ -4,3 +4,5 @@ pub mod Supplied
 pub mod Returning
 pub mod Alone
 pub mod Fitted
+-- in which order objects stand in scope, and what follows where scopes end
+pub mod LayeredScopes

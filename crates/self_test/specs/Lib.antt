@@ -4,4 +4,3 @@ pub mod Summaries
 pub mod Runs
 -- libraries that the crates above name through this one
 pub use Rattle.run_command.specs as run_command
-pub use Rattle.run_command.specs.accepted_recycled

@@ -9,3 +9,15 @@ pub mod Gathered
 pub mod Faultless
 pub mod Main
 pub mod Examples
+-- the code of files declares in order
+pub mod OrderlyFiles
+-- what gathering makes of a program: types are made of types
+pub mod GatheredLaws
+-- the identifiers of parsed files stand in the order of the text
+pub mod FilePositions
+-- what the rules of names say of the code of files
+pub mod NamedFiles
+-- anonymous access types in programs without a fault of typing
+pub mod AnonymousTypes
+-- types that are read while declarations are gathered are those that are read at last
+pub mod SteadyTypes

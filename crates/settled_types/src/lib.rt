@@ -9,4 +9,85 @@
 //! program is gathered twice, and the second turn begins with the first one's types: what it gathers
 //! is looked at declaration by declaration, where any types stand at first (`proofs/Turns.antt`,
 //! `Gathered`). Nothing here runs.
+//!
+//! # Orderly files
+//!
+//! The code that files stand for declares in order: definitions and laws, for readers.
+//!
+//! Each declaration has a number of its own, but where a full type completes a private or an
+//! incomplete one, and where a body has that of its declaration (`IsOrderly` of `settled_types`).
+//! Numbers are given in the order of the text, by what is known of names at each point
+//! (`specs/Regions.antt`, `proofs/Steps.antt`, `Declares`), and the code has them by the positions of
+//! identifiers (`specs/Numbered.antt`). So it goes construct by construct: expressions declare nothing
+//! (`proofs/Mentions.antt`); then come items, statements, and units (`Items`, `Statements`, `Units`,
+//! `Main`). It is asked that no two identifiers have one position (`specs/Apart.antt`), and that full
+//! types end after the marks of definitions up to there (`specs/Ended.antt`). No rule of names need be
+//! kept. Nothing here runs.
+//!
+//! # Gathered laws
+//!
+//! What gathering makes of a program: types are made of types and based on types, and what is known
+//! of declarations speaks of types. Definitions and laws, for readers.
+//!
+//! `specs/Made.antt` says which numbers stand for types, from the text alone, so that it is the same
+//! in both turns of gathering. After both of them each row of the table and each entry speaks of such
+//! numbers (`proofs/Gathered.antt`), where the program declares in order (`Numbered`).
+//!
+//! Types that are based on one type agree: `proofs/Put.antt` has one more row, `Walk` the code of a
+//! turn, and `Agreed` both turns. Anonymous access types are based on themselves alone
+//! (`proofs/Views.antt`), if they have numbers of their own (`specs/Views.antt`); code without them
+//! (`specs/Named.antt`) meets that. The kinds of full types are known before the second turn (`Nodes`,
+//! `DefinedKinds`), so that a subtype with bounds is of a scalar type there (`Bounded`, `Faultless`).
+//! With it, and with what is said of literals and instances (`Entries`), follow the sentences of
+//! `Sentences`. Types have components with names of their own, if records have (`Components`). So the
+//! table is as `typed_laws` asks (`Laws`). Nothing here runs.
+//!
+//! # File positions
+//!
+//! The identifiers of parsed files stand in the order of the text, and full types end after the
+//! marks before them: definitions and laws, for readers.
+//!
+//! The tokens of a file have ascending positions (`proofs/FilePositions/Cuts.antt`), and spell its
+//! tree. What the tree does with names goes in the order of its tokens, construct by construct
+//! (`proofs/FilePositions/Expressions.antt`, `Statements`, `Units`). So the identifiers of all
+//! files have ascending positions (`Ascending`, `Identifiers`), and no two of them have one
+//! (`files_apart` of `Main`). The marks of definitions and the ends of full types go in that order,
+//! too (`Stopped`), so each full type ends after the marks up to there (`Ended`, `files_ended` of
+//! `Main`). `OrderlyFiles` asks for both. Nothing here runs.
+//!
+//! # Named files
+//!
+//! What the rules of names say of the code of files: definitions and laws, for readers.
+//!
+//! Where files break no rule of names, each record has components with names of their own
+//! (`proofs/NamedFiles/Words.antt`, `Records`), as `GatheredLaws` asks for, and each subprogram has
+//! formals with names of their own (`Formals`). And no library unit is a function (`Library`): it
+//! would be a second declaration in its region, since no declaration of a subprogram stands there
+//! (`Regions`, `Steady`). Nothing here runs.
+//!
+//! # Anonymous types
+//!
+//! Anonymous access types in programs without a fault of typing. Definitions and laws, for readers.
+//!
+//! Where a subprogram is declared apart, the anonymous type of its body's result belongs to the
+//! declaration. A front that breaks no sentence has a result of such a type exactly if the
+//! declaration has (`proofs/AnonymousTypes/Main.antt`), since marks denote types with names, and
+//! numbers without a name have rows of anonymous access types alone
+//! (`specs/AnonymousTypes/Shown.antt`). So each anonymous access type has a row of its own, if
+//! their numbers are their own: what `GatheredLaws` asks of them. And a formal of such a type is
+//! traversed, and of mode `in`. Nothing here runs.
+//!
+//! # Steady types
+//!
+//! Types that are read while declarations are gathered are those that are read at last: definitions and laws,
+//! for readers.
+//!
+//! The units of a program are gathered twice, since a type may be used before its full type is
+//! known. Two tables are alike where they say the same of each type but for the bounds in its
+//! definition (`specs/SteadyTypes/Alike.antt`). In the second turn the table is like that of the
+//! first one wherever a loop stands (`specs/SteadyTypes/Steady.antt`), and so it is at last, if the
+//! first turn leaves what it puts of anonymous access types (`specs/SteadyTypes/Kept.antt`):
+//! `proofs/SteadyTypes/Moves.antt` has what both turns make of entries, side by side, `Rows` the
+//! rows, `Walk` the code of a unit, and `Main` all units. So each name leads from type to type in a
+//! loop's range as it does at last; `sound_files` says that of names. Nothing here runs.
 #![tactic(auto)]

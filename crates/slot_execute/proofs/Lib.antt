@@ -6,5 +6,3 @@ pub mod Same
 pub mod Started
 -- runs without a step
 pub mod NoSteps
--- libraries that the crates above name through this one
-pub use Rattle.accepted_recycled.proofs as accepted_recycled

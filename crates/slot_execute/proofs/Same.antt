@@ -9,8 +9,8 @@ use Rattle.run_codes.specs.Points.{Ran, ran_of}
 use Rattle.handled_steps.specs.States.{Outcome, Goes, Ends, Wants, Fails}
 use Rattle.handled_steps.specs.Runs.{given}
 use Rattle.slot_runs.specs.Turns.{is_failing}
-use Rattle.accepted_recycled.specs.Runs.{IsRunOf}
-use Rattle.accepted_recycled.proofs.Kept.{accepted_same}
+use Rattle.accepted_runs.specs.AcceptedRecycled.Runs.{IsRunOf}
+use Rattle.accepted_runs.proofs.AcceptedRecycled.Kept.{accepted_same}
 use Rattle.slot_executor.specs.Executes.{IsSame, AreSame}
 use Rattle.slot_execute.proofs.Codes.{ran_code}
 

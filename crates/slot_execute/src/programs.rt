@@ -7,14 +7,14 @@ ghost use Rattle.code_rows.specs.Points.{program_of as rows_program};
 ghost use Rattle.slot_heap.specs.Heaps.{no_heap};
 ghost use Rattle.slot_runs.specs.Tellings.{HaveFronts};
 ghost use Rattle.slot_executor.specs.Executes.{IsExecuted, AreSame, fits as fits_first};
-ghost use Rattle.accepted_recycled.specs.accepted_runs.Headline.{IsSoundRun};
+ghost use Rattle.accepted_runs.specs.Headline.{IsSoundRun};
 ghost use Rattle.slot_execute.specs.Executes.{IsReady};
 
 use crate::starts::{fits, is_declaring};
 use code_rows::Codes;
 use laid_program::Laid;
 use path_check::AcceptedProgram;
-use accepted_recycled::lower_ready;
+use accepted_runs::lower_ready;
 use run_results::{ExecFault, Ran};
 use slot_executor::{run_started, run_unfit};
 use slot_heap::Store;

@@ -18,12 +18,12 @@ use Rattle.flow_paths.specs.Points.{FlowPoint}
 use Rattle.flow_paths.specs.Laid.{FlowSub, FlowProgram, sub_temporaries, named_subs, all_named, flow_sub, typing_of, flow_named, flow_program}
 use Rattle.machine.specs.States.{no_sub}
 use Rattle.machine.specs.Run.{no_point}
-use Rattle.file_positions.specs.Order.{Ascends, event_positions}
-use Rattle.called_subs.proofs.meant_files.Told.{files_followed}
-use Rattle.called_subs.proofs.meant_files.Bodies.{files_have_bodies}
-use Rattle.called_subs.specs.Called.{HaveBodies}
-use Rattle.called_subs.proofs.Main.{calls_within}
-use Rattle.ready_laws.specs.InOrder.{IsSub}
+use Rattle.settled_types.specs.FilePositions.Order.{Ascends, event_positions}
+use Rattle.sound_files.proofs.MeantFiles.Told.{files_followed}
+use Rattle.sound_files.proofs.MeantFiles.Bodies.{files_have_bodies}
+use Rattle.sound_files.specs.CalledSubs.Called.{HaveBodies}
+use Rattle.sound_files.proofs.CalledSubs.Main.{calls_within}
+use Rattle.order_laws.specs.ReadyLaws.InOrder.{IsSub}
 use Rattle.order_laws.specs.Orderly.{typed_of, bodies_of}
 
 -- ---- lists

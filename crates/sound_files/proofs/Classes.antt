@@ -13,9 +13,9 @@ use Rattle.typed_tree.specs.Programs.{TypedSub, text_io, typed_program}
 use Rattle.flow_paths.specs.Objects.{Typing, Signature, object_at, sub_at}
 use Rattle.flow_paths.specs.Laid.{Temporary, temporary_object, NamedSub, FlowProgram, signature, flow_typing, flow_named, flow_program}
 use Rattle.soundness.proofs.Typings.{flow_agrees}
-use Rattle.called_subs.specs.Called.{HaveBodies}
-use Rattle.typed_steps.specs.Steps.{IsTypedStep, AreTyped}
-use Rattle.ready_laws.specs.InOrder.{IsSub, AreAnswered}
+use Rattle.sound_files.specs.CalledSubs.Called.{HaveBodies}
+use Rattle.typed_laws.specs.TypedSteps.Steps.{IsTypedStep, AreTyped}
+use Rattle.order_laws.specs.ReadyLaws.InOrder.{IsSub, AreAnswered}
 use Rattle.order_laws.specs.Orderly.{typed_of, typing_in, bodies_of}
 use Rattle.sound_files.proofs.Called.{called_body}
 

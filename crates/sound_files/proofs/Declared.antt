@@ -23,8 +23,8 @@ use Rattle.typed_tree.specs.Statements.{scope_count, statements, typed_object, t
 use Rattle.typed_tree.specs.Programs.{kind_of, entry_kind, TypedSub, DeclaredObject, Home, object_of, formals_of, front_formals, objects_in, local, in_package, package_text, program_objects, text_io, placed, subs_in, over_units, elaborated, site_of, typed_program}
 use Rattle.flow_paths.specs.Laid.{declared_within}
 use Rattle.flow_paths.specs.Objects.{object_at, is_formal, is_formal_kind, is_state, is_package_object}
-use Rattle.called_subs.specs.meant_files.Typed.{IsOf, AreIndicated, AreIntegers, AreTyped}
-use Rattle.called_subs.proofs.meant_files.Objects.{object_numbers, units_same}
+use Rattle.sound_files.specs.MeantFiles.Typed.{IsOf, AreIndicated, AreIntegers, AreTyped}
+use Rattle.sound_files.proofs.MeantFiles.Objects.{object_numbers, units_same}
 use Rattle.scope_laws.proofs.Lists.{all_both}
 use Rattle.order_laws.specs.Orderly.{typed_of, typing_in}
 use Rattle.sound_files.proofs.Kinded.{program_kinded}

@@ -25,8 +25,8 @@ use Rattle.ada_tree.specs.declared.unit.SubprogramBody.{SubprogramBody}
 use Rattle.resolved_tree.specs.Trees.{Code, code_list}
 use Rattle.expression_lowering.specs.LoweredExpressions.{Numbers}
 use Rattle.tree_lowering.specs.Lowered.{lowered_subtype, lowered_type, lowered_declaration, item_before, before_all, lowered_items, lowered_simple, lowered_stmts, lowered_stmt_box, stmts_row, lowered_stmt, lowered_stmts_box, elsifs_row, lowered_elsif, lowered_when_box, whens_row, lowered_when, lowered_subprogram, decl_before, part_before, lowered_decls, lowered_private, lowered_package, lowered_package_body, lowered_unit, lowered_files}
-use Rattle.named_files.specs.Formals.{IsFrontApart, AreFormalsApart}
-use Rattle.anonymous_types.specs.Fronts.{AllFronts}
+use Rattle.settled_types.specs.NamedFiles.Formals.{IsFrontApart, AreFormalsApart}
+use Rattle.settled_types.specs.AnonymousTypes.Fronts.{AllFronts}
 
 abbrev All : Code → Type 0
 All = AllFronts IsFrontApart IsFrontApart

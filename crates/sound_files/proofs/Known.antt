@@ -15,9 +15,9 @@ use Rattle.typed_tree.specs.Expressions.{Site, object_number}
 use Rattle.typed_tree.specs.Statements.{scope_count}
 use Rattle.typed_tree.specs.Programs.{kind_of, entry_kind, TypedSub, DeclaredObject, program_objects, text_io, front_formals, formal_numbers, placed, subs_in, over_units, site_of, typed_program}
 use Rattle.flow_paths.specs.Objects.{is_formal, is_formal_kind}
-use Rattle.called_subs.specs.seen_files.Fits.{all_numbers, group_numbers, front_numbers}
-use Rattle.called_subs.specs.meant_files.Typed.{AreOf, IsGroupTyped, AreGroupsTyped, IsFrontTyped, AreTyped}
-use Rattle.called_subs.proofs.meant_files.Objects.{object_numbers, units_same}
+use Rattle.sound_files.specs.SeenFiles.Fits.{all_numbers, group_numbers, front_numbers}
+use Rattle.sound_files.specs.MeantFiles.Typed.{AreOf, IsGroupTyped, AreGroupsTyped, IsFrontTyped, AreTyped}
+use Rattle.sound_files.proofs.MeantFiles.Objects.{object_numbers, units_same}
 use Rattle.order_laws.specs.Orderly.{typing_in, bodies_of}
 use Rattle.sound_files.proofs.Kinded.{AreKinded, program_kinded}
 

@@ -13,27 +13,27 @@ use Rattle.typed_tree.specs.Programs.{site_of}
 use Rattle.type_sizes.specs.Formed.{all_formed}
 use Rattle.type_rules.proofs.Formed.{files_formed}
 use Rattle.typed_laws.specs.Fine.{Laws}
-use Rattle.typed_points.proofs.Values.{truth, numbers}
+use Rattle.typed_laws.proofs.TypedPoints.Values.{truth, numbers}
 use Rattle.settled_types.specs.Orderly.{at_start, IsOrderly as IsInOrder}
-use Rattle.orderly_files.specs.Apart.{AreApart}
-use Rattle.orderly_files.specs.Ended.{AllEnded}
-use Rattle.orderly_files.proofs.Main.{files_in_order}
-use Rattle.file_positions.specs.Order.{Ascends, event_positions}
-use Rattle.gathered_laws.specs.Made.{IsMade}
-use Rattle.gathered_laws.specs.Views.{AreViews}
-use Rattle.gathered_laws.proofs.Components.{components_left}
-use Rattle.gathered_laws.proofs.Laws.{program_laws}
-use Rattle.named_files.proofs.Records.{records_apart}
-use Rattle.called_subs.specs.meant_files.Typed.{AreTyped as AreDeclared}
-use Rattle.called_subs.proofs.meant_files.Main.{first_table, files_kept, files_typed}
+use Rattle.settled_types.specs.OrderlyFiles.Apart.{AreApart}
+use Rattle.settled_types.specs.OrderlyFiles.Ended.{AllEnded}
+use Rattle.settled_types.proofs.OrderlyFiles.Main.{files_in_order}
+use Rattle.settled_types.specs.FilePositions.Order.{Ascends, event_positions}
+use Rattle.settled_types.specs.GatheredLaws.Made.{IsMade}
+use Rattle.settled_types.specs.GatheredLaws.Views.{AreViews}
+use Rattle.settled_types.proofs.GatheredLaws.Components.{components_left}
+use Rattle.settled_types.proofs.GatheredLaws.Laws.{program_laws}
+use Rattle.settled_types.proofs.NamedFiles.Records.{records_apart}
+use Rattle.sound_files.specs.MeantFiles.Typed.{AreTyped as AreDeclared}
+use Rattle.sound_files.proofs.MeantFiles.Main.{first_table, files_kept, files_typed}
 use Rattle.order_laws.proofs.Faults.{units_faultless}
 use Rattle.settled_types.specs.Stamped.{AllOpen}
 use Rattle.settled_types.proofs.Main.{second, rows_first, rows_second}
 use Rattle.settled_types.proofs.Faultless.{program_open}
-use Rattle.named_files.proofs.Library.{procedures}
-use Rattle.steady_types.specs.Flat.{IsFlatUnit}
-use Rattle.steady_types.specs.Kept.{AreKept}
-use Rattle.steady_types.proofs.Main.{alike, steady}
+use Rattle.settled_types.proofs.NamedFiles.Library.{procedures}
+use Rattle.settled_types.specs.SteadyTypes.Flat.{IsFlatUnit}
+use Rattle.settled_types.specs.SteadyTypes.Kept.{AreKept}
+use Rattle.settled_types.proofs.SteadyTypes.Main.{alike, steady}
 use Rattle.sound_files.proofs.Flat.{unit_flat}
 use Rattle.sound_files.proofs.Written.{files_written}
 use Rattle.spark_base.specs.Lists.{Has}

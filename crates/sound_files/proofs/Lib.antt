@@ -1,3 +1,10 @@
+-- what names denote in accepted files is in scope where they stand
+pub mod SeenFiles
+-- files that are meant: trees are those of the grammar, identifiers denote what is declared, and objects have the types that are indicated
+pub mod MeantFiles
+-- what the calls of typed programs go to
+pub mod CalledSubs
+-- the crate itself
 pub mod Whole
 pub mod Written
 pub mod Once
@@ -16,8 +23,5 @@ pub mod Functions
 pub mod Shared
 pub mod Fronts
 pub mod Owners
--- libraries that the crates above name through this one
-pub use Rattle.called_subs.proofs.meant_files
-pub use Rattle.called_subs.proofs.seen_files
-pub use Rattle.type_rules.proofs as type_rules
-pub use Rattle.called_subs.proofs as called_subs
+-- what settled_types proves, in the words of soundness
+pub mod ReadyTypes

@@ -9,19 +9,19 @@ use Rattle.typing_steps.specs.Programs.{program_of}
 use Rattle.type_definitions.specs.Types.{Table}
 use Rattle.type_definitions.specs.Whole.{outside, known_of, type_fault}
 use Rattle.settled_types.specs.Orderly.{at_start}
-use Rattle.orderly_files.specs.Apart.{AreApart}
-use Rattle.orderly_files.specs.Ended.{AllEnded}
-use Rattle.orderly_files.proofs.Main.{files_in_order}
-use Rattle.file_positions.specs.Order.{Ascends, event_positions}
-use Rattle.gathered_laws.specs.Made.{IsMade}
-use Rattle.gathered_laws.specs.Views.{AreViews}
+use Rattle.settled_types.specs.OrderlyFiles.Apart.{AreApart}
+use Rattle.settled_types.specs.OrderlyFiles.Ended.{AllEnded}
+use Rattle.settled_types.proofs.OrderlyFiles.Main.{files_in_order}
+use Rattle.settled_types.specs.FilePositions.Order.{Ascends, event_positions}
+use Rattle.settled_types.specs.GatheredLaws.Made.{IsMade}
+use Rattle.settled_types.specs.GatheredLaws.Views.{AreViews}
 use Rattle.order_laws.specs.Orderly.{typed_of, IsOrderly}
 use Rattle.order_laws.proofs.Faults.{units_faultless}
-use Rattle.called_subs.proofs.seen_files.Main.{files_seen}
+use Rattle.sound_files.proofs.SeenFiles.Main.{files_seen}
 use Rattle.sound_files.proofs.Whole.{whole}
 use Rattle.sound_files.proofs.Once.{files_once}
 use Rattle.sound_files.proofs.Written.{files_written}
-use Rattle.named_files.proofs.Library.{procedures}
+use Rattle.settled_types.proofs.NamedFiles.Library.{procedures}
 use Rattle.sound_files.proofs.Known.{formals_known}
 use Rattle.sound_files.proofs.Laws.{files_declared}
 

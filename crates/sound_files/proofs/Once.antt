@@ -56,13 +56,13 @@ use Rattle.tree_lowering.specs.Lowered.{declared_next, declared_all, lowered_sub
 use Rattle.typing_steps.specs.Programs.{program_of}
 use Rattle.type_definitions.specs.declared.table.Known.{Known as TypesKnown}
 use Rattle.typed_tree.specs.Programs.{DeclaredObject, program_objects}
-use Rattle.orderly_files.specs.Apart.{AreApart}
-use Rattle.orderly_files.specs.Numbered.{AreNumbered}
-use Rattle.orderly_files.proofs.Declares.{numbered_both, behind_both}
-use Rattle.orderly_files.proofs.Main.{longer_all, files_numbered}
+use Rattle.settled_types.specs.OrderlyFiles.Apart.{AreApart}
+use Rattle.settled_types.specs.OrderlyFiles.Numbered.{AreNumbered}
+use Rattle.settled_types.proofs.OrderlyFiles.Declares.{numbered_both, behind_both}
+use Rattle.settled_types.proofs.OrderlyFiles.Main.{longer_all, files_numbered}
 use Rattle.scope_laws.specs.Code.{Once}
-use Rattle.called_subs.specs.seen_files.Fits.{all_numbers, group_numbers, front_numbers}
-use Rattle.called_subs.proofs.meant_files.Objects.{object_numbers, units_same}
+use Rattle.sound_files.specs.SeenFiles.Fits.{all_numbers, group_numbers, front_numbers}
+use Rattle.sound_files.proofs.MeantFiles.Objects.{object_numbers, units_same}
 
 -- ---- lists of numbers
 

@@ -9,7 +9,7 @@ use Rattle.typed_tree.specs.Programs.{TypedSub, typed_program}
 use Rattle.flow_paths.specs.Objects.{Typing, Signature, object_at, sub_at, is_formal}
 use Rattle.flow_paths.specs.Laid.{FlowProgram, flow_typing, flow_program}
 use Rattle.soundness.proofs.Typings.{Agree, flow_agrees, formal_same}
-use Rattle.ready_laws.specs.InOrder.{IsSub}
+use Rattle.order_laws.specs.ReadyLaws.InOrder.{IsSub}
 use Rattle.order_laws.specs.Orderly.{typed_of, typing_in, bodies_of}
 use Rattle.viewed_steps.specs.Sound.{IsScalarObject}
 use Rattle.sound_files.proofs.Functions.{FunctionsTakeIn}

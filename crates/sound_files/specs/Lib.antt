@@ -1,4 +1,8 @@
--- libraries that the crates above name through this one
-pub use Rattle.called_subs.specs.meant_files
-pub use Rattle.called_subs.specs.seen_files
-pub use Rattle.called_subs.specs as called_subs
+-- what names denote in accepted files is in scope where they stand
+pub mod SeenFiles
+-- files that are meant: trees are those of the grammar, identifiers denote what is declared, and objects have the types that are indicated
+pub mod MeantFiles
+-- what the calls of typed programs go to
+pub mod CalledSubs
+-- what settled_types proves, in the words of soundness
+pub mod ReadyTypes

@@ -4,7 +4,7 @@ use Rattle.std.proofs.Common.{◌≡◌, sym, ap, ◌∙◌, ◌⊎◌, inl, inr
 use Rattle.flow_paths.specs.declared.report.Effects.{Effects}
 use Rattle.flow_paths.specs.Objects.{Typing, is_package_object}
 use Rattle.flow_paths.specs.Laid.{FlowProgram, flow_typing}
-use Rattle.owned_ways.specs.Ways.{OfVariable, OfHand, Way, Object, Lost, Into, All, Named, number_of}
+use Rattle.soundness.specs.OwnedWays.Ways.{OfVariable, OfHand, Way, Object, Lost, Into, All, Named, number_of}
 use Rattle.soundness.specs.Seen.{home, IsNear}
 use Rattle.soundness.proofs.Contents.{bool_cases}
 

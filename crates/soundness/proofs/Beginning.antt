@@ -6,8 +6,8 @@ use Rattle.flow_paths.specs.Objects.{Typing, object_at}
 use Rattle.machine.specs.Words.{default}
 use Rattle.machine.specs.Memory.{cell}
 use Rattle.machine.specs.Run.{empty_memory}
-use Rattle.owned_ways.specs.Ways.{Step, OfVariable, OfHand, Loc, OfRoot, OfCell, Inside, Way, Empty, Held, Sound}
-use Rattle.part_offsets.specs.Parts.{offset_in}
+use Rattle.soundness.specs.OwnedWays.Ways.{Step, OfVariable, OfHand, Loc, OfRoot, OfCell, Inside, Way, Empty, Held, Sound}
+use Rattle.soundness.specs.PartOffsets.Parts.{offset_in}
 use Rattle.soundness.specs.Seen.{content, trunk, steps_in, word_in, seen}
 use Rattle.soundness.specs.Typed.{Points, Kept}
 use Rattle.soundness.specs.Sound.{InScope}

@@ -14,11 +14,11 @@ use Rattle.machine.specs.Memory.{Slot, Memory, Place, fresh, no_slot, slots_at}
 use Rattle.machine.specs.Calls.{failed, failed_at, checked_at, checks_at}
 use Rattle.machine.specs.States.{Waiting, Leak}
 use Rattle.machine.specs.Owners.{no_value}
-use Rattle.owned_ways.specs.Ways.{Step, Root, OfHand, Loc, OfRoot, Word, Empty, Gone, Held, part, Below, IsMove}
-use Rattle.owned_ways.proofs.Locations.{same_loc}
-use Rattle.part_offsets.specs.Parts.{type_in, offset_in, has_part, is_leaf, IsSettled}
-use Rattle.part_offsets.proofs.Ranges.{leaf_outside, leaf_words, leaf_part, all_within}
-use Rattle.part_offsets.proofs.Leaves.{Has-flat, Has-flat_from, leaf_at, leaf_from}
+use Rattle.soundness.specs.OwnedWays.Ways.{Step, Root, OfHand, Loc, OfRoot, Word, Empty, Gone, Held, part, Below, IsMove}
+use Rattle.soundness.proofs.OwnedWays.Locations.{same_loc}
+use Rattle.soundness.specs.PartOffsets.Parts.{type_in, offset_in, has_part, is_leaf, IsSettled}
+use Rattle.soundness.proofs.PartOffsets.Ranges.{leaf_outside, leaf_words, leaf_part, all_within}
+use Rattle.soundness.proofs.PartOffsets.Leaves.{Has-flat, Has-flat_from, leaf_at, leaf_from}
 use Rattle.soundness.specs.Seen.{Content, in_hand, word_in, owner_at, owner_word, trunk, steps_in, seen_of}
 use Rattle.soundness.specs.Changes.{Alike, Put, leaks_at, is_leaked, Checks, hand, Stores, Takes}
 use Rattle.soundness.proofs.Joined.{offset_join, leaf_join, trunk_part, steps_part, trunk_trunk, below_from, below_root}

@@ -10,8 +10,8 @@ use Rattle.type_definitions.specs.Types.{Table, shape_found, span}
 use Rattle.type_definitions.specs.Entries.{integer}
 use Rattle.machine.specs.Words.{Word, Int, Enumerated, Null, Cell, repeated, default_of, default_within, default}
 use Rattle.machine.specs.Memory.{fresh, no_slot}
-use Rattle.owned_ways.specs.Ways as ways
-use Rattle.part_offsets.specs.Parts.{is_leaf, offset_in}
+use Rattle.soundness.specs.OwnedWays.Ways as ways
+use Rattle.soundness.specs.PartOffsets.Parts.{is_leaf, offset_in}
 use Rattle.soundness.specs.Seen.{Content, word_in, owner_word}
 use Rattle.soundness.proofs.Contents.{bool_cases, word_yes, word_no, word_dead}
 

@@ -8,7 +8,7 @@ use Rattle.machine.specs.Words.{default}
 use Rattle.machine.specs.Words as machine
 use Rattle.machine.specs.Memory.{Memory, fresh, variable_slots, cell, no_cell, no_slot, declared, undeclared, with_new_cell}
 use Rattle.machine.specs.States.{Waiting, Leak}
-use Rattle.owned_ways.specs.Ways.{Step, OfVariable, OfHand, Loc, OfRoot, OfCell, Inside, Empty, IsDrop}
+use Rattle.soundness.specs.OwnedWays.Ways.{Step, OfVariable, OfHand, Loc, OfRoot, OfCell, Inside, Empty, IsDrop}
 use Rattle.soundness.specs.Seen.{in_hand, content, trunk, steps_in, word_in, seen, is_view_formal}
 use Rattle.soundness.specs.Changes.{Alike, Checks, Stores}
 use Rattle.soundness.specs.Typed.{Kept}

@@ -9,8 +9,8 @@ use Rattle.machine.specs.Memory.{Memory, Place, words_of, moved_out, with_new_ce
 use Rattle.machine.specs.Evaluate.{Now, Evaluated, Done, Raises, Traps, followed_by}
 use Rattle.machine.specs.States.{Waiting, Leak}
 use Rattle.machine.specs.Owners.{no_value, waiting_at}
-use Rattle.owned_ways.specs.Ways.{Step, OfVariable, OfHand, Loc, OfRoot, OfCell, Inside, Empty, IsSame}
-use Rattle.part_offsets.specs.Parts.{is_leaf}
+use Rattle.soundness.specs.OwnedWays.Ways.{Step, OfVariable, OfHand, Loc, OfRoot, OfCell, Inside, Empty, IsSame}
+use Rattle.soundness.specs.PartOffsets.Parts.{is_leaf}
 use Rattle.soundness.specs.Seen.{in_hand, content, trunk, steps_in, word_in, seen}
 use Rattle.soundness.specs.Typed.{Matches, Kept, Spot}
 use Rattle.soundness.proofs.Joined.{trunk_trunk, not_inside}

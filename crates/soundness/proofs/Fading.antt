@@ -17,8 +17,8 @@ use Rattle.machine.specs.Memory.{Slot, Memory, Base, Place, variable_slots, cell
 use Rattle.machine.specs.Memory as memory
 use Rattle.machine.specs.Evaluate.{Here, Now, Use, AsValue, AsView, Evaluated, Done, Raises, Traps, followed_by, evaluate, steps_of, parts_of, initial, checked, allocated, walked, stepped, designated_place, held_or_taken, operated, operated_alone, given, indexed, decides, heap_words, StorageError, ConstraintError, Touched}
 use Rattle.machine.specs.Evaluate as run
-use Rattle.owned_ways.specs.Ways.{OfVariable, OfRoot}
-use Rattle.owned_ways.proofs.Locations.{same_loc}
+use Rattle.soundness.specs.OwnedWays.Ways.{OfVariable, OfRoot}
+use Rattle.soundness.proofs.OwnedWays.Locations.{same_loc}
 use Rattle.soundness.proofs.Memories.{put_same, put_other, changed_inside, changed_outside, marked_word, marked_length, still_gone}
 
 -- the word is the same, and what is gone stays gone

@@ -7,10 +7,10 @@ use Rattle.type_definitions.specs.Types.{Table, shape_of, components_of, span, w
 use Rattle.machine.specs.Words.{no_component, count_of, element_of, words_before, element_type}
 use Rattle.machine.specs.Evaluate.{part_type}
 use Rattle.machine.specs.Typed.{field_count, is_record, is_array}
-use Rattle.owned_ways.specs.Ways.{Step}
-use Rattle.owned_ways.specs.Ways as ways
-use Rattle.part_offsets.specs.Parts.{type_in, offset_in, has_part}
-use Rattle.part_offsets.proofs.Sums.{sum_next}
+use Rattle.soundness.specs.OwnedWays.Ways.{Step}
+use Rattle.soundness.specs.OwnedWays.Ways as ways
+use Rattle.soundness.specs.PartOffsets.Parts.{type_in, offset_in, has_part}
+use Rattle.soundness.proofs.PartOffsets.Sums.{sum_next}
 
 abbrev pub nth_part : Shape → ℕ → Step
 nth_part (shape.Elements low high e) i = ways.Element i

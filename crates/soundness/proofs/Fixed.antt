@@ -4,11 +4,11 @@ use Rattle.type_definitions.specs.Types.{shape_of, words, full, view_of, is_scal
 use Rattle.flow_paths.specs.Objects.{Typing, object_at}
 use Rattle.machine.specs.Memory.{Memory, Place, Slot, no_slot, with_slots}
 use Rattle.machine.specs.States.{Waiting, Leak}
-use Rattle.owned_ways.specs.Ways.{Step, Loc, OfRoot, IsSame, part}
-use Rattle.owned_ways.specs.Ways as ways
-use Rattle.owned_ways.proofs.Locations.{same_loc}
-use Rattle.part_offsets.specs.Parts.{type_in, offset_in, has_part, is_leaf, IsSettled}
-use Rattle.part_offsets.proofs.Ranges.{leaf_outside}
+use Rattle.soundness.specs.OwnedWays.Ways.{Step, Loc, OfRoot, IsSame, part}
+use Rattle.soundness.specs.OwnedWays.Ways as ways
+use Rattle.soundness.proofs.OwnedWays.Locations.{same_loc}
+use Rattle.soundness.specs.PartOffsets.Parts.{type_in, offset_in, has_part, is_leaf, IsSettled}
+use Rattle.soundness.proofs.PartOffsets.Ranges.{leaf_outside}
 use Rattle.soundness.specs.Seen.{Content, content, owner_word, trunk, steps_in, word_in, seen}
 use Rattle.soundness.specs.Changes.{Put}
 use Rattle.soundness.specs.Typed.{Matches, Kept, Spot, IsFixed, IsMade, loc_of}

@@ -6,10 +6,10 @@ use Rattle.machine.specs.Words as machine
 use Rattle.machine.specs.Memory.{Slot, Memory, Place, HeapCell, fresh, cell, no_cell, slots_at, freed, as_freed, with_cell, stored}
 use Rattle.machine.specs.Memory as memory
 use Rattle.machine.specs.States.{Waiting, Leak}
-use Rattle.owned_ways.specs.Ways.{Step, OfVariable, OfHand, Loc, OfRoot, OfCell, Inside, Empty, Below, IsRelease}
-use Rattle.owned_ways.proofs.Locations.{same_loc}
-use Rattle.part_offsets.specs.Parts.{type_in, offset_in, has_part, owns_one, is_leaf, IsSettled}
-use Rattle.part_offsets.proofs.Ranges.{both_parts, leaf_end, leaf_part, leaf_words}
+use Rattle.soundness.specs.OwnedWays.Ways.{Step, OfVariable, OfHand, Loc, OfRoot, OfCell, Inside, Empty, Below, IsRelease}
+use Rattle.soundness.proofs.OwnedWays.Locations.{same_loc}
+use Rattle.soundness.specs.PartOffsets.Parts.{type_in, offset_in, has_part, owns_one, is_leaf, IsSettled}
+use Rattle.soundness.proofs.PartOffsets.Ranges.{both_parts, leaf_end, leaf_part, leaf_words}
 use Rattle.soundness.specs.Seen.{Content, content, trunk, steps_in, word_in, seen}
 use Rattle.soundness.specs.Changes.{Put, Checks}
 use Rattle.soundness.specs.Typed.{Kept, Spot, loc_of, IsMade}

@@ -7,12 +7,12 @@ use Rattle.flow_paths.specs.Objects.{Typing}
 use Rattle.machine.specs.Words as machine
 use Rattle.machine.specs.Memory.{Memory, HeapCell, fresh, cell, no_cell, no_slot, with_new_cell}
 use Rattle.machine.specs.States.{Waiting, Leak}
-use Rattle.owned_ways.specs.Ways.{Step, OfVariable, OfHand, Loc, OfRoot, OfCell, Inside, Way, Object, All, Empty, Held, IsFresh, IsMove, Sound, Spares}
-use Rattle.owned_ways.proofs.Locations.{same_loc}
-use Rattle.owned_ways.proofs.Assigned.{handed}
-use Rattle.owned_ways.proofs.Released.{freshly}
-use Rattle.part_offsets.specs.Parts.{has_part, is_leaf, IsSettled}
-use Rattle.part_offsets.proofs.Ranges.{leaf_end, leaf_part}
+use Rattle.soundness.specs.OwnedWays.Ways.{Step, OfVariable, OfHand, Loc, OfRoot, OfCell, Inside, Way, Object, All, Empty, Held, IsFresh, IsMove, Sound, Spares}
+use Rattle.soundness.proofs.OwnedWays.Locations.{same_loc}
+use Rattle.soundness.proofs.OwnedWays.Assigned.{handed}
+use Rattle.soundness.proofs.OwnedWays.Released.{freshly}
+use Rattle.soundness.specs.PartOffsets.Parts.{has_part, is_leaf, IsSettled}
+use Rattle.soundness.proofs.PartOffsets.Ranges.{leaf_end, leaf_part}
 use Rattle.soundness.specs.Seen.{Content, in_hand, content, trunk, steps_in, word_in, seen_of, seen}
 use Rattle.soundness.specs.Changes.{Alike, hand, Checks, Stores}
 use Rattle.soundness.proofs.Joined.{trunk_trunk, not_inside, below_from}

@@ -16,7 +16,7 @@ use Rattle.place_names.specs.Names.{Name, agree_along, agrees_whole}
 use Rattle.place_names.specs.Facts.{adds, removes, effect}
 use Rattle.place_names.specs.Rules.{forbidden_if, forbids, breaks_O1, breaks_O2, breaks_O3, breaks_O4, breaks_O8, breaks_O11, breaks_O14}
 use Rattle.flow_paths.specs.Effects.{act_reads, act_writes}
-use Rattle.owned_ways.specs.Ways.{after, AllowsAll}
+use Rattle.soundness.specs.OwnedWays.Ways.{after, AllowsAll}
 use Rattle.soundness.proofs.Contents.{bool_cases}
 
 -- ---- acts along facts

@@ -2,8 +2,8 @@
 use Rattle.std.proofs.Common.{◌≡◌, refl, sym, ap, ◌∙◌, ℕ, ◌+◌, ◌*◌, true, ◌&&◌, List, [], ◌∷◌, ◌++◌, length, nat_lt, arith, append-nil}
 use Rattle.type_definitions.specs.Types.{Table, shape_of, fields, words}
 use Rattle.machine.specs.Words.{words_before, component_type, element_type, element_count}
-use Rattle.owned_ways.specs.Ways.{Step, Component, Element, Root, Loc, OfRoot, OfCell, Inside, part, Below}
-use Rattle.part_offsets.specs.Parts.{type_in, offset_in, has_part, owns_one, is_leaf}
+use Rattle.soundness.specs.OwnedWays.Ways.{Step, Component, Element, Root, Loc, OfRoot, OfCell, Inside, part, Below}
+use Rattle.soundness.specs.PartOffsets.Parts.{type_in, offset_in, has_part, owns_one, is_leaf}
 use Rattle.soundness.specs.Seen.{steps_in, trunk}
 
 pub type_join : (table : Table) (t : ℕ) (q p : List Step) → type_in table t (p ++ q) ≡ type_in table (type_in table t q) p

@@ -7,9 +7,9 @@ use Rattle.flow_paths.specs.Objects.{Typing}
 use Rattle.machine.specs.Words as machine
 use Rattle.machine.specs.Memory.{Memory, cell, fresh, no_slot}
 use Rattle.machine.specs.States.{Waiting, Leak}
-use Rattle.owned_ways.specs.Ways.{Step, OfVariable, OfHand, Loc, OfRoot, OfCell, Inside, Way, Object, Into, Empty, Held, Sound, Spares}
-use Rattle.owned_ways.proofs.Assigned.{handed}
-use Rattle.part_offsets.specs.Parts.{type_in, offset_in, has_part, IsSettled}
+use Rattle.soundness.specs.OwnedWays.Ways.{Step, OfVariable, OfHand, Loc, OfRoot, OfCell, Inside, Way, Object, Into, Empty, Held, Sound, Spares}
+use Rattle.soundness.proofs.OwnedWays.Assigned.{handed}
+use Rattle.soundness.specs.PartOffsets.Parts.{type_in, offset_in, has_part, IsSettled}
 use Rattle.soundness.specs.Seen.{Content, in_hand, content, trunk, word_in, owner_word, seen}
 use Rattle.soundness.specs.Changes.{Alike, Put, hand, Checks, Stores}
 use Rattle.soundness.proofs.Joined.{not_inside, offset_join}

@@ -12,10 +12,10 @@ use Rattle.machine.specs.Typed.{is_array}
 use Rattle.machine.specs.Memory.{Slot, Memory, Place, fresh, no_slot, slots_of, words_of}
 use Rattle.machine.specs.States.{Waiting}
 use Rattle.machine.specs.Owners.{no_value, waiting_at}
-use Rattle.owned_ways.specs.Ways as ways
-use Rattle.owned_ways.specs.Ways.{Step, OfVariable, OfHand, Loc, OfRoot, OfCell, Inside}
-use Rattle.part_offsets.specs.Parts.{type_in, offset_in, has_part, IsSettled}
-use Rattle.part_offsets.proofs.Ranges.{all_within, lie, first_in, second_in, aside}
+use Rattle.soundness.specs.OwnedWays.Ways as ways
+use Rattle.soundness.specs.OwnedWays.Ways.{Step, OfVariable, OfHand, Loc, OfRoot, OfCell, Inside}
+use Rattle.soundness.specs.PartOffsets.Parts.{type_in, offset_in, has_part, IsSettled}
+use Rattle.soundness.proofs.PartOffsets.Ranges.{all_within, lie, first_in, second_in, aside}
 use Rattle.soundness.specs.Seen.{in_hand, content, trunk, steps_in}
 use Rattle.soundness.specs.Typed.{Matches, IsCell, Points, Kept, Spot}
 use Rattle.soundness.proofs.Joined.{type_join, offset_join, part_join}

@@ -12,11 +12,11 @@ use Rattle.machine.specs.Words as machine
 use Rattle.machine.specs.Memory.{Slot, Memory, HeapCell, Base, Place, fresh, variable_slots, cell, no_cell, no_slot, slots_at, slots_of, words_of, put, with_slots, stored, moved_out, gone_at, declared, undeclared, with_new_cell, freed, as_freed}
 use Rattle.machine.specs.Memory as memory
 use Rattle.machine.specs.States.{Waiting}
-use Rattle.owned_ways.specs.Ways.{Step, Component, Element, OfVariable, OfHand, Loc, OfRoot, OfCell, Inside}
-use Rattle.owned_ways.proofs.Locations.{same_loc}
-use Rattle.part_offsets.specs.Parts.{type_in, offset_in, has_part, owns_one, is_leaf, IsSettled}
-use Rattle.part_offsets.proofs.Ranges.{both_parts, all_within, lie, first_in, second_in, aside}
-use Rattle.part_offsets.proofs.Sums.{sum_cons}
+use Rattle.soundness.specs.OwnedWays.Ways.{Step, Component, Element, OfVariable, OfHand, Loc, OfRoot, OfCell, Inside}
+use Rattle.soundness.proofs.OwnedWays.Locations.{same_loc}
+use Rattle.soundness.specs.PartOffsets.Parts.{type_in, offset_in, has_part, owns_one, is_leaf, IsSettled}
+use Rattle.soundness.proofs.PartOffsets.Ranges.{both_parts, all_within, lie, first_in, second_in, aside}
+use Rattle.soundness.proofs.PartOffsets.Sums.{sum_cons}
 use Rattle.soundness.specs.Seen.{Content, in_hand, content, trunk, steps_in}
 use Rattle.soundness.specs.Changes.{Put}
 use Rattle.soundness.specs.Typed.{Matches, IsCell, Points, Kept, Spot, OwnsByShape, IsMade, loc_of}

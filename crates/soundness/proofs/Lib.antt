@@ -1,3 +1,7 @@
+-- places, the ways that names take to them, and who owns what
+pub mod OwnedWays
+-- where the parts of a type stand among its words
+pub mod PartOffsets
 -- parts of parts, and changes of contents as steps of owners
 pub mod Joined
 pub mod Contents
@@ -55,3 +59,9 @@ pub mod Passing
 pub mod Returning
 -- before the first step
 pub mod Beginning
+-- borrowers and observers as owners see them
+pub mod OwnedLoans
+-- what facts without an element call moved is gone
+pub mod ExactFacts
+-- names and expressions of programs with borrowers and observers
+pub mod ViewedSoundness

@@ -6,9 +6,9 @@ use Rattle.machine.specs.Words as machine
 use Rattle.machine.specs.Memory.{Memory, Variable, variable_slots}
 use Rattle.machine.specs.States.{Waiting, Leak}
 use Rattle.machine.specs.Step as steps
-use Rattle.owned_ways.specs.Ways.{Step, OfVariable, OfHand, Loc, OfRoot, OfCell, Inside, IsSame}
-use Rattle.owned_ways.proofs.Locations.{same_loc}
-use Rattle.part_offsets.specs.Parts.{IsSettled}
+use Rattle.soundness.specs.OwnedWays.Ways.{Step, OfVariable, OfHand, Loc, OfRoot, OfCell, Inside, IsSame}
+use Rattle.soundness.proofs.OwnedWays.Locations.{same_loc}
+use Rattle.soundness.specs.PartOffsets.Parts.{IsSettled}
 use Rattle.soundness.specs.Seen.{content, trunk, steps_in, word_in, seen, is_view_formal}
 use Rattle.soundness.proofs.Joined.{trunk_trunk, not_inside}
 use Rattle.soundness.proofs.Contents.{word_no}

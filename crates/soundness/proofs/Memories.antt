@@ -5,7 +5,7 @@ use Rattle.spark_base.specs.Lists.{Has}
 use Rattle.flow_paths.specs.Objects.{Typing, object_at}
 use Rattle.machine.specs.Words.{default}
 use Rattle.machine.specs.Memory.{Slot, Variable, fresh, is_variable, variable_slots, no_slot, with_variable, at_number, as_gone, gone_at}
-use Rattle.owned_ways.specs.Ways.{OfVariable}
+use Rattle.soundness.specs.OwnedWays.Ways.{OfVariable}
 
 bool_cases : (b : Bool) → (b ≡ true) ⊎ (b ≡ false)
 bool_cases true = inl refl

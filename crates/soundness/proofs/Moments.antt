@@ -5,9 +5,9 @@ use Rattle.type_definitions.specs.Types.{words}
 use Rattle.flow_paths.specs.Objects.{Typing, object_at}
 use Rattle.machine.specs.Memory.{Memory, cell, declared}
 use Rattle.machine.specs.States.{Waiting, Leak}
-use Rattle.owned_ways.specs.Ways.{Step, OfVariable, OfHand, Loc, OfRoot, Way, Object, Empty, Held, along, Spares, Sound, number_of}
-use Rattle.owned_ways.proofs.Assigned.{handed}
-use Rattle.part_offsets.specs.Parts.{IsSettled}
+use Rattle.soundness.specs.OwnedWays.Ways.{Step, OfVariable, OfHand, Loc, OfRoot, Way, Object, Empty, Held, along, Spares, Sound, number_of}
+use Rattle.soundness.proofs.OwnedWays.Assigned.{handed}
+use Rattle.soundness.specs.PartOffsets.Parts.{IsSettled}
 use Rattle.soundness.specs.Seen.{Content, content, word_in, seen, is_view_formal}
 use Rattle.soundness.specs.Changes.{Alike, hand, Checks}
 use Rattle.soundness.specs.Typed.{Kept}

@@ -21,9 +21,9 @@ use Rattle.machine.specs.Step.{Turn, typing, here, start, waiting, Stored, taken
 use Rattle.machine.specs.Step as steps
 use Rattle.machine.specs.Typed.{successors}
 use Rattle.machine.specs.Owners.{owned}
-use Rattle.owned_ways.proofs.Locations.{same_loc}
-use Rattle.owned_ways.specs.Ways.{OfRoot}
-use Rattle.owned_ways.specs.Ways as ways
+use Rattle.soundness.proofs.OwnedWays.Locations.{same_loc}
+use Rattle.soundness.specs.OwnedWays.Ways.{OfRoot}
+use Rattle.soundness.specs.OwnedWays.Ways as ways
 use Rattle.soundness.specs.Seen.{home}
 use Rattle.soundness.proofs.Contents.{bool_cases}
 use Rattle.soundness.proofs.Defaults.{none_default}

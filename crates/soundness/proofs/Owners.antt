@@ -5,10 +5,10 @@ use Rattle.flow_paths.specs.Objects.{Typing, object_at}
 use Rattle.machine.specs.Memory.{Slot, cell, no_slot}
 use Rattle.machine.specs.States.{Leak, State}
 use Rattle.machine.specs.Owners.{Holder, InVariable, InWaiting, InCell, waiting_in, holder_type, holder_slots, may_own, is_in_formal, owned, Owns, IsLeaked, HasOneOwner, IsHeld, leaked, by_variable, by_waiting, by_cell, WellOwned}
-use Rattle.owned_ways.specs.Ways.{Step, OfVariable, OfHand, Loc, OfRoot, OfCell, Inside, Way, Object, Lost, Into, All, Held, View, Reaches, part, Owned, Covered}
-use Rattle.owned_ways.proofs.Locations.{one_part, depth}
-use Rattle.part_offsets.specs.Parts.{offset_in, is_leaf, IsSettled}
-use Rattle.part_offsets.proofs.Leaves.{leaf_at, leaf_from}
+use Rattle.soundness.specs.OwnedWays.Ways.{Step, OfVariable, OfHand, Loc, OfRoot, OfCell, Inside, Way, Object, Lost, Into, All, Held, View, Reaches, part, Owned, Covered}
+use Rattle.soundness.proofs.OwnedWays.Locations.{one_part, depth}
+use Rattle.soundness.specs.PartOffsets.Parts.{offset_in, is_leaf, IsSettled}
+use Rattle.soundness.proofs.PartOffsets.Leaves.{leaf_at, leaf_from}
 use Rattle.soundness.specs.Seen.{Content, content, trunk, steps_in, word_in, owner_word}
 use Rattle.soundness.specs.Changes.{hand}
 use Rattle.soundness.specs.Typed.{OwnsByShape}

@@ -18,8 +18,8 @@ use Rattle.machine.specs.Evaluate.{StorageError}
 use Rattle.machine.specs.Calls.{Passed, Value, From, To, passed, out_checks, with_formals, returns_of}
 use Rattle.machine.specs.States.{State, Outcome, Goes, no_sub, sub_of, frame_words, stack_words, frame_at_start}
 use Rattle.machine.specs.Step.{Turn, typing, waiting, behind, raised, leaking_goes}
-use Rattle.owned_ways.specs.Ways.{after}
-use Rattle.part_offsets.specs.Parts.{IsSettled}
+use Rattle.soundness.specs.OwnedWays.Ways.{after}
+use Rattle.soundness.specs.PartOffsets.Parts.{IsSettled}
 use Rattle.soundness.specs.Typed.{OwnsByShape, IsFixed}
 use Rattle.soundness.proofs.Scalars.{acts, read_effect, look_effect}
 use Rattle.soundness.proofs.Taking.{Takes, takes_both}

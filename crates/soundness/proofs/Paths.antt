@@ -15,7 +15,7 @@ use Rattle.flow_paths.specs.Reports.{AreReports}
 use Rattle.flow_paths.specs.Paths.{PathPoint, path_point, ControlPath, acts_at, acts_along, facts_before, facts_within}
 use Rattle.fact_laws.specs.Allowed.{ArePathsAllowed}
 use Rattle.fact_laws.proofs.Accepted.{accepted_allows}
-use Rattle.owned_ways.specs.Ways.{after, AllowsAll}
+use Rattle.soundness.specs.OwnedWays.Ways.{after, AllowsAll}
 use Rattle.soundness.proofs.Scalars.{acts}
 
 -- the facts after acts, in the words of ways

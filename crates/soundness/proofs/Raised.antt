@@ -8,8 +8,8 @@ use Rattle.machine.specs.Memory.{Memory, HeapCell, cell, no_cell, as_freed, give
 use Rattle.machine.specs.States.{Waiting, Leak, State}
 use Rattle.machine.specs.Owners.{WellOwned, waiting_in}
 use Rattle.machine.specs.Step.{counted}
-use Rattle.owned_ways.specs.Ways.{Step, OfVariable, OfHand, Loc, OfRoot, OfCell, Inside, Way, Object, Lost, Into, All, Reaches, Owned, Covered}
-use Rattle.part_offsets.specs.Parts.{IsSettled}
+use Rattle.soundness.specs.OwnedWays.Ways.{Step, OfVariable, OfHand, Loc, OfRoot, OfCell, Inside, Way, Object, Lost, Into, All, Reaches, Owned, Covered}
+use Rattle.soundness.specs.PartOffsets.Parts.{IsSettled}
 use Rattle.soundness.specs.Seen.{content, trunk, steps_in, word_in, seen}
 use Rattle.soundness.specs.Typed.{OwnsByShape}
 use Rattle.soundness.specs.Sound.{view_of}

@@ -12,8 +12,8 @@ use Rattle.machine.specs.States.{Waiting, Frame, Leak, State, Normal, Outcome, G
 use Rattle.machine.specs.Step.{Turn, typing, here, start, counted, raised, copied_back, finish}
 use Rattle.machine.specs.Step as steps
 use Rattle.machine.specs.Owners.{waiting_in, WellOwned}
-use Rattle.owned_ways.specs.Ways.{Step, OfVariable, OfHand, Loc, OfRoot, OfCell, Inside, Held, View, Owned, Covered}
-use Rattle.part_offsets.specs.Parts.{offset_in, IsSettled}
+use Rattle.soundness.specs.OwnedWays.Ways.{Step, OfVariable, OfHand, Loc, OfRoot, OfCell, Inside, Held, View, Owned, Covered}
+use Rattle.soundness.specs.PartOffsets.Parts.{offset_in, IsSettled}
 use Rattle.soundness.specs.Seen.{content, word_in, seen, home, is_view_formal}
 use Rattle.soundness.specs.Typed.{OwnsByShape, Points, Kept, IsFixed}
 use Rattle.soundness.specs.Sound.{AreSameWords}

@@ -6,8 +6,8 @@ use Rattle.place_names.specs.declared.act.Placed.{Placed}
 use Rattle.place_names.specs.declared.fact.Fact.{Fact}
 use Rattle.place_names.specs.Names.{Name as PlaceName}
 use Rattle.place_names.specs.Facts.{effect}
-use Rattle.owned_ways.specs.Ways.{Way, Into, All, Named, after, AllowsAll, number_of}
-use Rattle.owned_ways.specs.Ways as ways
+use Rattle.soundness.specs.OwnedWays.Ways.{Way, Into, All, Named, after, AllowsAll, number_of}
+use Rattle.soundness.specs.OwnedWays.Ways as ways
 use Rattle.machine.specs.Evaluate as run
 use Rattle.soundness.proofs.Walks.{way_along}
 

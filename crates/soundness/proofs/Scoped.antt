@@ -8,10 +8,10 @@ use Rattle.machine.specs.Memory.{Slot, Memory, Base, OfVariable, OfCell, Place, 
 use Rattle.machine.specs.Evaluate.{Now, Evaluated, Done, Raises, Traps, followed_by, walked, designated_place, cell_place, component_place, element_place, Touched}
 use Rattle.machine.specs.Evaluate as run
 use Rattle.machine.specs.Owners.{owned}
-use Rattle.owned_ways.specs.Ways.{Step, OfRoot, Word, Empty, Held}
-use Rattle.owned_ways.specs.Ways as ways
-use Rattle.owned_ways.proofs.Locations.{same_loc}
-use Rattle.part_offsets.specs.Parts.{offset_in, is_leaf}
+use Rattle.soundness.specs.OwnedWays.Ways.{Step, OfRoot, Word, Empty, Held}
+use Rattle.soundness.specs.OwnedWays.Ways as ways
+use Rattle.soundness.proofs.OwnedWays.Locations.{same_loc}
+use Rattle.soundness.specs.PartOffsets.Parts.{offset_in, is_leaf}
 use Rattle.soundness.specs.Seen.{Content, content, word_in, owner_word, is_view_formal}
 use Rattle.soundness.specs.Sound.{HoldOnly}
 use Rattle.soundness.proofs.Contents.{bool_cases, owner_held, word_yes, shown}

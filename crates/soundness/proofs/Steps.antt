@@ -12,10 +12,10 @@ use Rattle.machine.specs.Memory.{Slot, Memory, Base, Place, HeapCell, fresh, cel
 use Rattle.machine.specs.Memory as memory
 use Rattle.machine.specs.States.{Waiting}
 use Rattle.machine.specs.Owners.{no_value, waiting_at}
-use Rattle.owned_ways.specs.Ways.{Step, Component, Element, OfVariable, OfHand, Loc, OfRoot, OfCell, Inside}
-use Rattle.part_offsets.specs.Parts.{type_in, offset_in, has_part, owns_one, is_leaf, IsSettled}
-use Rattle.part_offsets.proofs.Ranges.{both_parts, all_within, leaf_outside}
-use Rattle.part_offsets.proofs.Leaves.{leaf_at}
+use Rattle.soundness.specs.OwnedWays.Ways.{Step, Component, Element, OfVariable, OfHand, Loc, OfRoot, OfCell, Inside}
+use Rattle.soundness.specs.PartOffsets.Parts.{type_in, offset_in, has_part, owns_one, is_leaf, IsSettled}
+use Rattle.soundness.proofs.PartOffsets.Ranges.{both_parts, all_within, leaf_outside}
+use Rattle.soundness.proofs.PartOffsets.Leaves.{leaf_at}
 use Rattle.soundness.specs.Seen.{Content, in_hand, content, trunk, steps_in, is_view_formal}
 use Rattle.soundness.specs.Changes.{Alike, Put, hand, Stores, Takes}
 use Rattle.soundness.specs.Typed.{Matches, Kept, loc_of, IsMade, Spot}

@@ -11,7 +11,7 @@ use Rattle.place_names.specs.Names.{Name as PlaceName}
 use Rattle.typed_tree.specs.Trees.{TypedTree}
 use Rattle.flow_paths.specs.Instructions.{Instruction, Call, Finish}
 use Rattle.machine.specs.Step.{Turn, successor}
-use Rattle.owned_ways.specs.Ways.{after}
+use Rattle.soundness.specs.OwnedWays.Ways.{after}
 use Rattle.soundness.specs.Sound.{calls_nothing, calls_procedures, IsNoCall}
 
 -- ---- texts without calls take nothing that waits

@@ -21,7 +21,7 @@ use Rattle.flow_paths.specs.Points.{FlowPoint}
 use Rattle.flow_paths.specs.Laid.{FlowSub, FlowProgram, flow_typing}
 use Rattle.flow_paths.specs.Paths.{path_point, acts_at, facts_before}
 use Rattle.flow_paths.specs.Effects.{is_in, act_writes, act_reads, writes_text, reads_text, point_writes, point_reads, is_global, own_writes, own_reads, calls, sub_calls, flow_sub_at, ends, calls_on, AreEffects, read_by, written_by, global_act, globals_from, globals_of, called_acts, all_acts, path_points}
-use Rattle.owned_ways.specs.Ways.{after}
+use Rattle.soundness.specs.OwnedWays.Ways.{after}
 use Rattle.soundness.specs.Sound.{Uses}
 use Rattle.soundness.proofs.Contents.{bool_cases}
 use Rattle.soundness.proofs.Scalars.{acts}

@@ -11,9 +11,9 @@ use Rattle.machine.specs.Memory.{Slot, Memory, Place, cell, no_slot, slots_at, s
 use Rattle.machine.specs.Evaluate.{Now, Evaluated, Done, Raises, Traps, followed_by, component_place, element_place, cell_place, designated_place, walked, Touched}
 use Rattle.machine.specs.Evaluate as run
 use Rattle.machine.specs.States.{Waiting, Leak}
-use Rattle.owned_ways.specs.Ways.{Component, Element, Loc, OfCell, Inside, Way, Into, All, Gone, Held, Reaches, IsRooted, Past, Owned, Known}
-use Rattle.owned_ways.proofs.Locations.{under_itself, past_under}
-use Rattle.part_offsets.specs.Parts.{type_in, offset_in, owns_one, is_leaf, IsSettled}
+use Rattle.soundness.specs.OwnedWays.Ways.{Component, Element, Loc, OfCell, Inside, Way, Into, All, Gone, Held, Reaches, IsRooted, Past, Owned, Known}
+use Rattle.soundness.proofs.OwnedWays.Locations.{under_itself, past_under}
+use Rattle.soundness.specs.PartOffsets.Parts.{type_in, offset_in, owns_one, is_leaf, IsSettled}
 use Rattle.soundness.specs.Seen.{content, trunk, steps_in, owner_at, owner_word, seen}
 use Rattle.soundness.specs.Typed.{Matches, Kept, Spot}
 use Rattle.soundness.proofs.Contents.{bool_cases, word_yes}

@@ -9,8 +9,8 @@ use Rattle.machine.specs.Memory.{Slot, Memory, Place, fresh, no_slot, slots_at}
 use Rattle.machine.specs.Calls.{checked_at}
 use Rattle.machine.specs.States.{Waiting, Leak}
 use Rattle.machine.specs.Owners.{no_value}
-use Rattle.owned_ways.specs.Ways.{Step, OfHand, Loc, OfRoot, Held}
-use Rattle.part_offsets.specs.Parts.{type_in, offset_in, has_part, is_leaf}
+use Rattle.soundness.specs.OwnedWays.Ways.{Step, OfHand, Loc, OfRoot, Held}
+use Rattle.soundness.specs.PartOffsets.Parts.{type_in, offset_in, has_part, is_leaf}
 use Rattle.soundness.specs.Seen.{Content, in_hand, word_in, trunk, steps_in}
 
 -- The words that own stand at the same places in both types. (Types with one definition are alike,

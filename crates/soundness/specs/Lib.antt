@@ -1,3 +1,7 @@
+-- places, the ways that names take to them, and who owns what
+pub mod OwnedWays
+-- where the parts of a type stand among its words
+pub mod PartOffsets
 -- a memory as owners see it, and how steps change it
 pub mod Seen
 pub mod Changes
@@ -9,3 +13,9 @@ pub use Rattle.typed_laws.specs.Needed
 pub mod Sound
 -- what is asked of a program so that it does
 pub mod Ready
+-- borrowers and observers as owners see them
+pub mod OwnedLoans
+-- what facts without an element call moved is gone
+pub mod ExactFacts
+-- names and expressions of programs with borrowers and observers
+pub mod ViewedSoundness

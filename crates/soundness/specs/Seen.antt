@@ -11,8 +11,8 @@ use Rattle.machine.specs.Words as machine
 use Rattle.machine.specs.Memory.{Slot, Memory, fresh, variable_slots, cell, no_slot}
 use Rattle.machine.specs.States.{Waiting, Leak}
 use Rattle.machine.specs.Owners.{is_in_formal, waiting_at}
-use Rattle.owned_ways.specs.Ways.{Step, Root, OfVariable, OfHand, Loc, OfRoot, OfCell, Inside, Way, Object, Lost, Into, All, Word, Empty, Gone, Held, View}
-use Rattle.part_offsets.specs.Parts.{offset_in, is_leaf}
+use Rattle.soundness.specs.OwnedWays.Ways.{Step, Root, OfVariable, OfHand, Loc, OfRoot, OfCell, Inside, Way, Object, Lost, Into, All, Word, Empty, Gone, Held, View}
+use Rattle.soundness.specs.PartOffsets.Parts.{offset_in, is_leaf}
 
 -- What stands at a variable, a hand or a cell: its type, its words, and whether they own.
 pub record Content : Type 0 where

@@ -22,9 +22,9 @@ use Rattle.machine.specs.States.{Waiting, Return, Frame, State, Ending, Trapped,
 use Rattle.machine.specs.Typed.{successors}
 use Rattle.machine.specs.Owners.{is_in, WellOwned, waiting_in}
 use Rattle.machine.specs.Run.{no_point, main_of, run_of, moment}
-use Rattle.owned_ways.specs.Ways.{OfRoot, Way, Held, View, Step}
-use Rattle.owned_ways.specs.Ways as ways
-use Rattle.part_offsets.specs.Parts.{IsSettled}
+use Rattle.soundness.specs.OwnedWays.Ways.{OfRoot, Way, Held, View, Step}
+use Rattle.soundness.specs.OwnedWays.Ways as ways
+use Rattle.soundness.specs.PartOffsets.Parts.{IsSettled}
 use Rattle.soundness.specs.Seen.{content, word_in, seen}
 use Rattle.soundness.specs.Typed.{IsFixed}
 use Rattle.typed_laws.specs.Needed.{AreFine}

@@ -7,9 +7,9 @@ use Rattle.machine.specs.Words as machine
 use Rattle.machine.specs.Memory.{Memory, Base, OfVariable, OfCell, Place, variable_slots, cell, no_slot}
 use Rattle.machine.specs.States.{Waiting}
 pub use Rattle.typed_laws.specs.Needed.{Matches}
-use Rattle.owned_ways.specs.Ways.{Step, Loc, OfRoot}
-use Rattle.owned_ways.specs.Ways as ways
-use Rattle.part_offsets.specs.Parts.{type_in, offset_in, has_part}
+use Rattle.soundness.specs.OwnedWays.Ways.{Step, Loc, OfRoot}
+use Rattle.soundness.specs.OwnedWays.Ways as ways
+use Rattle.soundness.specs.PartOffsets.Parts.{type_in, offset_in, has_part}
 use Rattle.soundness.specs.Seen.{Content, content, trunk, steps_in}
 
 abbrev pub IsCell : Typing → Memory → ℕ → ℕ → Type 0

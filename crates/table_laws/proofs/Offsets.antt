@@ -6,12 +6,12 @@ use Rattle.type_definitions.specs.declared.table.Component.{Component}
 use Rattle.type_definitions.specs.declared.table.Shape.{Shape}
 use Rattle.type_definitions.specs.declared.table.Shape.TheVariants as shape
 use Rattle.type_definitions.specs.Types.{Table, shape_of, components_of, fields, span, words}
-use Rattle.owned_ways.specs.Ways as ways
-use Rattle.owned_ways.specs.Ways.{Step}
+use Rattle.soundness.specs.OwnedWays.Ways as ways
+use Rattle.soundness.specs.OwnedWays.Ways.{Step}
 use Rattle.machine.specs.Words.{no_component, words_before, component_type, element_of, count_of, element_type, element_count, access_offsets}
 use Rattle.machine.specs.Typed.{Sort, Pointer, sorts, sorts_of, repeated_sorts}
-use Rattle.part_offsets.specs.Parts.{type_in, offset_in, has_part, owns_one, IsSettled}
-use Rattle.part_offsets.proofs.Leaves.{leaf_from}
+use Rattle.soundness.specs.PartOffsets.Parts.{type_in, offset_in, has_part, owns_one, IsSettled}
+use Rattle.soundness.proofs.PartOffsets.Leaves.{leaf_from}
 use Rattle.run_codes.specs.Related.{IsSplit}
 use Rattle.run_codes.proofs.Parts.{many, whole_split, join_split, component_split, element_split}
 use Rattle.run_codes.proofs.Places.{both_true, below}

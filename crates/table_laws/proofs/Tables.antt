@@ -6,7 +6,7 @@ use Rattle.type_definitions.specs.declared.table.Shape.TheVariants as shape
 use Rattle.type_definitions.specs.Types.{Table, shape_found, shape_of, meant_type, words, parts, parts_of, is_owning, owns_of}
 use Rattle.settled_types.specs.Wholes.{AreFinite, AreWhole}
 use Rattle.settled_types.proofs.Wholes.{finite_whole}
-use Rattle.part_offsets.specs.Parts.{IsSettled}
+use Rattle.soundness.specs.PartOffsets.Parts.{IsSettled}
 use Rattle.machine.specs.Words.{offsets, access_offsets}
 use Rattle.machine.specs.Typed.{Position, sorts, sorts_of, same_kind}
 use Rattle.run_codes.specs.Related.{IsTable}

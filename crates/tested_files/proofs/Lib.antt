@@ -1,7 +1,8 @@
+-- what parsed files without a fault of names and of typing give to runs, types and frames
+pub mod RunTables
+-- the crate itself
 pub mod Fit
 pub mod Formals
 pub mod Subs
 pub mod Rows
 pub mod Main
--- libraries that the crates above name through this one
-pub use Rattle.run_ready.proofs as run_ready

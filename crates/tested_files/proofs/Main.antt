@@ -14,27 +14,27 @@ use Rattle.typing_steps.specs.Programs.{program_of}
 use Rattle.type_rules.proofs.Formed.{files_formed}
 use Rattle.settled_types.specs.Orderly.{IsOrderly, at_start}
 use Rattle.settled_types.proofs.Main.{finite}
-use Rattle.orderly_files.specs.Apart.{AreApart}
-use Rattle.orderly_files.specs.Ended.{AllEnded}
-use Rattle.orderly_files.proofs.Main.{files_in_order}
-use Rattle.file_positions.specs.Order.{Ascends, event_positions}
-use Rattle.file_positions.specs.Texts.{AreParsed}
-use Rattle.file_positions.proofs.Ascending.{events_ascend}
-use Rattle.file_positions.proofs.Main.{files_apart, files_ended}
+use Rattle.settled_types.specs.OrderlyFiles.Apart.{AreApart}
+use Rattle.settled_types.specs.OrderlyFiles.Ended.{AllEnded}
+use Rattle.settled_types.proofs.OrderlyFiles.Main.{files_in_order}
+use Rattle.settled_types.specs.FilePositions.Order.{Ascends, event_positions}
+use Rattle.settled_types.specs.FilePositions.Texts.{AreParsed}
+use Rattle.settled_types.proofs.FilePositions.Ascending.{events_ascend}
+use Rattle.settled_types.proofs.FilePositions.Main.{files_apart, files_ended}
 use Rattle.flow_paths.specs.Laid.{FlowProgram, flow_program}
 use Rattle.laid_program.specs.declared.laid.Laid.{Laid}
 use Rattle.laid_program.specs.Programs as laid_programs
-use Rattle.named_files.proofs.Library.{procedures}
+use Rattle.settled_types.proofs.NamedFiles.Library.{procedures}
 use Rattle.order_laws.specs.Written.{is_unit}
 use Rattle.order_laws.specs.Orderly.{typed_of}
 use Rattle.order_laws.proofs.Faults.{units_faultless}
-use Rattle.run_tables.proofs.sound_files.Once.{files_once}
-use Rattle.run_tables.proofs.sound_files.Written.{files_written}
+use Rattle.sound_files.proofs.Once.{files_once}
+use Rattle.sound_files.proofs.Written.{files_written}
 use Rattle.table_laws.specs.Ranks.{IsFit}
 use Rattle.run_ready.specs.Tests.{IsReady}
-use Rattle.run_tables.proofs.Programs.{small, program_listed}
-use Rattle.run_tables.proofs.Entered.{can_enter}
-use Rattle.run_tables.proofs.Runs.{files_calls}
+use Rattle.tested_files.proofs.RunTables.Programs.{small, program_listed}
+use Rattle.tested_files.proofs.RunTables.Entered.{can_enter}
+use Rattle.tested_files.proofs.RunTables.Runs.{files_calls}
 use Rattle.tested_files.proofs.Fit.{finite_fit}
 use Rattle.tested_files.proofs.Formals.{formals_ascend}
 use Rattle.tested_files.specs.Tested.{IsTested}

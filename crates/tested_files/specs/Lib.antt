@@ -1,4 +1,4 @@
+-- what parsed files without a fault of names and of typing give to runs, types and frames
+pub mod RunTables
 -- what the tests say of a program
 pub mod Tested
--- libraries that the crates above name through this one
-pub use Rattle.run_ready.specs as run_ready

@@ -1,2 +1,0 @@
--- libraries that the crates above name through this one
-pub use Rattle.self_test.proofs.accepted_recycled

@@ -6,4 +6,3 @@ pub mod Product
 -- libraries that the crates above name through this one
 pub use Rattle.self_test.specs.run_command as run_command
 pub use Rattle.self_test.specs as self_test
-pub use Rattle.self_test.specs.accepted_recycled

@@ -15,8 +15,8 @@ use Rattle.typed_tree.specs.Programs.{DeclaredObject, program_objects, text_io, 
 use Rattle.flow_paths.specs.Objects.{object_at}
 use Rattle.flow_paths.specs.Laid.{flow_program}
 use Rattle.typed_laws.specs.Fine.{Denotes}
-use Rattle.typed_points.specs.Meant.{typing_meant}
-use Rattle.typed_runs.specs.Meant.{typed_in, laid_in, site_in, typing_laid}
+use Rattle.typed_laws.specs.TypedPoints.Meant.{typing_meant}
+use Rattle.typed_files.specs.TypedRuns.Meant.{typed_in, laid_in, site_in, typing_laid}
 
 -- What stands in a list has a place in it.
 placed : (d : ℕ) (ns : List ℕ) → Has ns d → position_or_len (nat_eq d) ns < length ns

@@ -1,3 +1,7 @@
+-- the steps of programs without a fault of typing have expressions of the types of their places
+pub mod TypedRuns
+-- texts without a fault of typing are typed
+pub mod TypedTexts
 -- names
 pub mod Denoted
 -- subprograms
@@ -5,7 +9,11 @@ pub mod Profiled
 pub mod Traversed
 -- the law
 pub mod Main
--- libraries that the crates above name through this one
-pub use Rattle.sound_files.proofs as sound_files
-pub use Rattle.sound_files.proofs.meant_files
-pub use Rattle.sound_files.proofs.seen_files
+-- typed programs in which what is named has room are lowered to codes
+pub mod LoweredLaws
+-- what resolved code means is as lowering asks, so that it is lowered if it is typed
+pub mod LoweredFiles
+-- texts without a fault of typing are lowered
+pub mod LoweredTexts
+-- such files are lowered
+pub mod LoweredSources

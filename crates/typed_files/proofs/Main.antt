@@ -22,47 +22,47 @@ use Rattle.typing_steps.specs.Programs.{program_of}
 use Rattle.typed_tree.specs.Expressions.{object_number, object_type}
 use Rattle.typed_tree.specs.Programs.{TypedSub, DeclaredObject, program_objects}
 use Rattle.type_sizes.specs.Formed.{all_formed}
-use Rattle.sound_files.proofs.type_rules.Formed.{files_formed}
+use Rattle.type_rules.proofs.Formed.{files_formed}
 use Rattle.settled_types.specs.Orderly.{at_start, IsOrderly}
 use Rattle.settled_types.specs.Stamped.{AllOpen}
 use Rattle.settled_types.proofs.Faultless.{program_open}
-use Rattle.orderly_files.specs.Apart.{AreApart}
-use Rattle.orderly_files.specs.Ended.{AllEnded}
-use Rattle.orderly_files.proofs.Main.{files_in_order}
-use Rattle.file_positions.specs.Order.{Ascends, event_positions}
-use Rattle.file_positions.specs.Texts.{AreParsed}
-use Rattle.file_positions.proofs.Ascending.{events_ascend}
-use Rattle.file_positions.proofs.Main.{files_apart as parsed_apart, files_ended}
+use Rattle.settled_types.specs.OrderlyFiles.Apart.{AreApart}
+use Rattle.settled_types.specs.OrderlyFiles.Ended.{AllEnded}
+use Rattle.settled_types.proofs.OrderlyFiles.Main.{files_in_order}
+use Rattle.settled_types.specs.FilePositions.Order.{Ascends, event_positions}
+use Rattle.settled_types.specs.FilePositions.Texts.{AreParsed}
+use Rattle.settled_types.proofs.FilePositions.Ascending.{events_ascend}
+use Rattle.settled_types.proofs.FilePositions.Main.{files_apart as parsed_apart, files_ended}
 use Rattle.flow_paths.specs.Objects.{object_at, sub_at, is_anonymous, traverses, view_of}
 use Rattle.flow_paths.specs.Views.{traversed_of}
 use Rattle.flow_paths.specs.Points.{FlowPoint}
 use Rattle.flow_paths.specs.Laid.{FlowSub, flow_typing}
-use Rattle.gathered_laws.specs.Made.{IsMade}
-use Rattle.gathered_laws.specs.Views.{AreViews}
-use Rattle.gathered_laws.proofs.Components.{components_left}
-use Rattle.gathered_laws.proofs.Laws.{program_laws}
-use Rattle.gathered_laws.proofs.Main.{are_types, formal}
-use Rattle.anonymous_types.proofs.Main.{are_views as program_views}
-use Rattle.named_files.proofs.Library.{procedures}
-use Rattle.named_files.proofs.Records.{records_apart}
-use Rattle.named_files.proofs.Formals.{formals_are_apart}
+use Rattle.settled_types.specs.GatheredLaws.Made.{IsMade}
+use Rattle.settled_types.specs.GatheredLaws.Views.{AreViews}
+use Rattle.settled_types.proofs.GatheredLaws.Components.{components_left}
+use Rattle.settled_types.proofs.GatheredLaws.Laws.{program_laws}
+use Rattle.settled_types.proofs.GatheredLaws.Main.{are_types, formal}
+use Rattle.settled_types.proofs.AnonymousTypes.Main.{are_views as program_views}
+use Rattle.settled_types.proofs.NamedFiles.Library.{procedures}
+use Rattle.settled_types.proofs.NamedFiles.Records.{records_apart}
+use Rattle.settled_types.proofs.NamedFiles.Formals.{formals_are_apart}
 use Rattle.scope_laws.specs.Code.{Once}
-use Rattle.sound_files.specs.seen_files.Reached.{IsObjectIn}
-use Rattle.sound_files.proofs.seen_files.Entries.{is_object_entry, known_keeps}
-use Rattle.sound_files.proofs.seen_files.Files.{files_fit}
+use Rattle.sound_files.specs.SeenFiles.Reached.{IsObjectIn}
+use Rattle.sound_files.proofs.SeenFiles.Entries.{is_object_entry, known_keeps}
+use Rattle.sound_files.proofs.SeenFiles.Files.{files_fit}
 use Rattle.machine.specs.Typed.{is_typed}
-use Rattle.sound_files.specs.meant_files.Denoted.{AreDenoted}
-use Rattle.sound_files.specs.meant_files.Typed.{AreTyped as AreDeclared}
-use Rattle.sound_files.proofs.meant_files.Objects.{object_numbers, units_same}
-use Rattle.sound_files.proofs.meant_files.Puts.{subprogram_declared}
-use Rattle.sound_files.proofs.meant_files.Bodies.{files_have_bodies}
-use Rattle.sound_files.proofs.meant_files.Denoted.{units_denoted}
-use Rattle.sound_files.proofs.meant_files.Main.{followed, files_apart, files_bodied, files_kept, files_typed}
-use Rattle.sound_files.proofs.meant_files.Codes as codes
+use Rattle.sound_files.specs.MeantFiles.Denoted.{AreDenoted}
+use Rattle.sound_files.specs.MeantFiles.Typed.{AreTyped as AreDeclared}
+use Rattle.sound_files.proofs.MeantFiles.Objects.{object_numbers, units_same}
+use Rattle.sound_files.proofs.MeantFiles.Puts.{subprogram_declared}
+use Rattle.sound_files.proofs.MeantFiles.Bodies.{files_have_bodies}
+use Rattle.sound_files.proofs.MeantFiles.Denoted.{units_denoted}
+use Rattle.sound_files.proofs.MeantFiles.Main.{followed, files_apart, files_bodied, files_kept, files_typed}
+use Rattle.sound_files.proofs.MeantFiles.Codes as codes
 use Rattle.order_laws.specs.Written.{is_unit}
 use Rattle.order_laws.proofs.Faults.{units_faultless}
-use Rattle.steady_types.specs.Flat.{IsFlatUnit}
-use Rattle.steady_types.proofs.Main.{alike, steady}
+use Rattle.settled_types.specs.SteadyTypes.Flat.{IsFlatUnit}
+use Rattle.settled_types.proofs.SteadyTypes.Main.{alike, steady}
 use Rattle.settled_types.proofs.Main.{second, rows_first, rows_second}
 use Rattle.sound_files.proofs.Flat.{unit_flat}
 use Rattle.sound_files.proofs.Once.{files_once}
@@ -70,14 +70,14 @@ use Rattle.sound_files.proofs.Written.{files_written}
 use Rattle.sound_files.proofs.Fronts.{files_fronts}
 use Rattle.typed_laws.specs.Fine.{Denotes, Laws}
 use Rattle.typed_laws.specs.Needed.{AreFine}
-use Rattle.typed_points.proofs.Numbers.{object_numbered, denotes}
-use Rattle.typed_steps.specs.Steps.{AreTyped, AreCounted}
-use Rattle.typed_runs.specs.Code.{IsTypedUse, IsTypedCode}
-use Rattle.typed_runs.specs.Formals.{AreProfiled}
-use Rattle.typed_runs.specs.Meant.{typed_in, laid_in, site_in, typing_laid}
-use Rattle.typed_runs.proofs.Laid.{laid_typing}
-use Rattle.typed_texts.specs.Meant.{IsMeant}
-use Rattle.typed_texts.proofs.Main.{text_typed, text_used, text_code, text_fine, text_counted, text_is_typed}
+use Rattle.typed_laws.proofs.TypedPoints.Numbers.{object_numbered, denotes}
+use Rattle.typed_laws.specs.TypedSteps.Steps.{AreTyped, AreCounted}
+use Rattle.typed_files.specs.TypedRuns.Code.{IsTypedUse, IsTypedCode}
+use Rattle.typed_files.specs.TypedRuns.Formals.{AreProfiled}
+use Rattle.typed_files.specs.TypedRuns.Meant.{typed_in, laid_in, site_in, typing_laid}
+use Rattle.typed_files.proofs.TypedRuns.Laid.{laid_typing}
+use Rattle.typed_files.specs.TypedTexts.Meant.{IsMeant}
+use Rattle.typed_files.proofs.TypedTexts.Main.{text_typed, text_used, text_code, text_fine, text_counted, text_is_typed}
 use Rattle.typed_files.proofs.Profiled.{are_profiled}
 use Rattle.typed_files.proofs.Traversed.{firsts_there, first_in}
 use Rattle.typed_files.proofs.Denoted.{same_object, laid_object, denotes_laid}

@@ -40,17 +40,17 @@ use Rattle.scope_laws.specs.Code.{Once}
 use Rattle.name_events.proofs.Searches.{same_is}
 use Rattle.typed_laws.proofs.Steps.{seen_access}
 use Rattle.typed_laws.proofs.Cases.{is_access_view}
-use Rattle.typed_points.proofs.Sources.{anonymous_shape}
-use Rattle.gathered_laws.specs.Components.{AreWordsApart}
-use Rattle.gathered_laws.specs.Views.{AreViewsApart}
-use Rattle.anonymous_types.specs.Fronts.{AllFronts}
-use Rattle.anonymous_types.proofs.Main as views
+use Rattle.typed_laws.proofs.TypedPoints.Sources.{anonymous_shape}
+use Rattle.settled_types.specs.GatheredLaws.Components.{AreWordsApart}
+use Rattle.settled_types.specs.GatheredLaws.Views.{AreViewsApart}
+use Rattle.settled_types.specs.AnonymousTypes.Fronts.{AllFronts}
+use Rattle.settled_types.proofs.AnonymousTypes.Main as views
 use Rattle.type_sizes.specs.Formed.{all_formed}
 use Rattle.settled_types.specs.Orderly.{IsOrderly}
-use Rattle.named_files.specs.Formals.{formal_texts, HasFirst, IsResult, IsFrontApart, AreFormalsApart}
-use Rattle.sound_files.specs.meant_files.Typed.{IsOf, AreOf, AreGroupsTyped, IsFrontTyped, AreTyped}
-use Rattle.typed_runs.specs.Formals.{AreSameViews, IsFormal, AreFormals, formals_of, AreProfiled}
-use Rattle.typed_runs.specs.Meant.{site_in, typing_laid}
+use Rattle.settled_types.specs.NamedFiles.Formals.{formal_texts, HasFirst, IsResult, IsFrontApart, AreFormalsApart}
+use Rattle.sound_files.specs.MeantFiles.Typed.{IsOf, AreOf, AreGroupsTyped, IsFrontTyped, AreTyped}
+use Rattle.typed_files.specs.TypedRuns.Formals.{AreSameViews, IsFormal, AreFormals, formals_of, AreProfiled}
+use Rattle.typed_files.specs.TypedRuns.Meant.{site_in, typing_laid}
 
 -- ---- lists with one number for each element
 

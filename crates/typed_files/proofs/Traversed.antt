@@ -36,13 +36,13 @@ use Rattle.typed_laws.proofs.Agreeing.{of_known, holds, nil_left, nil_right, and
 use Rattle.typed_laws.proofs.Steps.{seen_access}
 use Rattle.typed_laws.proofs.Cases.{is_access_view}
 use Rattle.scope_laws.specs.Code.{Once}
-use Rattle.gathered_laws.specs.Views.{AreViewsApart}
-use Rattle.anonymous_types.proofs.Main as views
+use Rattle.settled_types.specs.GatheredLaws.Views.{AreViewsApart}
+use Rattle.settled_types.proofs.AnonymousTypes.Main as views
 use Rattle.type_sizes.specs.Formed.{all_formed}
 use Rattle.settled_types.specs.Orderly.{IsOrderly}
-use Rattle.named_files.specs.Formals.{HasFirst, AreFormalsApart}
-use Rattle.sound_files.specs.meant_files.Typed.{AreOf, AreGroupsTyped, AreTyped}
-use Rattle.typed_runs.specs.Meant.{site_in, typing_laid}
+use Rattle.settled_types.specs.NamedFiles.Formals.{HasFirst, AreFormalsApart}
+use Rattle.sound_files.specs.MeantFiles.Typed.{AreOf, AreGroupsTyped, AreTyped}
+use Rattle.typed_files.specs.TypedRuns.Meant.{site_in, typing_laid}
 use Rattle.typed_files.proofs.Profiled.{Pairs, HasFront, IsGoodFront, units_fronts}
 use Rattle.typed_files.proofs.Profiled as profiled
 

@@ -1,4 +1,12 @@
--- libraries that the crates above name through this one
-pub use Rattle.sound_files.specs.meant_files
-pub use Rattle.sound_files.specs.seen_files
-pub use Rattle.order_laws.specs as order_laws
+-- the steps of programs without a fault of typing have expressions of the types of their places
+pub mod TypedRuns
+-- texts without a fault of typing are typed
+pub mod TypedTexts
+-- typed programs in which what is named has room are lowered to codes
+pub mod LoweredLaws
+-- what resolved code means is as lowering asks, so that it is lowered if it is typed
+pub mod LoweredFiles
+-- texts without a fault of typing are lowered
+pub mod LoweredTexts
+-- such files are lowered
+pub mod LoweredSources

@@ -12,3 +12,5 @@ pub mod Main
 pub mod Sound
 pub mod Sorts
 pub mod Assigns
+-- what typing says of code: the instructions of its points are as soundness needs them
+pub mod TypedPoints

@@ -6,22 +6,22 @@ use Rattle.place_names.specs.declared.rule.Loan.TheVariants.{Borrowed}
 use Rattle.flow_paths.specs.Objects.{Typing, is_package_object}
 use Rattle.machine.specs.Memory.{Memory}
 use Rattle.machine.specs.States.{Frame}
-use Rattle.owned_ways.specs.Ways.{Step, Root, OfVariable, Loc, OfRoot, OfCell, Inside, Way, Object, Lost, Into, All, Gone, Held, View, part, along, Reaches, Under, Told, base_of, number_of, name_of, Named}
-use Rattle.owned_ways.proofs.Locations.{under_along, under_itself}
-use Rattle.owned_ways.proofs.Dropped.{named_base}
+use Rattle.soundness.specs.OwnedWays.Ways.{Step, Root, OfVariable, Loc, OfRoot, OfCell, Inside, Way, Object, Lost, Into, All, Gone, Held, View, part, along, Reaches, Under, Told, base_of, number_of, name_of, Named}
+use Rattle.soundness.proofs.OwnedWays.Locations.{under_along, under_itself}
+use Rattle.soundness.proofs.OwnedWays.Dropped.{named_base}
 use Rattle.soundness.specs.Seen.{word_in, content, seen, home}
 use Rattle.soundness.proofs.Contents.{word_part, word_root}
 use Rattle.soundness.specs.Sound.{AreStages}
-use Rattle.owned_loans.specs.Views.{Views, AreClear, AreViews, expand}
-use Rattle.owned_loans.proofs.Meeting.{Lends, meeting}
-use Rattle.owned_loans.proofs.Ways.{Meet, flip, meet_overlaps, under_on}
-use Rattle.owned_loans.specs.Views.{AreShared, HasLoan}
-use Rattle.owned_ways.proofs.Named.{longer}
+use Rattle.soundness.specs.OwnedLoans.Views.{Views, AreClear, AreViews, expand}
+use Rattle.soundness.proofs.OwnedLoans.Meeting.{Lends, meeting}
+use Rattle.soundness.proofs.OwnedLoans.Ways.{Meet, flip, meet_overlaps, under_on}
+use Rattle.soundness.specs.OwnedLoans.Views.{AreShared, HasLoan}
+use Rattle.soundness.proofs.OwnedWays.Named.{longer}
 use Rattle.place_names.specs.declared.rule.Loan.{Loan}
 use Rattle.place_names.specs.declared.fact.Fact.TheVariants.{Moved, Lent}
 use Rattle.place_names.specs.Names.{Name as PlaceName, overlaps, covers}
 use Rattle.std.proofs.Common.{None}
-use Rattle.exact_facts.proofs.Steps.{under_covers}
+use Rattle.soundness.proofs.ExactFacts.Steps.{under_covers}
 use Rattle.viewed_steps.specs.Sound.{ViewStage, stages_of, Lies}
 use Rattle.viewed_steps.specs.Taken.{TakenBy, AreCarried, Lodge, IsTakenIn}
 use Rattle.viewed_facts.specs.Exact.{IsDefiniteBy}

@@ -1,6 +1,6 @@
 -- A leak check doesn't fail at a place that a fact without an element calls moved, perhaps through a view.
 use Rattle.std.proofs.Common.{◌≡◌, refl, sym, ap, ◌∙◌, subst, inl, inr, ℕ, ◌+◌, true, false, List, [], ◌∷◌, ◌++◌, map, get_or, arith}
-use Rattle.exact_facts.proofs.Checks.{is_gone, failed_gone}
+use Rattle.soundness.proofs.ExactFacts.Checks.{is_gone, failed_gone}
 use Rattle.spark_base.specs.Lists.{Has}
 use Rattle.spark_base.specs.declared.position.Pos.{Pos}
 use Rattle.place_names.specs.declared.selector.Sel.{Sel}
@@ -15,20 +15,20 @@ use Rattle.machine.specs.Words.{offsets}
 use Rattle.machine.specs.Memory.{Slot, Memory, Place, no_slot, slots_at}
 use Rattle.machine.specs.Calls.{checked_at, checks_at}
 use Rattle.machine.specs.States.{Waiting, Leak}
-use Rattle.owned_ways.specs.Ways.{Loc, Way, Gone, Reaches, Told, part, along, Named, sels_of, name_of}
-use Rattle.owned_ways.proofs.Locations.{reaches_along}
-use Rattle.part_offsets.specs.Parts.{type_in, offset_in, IsSettled}
+use Rattle.soundness.specs.OwnedWays.Ways.{Loc, Way, Gone, Reaches, Told, part, along, Named, sels_of, name_of}
+use Rattle.soundness.proofs.OwnedWays.Locations.{reaches_along}
+use Rattle.soundness.specs.PartOffsets.Parts.{type_in, offset_in, IsSettled}
 use Rattle.soundness.specs.Seen.{Content, content, trunk, steps_in, owner_word, seen}
 use Rattle.soundness.specs.Typed.{Spot}
 use Rattle.soundness.proofs.Joined.{offset_join}
 use Rattle.soundness.proofs.Contents.{shown, word_part}
 use Rattle.soundness.proofs.Steps.{alike, content_slots}
 use Rattle.soundness.proofs.Moments.{number_part}
-use Rattle.owned_loans.specs.Views.{Views, expand}
-use Rattle.owned_loans.proofs.Moves.{expand_along}
-use Rattle.exact_facts.specs.Exact.{IsOfVariable, NoneFails}
-use Rattle.exact_facts.proofs.Parts.{plain_leaf}
-use Rattle.exact_facts.proofs.Memories.{sels_part, named_part, end_plain, same_told}
+use Rattle.soundness.specs.OwnedLoans.Views.{Views, expand}
+use Rattle.soundness.proofs.OwnedLoans.Moves.{expand_along}
+use Rattle.soundness.specs.ExactFacts.Exact.{IsOfVariable, NoneFails}
+use Rattle.soundness.proofs.ExactFacts.Parts.{plain_leaf}
+use Rattle.soundness.proofs.ExactFacts.Memories.{sels_part, named_part, end_plain, same_told}
 use Rattle.viewed_facts.specs.Exact.{IsDefiniteBy, IsDefinite, IsExact}
 
 module _ (s : Typing) (settled : IsSettled s.table) (home : ℕ → ℕ) (v : Views) (elsewhere : Way → Type 0) (m : Memory) (hands : List Waiting) (leaks : List Leak)

@@ -1,6 +1,6 @@
 -- Facts without an element stay exact in expressions, with names through borrowers and observers.
 use Rattle.std.proofs.Common.{◌≡◌, refl, sym, ap, ◌∙◌, subst, ℕ, suc, ◌+◌, Bool, true, false, ◌||◌, List, [], ◌∷◌, ◌++◌, length, append-nil, if◌then◌else◌, inr}
-use Rattle.viewed_soundness.specs.Taken.{GivesPlainly}
+use Rattle.soundness.specs.ViewedSoundness.Taken.{GivesPlainly}
 use Rattle.viewed_facts.proofs.Steps.{IsAway, IsOthers, of_others}
 use Rattle.std.specs.Prelude.{nat_le}
 use Rattle.place_names.specs.declared.act.Act.TheVariants as act
@@ -21,9 +21,9 @@ use Rattle.machine.specs.Memory.{Memory, Place, words_of, moved_out, with_new_ce
 use Rattle.machine.specs.Evaluate.{Here, Now, AsValue, part_type, parts_of, Evaluated, Done, Raises, Traps, followed_by, evaluate, steps_of, initial, checked, allocated, variable_place, walked, held_or_taken, taken, heap_words, StorageError}
 use Rattle.machine.specs.Evaluate as run
 use Rattle.machine.specs.States.{Waiting, Leak}
-use Rattle.owned_ways.specs.Ways.{OfVariable, Loc, Way, Object, Reaches, Named, Allows, after, AllowsAll, number_of}
-use Rattle.owned_ways.specs.Ways as ways
-use Rattle.part_offsets.specs.Parts.{IsSettled}
+use Rattle.soundness.specs.OwnedWays.Ways.{OfVariable, Loc, Way, Object, Reaches, Named, Allows, after, AllowsAll, number_of}
+use Rattle.soundness.specs.OwnedWays.Ways as ways
+use Rattle.soundness.specs.PartOffsets.Parts.{IsSettled}
 use Rattle.soundness.specs.Seen.{seen, home, IsNear}
 use Rattle.soundness.specs.Typed.{OwnsByShape}
 use Rattle.typed_laws.specs.Needed.{Stays, Gives, GivesParts, GivesFirst, IndexLaw}
@@ -33,16 +33,16 @@ use Rattle.soundness.proofs.Scalars.{after_append, allows_both, acts, acts_appen
 use Rattle.soundness.proofs.Taking.{Takes, takes_as, takes_both, takes_zero, nothing_more}
 use Rattle.soundness.proofs.Stays.{Quiet, One}
 use Rattle.soundness.proofs.Evaluated.{Keeps, regrouped}
-use Rattle.owned_loans.specs.Views.{Around, Views, expand}
-use Rattle.owned_loans.proofs.Allowed.{read_open, move_open}
-use Rattle.viewed_soundness.specs.Holds.{is_fixed, IsOwners, IsNamed, PartsAreNamed, KeepsObserved, AllKeep, Seeing}
-use Rattle.viewed_soundness.proofs.Stays.{Goes, no_selectors, taking, steps_taking, waited_quiet, name_on}
-use Rattle.viewed_soundness.proofs.Evaluated.{keep_both, matches_named, Ready, GivenOn, live_trunk, checked_on, blank_ready, evaluated_on, part_named}
+use Rattle.soundness.specs.OwnedLoans.Views.{Around, Views, expand}
+use Rattle.soundness.proofs.OwnedLoans.Allowed.{read_open, move_open}
+use Rattle.soundness.specs.ViewedSoundness.Holds.{is_fixed, IsOwners, IsNamed, PartsAreNamed, KeepsObserved, AllKeep, Seeing}
+use Rattle.soundness.proofs.ViewedSoundness.Stays.{Goes, no_selectors, taking, steps_taking, waited_quiet, name_on}
+use Rattle.soundness.proofs.ViewedSoundness.Evaluated.{keep_both, matches_named, Ready, GivenOn, live_trunk, checked_on, blank_ready, evaluated_on, part_named}
 use Rattle.viewed_facts.specs.Exact.{IsExact}
 use Rattle.viewed_facts.proofs.Memories.{taken_exact, made_exact}
-use Rattle.viewed_soundness.proofs.Spared.{gone_off}
-use Rattle.viewed_soundness.proofs.Names.{changed_owners}
-use Rattle.viewed_soundness.proofs.ViewKinds.{free_sees, free_formal}
+use Rattle.soundness.proofs.ViewedSoundness.Spared.{gone_off}
+use Rattle.soundness.proofs.ViewedSoundness.Names.{changed_owners}
+use Rattle.soundness.proofs.ViewedSoundness.ViewKinds.{free_sees, free_formal}
 
 module _ (h : Here) (sees : ℕ → Bool) (seeing : Seeing h.typing sees) (settled : IsSettled h.typing.table) (leaks : List Leak) (waits : List (List machine.Word)) (other : Around (home h.typing h.frame))
     (alone : (w : Way) → IsNear h.frame w → other.gone w → ⊥) (keeps : Keeps h.typing)

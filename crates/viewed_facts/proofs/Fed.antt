@@ -10,20 +10,20 @@ use Rattle.machine.specs.Typed.{is_record, is_array}
 use Rattle.machine.specs.Memory.{Memory}
 use Rattle.machine.specs.Evaluate.{Here, Now, AsValue, part_type, parts_of, Evaluated, Done, followed_by, evaluate, initial, checked, allocated}
 use Rattle.machine.specs.States.{Waiting, Leak}
-use Rattle.owned_ways.specs.Ways.{Way, after, AllowsAll}
-use Rattle.part_offsets.specs.Parts.{IsSettled}
+use Rattle.soundness.specs.OwnedWays.Ways.{Way, after, AllowsAll}
+use Rattle.soundness.specs.PartOffsets.Parts.{IsSettled}
 use Rattle.soundness.specs.Seen.{home, IsNear}
 use Rattle.soundness.specs.Typed.{OwnsByShape}
 use Rattle.typed_laws.specs.Needed.{Gives, GivesParts, GivesFirst, IndexLaw}
 use Rattle.soundness.proofs.Scalars.{after_append, allows_both, acts, acts_append}
 use Rattle.soundness.proofs.Taking.{Takes}
 use Rattle.soundness.proofs.Evaluated.{Keeps, regrouped}
-use Rattle.owned_loans.specs.Views.{Around, Views}
-use Rattle.viewed_soundness.specs.Holds.{is_fixed, IsNamed, PartsAreNamed, AllKeep, Seeing}
-use Rattle.viewed_soundness.specs.Taken.{GivesPlainly, types_taken, AreScalarTypes, TakesFit, AreOfTypes}
-use Rattle.viewed_soundness.proofs.Evaluated.{keep_both, matches_named, Ready, GivenOn, checked_on, part_named}
-use Rattle.viewed_soundness.proofs.Hands.{blanks, first_words, first_both}
-use Rattle.viewed_soundness.proofs.Fed.{types_count, split_values, takes_values, fed}
+use Rattle.soundness.specs.OwnedLoans.Views.{Around, Views}
+use Rattle.soundness.specs.ViewedSoundness.Holds.{is_fixed, IsNamed, PartsAreNamed, AllKeep, Seeing}
+use Rattle.soundness.specs.ViewedSoundness.Taken.{GivesPlainly, types_taken, AreScalarTypes, TakesFit, AreOfTypes}
+use Rattle.soundness.proofs.ViewedSoundness.Evaluated.{keep_both, matches_named, Ready, GivenOn, checked_on, part_named}
+use Rattle.soundness.proofs.ViewedSoundness.Hands.{blanks, first_words, first_both}
+use Rattle.soundness.proofs.ViewedSoundness.Fed.{types_count, split_values, takes_values, fed}
 use Rattle.viewed_facts.specs.Exact.{IsExact}
 use Rattle.viewed_facts.proofs.Evaluated.{ExactTo, checked_exact, done_exact, allocated_exact, then_parts, exact_on}
 use Rattle.viewed_facts.proofs.Steps.{IsAway}

@@ -1,6 +1,6 @@
 -- Facts of all frames, as the innermost one has them: its own, those of the frames around on package
 -- objects beside them, and what those frames have moved of their own.
-use Rattle.viewed_soundness.specs.Holds.{is_view}
+use Rattle.soundness.specs.ViewedSoundness.Holds.{is_view}
 use Rattle.std.proofs.Common.{◌≡◌, ◌⊎◌, inl, inr, ℕ, true, false, List, ◌++◌, Some}
 use Rattle.place_names.specs.declared.rule.Loan.TheVariants.{Borrowed}
 use Rattle.spark_base.specs.Lists.{Has}
@@ -14,11 +14,11 @@ use Rattle.flow_paths.specs.declared.report.Effects.{Effects}
 use Rattle.flow_paths.specs.Objects.{Typing, is_package_object}
 use Rattle.flow_paths.specs.Laid.{FlowProgram, flow_typing, flow_program}
 use Rattle.machine.specs.States.{State}
-use Rattle.owned_ways.specs.Ways.{Way, View, Told, name_of}
+use Rattle.soundness.specs.OwnedWays.Ways.{Way, View, Told, name_of}
 use Rattle.soundness.specs.Seen.{home}
 use Rattle.soundness.specs.Sound.{Stage, facts_of}
 use Rattle.soundness.proofs.Around.{near_or_far, IsFar}
-use Rattle.owned_loans.specs.Views.{Views}
+use Rattle.soundness.specs.OwnedLoans.Views.{Views}
 use Rattle.viewed_steps.specs.Sound.{ViewStage, GoneElsewhere}
 use Rattle.viewed_steps.proofs.Waiting.{StandsBetween, handed, none_moved, gone_low, near_lent, IsLentFor}
 use Rattle.viewed_facts.proofs.Steps.{based_variable}

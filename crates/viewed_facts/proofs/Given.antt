@@ -23,16 +23,16 @@ use Rattle.machine.specs.Calls.{checks_at}
 use Rattle.machine.specs.States.{Outcome}
 use Rattle.machine.specs.Step.{Turn, typing, here, taken_by, goes, leaking_goes}
 use Rattle.machine.specs.Step as steps
-use Rattle.owned_ways.specs.Ways.{Way, View, Allows, after}
-use Rattle.part_offsets.specs.Parts.{IsSettled}
+use Rattle.soundness.specs.OwnedWays.Ways.{Way, View, Allows, after}
+use Rattle.soundness.specs.PartOffsets.Parts.{IsSettled}
 use Rattle.soundness.specs.Seen.{home, IsNear}
 use Rattle.soundness.specs.Typed.{OwnsByShape}
 use Rattle.soundness.proofs.Scalars.{acts}
-use Rattle.owned_loans.specs.Views.{Around, Views, Viewed}
-use Rattle.owned_loans.proofs.Taken.{reborrow_unused}
-use Rattle.viewed_soundness.specs.Holds.{PartsAreNamed, Seeing}
-use Rattle.viewed_soundness.proofs.Outcomes.{IsGood}
-use Rattle.viewed_soundness.proofs.Lends.{Sees, Puts, put_at, stored_as}
+use Rattle.soundness.specs.OwnedLoans.Views.{Around, Views, Viewed}
+use Rattle.soundness.proofs.OwnedLoans.Taken.{reborrow_unused}
+use Rattle.soundness.specs.ViewedSoundness.Holds.{PartsAreNamed, Seeing}
+use Rattle.soundness.proofs.ViewedSoundness.Outcomes.{IsGood}
+use Rattle.soundness.proofs.ViewedSoundness.Lends.{Sees, Puts, put_at, stored_as}
 use Rattle.viewed_steps.proofs.Ended.{view_kinds}
 use Rattle.viewed_steps.proofs.Sources.{observer_only, view_scalar}
 use Rattle.viewed_steps.proofs.Views.{AreAccess}
@@ -40,7 +40,7 @@ use Rattle.viewed_facts.specs.Exact.{IsExact}
 use Rattle.viewed_facts.proofs.Instructions.{ExactOn, view_stored}
 use Rattle.viewed_facts.proofs.Viewing.{moves_nothing}
 use Rattle.viewed_facts.proofs.Steps.{IsAway}
-use Rattle.viewed_soundness.specs.Taken.{GivesPlainly}
+use Rattle.soundness.specs.ViewedSoundness.Taken.{GivesPlainly}
 use Rattle.viewed_steps.specs.Traversals.{GivesView}
 use Rattle.type_definitions.specs.Types.{shape_of}
 

@@ -1,5 +1,5 @@
 -- Each step of a sound state whose facts are exact leads to such a state, in a program that is ready.
-use Rattle.viewed_soundness.specs.Holds.{is_view}
+use Rattle.soundness.specs.ViewedSoundness.Holds.{is_view}
 use Rattle.std.proofs.Common.{◌<◌, ◌≡◌, refl, sym, ◌∙◌, subst, ◌⊎◌, inl, inr, ℕ, suc, true, false, List, [], ◌∷◌, length, arith, Some, None, ap, if◌then◌else◌, Bool}
 use Rattle.spark_base.specs.Lists.{Has}
 use Rattle.place_names.specs.declared.fact.Fact.{Fact}
@@ -18,12 +18,12 @@ use Rattle.machine.specs.Memory.{Memory}
 use Rattle.machine.specs.States.{Waiting, Frame, State, Outcome, Goes, Ends, sub_of, Return}
 use Rattle.machine.specs.Owners.{waiting_in}
 use Rattle.machine.specs.Run.{step}
-use Rattle.owned_ways.specs.Ways.{OfVariable, OfRoot, Under, base_of, Way, Loc, Gone, Reaches, Told, name_of, OfCell, Step, along, part, Owned}
+use Rattle.soundness.specs.OwnedWays.Ways.{OfVariable, OfRoot, Under, base_of, Way, Loc, Gone, Reaches, Told, name_of, OfCell, Step, along, part, Owned}
 use Rattle.soundness.specs.Seen.{home, seen}
 use Rattle.soundness.specs.Typed.{Kept}
 use Rattle.soundness.specs.Sound.{Stage, facts_of, AreStages, IsRunnable, InScope, IsNamedSub, IsAtPoint, IsNoCall, IsOnward, view_of as view_here}
 use Rattle.soundness.proofs.Points.{sub_there}
-use Rattle.owned_loans.specs.Views.{known_gone, Views, expand, ViewedAlone}
+use Rattle.soundness.specs.OwnedLoans.Views.{known_gone, Views, expand, ViewedAlone}
 use Rattle.viewed_steps.specs.Sound.{IsBeyond, IsResting, HoldsAt, ArePlaced, NoneAbove, ViewStage, stages_of, GoneElsewhere, AreWaiting, IsRunning, AreTurned, AreLeft, Follows, steps_on, leaves_scope, begins_main, returns_one, calls_one, ends_one, LeadsAlong, IsSound, HasTraversals, loan_by, IsWaiting, LentBy}
 use Rattle.viewed_steps.specs.Awaited.{AreAwaited, lasting_of}
 use Rattle.viewed_steps.specs.Ready.{IsReady}
@@ -32,8 +32,8 @@ use Rattle.viewed_steps.proofs.Standing as standing
 use Rattle.viewed_steps.proofs.Packages as packages
 use Rattle.viewed_steps.proofs.Stepping.{sound_along}
 use Rattle.viewed_facts.specs.Exact.{IsDefiniteBy, IsDefiniteOf, LeadsExactly, StepsLeadExactly}
-use Rattle.owned_ways.proofs.Named.{longer}
-use Rattle.owned_loans.proofs.Meeting.{stands}
+use Rattle.soundness.proofs.OwnedWays.Named.{longer}
+use Rattle.soundness.proofs.OwnedLoans.Meeting.{stands}
 use Rattle.viewed_steps.proofs.Views.{same_lies}
 use Rattle.viewed_facts.proofs.Calls.{carried_told, lies_low, passed_clean}
 use Rattle.viewed_steps.proofs.Handed.{AreApart, apart_of}
@@ -46,13 +46,13 @@ use Rattle.viewed_facts.proofs.ScopeEnds.{told_left}
 use Rattle.place_names.specs.Facts.{place}
 use Rattle.viewed_steps.proofs.Apart.{kept_there, written_disturbs}
 use Rattle.viewed_steps.proofs.Outside.{IsSpared, gone_clear, IsFree, free_name}
-use Rattle.owned_ways.proofs.Unique.{one_way}
-use Rattle.owned_ways.proofs.Locations.{reaches_along, under_along, under_itself}
-use Rattle.exact_facts.proofs.Memories.{same_reach}
+use Rattle.soundness.proofs.OwnedWays.Unique.{one_way}
+use Rattle.soundness.proofs.OwnedWays.Locations.{reaches_along, under_along, under_itself}
+use Rattle.soundness.proofs.ExactFacts.Memories.{same_reach}
 use Rattle.viewed_facts.proofs.Steps.{based_variable}
 use Rattle.viewed_steps.proofs.Roots.{FromGiven}
 use Rattle.soundness.proofs.Contents.{bool_cases}
-use Rattle.viewed_soundness.proofs.ViewKinds.{true_false}
+use Rattle.soundness.proofs.ViewedSoundness.ViewKinds.{true_false}
 use Rattle.viewed_steps.specs.Seeing.{sees_in}
 
 module _ (table : Table) (typed : TypedProgram) (effects : Effects) (input : List ℕ) (ready : IsReady table typed effects) where

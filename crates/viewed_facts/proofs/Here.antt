@@ -1,6 +1,6 @@
 -- The innermost frame at a point, in a sound state whose facts are exact: what it knows with the frames around it, and
 -- what all frames have after its step.
-use Rattle.viewed_soundness.specs.Holds.{is_view}
+use Rattle.soundness.specs.ViewedSoundness.Holds.{is_view}
 use Rattle.std.proofs.Common.{◌≡◌, refl, sym, ap, ◌∙◌, subst, inl, inr, ℕ, suc, true, false, List, [], ◌∷◌, ◌++◌, map, drop, length, append_assoc, Some, None, take, Bool}
 use Rattle.spark_base.specs.Lists.{Has}
 use Rattle.spark_base.specs.declared.position.Pos.{Pos}
@@ -30,7 +30,7 @@ use Rattle.machine.specs.Words as machine
 use Rattle.machine.specs.States.{Frame, State, sub_of}
 use Rattle.machine.specs.Step.{Turn, start}
 use Rattle.machine.specs.Owners.{waiting_in}
-use Rattle.owned_ways.specs.Ways.{Way, Told, after}
+use Rattle.soundness.specs.OwnedWays.Ways.{Way, Told, after}
 use Rattle.soundness.specs.Seen.{home, seen, IsNear}
 use Rattle.soundness.specs.Typed.{Kept}
 use Rattle.soundness.specs.Sound.{Stage, facts_of, AreStages, IsRunnable, IsNoCall, InScope, IsNamedSub, IsAtPoint, view_of as view_here}
@@ -41,7 +41,7 @@ use Rattle.soundness.proofs.Taking.{Takes}
 use Rattle.soundness.proofs.Eased.{eased}
 use Rattle.soundness.specs.Ready.{Fills}
 use Rattle.soundness.proofs.Around.{IsFar}
-use Rattle.owned_loans.specs.Views.{Around, known_gone, Views, Viewed, ViewedAlone}
+use Rattle.soundness.specs.OwnedLoans.Views.{Around, known_gone, Views, Viewed, ViewedAlone}
 use Rattle.viewed_steps.specs.Sound.{IsBeyond, IsResting, HoldsAt, ArePlaced, NoneAbove, ViewStage, stages_of, GoneElsewhere, AreWaiting, HasTraversals}
 use Rattle.viewed_steps.specs.Awaited.{AreAwaited, lasting_of, AreScalar, temporaries_of, TakesScalars}
 use Rattle.viewed_steps.specs.Ready.{AreOrderly, IsReady}
@@ -49,10 +49,10 @@ use Rattle.viewed_steps.proofs.Waiting.{StandsBetween, beside_them, handed}
 use Rattle.viewed_steps.proofs.Standing as standing
 use Rattle.viewed_steps.proofs.Packages as packages
 use Rattle.viewed_steps.proofs.Innermost as innermost
-use Rattle.exact_facts.specs.Exact.{Knows}
-use Rattle.exact_facts.proofs.Frames.{after_more}
-use Rattle.exact_facts.proofs.Spots.{excused_knows}
-use Rattle.exact_facts.proofs.Spots.{leaks_same, object_same}
+use Rattle.soundness.specs.ExactFacts.Exact.{Knows}
+use Rattle.soundness.proofs.ExactFacts.Frames.{after_more}
+use Rattle.soundness.proofs.ExactFacts.Spots.{excused_knows}
+use Rattle.soundness.proofs.ExactFacts.Spots.{leaks_same, object_same}
 use Rattle.viewed_facts.specs.Exact.{IsDefiniteBy, IsDefiniteOf, IsExact}
 use Rattle.viewed_facts.proofs.Frames.{elsewhere as moved_elsewhere, IsDefiniteHere, beside_told, apart_told, definite_gone}
 use Rattle.viewed_steps.proofs.Views.{AreAccess}

@@ -2,7 +2,7 @@
 -- checks don't fail. What is exact is said with the ways that views had before; that a view got another way is
 -- `told_turned` of `Steps`.
 use Rattle.std.proofs.Common.{◌≡◌, refl, sym, ap, ◌∙◌, subst, ◌⊎◌, inl, inr, ℕ, Bool, true, false, not, List, [], ◌∷◌, ◌++◌, map, length, ◌+◌, append-nil, Some, if◌then◌else◌}
-use Rattle.viewed_soundness.specs.Taken.{GivesPlainly}
+use Rattle.soundness.specs.ViewedSoundness.Taken.{GivesPlainly}
 use Rattle.place_names.specs.declared.rule.Loan.{Loan}
 use Rattle.place_names.specs.declared.rule.Loan.TheVariants.{Borrowed}
 use Rattle.spark_base.specs.Lists.{Has}
@@ -28,10 +28,10 @@ use Rattle.machine.specs.States.{Waiting, Leak, Outcome, Goes, Ends}
 use Rattle.machine.specs.Step.{Turn, typing, here, Stored, first_value, taken_by, goes, leaking_goes, target_pos}
 use Rattle.machine.specs.Step as steps
 use Rattle.machine.specs.Owners.{waiting_in}
-use Rattle.owned_ways.specs.Ways.{Step, IsMoved, OfVariable, OfRoot, Way, Object, Empty, Held, View, Under, Named, IsSame, after, AllowsAll, number_of, name_of as way_name, base_of}
-use Rattle.owned_ways.proofs.Named.{longer}
-use Rattle.owned_ways.proofs.Dropped.{named_base}
-use Rattle.part_offsets.specs.Parts.{IsSettled}
+use Rattle.soundness.specs.OwnedWays.Ways.{Step, IsMoved, OfVariable, OfRoot, Way, Object, Empty, Held, View, Under, Named, IsSame, after, AllowsAll, number_of, name_of as way_name, base_of}
+use Rattle.soundness.proofs.OwnedWays.Named.{longer}
+use Rattle.soundness.proofs.OwnedWays.Dropped.{named_base}
+use Rattle.soundness.specs.PartOffsets.Parts.{IsSettled}
 use Rattle.soundness.specs.Seen.{content, home, seen, IsNear, is_view_formal, word_in}
 use Rattle.soundness.specs.Typed.{OwnsByShape}
 use Rattle.typed_laws.specs.Needed.{Stays, Gives, Leads, Source, FirstSource}
@@ -42,26 +42,26 @@ use Rattle.soundness.proofs.Scalars.{acts}
 use Rattle.soundness.proofs.Stays.{Quiet, One}
 use Rattle.soundness.proofs.Numbers.{index_law}
 use Rattle.soundness.proofs.Lasting.{keeps}
-use Rattle.owned_loans.specs.Views.{Around, Views, expand, Viewed}
-use Rattle.viewed_soundness.specs.Holds.{is_fixed, IsNamed, PartsAreNamed, AllKeep, is_view, Seeing}
-use Rattle.viewed_soundness.proofs.ViewKinds.{true_false}
-use Rattle.viewed_soundness.proofs.Evaluated.{Given}
-use Rattle.viewed_soundness.proofs.Viewing.{view_leaf, view_unseen}
-use Rattle.viewed_soundness.proofs.Outcomes.{named_plain, not_views, IsGood, scalar_taken}
+use Rattle.soundness.specs.OwnedLoans.Views.{Around, Views, expand, Viewed}
+use Rattle.soundness.specs.ViewedSoundness.Holds.{is_fixed, IsNamed, PartsAreNamed, AllKeep, is_view, Seeing}
+use Rattle.soundness.proofs.ViewedSoundness.ViewKinds.{true_false}
+use Rattle.soundness.proofs.ViewedSoundness.Evaluated.{Given}
+use Rattle.soundness.proofs.ViewedSoundness.Viewing.{view_leaf, view_unseen}
+use Rattle.soundness.proofs.ViewedSoundness.Outcomes.{named_plain, not_views, IsGood, scalar_taken}
 use Rattle.viewed_steps.proofs.Declared.{IsUnmoved, IsFree, stands_root, first_given}
-use Rattle.exact_facts.specs.Exact.{NoneFails, Knows}
-use Rattle.exact_facts.proofs.Steps.{IsPlaced, keeps_placed}
-use Rattle.exact_facts.proofs.Checks.{none_made}
+use Rattle.soundness.specs.ExactFacts.Exact.{NoneFails, Knows}
+use Rattle.soundness.proofs.ExactFacts.Steps.{IsPlaced, keeps_placed}
+use Rattle.soundness.proofs.ExactFacts.Checks.{none_made}
 use Rattle.soundness.proofs.Taking.{Takes, takes_as, nothing_more}
 use Rattle.viewed_facts.specs.Exact.{IsDefinite, IsExact}
 use Rattle.viewed_facts.proofs.Steps.{IsAway, definite_variable, told_still, told_fewer, told_turned, IsOthers, of_others}
 use Rattle.viewed_facts.proofs.Memories.{told_seen, exact_from, declared_exact, ended_exact}
-use Rattle.owned_loans.proofs.Ways.{home_or_foreign, under_on}
+use Rattle.soundness.proofs.OwnedLoans.Ways.{home_or_foreign, under_on}
 use Rattle.viewed_facts.proofs.Evaluated.{ExactTo, checked_exact, exact_on}
 use Rattle.viewed_facts.proofs.Stored.{StoresExact, assigned_exact}
 use Rattle.viewed_facts.proofs.Checks.{place_holds}
 use Rattle.viewed_steps.proofs.Views.{AreAccess, same_named, view_cases}
-use Rattle.owned_loans.proofs.Meeting.{no_part, stands}
+use Rattle.soundness.proofs.OwnedLoans.Meeting.{no_part, stands}
 
 module _ (t : Turn) (sees : ℕ → Bool) (seeing : Seeing (typing t) sees) (settled : IsSettled (typing t).table) (own_law : OwnsByShape (typing t).table) (other : Around (home (typing t) (length t.outer)))
     (alone : (w : Way) → IsNear (length t.outer) w → other.gone w → ⊥) (in_formals : AreAccess (typing t))

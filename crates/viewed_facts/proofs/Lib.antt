@@ -22,3 +22,7 @@ pub mod Calls
 pub mod Main
 pub mod Going
 pub mod Runs
+-- the machine with null in moved places takes the same steps
+pub mod NullPlaces
+-- with null in moved places, runs with borrowers and observers give the same
+pub mod ViewedNulls

@@ -29,9 +29,9 @@ use Rattle.machine.specs.States.{Waiting, Outcome, Goes}
 use Rattle.machine.specs.Step.{Turn, typing, here, waiting, behind}
 use Rattle.machine.specs.Step as steps
 use Rattle.machine.specs.Owners.{waiting_in}
-use Rattle.owned_ways.specs.Ways.{OfVariable, Way, Object, Named, Allows, after, AllowsAll, number_of, Reaches}
-use Rattle.owned_ways.specs.Ways as ways
-use Rattle.part_offsets.specs.Parts.{IsSettled}
+use Rattle.soundness.specs.OwnedWays.Ways.{OfVariable, Way, Object, Named, Allows, after, AllowsAll, number_of, Reaches}
+use Rattle.soundness.specs.OwnedWays.Ways as ways
+use Rattle.soundness.specs.PartOffsets.Parts.{IsSettled}
 use Rattle.soundness.specs.Seen.{seen, home, IsNear, is_view_formal}
 use Rattle.soundness.specs.Typed.{OwnsByShape}
 use Rattle.typed_laws.specs.Needed.{Stays, Leads, Writes}
@@ -46,14 +46,14 @@ use Rattle.soundness.proofs.Numbers.{index_law}
 use Rattle.soundness.proofs.Lasting.{keeps}
 use Rattle.soundness.proofs.Freeing.{switched}
 use Rattle.soundness.proofs.Loops.{scalar_same}
-use Rattle.owned_loans.specs.Views.{Around, Views, expand}
-use Rattle.owned_loans.proofs.Allowed.{write_open}
-use Rattle.owned_ways.specs.Ways.{Loc}
-use Rattle.viewed_soundness.specs.Holds.{PartsAreNamed, IsOwners, Seeing}
-use Rattle.viewed_soundness.proofs.Names.{Starts as StartsAt, changed_owners}
-use Rattle.viewed_soundness.proofs.Stays.{Goes as GoesAlong, name_quiet, taking, steps_taking}
-use Rattle.viewed_soundness.proofs.Evaluated.{Ready, live_trunk, blank_ready}
-use Rattle.viewed_soundness.proofs.Outcomes.{IsGood, start_is, live}
+use Rattle.soundness.specs.OwnedLoans.Views.{Around, Views, expand}
+use Rattle.soundness.proofs.OwnedLoans.Allowed.{write_open}
+use Rattle.soundness.specs.OwnedWays.Ways.{Loc}
+use Rattle.soundness.specs.ViewedSoundness.Holds.{PartsAreNamed, IsOwners, Seeing}
+use Rattle.soundness.proofs.ViewedSoundness.Names.{Starts as StartsAt, changed_owners}
+use Rattle.soundness.proofs.ViewedSoundness.Stays.{Goes as GoesAlong, name_quiet, taking, steps_taking}
+use Rattle.soundness.proofs.ViewedSoundness.Evaluated.{Ready, live_trunk, blank_ready}
+use Rattle.soundness.proofs.ViewedSoundness.Outcomes.{IsGood, start_is, live}
 use Rattle.viewed_steps.proofs.Rounds.{Starts, text_quiet}
 use Rattle.viewed_steps.proofs.Read.{Gets}
 use Rattle.viewed_facts.specs.Exact.{IsExact}

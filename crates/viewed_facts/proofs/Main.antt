@@ -31,7 +31,7 @@ use Rattle.machine.specs.Step.{Turn, turn, start}
 use Rattle.machine.specs.Step as steps
 use Rattle.machine.specs.Owners.{waiting_in}
 use Rattle.machine.specs.Run.{no_point, step}
-use Rattle.owned_ways.specs.Ways.{Way, View, Told}
+use Rattle.soundness.specs.OwnedWays.Ways.{Way, View, Told}
 use Rattle.soundness.specs.Seen.{home, seen}
 use Rattle.soundness.specs.Typed.{Kept}
 use Rattle.soundness.specs.Sound.{Stage, facts_of, AreStages, IsRunnable, InScope, IsNamedSub, IsAtPoint, view_of as view_here}
@@ -41,7 +41,7 @@ use Rattle.soundness.proofs.Scalars.{acts}
 use Rattle.soundness.proofs.Stays.{Quiet}
 use Rattle.soundness.proofs.Typings.{Agree}
 use Rattle.soundness.proofs.Passing.{Enters, frames_with, signature_is}
-use Rattle.owned_loans.specs.Views.{Around, known_gone, Views, ViewedAlone}
+use Rattle.soundness.specs.OwnedLoans.Views.{Around, known_gone, Views, ViewedAlone}
 use Rattle.viewed_steps.specs.Sound.{IsBeyond, IsResting, HoldsAt, ArePlaced, NoneAbove, ViewStage, stages_of, GoneElsewhere, AreWaiting, IsRunning, HasTraversals}
 use Rattle.viewed_steps.specs.Awaited.{AreAwaited, lasting_of}
 use Rattle.viewed_steps.specs.Ready.{IsCalled, IsReady}
@@ -56,13 +56,13 @@ use Rattle.viewed_steps.proofs.Followed as followed
 use Rattle.viewed_steps.proofs.Followed.{IsTraversing}
 use Rattle.viewed_steps.specs.Ready.{IsTraversalCall}
 use Rattle.flow_paths.specs.Views.{traversed_formal}
-use Rattle.exact_facts.specs.Exact.{NoneFails, checks_of}
-use Rattle.exact_facts.specs.Exact.{IsOfVariable}
-use Rattle.exact_facts.proofs.Checks.{none_made}
+use Rattle.soundness.specs.ExactFacts.Exact.{NoneFails, checks_of}
+use Rattle.soundness.specs.ExactFacts.Exact.{IsOfVariable}
+use Rattle.soundness.proofs.ExactFacts.Checks.{none_made}
 use Rattle.viewed_facts.proofs.Outs.{outs_hold, ins_none}
 use Rattle.viewed_facts.proofs.Steps.{of_others, definite_variable}
 use Rattle.viewed_facts.proofs.Here as here
-use Rattle.exact_facts.proofs.Spots.{values_same, call_same, ways_same}
+use Rattle.soundness.proofs.ExactFacts.Spots.{values_same, call_same, ways_same}
 use Rattle.viewed_facts.specs.Exact.{IsDefinite, IsDefiniteOf, ExcusedHold}
 use Rattle.viewed_facts.proofs.Stepping.{checks_hold}
 use Rattle.viewed_facts.proofs.ScopeEnds.{ended_checks_hold}

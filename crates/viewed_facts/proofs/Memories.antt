@@ -16,11 +16,11 @@ use Rattle.machine.specs.Words as machine
 use Rattle.machine.specs.Memory.{Memory, HeapCell, Place, cell, no_slot, words_of, stored, moved_out, declared, undeclared, with_new_cell}
 use Rattle.machine.specs.Calls.{checked_at}
 use Rattle.machine.specs.States.{Waiting, Leak}
-use Rattle.owned_ways.specs.Ways.{OfVariable, OfHand, Loc, OfRoot, OfCell, Inside, Way, Object, Gone, Held, View, Step, Reaches, part, along, Told, Owned, Named, Spares, Allows, Under, sels_of, name_of, number_of}
-use Rattle.owned_ways.proofs.Locations.{under_along, under_itself, named_along, reaches_along}
-use Rattle.owned_ways.proofs.Named.{same_way}
-use Rattle.owned_ways.proofs.Assigned.{given_apart}
-use Rattle.part_offsets.specs.Parts.{type_in, offset_in, is_leaf, IsSettled}
+use Rattle.soundness.specs.OwnedWays.Ways.{OfVariable, OfHand, Loc, OfRoot, OfCell, Inside, Way, Object, Gone, Held, View, Step, Reaches, part, along, Told, Owned, Named, Spares, Allows, Under, sels_of, name_of, number_of}
+use Rattle.soundness.proofs.OwnedWays.Locations.{under_along, under_itself, named_along, reaches_along}
+use Rattle.soundness.proofs.OwnedWays.Named.{same_way}
+use Rattle.soundness.proofs.OwnedWays.Assigned.{given_apart}
+use Rattle.soundness.specs.PartOffsets.Parts.{type_in, offset_in, is_leaf, IsSettled}
 use Rattle.soundness.specs.Seen.{Content, content, trunk, steps_in, word_in, owner_at, owner_word, seen_of, seen, is_view_formal}
 use Rattle.soundness.specs.Changes.{Alike, hand, Checks, Takes}
 use Rattle.soundness.specs.Typed.{Matches, Kept, Spot}
@@ -29,14 +29,14 @@ use Rattle.soundness.proofs.Contents.{bool_cases, word_yes, word_part, stored_st
 use Rattle.soundness.proofs.Steps.{alike, stores, takes}
 use Rattle.soundness.proofs.Ends.{declares, drops, new_other}
 use Rattle.soundness.proofs.Moments.{number_part}
-use Rattle.owned_loans.specs.Views.{Around, Views, expand, ExcusedBy, Viewed}
-use Rattle.owned_loans.proofs.Others.{clean_away}
+use Rattle.soundness.specs.OwnedLoans.Views.{Around, Views, expand, ExcusedBy, Viewed}
+use Rattle.soundness.proofs.OwnedLoans.Others.{clean_away}
 use Rattle.place_names.specs.declared.rule.Loan.{Loan}
-use Rattle.owned_loans.proofs.Allowed.{move_unlent, move_unmoved}
-use Rattle.exact_facts.specs.Exact.{IsOfVariable}
-use Rattle.exact_facts.proofs.Steps.{variable_rooted, fact_before, Keeps, IsPlaced}
-use Rattle.exact_facts.proofs.Parts.{plain_leaf}
-use Rattle.exact_facts.proofs.Memories.{sels_part, named_part, end_plain, Shows, same_told}
+use Rattle.soundness.proofs.OwnedLoans.Allowed.{move_unlent, move_unmoved}
+use Rattle.soundness.specs.ExactFacts.Exact.{IsOfVariable}
+use Rattle.soundness.proofs.ExactFacts.Steps.{variable_rooted, fact_before, Keeps, IsPlaced}
+use Rattle.soundness.proofs.ExactFacts.Parts.{plain_leaf}
+use Rattle.soundness.proofs.ExactFacts.Memories.{sels_part, named_part, end_plain, Shows, same_told}
 use Rattle.viewed_facts.specs.Exact.{IsDefinite, IsExact}
 use Rattle.viewed_facts.proofs.Steps.{no_hand_base, stands_variable, IsOthers, definite_variable, variables_after, told_still, told_put, told_given, told_taken, left_variable, told_ended}
 

@@ -21,22 +21,22 @@ use Rattle.machine.specs.Words.{offsets}
 use Rattle.machine.specs.Memory.{Memory, Place, slots_at}
 use Rattle.machine.specs.Calls.{Passed, Value, From, To, checked_at, checks_at, written_pos, out_checks}
 use Rattle.machine.specs.States.{Waiting, Leak}
-use Rattle.owned_ways.specs.Ways.{Way}
-use Rattle.owned_ways.specs.Ways as ways
-use Rattle.part_offsets.specs.Parts.{IsSettled}
+use Rattle.soundness.specs.OwnedWays.Ways.{Way}
+use Rattle.soundness.specs.OwnedWays.Ways as ways
+use Rattle.soundness.specs.PartOffsets.Parts.{IsSettled}
 use Rattle.soundness.specs.Seen.{home, seen}
 use Rattle.soundness.specs.Typed.{Matches, Kept}
 use Rattle.soundness.proofs.Fixed.{matches_scalar}
 use Rattle.soundness.proofs.Freeing.{plain_parts}
-use Rattle.owned_loans.specs.Views.{Views, expand}
+use Rattle.soundness.specs.OwnedLoans.Views.{Views, expand}
 use Rattle.viewed_steps.specs.Ready.{IsActualTo, AreActualsTo}
 use Rattle.viewed_steps.specs.Taken.{IsInside}
 use Rattle.viewed_steps.proofs.LaidOut.{IsPlainAt, IsBackLaid, IsLaidOne, AreLaidOut}
 use Rattle.viewed_steps.proofs.Carried.{inside_at, inside_spot, inside_reached}
-use Rattle.exact_facts.specs.Exact.{IsOfVariable, NoneFails}
+use Rattle.soundness.specs.ExactFacts.Exact.{IsOfVariable, NoneFails}
 use Rattle.viewed_facts.specs.Exact.{IsDefinite, IsExact}
 use Rattle.viewed_facts.proofs.Checks.{place_holds}
-use Rattle.viewed_soundness.proofs.ViewKinds.{bundle_view}
+use Rattle.soundness.proofs.ViewedSoundness.ViewKinds.{bundle_view}
 use Rattle.viewed_steps.proofs.Views.{AreOnly}
 use Rattle.viewed_steps.proofs.Entered.{own_named, own_itself}
 

@@ -25,11 +25,11 @@ use Rattle.machine.specs.States.{Waiting, Leak, Outcome}
 use Rattle.machine.specs.Step.{Turn, typing, here}
 use Rattle.machine.specs.Step as steps
 use Rattle.machine.specs.Owners.{waiting_in}
-use Rattle.owned_ways.specs.Ways.{OfVariable, Loc, OfCell, Way, Object, All, Held, View, Reaches, Named, Allows, after, AllowsAll, number_of}
-use Rattle.owned_ways.specs.Ways as ways
-use Rattle.owned_ways.proofs.Locations.{depth as depth_of, under_itself}
-use Rattle.owned_ways.proofs.Unique.{one_way}
-use Rattle.part_offsets.specs.Parts.{owns_one, is_leaf, IsSettled}
+use Rattle.soundness.specs.OwnedWays.Ways.{OfVariable, Loc, OfCell, Way, Object, All, Held, View, Reaches, Named, Allows, after, AllowsAll, number_of}
+use Rattle.soundness.specs.OwnedWays.Ways as ways
+use Rattle.soundness.proofs.OwnedWays.Locations.{depth as depth_of, under_itself}
+use Rattle.soundness.proofs.OwnedWays.Unique.{one_way}
+use Rattle.soundness.specs.PartOffsets.Parts.{owns_one, is_leaf, IsSettled}
 use Rattle.soundness.specs.Seen.{IsNear, is_view_formal, content, trunk, steps_in, seen, home}
 use Rattle.soundness.specs.Changes.{Alike as AlikeTypes, Checks, leaks_at}
 use Rattle.soundness.specs.Typed.{OwnsByShape, Spot}
@@ -44,28 +44,28 @@ use Rattle.soundness.proofs.Scalars.{acts, acts_append, after_append, allows_bot
 use Rattle.soundness.proofs.Taking.{Takes}
 use Rattle.soundness.proofs.Stays.{Quiet}
 use Rattle.soundness.proofs.Numbers.{index_law}
-use Rattle.owned_loans.specs.Views.{Around, Views, expand, ExcusedBy}
-use Rattle.owned_loans.proofs.Allowed.{free_open}
-use Rattle.owned_loans.proofs.Moves.{IsPlace}
-use Rattle.viewed_soundness.specs.Holds.{IsNamed, PartsAreNamed, is_fixed, IsOwners, Seeing}
-use Rattle.viewed_soundness.proofs.Names.{is_place, changed_owners}
-use Rattle.viewed_soundness.proofs.ViewKinds.{free_sees, free_formal}
-use Rattle.viewed_soundness.proofs.Spared.{gone_off}
-use Rattle.viewed_soundness.proofs.Stays.{Goes, no_selectors, name_quiet, steps_taking}
-use Rattle.viewed_soundness.proofs.Viewing.{expand_down}
-use Rattle.viewed_soundness.proofs.Outcomes.{IsGood, live}
+use Rattle.soundness.specs.OwnedLoans.Views.{Around, Views, expand, ExcusedBy}
+use Rattle.soundness.proofs.OwnedLoans.Allowed.{free_open}
+use Rattle.soundness.proofs.OwnedLoans.Moves.{IsPlace}
+use Rattle.soundness.specs.ViewedSoundness.Holds.{IsNamed, PartsAreNamed, is_fixed, IsOwners, Seeing}
+use Rattle.soundness.proofs.ViewedSoundness.Names.{is_place, changed_owners}
+use Rattle.soundness.proofs.ViewedSoundness.ViewKinds.{free_sees, free_formal}
+use Rattle.soundness.proofs.ViewedSoundness.Spared.{gone_off}
+use Rattle.soundness.proofs.ViewedSoundness.Stays.{Goes, no_selectors, name_quiet, steps_taking}
+use Rattle.soundness.proofs.ViewedSoundness.Viewing.{expand_down}
+use Rattle.soundness.proofs.ViewedSoundness.Outcomes.{IsGood, live}
 use Rattle.viewed_steps.proofs.Released.{free_clean, Releases}
-use Rattle.exact_facts.specs.Exact.{Knows}
-use Rattle.exact_facts.proofs.Steps.{fact_before}
-use Rattle.exact_facts.proofs.Checks.{none_made}
+use Rattle.soundness.specs.ExactFacts.Exact.{Knows}
+use Rattle.soundness.proofs.ExactFacts.Steps.{fact_before}
+use Rattle.soundness.proofs.ExactFacts.Checks.{none_made}
 use Rattle.viewed_facts.specs.Exact.{IsExact}
 use Rattle.viewed_facts.proofs.Steps.{IsAway, definite_variable, variables_after, told_released, told_fewer, IsOthers, of_others}
 use Rattle.viewed_facts.proofs.Memories.{told_seen, exact_from}
 use Rattle.viewed_facts.proofs.Checks.{place_holds}
 use Rattle.viewed_facts.proofs.Instructions.{ExactOn}
-use Rattle.viewed_soundness.proofs.Walks.{slot_at, one_slot, type_is, held_there, cell_spot}
+use Rattle.soundness.proofs.ViewedSoundness.Walks.{slot_at, one_slot, type_is, held_there, cell_spot}
 use Rattle.viewed_steps.proofs.Views.{AreAccess}
-use Rattle.owned_loans.proofs.Meeting.{no_part}
+use Rattle.soundness.proofs.OwnedLoans.Meeting.{no_part}
 
 module _ (t : Turn) (sees : ℕ → Bool) (seeing : Seeing (typing t) sees) (settled : IsSettled (typing t).table) (own_law : OwnsByShape (typing t).table) (other : Around (home (typing t) (length t.outer)))
     (alone : (w : Way) → IsNear (length t.outer) w → other.gone w → ⊥) (in_formals : AreAccess (typing t))

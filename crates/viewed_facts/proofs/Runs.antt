@@ -11,13 +11,13 @@ use Rattle.flow_paths.specs.LeakPlan.{IsExcused}
 use Rattle.flow_paths.specs.Laid.{FlowProgram, flow_program}
 use Rattle.machine.specs.States.{Frame, Leak, State, Outcome, Goes, Ends, sub_of}
 use Rattle.machine.specs.Run.{state_at_start, no_point, step}
-use Rattle.owned_ways.specs.Ways.{Way, name_of}
+use Rattle.soundness.specs.OwnedWays.Ways.{Way, name_of}
 use Rattle.soundness.specs.Sound.{Stage, AreStages}
 use Rattle.viewed_steps.specs.Sound.{ViewStage}
 use Rattle.viewed_steps.specs.Ready.{IsReady}
 use Rattle.viewed_steps.proofs.Main.{fresh_start}
-use Rattle.exact_facts.specs.Exact.{NoneFails, checks_of, StepHolds, RunHolds}
-use Rattle.exact_facts.proofs.Budgets.{LeadsBy, steps_hold}
+use Rattle.soundness.specs.ExactFacts.Exact.{NoneFails, checks_of, StepHolds, RunHolds}
+use Rattle.soundness.proofs.ExactFacts.Budgets.{LeadsBy, steps_hold}
 use Rattle.viewed_facts.specs.Exact.{IsDefiniteOf, IsExactly, LeadsExactly}
 use Rattle.viewed_facts.proofs.Main.{excused_hold}
 use Rattle.viewed_facts.proofs.Going.{exactly_step}

@@ -26,15 +26,15 @@ use Rattle.machine.specs.States.{Frame, State, Outcome, sub_of}
 use Rattle.machine.specs.Step.{Turn, start}
 use Rattle.machine.specs.Step as steps
 use Rattle.machine.specs.Owners.{waiting_in}
-use Rattle.owned_ways.specs.Ways.{Way, Told, after}
+use Rattle.soundness.specs.OwnedWays.Ways.{Way, Told, after}
 use Rattle.soundness.specs.Seen.{home, seen, IsNear}
 use Rattle.soundness.specs.Typed.{Kept}
 use Rattle.soundness.specs.Sound.{Stage, facts_of, AreStages, IsRunnable, IsNoCall, InScope, IsNamedSub, IsAtPoint, view_of as view_here}
 use Rattle.soundness.proofs.Eased.{eased}
 use Rattle.soundness.proofs.Around.{IsFar}
-use Rattle.owned_loans.specs.Views.{Around, known_gone, Views, ViewedAlone}
-use Rattle.viewed_soundness.specs.Holds.{is_view, Seeing}
-use Rattle.viewed_soundness.proofs.Outcomes.{IsGood}
+use Rattle.soundness.specs.OwnedLoans.Views.{Around, known_gone, Views, ViewedAlone}
+use Rattle.soundness.specs.ViewedSoundness.Holds.{is_view, Seeing}
+use Rattle.soundness.proofs.ViewedSoundness.Outcomes.{IsGood}
 use Rattle.viewed_steps.specs.Sound.{IsBeyond, IsResting, HoldsAt, ArePlaced, NoneAbove, ViewStage, stages_of, GoneElsewhere, AreWaiting, HasTraversals, IsStoredAt}
 use Rattle.viewed_steps.specs.Awaited.{AreAwaited, lasting_of, TakesAlone}
 use Rattle.viewed_steps.specs.Ready.{IsReady}
@@ -52,7 +52,7 @@ use Rattle.viewed_steps.proofs.Views.{AreAccess}
 use Rattle.viewed_facts.proofs.Steps.{IsAway}
 use Rattle.viewed_facts.proofs.Given.{call_tree, given_declared, given_put}
 use Rattle.viewed_steps.specs.Traversals.{AreGiven, GivesView}
-use Rattle.viewed_soundness.proofs.Lends.{Sees}
+use Rattle.soundness.proofs.ViewedSoundness.Lends.{Sees}
 use Rattle.viewed_steps.specs.Seeing.{sees_in}
 use Rattle.viewed_steps.proofs.Sees.{sees_seeing}
 

@@ -5,7 +5,7 @@ use Rattle.viewed_facts.proofs.Stored.{then_placed}
 use Rattle.viewed_facts.proofs.Evaluated.{ExactTo, checked_exact}
 use Rattle.soundness.proofs.Lasting.{keeps}
 use Rattle.soundness.proofs.Numbers.{index_law}
-use Rattle.viewed_soundness.specs.Taken.{GivesPlainly}
+use Rattle.soundness.specs.ViewedSoundness.Taken.{GivesPlainly}
 use Rattle.spark_base.specs.Lists.{Has}
 use Rattle.spark_base.specs.declared.position.Pos.{Pos}
 use Rattle.place_names.specs.declared.selector.Sel.{Sel}
@@ -47,7 +47,7 @@ use Rattle.machine.specs.Step.{Turn, turn, start, waiting, behind}
 use Rattle.machine.specs.Step as steps
 use Rattle.machine.specs.Owners.{waiting_in}
 use Rattle.machine.specs.Run.{step}
-use Rattle.owned_ways.specs.Ways.{Way, Told, after, AllowsAll}
+use Rattle.soundness.specs.OwnedWays.Ways.{Way, Told, after, AllowsAll}
 use Rattle.soundness.specs.Seen.{home, seen, IsNear}
 use Rattle.soundness.specs.Typed.{Kept}
 use Rattle.soundness.specs.Sound.{Stage, facts_of, AreStages, IsRunnable, IsNoCall, IsTrap, InScope, IsNamedSub, IsAtPoint, view_of as view_here}
@@ -59,11 +59,11 @@ use Rattle.soundness.proofs.Eased.{eased}
 use Rattle.soundness.proofs.Continued.{got_with, released_with, started_with, input_eased, release_eased, start_eased}
 use Rattle.soundness.proofs.Inherited.{after_splits}
 use Rattle.soundness.proofs.Around.{IsFar}
-use Rattle.owned_loans.specs.Views.{Around, known_gone, Views, Viewed, ViewedAlone}
-use Rattle.viewed_soundness.specs.Holds.{is_fixed, is_view, IsNamed, AllKeep, Seeing}
-use Rattle.viewed_soundness.proofs.ViewKinds.{plain_named, true_false}
-use Rattle.viewed_soundness.proofs.Evaluated.{keep_both}
-use Rattle.viewed_soundness.proofs.Outcomes.{named_plain, IsGood, Leads_on, assigned_acts}
+use Rattle.soundness.specs.OwnedLoans.Views.{Around, known_gone, Views, Viewed, ViewedAlone}
+use Rattle.soundness.specs.ViewedSoundness.Holds.{is_fixed, is_view, IsNamed, AllKeep, Seeing}
+use Rattle.soundness.proofs.ViewedSoundness.ViewKinds.{plain_named, true_false}
+use Rattle.soundness.proofs.ViewedSoundness.Evaluated.{keep_both}
+use Rattle.soundness.proofs.ViewedSoundness.Outcomes.{named_plain, IsGood, Leads_on, assigned_acts}
 use Rattle.viewed_steps.specs.Sound.{IsBeyond, IsResting, HoldsAt, ArePlaced, NoneAbove, ViewStage, stages_of, GoneElsewhere, AreWaiting, HasTraversals, IsStoredAt}
 use Rattle.viewed_steps.specs.Awaited.{AreAwaited, lasting_of, AreScalar, temporaries_of, TakesScalars, TakesAlone}
 use Rattle.viewed_steps.specs.Ready.{AreOrderly, IsReady}
@@ -77,8 +77,8 @@ use Rattle.viewed_steps.proofs.EachInstruction as each
 use Rattle.viewed_steps.proofs.Released.{Releases, released_on as sound_released_on}
 use Rattle.viewed_steps.proofs.Read.{Gets, got_on as sound_got_on}
 use Rattle.viewed_steps.proofs.Rounds.{Starts, started_on as sound_started_on}
-use Rattle.exact_facts.specs.Exact.{NoneFails, Knows, checks_of}
-use Rattle.exact_facts.proofs.Checks.{none_made}
+use Rattle.soundness.specs.ExactFacts.Exact.{NoneFails, Knows, checks_of}
+use Rattle.soundness.proofs.ExactFacts.Checks.{none_made}
 use Rattle.viewed_facts.specs.Exact.{IsDefiniteOf, IsExact}
 use Rattle.viewed_facts.proofs.Instructions.{ExactOn, value_on, source_exact, declare_on, assign_on, skip_exact, then_declared, then_stored}
 use Rattle.viewed_steps.proofs.Views.{anonymous_view}

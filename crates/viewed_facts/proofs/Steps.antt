@@ -9,28 +9,28 @@ use Rattle.place_names.specs.declared.fact.Fact.{Fact}
 use Rattle.place_names.specs.declared.fact.Fact.TheVariants.{Moved}
 use Rattle.place_names.specs.Names.{Name, has_elem}
 use Rattle.place_names.specs.Facts.{adds, effect}
-use Rattle.owned_ways.specs.Ways.{Step, Root, OfVariable, OfHand, Loc, OfRoot, OfCell, Way, Object, Lost, Into, All, Empty, Gone, Held, View, part, along, Reaches, IsRooted, Under, Told, IsRelease, IsDrop, base_of, number_of, sels_of, name_of, Named, IsMoved, Allows}
-use Rattle.owned_ways.proofs.Locations.{under_itself, under_along, reaches_along}
-use Rattle.owned_ways.proofs.Unique.{one_way}
-use Rattle.owned_ways.proofs.Named.{longer}
-use Rattle.owned_ways.proofs.Moving.{Given}
-use Rattle.owned_ways.proofs.Told.{told_after}
-use Rattle.owned_loans.specs.Views.{Go, Part, Down, on, Views, Around, expand, Viewed, Becomes, Unused}
-use Rattle.owned_loans.proofs.Others.{below_through}
+use Rattle.soundness.specs.OwnedWays.Ways.{Step, Root, OfVariable, OfHand, Loc, OfRoot, OfCell, Way, Object, Lost, Into, All, Empty, Gone, Held, View, part, along, Reaches, IsRooted, Under, Told, IsRelease, IsDrop, base_of, number_of, sels_of, name_of, Named, IsMoved, Allows}
+use Rattle.soundness.proofs.OwnedWays.Locations.{under_itself, under_along, reaches_along}
+use Rattle.soundness.proofs.OwnedWays.Unique.{one_way}
+use Rattle.soundness.proofs.OwnedWays.Named.{longer}
+use Rattle.soundness.proofs.OwnedWays.Moving.{Given}
+use Rattle.soundness.proofs.OwnedWays.Told.{told_after}
+use Rattle.soundness.specs.OwnedLoans.Views.{Go, Part, Down, on, Views, Around, expand, Viewed, Becomes, Unused}
+use Rattle.soundness.proofs.OwnedLoans.Others.{below_through}
 use Rattle.place_names.specs.declared.rule.Loan.{Loan}
 use Rattle.flow_paths.specs.Objects.{Typing}
 use Rattle.soundness.specs.Seen.{IsNear, home as frame_home}
 use Rattle.soundness.proofs.Near.{near_under, named_near}
-use Rattle.owned_loans.proofs.Ways.{flip, under_on, meet_overlaps, base_on, on_named, Lifted, InPart, lifts, part_root, lifted_root, lifted_way}
-use Rattle.owned_loans.proofs.Meeting.{IsPlain}
-use Rattle.owned_loans.proofs.Safe.{Unborrowed, loan_of, clean_below, met, no_both, only_itself, lent_fact}
-use Rattle.owned_loans.proofs.Allowed.{move_unlent, move_unmoved, write_unlent, free_unlent}
-use Rattle.owned_loans.proofs.Moves.{expand_along}
-use Rattle.owned_loans.proofs.Taken.{expand_other}
-use Rattle.exact_facts.specs.Exact.{IsOfVariable}
-use Rattle.owned_loans.proofs.Meeting.{stands, stands_base}
+use Rattle.soundness.proofs.OwnedLoans.Ways.{flip, under_on, meet_overlaps, base_on, on_named, Lifted, InPart, lifts, part_root, lifted_root, lifted_way}
+use Rattle.soundness.proofs.OwnedLoans.Meeting.{IsPlain}
+use Rattle.soundness.proofs.OwnedLoans.Safe.{Unborrowed, loan_of, clean_below, met, no_both, only_itself, lent_fact}
+use Rattle.soundness.proofs.OwnedLoans.Allowed.{move_unlent, move_unmoved, write_unlent, free_unlent}
+use Rattle.soundness.proofs.OwnedLoans.Moves.{expand_along}
+use Rattle.soundness.proofs.OwnedLoans.Taken.{expand_other}
+use Rattle.soundness.specs.ExactFacts.Exact.{IsOfVariable}
+use Rattle.soundness.proofs.OwnedLoans.Meeting.{stands, stands_base}
 use Rattle.viewed_steps.proofs.Views.{base_named}
-use Rattle.exact_facts.proofs.Steps.{fact_before, under_covers, named_variable, Keeps, told_on, variable_begins, variable_rooted}
+use Rattle.soundness.proofs.ExactFacts.Steps.{fact_before, under_covers, named_variable, Keeps, told_on, variable_begins, variable_rooted}
 use Rattle.viewed_facts.specs.Exact.{IsDefiniteBy, IsDefinite}
 
 -- ---- ways that begin at variables

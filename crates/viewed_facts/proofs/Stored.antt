@@ -1,6 +1,6 @@
 -- Facts without an element stay exact in an assignment to what isn't a view, and its excused leak checks don't fail.
 use Rattle.std.proofs.Common.{◌≡◌, refl, sym, ap, ◌∙◌, subst, inl, ℕ, false, List, [], ◌∷◌, ◌++◌, map, length, append_assoc, Bool}
-use Rattle.viewed_soundness.specs.Taken.{GivesPlainly}
+use Rattle.soundness.specs.ViewedSoundness.Taken.{GivesPlainly}
 use Rattle.spark_base.specs.Lists.{Has}
 use Rattle.spark_base.specs.declared.position.Pos.{Pos}
 use Rattle.place_names.specs.declared.act.Act.{Act}
@@ -21,9 +21,9 @@ use Rattle.machine.specs.Evaluate as run
 use Rattle.machine.specs.Calls.{checks_at}
 use Rattle.machine.specs.Step.{Stored}
 use Rattle.machine.specs.States.{Waiting, Leak}
-use Rattle.owned_ways.specs.Ways.{OfVariable, Way, Object, Named, Allows, after, AllowsAll, number_of}
-use Rattle.owned_ways.specs.Ways as ways
-use Rattle.part_offsets.specs.Parts.{IsSettled}
+use Rattle.soundness.specs.OwnedWays.Ways.{OfVariable, Way, Object, Named, Allows, after, AllowsAll, number_of}
+use Rattle.soundness.specs.OwnedWays.Ways as ways
+use Rattle.soundness.specs.PartOffsets.Parts.{IsSettled}
 use Rattle.soundness.specs.Seen.{seen, home, IsNear}
 use Rattle.soundness.specs.Typed.{OwnsByShape}
 use Rattle.typed_laws.specs.Needed.{Leads, Gives, IndexLaw}
@@ -32,19 +32,19 @@ use Rattle.soundness.proofs.Scalars.{after_append, allows_both, acts, acts_appen
 use Rattle.soundness.proofs.Taking.{Takes}
 use Rattle.soundness.proofs.Stays.{Quiet}
 use Rattle.soundness.proofs.Evaluated.{regrouped, Keeps}
-use Rattle.owned_loans.specs.Views.{Around, Views, expand}
-use Rattle.owned_loans.proofs.Allowed.{write_open}
-use Rattle.viewed_soundness.specs.Holds.{is_fixed, IsNamed, PartsAreNamed, AllKeep, Seeing}
-use Rattle.viewed_soundness.proofs.Stays.{Goes, steps_taking, name_on}
-use Rattle.viewed_soundness.proofs.Evaluated.{keep_both, Ready, GivenOn, live_trunk, checked_on, evaluated_on}
-use Rattle.exact_facts.specs.Exact.{NoneFails, Knows}
+use Rattle.soundness.specs.OwnedLoans.Views.{Around, Views, expand}
+use Rattle.soundness.proofs.OwnedLoans.Allowed.{write_open}
+use Rattle.soundness.specs.ViewedSoundness.Holds.{is_fixed, IsNamed, PartsAreNamed, AllKeep, Seeing}
+use Rattle.soundness.proofs.ViewedSoundness.Stays.{Goes, steps_taking, name_on}
+use Rattle.soundness.proofs.ViewedSoundness.Evaluated.{keep_both, Ready, GivenOn, live_trunk, checked_on, evaluated_on}
+use Rattle.soundness.specs.ExactFacts.Exact.{NoneFails, Knows}
 use Rattle.viewed_facts.specs.Exact.{IsExact}
 use Rattle.viewed_facts.proofs.Steps.{IsAway, definite_variable, IsOthers, of_others}
 use Rattle.viewed_facts.proofs.Memories.{stored_exact}
 use Rattle.viewed_facts.proofs.Evaluated.{ExactTo, checked_exact, exact_on}
 use Rattle.viewed_facts.proofs.Checks.{place_holds}
-use Rattle.viewed_soundness.proofs.Stored.{place_owns, whole}
-use Rattle.viewed_soundness.proofs.ViewKinds.{free_sees}
+use Rattle.soundness.proofs.ViewedSoundness.Stored.{place_owns, whole}
+use Rattle.soundness.proofs.ViewedSoundness.ViewKinds.{free_sees}
 
 module _ (h : Here) (sees : ℕ → Bool) (seeing : Seeing h.typing sees) (settled : IsSettled h.typing.table) (leaks : List Leak) (waits : List (List machine.Word)) (other : Around (home h.typing h.frame))
     (alone : (w : Way) → IsNear h.frame w → other.gone w → ⊥) (keeps : Keeps h.typing)

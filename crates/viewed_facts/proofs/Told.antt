@@ -1,6 +1,6 @@
 -- Where a step of an instruction goes on that is no call and isn't the end of a scope, facts of all frames are exact,
 -- with the views then.
-use Rattle.viewed_soundness.specs.Holds.{is_view, is_given, is_exclusive, is_fixed, AllKeep, IsNamed, Seeing}
+use Rattle.soundness.specs.ViewedSoundness.Holds.{is_view, is_given, is_exclusive, is_fixed, AllKeep, IsNamed, Seeing}
 use Rattle.std.proofs.Common.{◌≡◌, refl, sym, ap, ◌∙◌, subst, inl, inr, ℕ, suc, true, false, List, [], ◌∷◌, ◌++◌, map, length, Some, None, take, ◌||◌, ◌&&◌, not, Bool}
 use Rattle.spark_base.specs.Lists.{Has}
 use Rattle.spark_base.specs.declared.position.Pos.{Pos}
@@ -30,7 +30,7 @@ use Rattle.machine.specs.States.{Frame, State, Outcome, Goes, Ends, sub_of}
 use Rattle.machine.specs.Step.{Turn, start}
 use Rattle.machine.specs.Owners.{waiting_in}
 use Rattle.machine.specs.Run.{step}
-use Rattle.owned_ways.specs.Ways.{Step, name_of as way_name, Way, Told, after, AllowsAll, Allows}
+use Rattle.soundness.specs.OwnedWays.Ways.{Step, name_of as way_name, Way, Told, after, AllowsAll, Allows}
 use Rattle.soundness.specs.Seen.{home, seen, IsNear, is_view_formal}
 use Rattle.soundness.specs.Typed.{Kept}
 use Rattle.soundness.specs.Sound.{Stage, facts_of, AreStages, IsRunnable, IsNoCall, InScope, IsNamedSub, IsAtPoint, view_of as view_here}
@@ -40,9 +40,9 @@ use Rattle.soundness.proofs.Taking.{Takes, takes_as, nothing_more}
 use Rattle.soundness.proofs.Eased.{eased}
 use Rattle.soundness.proofs.Inherited.{after_splits}
 use Rattle.soundness.proofs.Around.{IsFar}
-use Rattle.owned_loans.specs.Views.{Around, known_gone, Views, Viewed, ViewedAlone}
-use Rattle.viewed_soundness.proofs.ViewKinds.{true_false, free_formal, plain_named}
-use Rattle.viewed_soundness.proofs.Outcomes.{IsGood, assigned_acts}
+use Rattle.soundness.specs.OwnedLoans.Views.{Around, known_gone, Views, Viewed, ViewedAlone}
+use Rattle.soundness.proofs.ViewedSoundness.ViewKinds.{true_false, free_formal, plain_named}
+use Rattle.soundness.proofs.ViewedSoundness.Outcomes.{IsGood, assigned_acts}
 use Rattle.viewed_steps.specs.Sound.{IsBeyond, IsResting, HoldsAt, ArePlaced, NoneAbove, ViewStage, stages_of, GoneElsewhere, AreWaiting, IsStoredAt, AreTurned, HasTraversals}
 use Rattle.viewed_steps.specs.Awaited.{AreAwaited, lasting_of, AreScalar, temporaries_of, TakesScalars}
 use Rattle.viewed_steps.specs.Ready.{AreOrderly, IsReady}
@@ -61,7 +61,7 @@ use Rattle.viewed_steps.proofs.Views.{AreAccess}
 use Rattle.viewed_facts.proofs.Steps.{IsAway}
 use Rattle.flow_paths.specs.Acts.{before_write}
 use Rattle.soundness.proofs.Scalars.{acts_append, acts}
-use Rattle.viewed_soundness.proofs.Evaluated.{keep_both}
+use Rattle.soundness.proofs.ViewedSoundness.Evaluated.{keep_both}
 use Rattle.viewed_facts.proofs.Given.{call_tree, given_unmoved, reborrowed_acts}
 use Rattle.viewed_steps.proofs.Ended.{view_kinds}
 use Rattle.viewed_steps.specs.Seeing.{sees_in}

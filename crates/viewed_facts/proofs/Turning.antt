@@ -30,7 +30,7 @@ use Rattle.machine.specs.States.{Frame, State, Outcome, Goes, sub_of}
 use Rattle.machine.specs.Step.{Turn, turn, start}
 use Rattle.machine.specs.Step as steps
 use Rattle.machine.specs.Owners.{waiting_in}
-use Rattle.owned_ways.specs.Ways.{Way, Told, after, AllowsAll}
+use Rattle.soundness.specs.OwnedWays.Ways.{Way, Told, after, AllowsAll}
 use Rattle.soundness.specs.Seen.{home, seen, IsNear}
 use Rattle.soundness.specs.Typed.{Kept}
 use Rattle.soundness.specs.Sound.{Stage, facts_of, AreStages, IsRunnable, IsNoCall, InScope, IsNamedSub, IsAtPoint, view_of as view_here}
@@ -38,10 +38,10 @@ use Rattle.soundness.proofs.Scalars.{acts}
 use Rattle.soundness.proofs.Eased.{eased}
 use Rattle.soundness.proofs.Operands.{handed_over, hold_is}
 use Rattle.soundness.proofs.Around.{IsFar}
-use Rattle.owned_loans.specs.Views.{Around, known_gone, Views, ViewedAlone}
-use Rattle.viewed_soundness.specs.Holds.{is_fixed, is_view, IsNamed, AllKeep, Seeing}
-use Rattle.viewed_soundness.proofs.ViewKinds.{plain_named}
-use Rattle.viewed_soundness.proofs.Outcomes.{named_plain}
+use Rattle.soundness.specs.OwnedLoans.Views.{Around, known_gone, Views, ViewedAlone}
+use Rattle.soundness.specs.ViewedSoundness.Holds.{is_fixed, is_view, IsNamed, AllKeep, Seeing}
+use Rattle.soundness.proofs.ViewedSoundness.ViewKinds.{plain_named}
+use Rattle.soundness.proofs.ViewedSoundness.Outcomes.{named_plain}
 use Rattle.viewed_steps.specs.Sound.{IsBeyond, IsResting, HoldsAt, ArePlaced, NoneAbove, ViewStage, stages_of, GoneElsewhere, AreWaiting, HasTraversals}
 use Rattle.viewed_steps.specs.Awaited.{AreAwaited, lasting_of}
 use Rattle.viewed_steps.specs.Ready.{IsReady}
@@ -55,7 +55,7 @@ use Rattle.machine.specs.Words as machine
 use Rattle.typed_laws.specs.Needed.{Source}
 use Rattle.type_definitions.specs.Types.{full}
 use Rattle.flow_paths.specs.Objects.{is_anonymous}
-use Rattle.exact_facts.proofs.Checks.{none_made}
+use Rattle.soundness.proofs.ExactFacts.Checks.{none_made}
 use Rattle.viewed_facts.specs.Exact.{IsDefiniteOf, IsExact}
 use Rattle.viewed_facts.proofs.Instructions.{ExactOn, waits_exact}
 use Rattle.viewed_facts.proofs.Frames.{elsewhere as moved_elsewhere}

@@ -25,9 +25,9 @@ use Rattle.machine.specs.States.{Waiting, Outcome}
 use Rattle.machine.specs.Step.{Turn, typing, here, taken_by, goes, leaking_goes, target_pos, first_value}
 use Rattle.machine.specs.Step as steps
 use Rattle.machine.specs.Owners.{waiting_in}
-use Rattle.owned_ways.specs.Ways.{Way, Allows, after, AllowsAll}
-use Rattle.owned_ways.specs.Ways as ways
-use Rattle.part_offsets.specs.Parts.{IsSettled}
+use Rattle.soundness.specs.OwnedWays.Ways.{Way, Allows, after, AllowsAll}
+use Rattle.soundness.specs.OwnedWays.Ways as ways
+use Rattle.soundness.specs.PartOffsets.Parts.{IsSettled}
 use Rattle.soundness.specs.Seen.{home, seen, IsNear}
 use Rattle.soundness.specs.Typed.{OwnsByShape}
 use Rattle.typed_laws.specs.Needed.{Source}
@@ -35,17 +35,17 @@ use Rattle.soundness.proofs.Scalars.{acts, acts_append, after_append, allows_bot
 use Rattle.soundness.proofs.Taking.{Takes}
 use Rattle.soundness.proofs.Stays.{Quiet}
 use Rattle.soundness.proofs.Numbers.{index_law}
-use Rattle.owned_loans.specs.Views.{Around, Views}
-use Rattle.owned_loans.proofs.Allowed.{Cleared, borrow_clears, observe_clears, reborrow_clears}
-use Rattle.owned_loans.proofs.Taken.{reborrow_unused}
-use Rattle.viewed_soundness.specs.Holds.{PartsAreNamed, Seeing}
-use Rattle.viewed_soundness.proofs.Stays.{steps_taking}
-use Rattle.viewed_soundness.proofs.Sources.{source_on}
-use Rattle.viewed_soundness.proofs.Outcomes.{IsGood, live}
-use Rattle.viewed_soundness.proofs.Lends.{Observes, Puts, put_at, stored_is, no_parts}
+use Rattle.soundness.specs.OwnedLoans.Views.{Around, Views}
+use Rattle.soundness.proofs.OwnedLoans.Allowed.{Cleared, borrow_clears, observe_clears, reborrow_clears}
+use Rattle.soundness.proofs.OwnedLoans.Taken.{reborrow_unused}
+use Rattle.soundness.specs.ViewedSoundness.Holds.{PartsAreNamed, Seeing}
+use Rattle.soundness.proofs.ViewedSoundness.Stays.{steps_taking}
+use Rattle.soundness.proofs.ViewedSoundness.Sources.{source_on}
+use Rattle.soundness.proofs.ViewedSoundness.Outcomes.{IsGood, live}
+use Rattle.soundness.proofs.ViewedSoundness.Lends.{Observes, Puts, put_at, stored_is, no_parts}
 use Rattle.viewed_steps.proofs.Ended.{view_kinds}
 use Rattle.viewed_steps.proofs.Sources.{view_shape, observes, observer_only}
-use Rattle.exact_facts.proofs.Steps.{fact_before}
+use Rattle.soundness.proofs.ExactFacts.Steps.{fact_before}
 use Rattle.viewed_facts.specs.Exact.{IsExact}
 use Rattle.viewed_facts.proofs.Instructions.{ExactOn, view_stored, view_declared}
 use Rattle.viewed_steps.proofs.Views.{AreAccess}

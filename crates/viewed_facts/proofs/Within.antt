@@ -4,10 +4,10 @@ use Rattle.viewed_facts.proofs.Stored.{then_placed}
 use Rattle.viewed_facts.proofs.Evaluated.{ExactTo, checked_exact}
 use Rattle.soundness.proofs.Lasting.{keeps}
 use Rattle.soundness.proofs.Numbers.{index_law}
-use Rattle.viewed_soundness.specs.Taken.{types_taken, AreScalarTypes, AreOfTypes}
-use Rattle.viewed_soundness.proofs.Hands.{first_words, words_first, first_both}
-use Rattle.viewed_soundness.proofs.Fed.{scalar_values}
-use Rattle.viewed_soundness.proofs.Evaluated.{Ready}
+use Rattle.soundness.specs.ViewedSoundness.Taken.{types_taken, AreScalarTypes, AreOfTypes}
+use Rattle.soundness.proofs.ViewedSoundness.Hands.{first_words, words_first, first_both}
+use Rattle.soundness.proofs.ViewedSoundness.Fed.{scalar_values}
+use Rattle.soundness.proofs.ViewedSoundness.Evaluated.{Ready}
 use Rattle.machine.specs.States.{Waiting}
 use Rattle.std.proofs.Common.{append_assoc}
 use Rattle.spark_base.specs.Lists.{Has}
@@ -44,7 +44,7 @@ use Rattle.machine.specs.States.{Frame, State, Outcome, sub_of}
 use Rattle.machine.specs.Step.{Turn, turn, start}
 use Rattle.machine.specs.Step as steps
 use Rattle.machine.specs.Owners.{waiting_in}
-use Rattle.owned_ways.specs.Ways.{Way, Told, after, AllowsAll}
+use Rattle.soundness.specs.OwnedWays.Ways.{Way, Told, after, AllowsAll}
 use Rattle.soundness.specs.Seen.{home, seen, IsNear}
 use Rattle.soundness.specs.Typed.{Kept}
 use Rattle.soundness.specs.Sound.{Stage, facts_of, AreStages, IsRunnable, IsNoCall, InScope, IsNamedSub, IsAtPoint, view_of as view_here}
@@ -52,10 +52,10 @@ use Rattle.typed_laws.specs.Needed.{IsFine, Source, Returns}
 use Rattle.soundness.proofs.Scalars.{after_append, acts, acts_append}
 use Rattle.soundness.proofs.Eased.{eased}
 use Rattle.soundness.proofs.Around.{IsFar}
-use Rattle.owned_loans.specs.Views.{Around, known_gone, Views, ViewedAlone}
-use Rattle.viewed_soundness.specs.Holds.{is_fixed, is_view, IsNamed, AllKeep, Seeing}
-use Rattle.viewed_soundness.proofs.ViewKinds.{true_false}
-use Rattle.viewed_soundness.proofs.Outcomes.{named_plain, assigned_acts}
+use Rattle.soundness.specs.OwnedLoans.Views.{Around, known_gone, Views, ViewedAlone}
+use Rattle.soundness.specs.ViewedSoundness.Holds.{is_fixed, is_view, IsNamed, AllKeep, Seeing}
+use Rattle.soundness.proofs.ViewedSoundness.ViewKinds.{true_false}
+use Rattle.soundness.proofs.ViewedSoundness.Outcomes.{named_plain, assigned_acts}
 use Rattle.viewed_steps.specs.Sound.{IsBeyond, IsResting, HoldsAt, ArePlaced, NoneAbove, ViewStage, stages_of, GoneElsewhere, AreWaiting, HasTraversals}
 use Rattle.viewed_steps.specs.Awaited.{AreAwaited, lasting_of, TakesTogether}
 use Rattle.viewed_steps.specs.Ready.{AreOrderly, IsReady}
@@ -64,7 +64,7 @@ use Rattle.viewed_steps.proofs.Standing as standing
 use Rattle.viewed_steps.proofs.Packages as packages
 use Rattle.viewed_steps.proofs.Innermost as innermost
 use Rattle.viewed_steps.proofs.EachInstruction as each
-use Rattle.exact_facts.specs.Exact.{Knows}
+use Rattle.soundness.specs.ExactFacts.Exact.{Knows}
 use Rattle.viewed_facts.specs.Exact.{IsDefiniteOf, IsExact}
 use Rattle.viewed_facts.proofs.Instructions.{ExactOn, then_declared, then_stored}
 use Rattle.viewed_facts.proofs.Frames.{elsewhere as moved_elsewhere}

@@ -14,12 +14,12 @@ use Rattle.flow_paths.specs.LeakPlan.{IsExcused}
 use Rattle.machine.specs.Memory.{Memory}
 use Rattle.machine.specs.States.{State, Outcome, Goes, Ends, sub_of}
 use Rattle.machine.specs.Run.{no_point, step}
-use Rattle.owned_ways.specs.Ways.{Way, Told, IsMoved, sels_of}
-use Rattle.owned_loans.specs.Views.{Views, expand}
+use Rattle.soundness.specs.OwnedWays.Ways.{Way, Told, IsMoved, sels_of}
+use Rattle.soundness.specs.OwnedLoans.Views.{Views, expand}
 use Rattle.soundness.specs.Seen.{seen, home}
 use Rattle.soundness.specs.Sound.{facts_of}
 use Rattle.viewed_steps.specs.Sound.{ViewStage, IsSound}
-use Rattle.exact_facts.specs.Exact.{IsOfVariable, NoneFails, checks_of}
+use Rattle.soundness.specs.ExactFacts.Exact.{IsOfVariable, NoneFails, checks_of}
 
 -- A fact of the frame says so of a name without an element, which stands for a way. (The way may go through elements
 -- that a view was taken from.)

@@ -1,1 +1,3 @@
 pub mod Exact
+-- the machine with null in moved places takes the same steps
+pub mod NullPlaces

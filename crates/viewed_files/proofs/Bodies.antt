@@ -16,9 +16,9 @@ use Rattle.typed_tree.specs.Statements.{scope_count}
 use Rattle.typed_tree.specs.Programs.{TypedSub, DeclaredObject, Home, objects_in, object_of, in_package, package_text, scopes_in, subs_in, placed, over_units}
 use Rattle.flow_paths.specs.Objects.{Typing}
 use Rattle.scope_laws.proofs.Lists.{and_first, and_second}
-use Rattle.typed_files.specs.seen_files.Fits.{all_numbers, scope_after, unit_scope, Fits, UnitFits, AllFit}
-use Rattle.typed_files.proofs.seen_files.Entries.{is_object_entry}
-use Rattle.typed_files.proofs.seen_files.Typed.{units_seen}
+use Rattle.sound_files.specs.SeenFiles.Fits.{all_numbers, scope_after, unit_scope, Fits, UnitFits, AllFit}
+use Rattle.sound_files.proofs.SeenFiles.Entries.{is_object_entry}
+use Rattle.sound_files.proofs.SeenFiles.Typed.{units_seen}
 use Rattle.order_laws.specs.Written.{is_declaration, are_declarations, are_statements, is_body, are_parts, is_procedure, is_unit}
 use Rattle.viewed_files.specs.Places.{AreAt, AreAround}
 use Rattle.viewed_files.specs.Laid.{IsLaidBody}

@@ -22,7 +22,7 @@ use Rattle.type_definitions.specs.Types.{Table, full, view_of, is_scalar, is_own
 use Rattle.type_definitions.specs.Entries.{integer, boolean, marked}
 use Rattle.type_definitions.specs.Expressions.{is_anonymous}
 use Rattle.type_definitions.specs.Whole.{outside, known_of, type_fault}
-use Rattle.ready_types.proofs.type_rules.Formed.{files_formed}
+use Rattle.type_rules.proofs.Formed.{files_formed}
 use Rattle.typed_tree.specs.declared.object.Object.{Object}
 use Rattle.typed_tree.specs.declared.object.ObjectKind.{ObjectKind}
 use Rattle.typed_tree.specs.declared.object.ObjectKind.TheVariants as object_kind
@@ -38,22 +38,22 @@ use Rattle.flow_paths.specs.Points.{FlowPoint}
 use Rattle.flow_paths.specs.Laid.{FlowSub, FlowProgram, flow_typing, flow_program}
 use Rattle.flow_paths.specs.Reports.{AreReports}
 use Rattle.settled_types.specs.Orderly.{at_start, IsOrderly as IsInOrderText}
-use Rattle.orderly_files.specs.Apart.{AreApart}
-use Rattle.orderly_files.specs.Ended.{AllEnded}
-use Rattle.orderly_files.proofs.Main.{files_in_order}
-use Rattle.file_positions.specs.Order.{Ascends, event_positions}
-use Rattle.file_positions.specs.Texts.{AreParsed}
-use Rattle.file_positions.proofs.Ascending.{events_ascend}
-use Rattle.file_positions.proofs.Main.{files_apart, files_ended}
-use Rattle.ready_types.proofs.Files.{files_settled, files_own}
+use Rattle.settled_types.specs.OrderlyFiles.Apart.{AreApart}
+use Rattle.settled_types.specs.OrderlyFiles.Ended.{AllEnded}
+use Rattle.settled_types.proofs.OrderlyFiles.Main.{files_in_order}
+use Rattle.settled_types.specs.FilePositions.Order.{Ascends, event_positions}
+use Rattle.settled_types.specs.FilePositions.Texts.{AreParsed}
+use Rattle.settled_types.proofs.FilePositions.Ascending.{events_ascend}
+use Rattle.settled_types.proofs.FilePositions.Main.{files_apart, files_ended}
+use Rattle.sound_files.proofs.ReadyTypes.Files.{files_settled, files_own}
 use Rattle.machine.specs.Words.{component_type, element_type, element_of}
-use Rattle.gathered_laws.specs.Made.{IsMade}
-use Rattle.gathered_laws.specs.Views.{AreViews}
-use Rattle.gathered_laws.proofs.Parts as parts
-use Rattle.anonymous_types.proofs.Main as anonymous
+use Rattle.settled_types.specs.GatheredLaws.Made.{IsMade}
+use Rattle.settled_types.specs.GatheredLaws.Views.{AreViews}
+use Rattle.settled_types.proofs.GatheredLaws.Parts as parts
+use Rattle.settled_types.proofs.AnonymousTypes.Main as anonymous
 use Rattle.typed_laws.specs.Fine.{Laws, counts, lists}
-use Rattle.typed_steps.specs.Steps.{AreTyped as AreStepsTyped}
-use Rattle.typed_points.specs.Meant.{AreMeantUnits, typing_meant}
+use Rattle.typed_laws.specs.TypedSteps.Steps.{AreTyped as AreStepsTyped}
+use Rattle.typed_laws.specs.TypedPoints.Meant.{AreMeantUnits, typing_meant}
 use Rattle.machine.specs.Owners.{is_in, is_in_formal}
 use Rattle.soundness.specs.Seen.{is_view_formal}
 use Rattle.soundness.specs.Typed.{OwnsByShape}
@@ -61,42 +61,42 @@ use Rattle.soundness.proofs.Passing.{plain_type, signature_is}
 use Rattle.soundness.specs.Sound.{Accepted, RunIsSound}
 use Rattle.soundness.proofs.Points.{flow_table}
 use Rattle.soundness.proofs.Typings.{Agree, flow_agrees}
-use Rattle.viewed_soundness.specs.Holds.{IsAccess, PartsAreNamed, is_given}
-use Rattle.ready_laws.specs.InOrder.{IsInOrder, IsSub, AreAnswered, AreStill, ArePassed}
-use Rattle.ready_laws.proofs.Actuals.{typed_passed}
+use Rattle.soundness.specs.ViewedSoundness.Holds.{IsAccess, PartsAreNamed, is_given}
+use Rattle.order_laws.specs.ReadyLaws.InOrder.{IsInOrder, IsSub, AreAnswered, AreStill, ArePassed}
+use Rattle.order_laws.proofs.ReadyLaws.Actuals.{typed_passed}
 use Rattle.order_laws.specs.Orderly.{typed_of, typing_in, bodies_of, IsOrderly}
 use Rattle.order_laws.proofs.Accepted.{is_in_order}
 use Rattle.order_laws.proofs.Faults.{units_faultless}
-use Rattle.package_values.proofs.Main.{packages_still}
-use Rattle.typed_files.specs.seen_files.Reached.{IsObjectIn}
-use Rattle.typed_files.proofs.seen_files.Files.{files_fit}
-use Rattle.typed_files.proofs.seen_files.Entries.{known_keeps}
-use Rattle.typed_files.proofs.seen_files.Main.{files_values_seen}
-use Rattle.typed_files.specs.meant_files.Typed.{AreTyped}
-use Rattle.typed_files.proofs.meant_files.Main.{files_denote}
-use Rattle.typed_files.proofs.meant_files.Main as meant
-use Rattle.typed_files.proofs.meant_files.Codes as codes
+use Rattle.order_laws.proofs.PackageValues.Main.{packages_still}
+use Rattle.sound_files.specs.SeenFiles.Reached.{IsObjectIn}
+use Rattle.sound_files.proofs.SeenFiles.Files.{files_fit}
+use Rattle.sound_files.proofs.SeenFiles.Entries.{known_keeps}
+use Rattle.sound_files.proofs.SeenFiles.Main.{files_values_seen}
+use Rattle.sound_files.specs.MeantFiles.Typed.{AreTyped}
+use Rattle.sound_files.proofs.MeantFiles.Main.{files_denote}
+use Rattle.sound_files.proofs.MeantFiles.Main as meant
+use Rattle.sound_files.proofs.MeantFiles.Codes as codes
 use Rattle.scope_laws.proofs.Lists.{and_second}
-use Rattle.typed_files.proofs.sound_files.Laws.{table_laws, files_declared, integers_scalar, truths_scalar}
-use Rattle.typed_files.proofs.sound_files.Called.{files_bodies}
-use Rattle.typed_files.proofs.sound_files.Mains.{main_formless}
-use Rattle.typed_files.proofs.sound_files.Functions.{functions_in}
-use Rattle.typed_files.proofs.sound_files.Shared.{functions_see, formals_differ}
-use Rattle.typed_files.proofs.sound_files.Declared.{declared_known, formals_apart}
-use Rattle.typed_files.proofs.sound_files.Owners.{modes_there, formals_wide, main_there}
-use Rattle.typed_files.proofs.sound_files.Classes.{are_answered}
-use Rattle.typed_runs.specs.Code.{IsTypedUse}
-use Rattle.typed_runs.proofs.Results.{results_there}
-use Rattle.viewed_soundness.proofs.Outcomes.{named_plain}
+use Rattle.sound_files.proofs.Laws.{table_laws, files_declared, integers_scalar, truths_scalar}
+use Rattle.sound_files.proofs.Called.{files_bodies}
+use Rattle.sound_files.proofs.Mains.{main_formless}
+use Rattle.sound_files.proofs.Functions.{functions_in}
+use Rattle.sound_files.proofs.Shared.{functions_see, formals_differ}
+use Rattle.sound_files.proofs.Declared.{declared_known, formals_apart}
+use Rattle.sound_files.proofs.Owners.{modes_there, formals_wide, main_there}
+use Rattle.sound_files.proofs.Classes.{are_answered}
+use Rattle.typed_files.specs.TypedRuns.Code.{IsTypedUse}
+use Rattle.typed_files.proofs.TypedRuns.Results.{results_there}
+use Rattle.soundness.proofs.ViewedSoundness.Outcomes.{named_plain}
 use Rattle.typed_files.proofs.Main.{files_code, files_fine, files_steps, files_used, files_firsts, files_first}
-use Rattle.typed_files.proofs.sound_files.Main.{files_orderly}
+use Rattle.sound_files.proofs.Main.{files_orderly}
 use Rattle.viewed_steps.specs.Ready.{IsReady}
 use Rattle.viewed_steps.proofs.Main.{ready_sound}
-use Rattle.view_laws.specs.InOrder.{AreViewsInOrder}
+use Rattle.viewed_files.specs.ViewLaws.InOrder.{AreViewsInOrder}
 use Rattle.viewed_steps.specs.Traversals.{IsSourceName}
 use Rattle.viewed_steps.specs.Sound.{IsScalarObject, IsKindOfFormal, IsStoredAt}
-use Rattle.view_laws.specs.Program.{PassActuals, TraversesNames, TakesView, IsViewProgram}
-use Rattle.view_laws.proofs.Ready.{views_ready}
+use Rattle.viewed_files.specs.ViewLaws.Program.{PassActuals, TraversesNames, TakesView, IsViewProgram}
+use Rattle.viewed_files.proofs.ViewLaws.Ready.{views_ready}
 use Rattle.viewed_files.proofs.Sources.{scalar_plain}
 use Rattle.viewed_files.proofs.Variables.{named_variable}
 use Rattle.viewed_files.proofs.Passed.{actuals_passed}

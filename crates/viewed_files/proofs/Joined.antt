@@ -17,8 +17,8 @@ use Rattle.flow_paths.specs.Scopes.{is_within}
 use Rattle.flow_paths.specs.Views.{encloses, scope_of}
 use Rattle.scope_laws.specs.Code.{roots, are_seen, is_seen, is_each_seen}
 use Rattle.scope_laws.proofs.Lists.{within_has, and_first, and_second, both_true}
-use Rattle.layered_scopes.specs.Layered.{is_older, are_of_scope, are_apart, is_layered, is_each_layered}
-use Rattle.view_laws.specs.InOrder.{gives_view, is_rooted_in, gives_from, is_list_end, is_one_name_of, is_any, fits}
+use Rattle.scope_laws.specs.LayeredScopes.Layered.{is_older, are_of_scope, are_apart, is_layered, is_each_layered}
+use Rattle.viewed_files.specs.ViewLaws.InOrder.{gives_view, is_rooted_in, gives_from, is_list_end, is_one_name_of, is_any, fits}
 use Rattle.viewed_files.specs.Sources.{has_source, all_fit}
 
 either : (a b : Bool) → a || b ≡ true → (a ≡ true) ⊎ (b ≡ true)

@@ -25,10 +25,10 @@ use Rattle.flow_paths.specs.Objects.{Typing, object_at, is_observer}
 use Rattle.flow_paths.specs.Layout.{declared}
 use Rattle.flow_paths.specs.Views.{encloses, scope_of}
 use Rattle.scope_laws.proofs.Lists.{and_first, and_second, both_true}
-use Rattle.layered_scopes.specs.Layered.{is_older, are_of_scope, are_apart, is_layered, is_each_layered}
+use Rattle.scope_laws.specs.LayeredScopes.Layered.{is_older, are_of_scope, are_apart, is_layered, is_each_layered}
 use Rattle.order_laws.specs.Written.{is_declaration, are_declarations, are_statements, is_statement, are_branches, is_branch, are_alternatives, is_alternative}
-use Rattle.view_laws.proofs.Enclosing.{itself, transitive, outward, enclosing_less}
-use Rattle.view_laws.proofs.Inner.{code_inner}
+use Rattle.viewed_files.proofs.ViewLaws.Enclosing.{itself, transitive, outward, enclosing_less}
+use Rattle.viewed_files.proofs.ViewLaws.Inner.{code_inner}
 use Rattle.viewed_files.specs.Places.{AreAt, AreAround}
 use Rattle.viewed_files.proofs.Joined.{nothing_asked}
 

@@ -1,3 +1,6 @@
+-- what an accepted program with borrowers and observers gives to soundness
+pub mod ViewLaws
+-- the crate itself
 mod Variables
 pub mod Joined
 pub mod Layers
@@ -12,5 +15,3 @@ pub mod Traversals
 pub mod Main
 pub mod Passed
 pub mod Files
--- libraries that the crates above name through this one
-pub use Rattle.typed_files.proofs as typed_files

@@ -30,19 +30,19 @@ use Rattle.flow_paths.specs.Views.{encloses, scope_of}
 use Rattle.scope_laws.specs.Code.{Once, roots, are_seen, is_seen, body_seen}
 use Rattle.scope_laws.proofs.Lists.{and_first, and_second, both_true, all_both, all_has, has_reverse, within_has}
 use Rattle.typed_laws.specs.Fine.{Laws}
-use Rattle.typed_points.specs.Meant.{AreMeantUnits}
-use Rattle.layered_scopes.specs.Layered.{is_older, are_of_scope, are_apart, is_layered, is_body_layered}
+use Rattle.typed_laws.specs.TypedPoints.Meant.{AreMeantUnits}
+use Rattle.scope_laws.specs.LayeredScopes.Layered.{is_older, are_of_scope, are_apart, is_layered, is_body_layered}
 use Rattle.order_laws.specs.Orderly.{typed_of, typing_in, bodies_of}
 use Rattle.order_laws.specs.Written.{is_unit}
 use Rattle.order_laws.proofs.Bodies.{IsDeclare}
 use Rattle.order_laws.proofs.First.{units_declare}
 use Rattle.order_laws.proofs.Numbers.{numbers, body_same, formals_same}
-use Rattle.typed_files.specs.meant_files.Denoted.{AreDenoted}
-use Rattle.typed_files.specs.meant_files.Typed.{AreTyped}
-use Rattle.typed_files.specs.seen_files.Fits.{AllFit}
-use Rattle.view_laws.specs.InOrder.{no_views, names_no_view, fits, AreViewsInOrder}
-use Rattle.view_laws.proofs.Enclosing.{itself}
-use Rattle.view_laws.proofs.Inner.{scopes_inner}
+use Rattle.sound_files.specs.MeantFiles.Denoted.{AreDenoted}
+use Rattle.sound_files.specs.MeantFiles.Typed.{AreTyped}
+use Rattle.sound_files.specs.SeenFiles.Fits.{AllFit}
+use Rattle.viewed_files.specs.ViewLaws.InOrder.{no_views, names_no_view, fits, AreViewsInOrder}
+use Rattle.viewed_files.proofs.ViewLaws.Enclosing.{itself}
+use Rattle.viewed_files.proofs.ViewLaws.Inner.{scopes_inner}
 use Rattle.viewed_files.specs.Places.{AreAt, AreAround}
 use Rattle.viewed_files.specs.Laid.{IsLaidBody}
 use Rattle.viewed_files.specs.Sources.{has_source, all_fit}

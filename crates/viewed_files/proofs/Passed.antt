@@ -18,18 +18,18 @@ use Rattle.soundness.specs.Typed.{OwnsByShape}
 use Rattle.typed_laws.specs.Fine.{Has, Agree, counts, lists}
 use Rattle.typed_laws.specs.Needed.{Matches, Gives, IsPlace}
 use Rattle.typed_laws.proofs.Sound.{matches, leads, gives}
-use Rattle.typed_steps.specs.Steps.{IsViewed, Taken, IsPlaceOf, IsActual, ActualsTaken}
-use Rattle.typed_runs.specs.Code.{IsNamedOwner, NamesOwner, NamesOwners, IsName, NamesFirst, IsTypedUse}
+use Rattle.typed_laws.specs.TypedSteps.Steps.{IsViewed, Taken, IsPlaceOf, IsActual, ActualsTaken}
+use Rattle.typed_files.specs.TypedRuns.Code.{IsNamedOwner, NamesOwner, NamesOwners, IsName, NamesFirst, IsTypedUse}
 use Rattle.soundness.proofs.Contents.{bool_cases}
 use Rattle.soundness.proofs.Passing.{signature_there}
-use Rattle.viewed_soundness.specs.Holds.{IsNamed}
-use Rattle.viewed_soundness.proofs.ViewKinds.{access_bundle}
-use Rattle.ready_laws.proofs.Actuals.{taken_stays}
+use Rattle.soundness.specs.ViewedSoundness.Holds.{IsNamed}
+use Rattle.soundness.proofs.ViewedSoundness.ViewKinds.{access_bundle}
+use Rattle.order_laws.proofs.ReadyLaws.Actuals.{taken_stays}
 use Rattle.scope_laws.specs.Code.{Once}
 use Rattle.flow_paths.specs.Views.{traversed_of}
 use Rattle.viewed_steps.specs.Ready.{IsSeen, IsValueTo, is_shown_type}
 use Rattle.viewed_steps.proofs.Copies.{no_cell}
-use Rattle.view_laws.specs.Program.{IsPassedTo, ArePassedTo, PassActuals}
+use Rattle.viewed_files.specs.ViewLaws.Program.{IsPassedTo, ArePassedTo, PassActuals}
 
 either_one : (a b : Bool) → a || b ≡ true → (a ≡ true) ⊎ (b ≡ true)
 either_one true b e = inl refl

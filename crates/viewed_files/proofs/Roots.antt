@@ -19,11 +19,11 @@ use Rattle.typed_tree.specs.Programs.{DeclaredObject, Home, object_of, objects_i
 use Rattle.flow_paths.specs.Objects.{Typing, object_at, view_of, is_anonymous}
 use Rattle.flow_paths.specs.Objects as flow
 use Rattle.scope_laws.proofs.Lists.{all_both}
-use Rattle.typed_files.specs.seen_files.Fits.{AllFit}
-use Rattle.typed_files.specs.meant_files.Denoted.{AreDenoted}
-use Rattle.typed_files.proofs.meant_files.Objects.{object_numbers, units_same}
-use Rattle.typed_files.proofs.meant_files.Denoted.{units_denoted}
-use Rattle.typed_files.proofs.seen_files.Entries.{is_object_entry}
+use Rattle.sound_files.specs.SeenFiles.Fits.{AllFit}
+use Rattle.sound_files.specs.MeantFiles.Denoted.{AreDenoted}
+use Rattle.sound_files.proofs.MeantFiles.Objects.{object_numbers, units_same}
+use Rattle.sound_files.proofs.MeantFiles.Denoted.{units_denoted}
+use Rattle.sound_files.proofs.SeenFiles.Entries.{is_object_entry}
 use Rattle.viewed_files.specs.Places.{AreAt}
 
 -- ---- what is known of the objects of a program

@@ -46,12 +46,12 @@ use Rattle.flow_paths.specs.Names.{first, whole, whole_object}
 use Rattle.typed_laws.specs.Fine.{Laws, IsMeant, Denotes, AreSuffixes, counts}
 use Rattle.typed_laws.proofs.Agreeing.{holds, nil_left, nil_right}
 use Rattle.typed_laws.proofs.Readings.{call_of}
-use Rattle.typed_points.specs.Meant.{AreDeclared, AreNumbers, IsMeantOptional}
-use Rattle.typed_points.proofs.Flags.{flagged, reading_same}
-use Rattle.typed_files.specs.seen_files.Uses.{Uses}
-use Rattle.typed_files.specs.meant_files.Typed.{AreIndicated, AreOf, IsGroupTyped, AreGroupsTyped, IsFrontTyped, AreIntegers}
+use Rattle.typed_laws.specs.TypedPoints.Meant.{AreDeclared, AreNumbers, IsMeantOptional}
+use Rattle.typed_laws.proofs.TypedPoints.Flags.{flagged, reading_same}
+use Rattle.sound_files.specs.SeenFiles.Uses.{Uses}
+use Rattle.sound_files.specs.MeantFiles.Typed.{AreIndicated, AreOf, IsGroupTyped, AreGroupsTyped, IsFrontTyped, AreIntegers}
 use Rattle.scope_laws.proofs.Lists.{all_both, and_first, and_second}
-use Rattle.view_laws.specs.InOrder.{gives_view, is_name_of, is_one_name_of, is_any, stores_name}
+use Rattle.viewed_files.specs.ViewLaws.InOrder.{gives_view, is_name_of, is_one_name_of, is_any, stores_name}
 use Rattle.viewed_files.specs.Sources.{has_source, all_fit}
 
 or_left : (a b : Bool) → a ≡ true → a || b ≡ true

@@ -36,10 +36,10 @@ use Rattle.scope_laws.specs.Supplied.{IsKept}
 use Rattle.scope_laws.proofs.Kept.{sub_kept}
 use Rattle.scope_laws.proofs.Filled.{temporaries_of, object_before}
 use Rattle.scope_laws.proofs.Lists.{all_has, within_has}
-use Rattle.ready_laws.specs.InOrder.{IsInOrder, AreStill, own_nothing}
-use Rattle.ready_laws.proofs.Elaborated.{package_declares}
-use Rattle.ready_laws.proofs.Ready.{seen_has}
-use Rattle.ready_laws.proofs.Subs.{setting_from, named_cases}
+use Rattle.order_laws.specs.ReadyLaws.InOrder.{IsInOrder, AreStill, own_nothing}
+use Rattle.order_laws.proofs.ReadyLaws.Elaborated.{package_declares}
+use Rattle.order_laws.proofs.ReadyLaws.Ready.{seen_has}
+use Rattle.order_laws.proofs.ReadyLaws.Subs.{setting_from, named_cases}
 use Rattle.viewed_steps.specs.Sound.{IsStoredAt}
 
 true_is : {A : Type 0} → true ≡ false → A

@@ -13,9 +13,9 @@ use Rattle.machine.specs.Words.{element_of, component_type}
 use Rattle.typed_laws.specs.Fine.{Has, Leads}
 use Rattle.typed_laws.proofs.Sound.{matches}
 use Rattle.typed_laws.proofs.Agreeing.{agree_access}
-use Rattle.typed_steps.specs.Steps.{Taken, ActualsTaken, IsCall}
-use Rattle.typed_runs.specs.Code.{IsName, NamesFirst, ArePassed, WithinSource, IsViewSource, IsTypedUse}
-use Rattle.viewed_soundness.specs.Holds.{IsNamed, PartsAreNamed}
+use Rattle.typed_laws.specs.TypedSteps.Steps.{Taken, ActualsTaken, IsCall}
+use Rattle.typed_files.specs.TypedRuns.Code.{IsName, NamesFirst, ArePassed, WithinSource, IsViewSource, IsTypedUse}
+use Rattle.soundness.specs.ViewedSoundness.Holds.{IsNamed, PartsAreNamed}
 use Rattle.viewed_steps.specs.Traversals.{GivesView, IsSourceName}
 
 true_is : {A : Type 0} → true ≡ false → A

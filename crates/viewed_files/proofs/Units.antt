@@ -17,11 +17,11 @@ use Rattle.typed_tree.specs.Programs.{TypedSub, DeclaredObject, Home, objects_in
 use Rattle.flow_paths.specs.Objects.{Typing, Signature}
 use Rattle.typed_laws.specs.Fine.{Laws}
 use Rattle.typed_laws.proofs.Agreeing.{nil_left, nil_right}
-use Rattle.typed_points.specs.Meant.{IsMeantCode, AreMeantBodies, AreMeantObjects}
+use Rattle.typed_laws.specs.TypedPoints.Meant.{IsMeantCode, AreMeantBodies, AreMeantObjects}
 use Rattle.scope_laws.proofs.Lists.{and_first, and_second, all_both}
 use Rattle.order_laws.specs.Written.{is_declaration, are_declarations, are_statements, is_body, are_parts, is_procedure, is_unit}
-use Rattle.typed_files.specs.meant_files.Denoted.{AreDenoted}
-use Rattle.typed_files.specs.meant_files.Typed.{AreTyped}
+use Rattle.sound_files.specs.MeantFiles.Denoted.{AreDenoted}
+use Rattle.sound_files.specs.MeantFiles.Typed.{AreTyped}
 use Rattle.viewed_files.specs.Sources.{has_source, all_fit}
 use Rattle.viewed_files.proofs.Sources as source
 use Rattle.viewed_files.proofs.Sources.{IsLocalView, DeclaresPlain}

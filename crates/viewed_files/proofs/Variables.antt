@@ -15,7 +15,7 @@ use Rattle.type_definitions.specs.Entries.{entry_of, marked}
 use Rattle.type_definitions.specs.Names.{Context}
 use Rattle.type_definitions.specs.Whole.{predefined_types, at_first, outside, gather_units, known_from, known_of}
 use Rattle.type_definitions.specs.Gathered.{gather, each, declared_number, declared_pos, with_entry, with_info, with_type, own_info, with_indication, awaited_info, defined, is_asked, are_static_bounds, bound_pair, with_literals, with_definition, full_info, constrained_shape, subtype_info, meant_by, with_object, constant_value, with_number, initial_value, plain_object, with_formal, with_formal_group, with_formals, with_result, with_front, with_body_front, is_subprogram, front_number, parameter_type, in_subprogram, in_visible, in_hidden}
-use Rattle.gathered_laws.proofs.Gathered.{row_after}
+use Rattle.settled_types.proofs.GatheredLaws.Gathered.{row_after}
 
 abbrev IsVariable : Shape → Type 0
 IsVariable (shape.Access d constant named) = named ≡ true → constant ≡ false

@@ -24,13 +24,13 @@ use Rattle.typed_tree.specs.Programs.{DeclaredObject, Home, objects_in}
 use Rattle.flow_paths.specs.Objects.{Typing, Signature}
 use Rattle.typed_laws.specs.Fine.{Laws}
 use Rattle.typed_laws.proofs.Agreeing.{nil_left, nil_right}
-use Rattle.typed_points.specs.Meant.{IsMeantCode, AreAlternatives}
-use Rattle.typed_points.proofs.Flags.{flagged}
-use Rattle.typed_points.proofs.Statements.{parameter_scalar}
+use Rattle.typed_laws.specs.TypedPoints.Meant.{IsMeantCode, AreAlternatives}
+use Rattle.typed_laws.proofs.TypedPoints.Flags.{flagged}
+use Rattle.typed_laws.proofs.TypedPoints.Statements.{parameter_scalar}
 use Rattle.scope_laws.proofs.Lists.{and_first, and_second, both_true, all_both}
 use Rattle.order_laws.specs.Written.{is_declaration, are_declarations, are_statements, is_statement, are_branches, is_branch, are_alternatives, is_alternative}
-use Rattle.typed_files.specs.meant_files.Denoted.{AreDenoted}
-use Rattle.typed_files.specs.meant_files.Typed.{AreTyped}
+use Rattle.sound_files.specs.MeantFiles.Denoted.{AreDenoted}
+use Rattle.sound_files.specs.MeantFiles.Typed.{AreTyped}
 use Rattle.viewed_files.specs.Sources.{has_source, all_fit}
 use Rattle.viewed_files.proofs.Sources as source
 use Rattle.viewed_files.proofs.Sources.{IsLocalView, DeclaresPlain, scalar_plain}

@@ -6,7 +6,7 @@ use Rattle.flow_paths.specs.Instructions.{Instruction, Declare, Assign}
 use Rattle.flow_paths.specs.Instructions as instruction
 use Rattle.flow_paths.specs.Objects.{Typing, is_anonymous, view_of}
 use Rattle.flow_paths.specs.Names.{first, whole}
-use Rattle.view_laws.specs.InOrder.{gives_view, is_one_name_of, is_any, stores_name}
+use Rattle.viewed_files.specs.ViewLaws.InOrder.{gives_view, is_one_name_of, is_any, stores_name}
 
 -- As `fits` has it, without an order of objects.
 abbrev pub has_source : Typing → Instruction → Bool

@@ -19,21 +19,21 @@ use Rattle.machine.specs.Memory.{Memory, Place}
 use Rattle.machine.specs.Evaluate.{Here}
 use Rattle.machine.specs.Calls.{Passed, Value, From, To, passed}
 use Rattle.machine.specs.States.{Waiting, Leak}
-use Rattle.owned_ways.specs.Ways.{Step, Component, OfVariable, Loc, OfRoot, Way, Object, Into, Empty, Named, Past, Under, IsRooted, Reaches, IsSame, AllowsAll, after, part, along, Allows, Gone}
-use Rattle.owned_ways.specs.Ways as ways
-use Rattle.part_offsets.specs.Parts.{type_in, IsSettled}
-use Rattle.viewed_soundness.specs.soundness.Seen.{IsNear, Content, content, trunk, steps_in, seen, home}
-use Rattle.viewed_soundness.specs.soundness.Typed.{OwnsByShape, Kept, Spot}
+use Rattle.soundness.specs.OwnedWays.Ways.{Step, Component, OfVariable, Loc, OfRoot, Way, Object, Into, Empty, Named, Past, Under, IsRooted, Reaches, IsSame, AllowsAll, after, part, along, Allows, Gone}
+use Rattle.soundness.specs.OwnedWays.Ways as ways
+use Rattle.soundness.specs.PartOffsets.Parts.{type_in, IsSettled}
+use Rattle.soundness.specs.Seen.{IsNear, Content, content, trunk, steps_in, seen, home}
+use Rattle.soundness.specs.Typed.{OwnsByShape, Kept, Spot}
 use Rattle.typed_laws.specs.Needed.{IndexLaw}
-use Rattle.viewed_soundness.proofs.soundness.Contents.{word_no, word_part}
-use Rattle.viewed_soundness.proofs.soundness.Joined.{leaf_join}
-use Rattle.viewed_soundness.proofs.soundness.Steps.{no_leaf}
-use Rattle.viewed_soundness.proofs.soundness.Fixed.{matches_scalar}
-use Rattle.viewed_soundness.proofs.soundness.Scalars.{acts, acts_append, after_append, read_effect}
-use Rattle.owned_loans.specs.Views.{Around, Views, Viewed, expand, way_at}
-use Rattle.viewed_soundness.specs.Holds.{PartsAreNamed, Holds, is_view, IsOwners, Seeing}
-use Rattle.viewed_soundness.proofs.ViewKinds.{bundle_view, plain_sees, true_false}
-use Rattle.viewed_soundness.proofs.Names.{seen_parts}
+use Rattle.soundness.proofs.Contents.{word_no, word_part}
+use Rattle.soundness.proofs.Joined.{leaf_join}
+use Rattle.soundness.proofs.Steps.{no_leaf}
+use Rattle.soundness.proofs.Fixed.{matches_scalar}
+use Rattle.soundness.proofs.Scalars.{acts, acts_append, after_append, read_effect}
+use Rattle.soundness.specs.OwnedLoans.Views.{Around, Views, Viewed, expand, way_at}
+use Rattle.soundness.specs.ViewedSoundness.Holds.{PartsAreNamed, Holds, is_view, IsOwners, Seeing}
+use Rattle.soundness.proofs.ViewedSoundness.ViewKinds.{bundle_view, plain_sees, true_false}
+use Rattle.soundness.proofs.ViewedSoundness.Names.{seen_parts}
 use Rattle.viewed_steps.proofs.Views.{AreAccess, AreLowFormals}
 use Rattle.viewed_steps.proofs.Emptied.{out_left, taken_back}
 use Rattle.viewed_steps.proofs.Outs.{Out, IsUnderOne}
@@ -43,9 +43,9 @@ use Rattle.viewed_steps.proofs.Puts as puts
 use Rattle.viewed_steps.proofs.Called.{way_to, neither}
 use Rattle.viewed_steps.proofs.Between.{OwnersStand}
 use Rattle.viewed_steps.proofs.Entered.{own_named, own_number, own_itself, own_plain}
-use Rattle.owned_loans.proofs.Moves.{IsPlace, expand_under}
-use Rattle.owned_ways.proofs.Assigned.{is_false, kept_fact}
-use Rattle.owned_ways.proofs.Named.{covered_under, longer}
+use Rattle.soundness.proofs.OwnedLoans.Moves.{IsPlace, expand_under}
+use Rattle.soundness.proofs.OwnedWays.Assigned.{is_false, kept_fact}
+use Rattle.soundness.proofs.OwnedWays.Named.{covered_under, longer}
 use Rattle.place_names.specs.Names.{Name as PlaceName, covers}
 use Rattle.place_names.specs.declared.fact.Fact.TheVariants.{Moved}
 use Rattle.viewed_steps.proofs.Released.{ends_there}

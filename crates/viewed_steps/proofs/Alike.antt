@@ -12,20 +12,20 @@ use Rattle.machine.specs.Memory as memory
 use Rattle.machine.specs.Evaluate.{Now, Evaluated, Done, Raises, Traps, ConstraintError, followed_by}
 use Rattle.machine.specs.Calls.{Passed, Value, From, To, with_formal}
 use Rattle.machine.specs.States.{Waiting, Leak}
-use Rattle.owned_ways.specs.Ways.{Step, OfVariable, Loc, OfRoot, OfCell, IsSame, Reaches, part, base_of}
-use Rattle.part_offsets.specs.Parts.{type_in, offset_in, has_part, IsSettled}
-use Rattle.viewed_soundness.specs.soundness.Seen.{Content, content, trunk, steps_in, word_in, seen}
-use Rattle.viewed_soundness.specs.soundness.Typed.{Matches, OwnsByShape, Kept, Spot, IsFixed}
-use Rattle.viewed_soundness.proofs.soundness.Memories.{put_other, marked_length}
-use Rattle.viewed_soundness.proofs.soundness.Steps.{plain_end, room, taken_slots, same_there as same_content}
-use Rattle.viewed_soundness.proofs.soundness.Keeping.{scalar}
-use Rattle.viewed_soundness.proofs.soundness.Lasting.{lengths, less_kept, put_away, declared_kept, keeps}
-use Rattle.viewed_soundness.proofs.soundness.Fixed.{matches_scalar, plain_word, fixed_at, fixed_spot, put_word, put_same_view}
-use Rattle.viewed_soundness.proofs.soundness.Loops.{same_word, scalar_same}
-use Rattle.viewed_soundness.proofs.soundness.Stays.{One}
-use Rattle.viewed_soundness.proofs.soundness.Returning.{Backs}
+use Rattle.soundness.specs.OwnedWays.Ways.{Step, OfVariable, Loc, OfRoot, OfCell, IsSame, Reaches, part, base_of}
+use Rattle.soundness.specs.PartOffsets.Parts.{type_in, offset_in, has_part, IsSettled}
+use Rattle.soundness.specs.Seen.{Content, content, trunk, steps_in, word_in, seen}
+use Rattle.soundness.specs.Typed.{Matches, OwnsByShape, Kept, Spot, IsFixed}
+use Rattle.soundness.proofs.Memories.{put_other, marked_length}
+use Rattle.soundness.proofs.Steps.{plain_end, room, taken_slots, same_there as same_content}
+use Rattle.soundness.proofs.Keeping.{scalar}
+use Rattle.soundness.proofs.Lasting.{lengths, less_kept, put_away, declared_kept, keeps}
+use Rattle.soundness.proofs.Fixed.{matches_scalar, plain_word, fixed_at, fixed_spot, put_word, put_same_view}
+use Rattle.soundness.proofs.Loops.{same_word, scalar_same}
+use Rattle.soundness.proofs.Stays.{One}
+use Rattle.soundness.proofs.Returning.{Backs}
 use Rattle.viewed_steps.specs.Taken.{Lodge, IsLodged, IsPlainPlace}
-use Rattle.viewed_soundness.specs.Holds.{is_bundle, is_view}
+use Rattle.soundness.specs.ViewedSoundness.Holds.{is_bundle, is_view}
 use Rattle.viewed_steps.proofs.Views.{AreAccess, view_access, scalar_bundle, scalar_no_view}
 use Rattle.viewed_steps.proofs.Beside.{put_beside}
 use Rattle.viewed_steps.proofs.Lodged.{lodged_spot}

@@ -16,9 +16,9 @@ use Rattle.flow_paths.specs.Laid.{FlowSub, FlowProgram, NamedSub, flow_sub, typi
 use Rattle.flow_paths.specs.Paths.{facts_before}
 use Rattle.flow_paths.specs.Effects.{flow_sub_at, path_points, AreEffects, written_by}
 use Rattle.machine.specs.States.{Return, State, sub_of}
-use Rattle.viewed_soundness.specs.soundness.Sound.{Stage, facts_of, Uses, IsNamedSub}
-use Rattle.viewed_soundness.proofs.soundness.Points.{sub_there, sub_at_number, sub_in_range}
-use Rattle.viewed_soundness.proofs.soundness.Used.{writes_used, reads_used, fact_added}
+use Rattle.soundness.specs.Sound.{Stage, facts_of, Uses, IsNamedSub}
+use Rattle.soundness.proofs.Points.{sub_there, sub_at_number, sub_in_range}
+use Rattle.soundness.proofs.Used.{writes_used, reads_used, fact_added}
 use Rattle.viewed_steps.specs.Sound.{loan_by, withheld, ViewStage, Disturbs, IsWaiting, AreWaiting, shown_at, passed_roots, known_at}
 use Rattle.viewed_steps.proofs.Inherited.{lending_uses}
 use Rattle.viewed_steps.proofs.Uses.{writes_there, borrowing_writes, moving_writes}

@@ -4,13 +4,13 @@ use Rattle.std.proofs.Common.{◌≡◌, refl, sym, ap, ◌∙◌, subst, inl, �
 use Rattle.place_names.specs.declared.rule.Loan.TheVariants.{Borrowed}
 use Rattle.place_names.specs.declared.fact.Fact.{Fact}
 use Rattle.place_names.specs.Names.{overlaps}
-use Rattle.owned_ways.specs.Ways.{Step, Root, OfVariable, OfHand, Loc, OfRoot, OfCell, Way, Object, Lost, Into, All, View, Reaches, Under, along, name_of}
-use Rattle.owned_ways.proofs.Unique.{one_location}
-use Rattle.viewed_soundness.specs.soundness.Seen.{trunk}
-use Rattle.owned_loans.specs.Views.{Around, Views, way_at, expand, expand_root, Viewed, part_at, inner_steps, expand_part, part_from}
-use Rattle.owned_loans.proofs.Meeting.{IsPlain}
-use Rattle.owned_loans.proofs.Safe.{Unlent, apart_names}
-use Rattle.owned_loans.proofs.Ways.{part_found}
+use Rattle.soundness.specs.OwnedWays.Ways.{Step, Root, OfVariable, OfHand, Loc, OfRoot, OfCell, Way, Object, Lost, Into, All, View, Reaches, Under, along, name_of}
+use Rattle.soundness.proofs.OwnedWays.Unique.{one_location}
+use Rattle.soundness.specs.Seen.{trunk}
+use Rattle.soundness.specs.OwnedLoans.Views.{Around, Views, way_at, expand, expand_root, Viewed, part_at, inner_steps, expand_part, part_from}
+use Rattle.soundness.proofs.OwnedLoans.Meeting.{IsPlain}
+use Rattle.soundness.proofs.OwnedLoans.Safe.{Unlent, apart_names}
+use Rattle.soundness.proofs.OwnedLoans.Ways.{part_found}
 
 module _ (home : ℕ → ℕ) (observer : ℕ → Bool) (other : Around home) (v : Views) (s : View) (facts : List Fact)
     (viewed : Viewed home observer other v s facts) where

@@ -2,7 +2,7 @@
 --
 -- All of it is seen from the frame of the caller: what is gone in the variables of the frame that ends is
 -- known as such.
-use Rattle.viewed_soundness.specs.Holds.{is_view}
+use Rattle.soundness.specs.ViewedSoundness.Holds.{is_view}
 use Rattle.std.proofs.Common.{◌≡◌, refl, sym, ap, ◌∙◌, subst, ◌⊎◌, inl, inr, ℕ, suc, ◌+◌, Bool, true, false, not, List, [], ◌∷◌, ◌++◌, take, drop, length, get_or, arith, append-nil, if◌then◌else◌, Some}
 use Rattle.std.proofs.lemmas.List.{length-map}
 use Rattle.spark_base.specs.Lists.{Has}
@@ -17,20 +17,20 @@ use Rattle.machine.specs.Memory as memory
 use Rattle.machine.specs.Evaluate.{Now, Evaluated, followed_by, variable_place, checked}
 use Rattle.machine.specs.States.{Waiting, Leak, Return}
 use Rattle.machine.specs.Step.{Turn, typing, here, copied_back}
-use Rattle.owned_ways.specs.Ways.{Step, OfVariable, OfHand, Loc, OfRoot, OfCell, Inside, Way, Object, Empty, Held, Under, Past, Owned, Reaches, part, along, base_of, View}
-use Rattle.owned_ways.proofs.Moving.{parts_apart}
-use Rattle.owned_ways.proofs.Unique.{one_way}
-use Rattle.owned_ways.proofs.Locations.{reaches_along}
-use Rattle.part_offsets.specs.Parts.{IsSettled}
-use Rattle.viewed_soundness.specs.soundness.Seen.{content, trunk, steps_in, word_in, seen, home}
-use Rattle.viewed_soundness.specs.soundness.Typed.{Matches, OwnsByShape, Kept, Spot}
-use Rattle.viewed_soundness.proofs.soundness.Joined.{trunk_part}
-use Rattle.viewed_soundness.proofs.soundness.Contents.{word_no}
-use Rattle.viewed_soundness.proofs.soundness.Steps.{matches_words, no_leaf, taken_slots, room}
-use Rattle.viewed_soundness.proofs.soundness.Lasting.{keeps, put_away}
-use Rattle.viewed_soundness.proofs.soundness.Returning.{Backs, formal_fixed}
-use Rattle.owned_loans.specs.Views.{Views, IsMovedBy}
-use Rattle.viewed_soundness.proofs.Evaluated.{matches_named}
+use Rattle.soundness.specs.OwnedWays.Ways.{Step, OfVariable, OfHand, Loc, OfRoot, OfCell, Inside, Way, Object, Empty, Held, Under, Past, Owned, Reaches, part, along, base_of, View}
+use Rattle.soundness.proofs.OwnedWays.Moving.{parts_apart}
+use Rattle.soundness.proofs.OwnedWays.Unique.{one_way}
+use Rattle.soundness.proofs.OwnedWays.Locations.{reaches_along}
+use Rattle.soundness.specs.PartOffsets.Parts.{IsSettled}
+use Rattle.soundness.specs.Seen.{content, trunk, steps_in, word_in, seen, home}
+use Rattle.soundness.specs.Typed.{Matches, OwnsByShape, Kept, Spot}
+use Rattle.soundness.proofs.Joined.{trunk_part}
+use Rattle.soundness.proofs.Contents.{word_no}
+use Rattle.soundness.proofs.Steps.{matches_words, no_leaf, taken_slots, room}
+use Rattle.soundness.proofs.Lasting.{keeps, put_away}
+use Rattle.soundness.proofs.Returning.{Backs, formal_fixed}
+use Rattle.soundness.specs.OwnedLoans.Views.{Views, IsMovedBy}
+use Rattle.soundness.proofs.ViewedSoundness.Evaluated.{matches_named}
 use Rattle.viewed_steps.proofs.Left.{cells_same}
 use Rattle.viewed_steps.specs.Taken.{Lodge, IsPlainPlace, IsCopiedTo, AreCarried, TakenBy, IsInside, IsAmong, IsTakenIn, IsPassedOn, IsBare, IsTaken, IsApartFrom, IsAnother, AreTaken, IsOwnAt}
 use Rattle.viewed_steps.proofs.Between.{carried_same, carried_then, taken_more, same_reaches, more_gone, base_along, base_under, same_variable, taken_less, OwnersStand, same_stand, Begins, begun_low, home_low}

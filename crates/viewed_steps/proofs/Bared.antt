@@ -5,13 +5,13 @@ use Rattle.place_names.specs.declared.fact.Fact.{Fact}
 use Rattle.flow_paths.specs.Objects.{Typing}
 use Rattle.machine.specs.Memory.{Memory, Place}
 use Rattle.machine.specs.States.{Return}
-use Rattle.owned_ways.specs.Ways.{Step, Loc, OfCell, Way, Object, Lost, Into, All, Held, View, Reaches, Past, along}
-use Rattle.owned_ways.proofs.Unique.{one_location}
-use Rattle.owned_ways.proofs.Locations.{depth, past_depth}
-use Rattle.viewed_soundness.specs.soundness.Seen.{content, steps_in, word_in}
+use Rattle.soundness.specs.OwnedWays.Ways.{Step, Loc, OfCell, Way, Object, Lost, Into, All, Held, View, Reaches, Past, along}
+use Rattle.soundness.proofs.OwnedWays.Unique.{one_location}
+use Rattle.soundness.proofs.OwnedWays.Locations.{depth, past_depth}
+use Rattle.soundness.specs.Seen.{content, steps_in, word_in}
 use Rattle.viewed_steps.specs.Taken.{Lodge, IsInside, IsAmong, AreTaken}
 use Rattle.viewed_steps.proofs.Carried.{start_reached, start_steps}
-use Rattle.owned_loans.specs.Views.{Views}
+use Rattle.soundness.specs.OwnedLoans.Views.{Views}
 
 -- A way to a variable or a cell as a whole.
 abbrev pub IsTop : View → Way → Loc → Type 0

@@ -3,8 +3,8 @@ use Rattle.viewed_steps.specs.Sound.{ViewStage, IsTraversal}
 use Rattle.viewed_steps.specs.Awaited.{IsTakenBy}
 use Rattle.viewed_steps.specs.Traversals.{TraversalCall, call_in, IsViewTaker, AreRooted, SeesFirst}
 use Rattle.viewed_steps.proofs.LaidOut.{IsLaidOne, AreLaidOut}
-use Rattle.viewed_soundness.proofs.soundness.Points.{one_named, one_point}
-use Rattle.viewed_soundness.specs.soundness.Sound.{IsNamedSub, IsAtPoint}
+use Rattle.soundness.proofs.Points.{one_named, one_point}
+use Rattle.soundness.specs.Sound.{IsNamedSub, IsAtPoint}
 use Rattle.std.proofs.Common.{◌≡◌, refl, sym, ap, ◌∙◌, subst, inl, inr, ℕ, List, [], ◌∷◌, ◌++◌, Option, Some, Bool}
 use Rattle.spark_base.specs.Lists.{Has}
 use Rattle.place_names.specs.declared.act.Mode.TheVariants as mode
@@ -20,8 +20,8 @@ use Rattle.flow_paths.specs.Views.{traversed_formal, sub_acts}
 use Rattle.machine.specs.Calls.{Passed, Value, From, To, return_of, returns_of}
 use Rattle.machine.specs.Memory.{Memory}
 use Rattle.machine.specs.States.{sub_of}
-use Rattle.owned_ways.specs.Ways.{Way, View}
-use Rattle.owned_loans.specs.Views.{Views}
+use Rattle.soundness.specs.OwnedWays.Ways.{Way, View}
+use Rattle.soundness.specs.OwnedLoans.Views.{Views}
 
 -- what takes the result takes the call
 pub taker_takes : (s : Typing) (n : ℕ) (c : TraversalCall) (result : Option ℕ) (i : Instruction) → IsViewTaker s n c result i → IsTakenBy i (call_in n c)

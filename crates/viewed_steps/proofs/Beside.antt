@@ -20,17 +20,17 @@ use Rattle.machine.specs.Calls.{checks_at}
 use Rattle.machine.specs.States.{Loop, Leak, State, Outcome, Goes}
 use Rattle.machine.specs.Step.{Turn, turn, typing, here, start, waiting, Stored, taken_by, first_value, goes, behind, leaking_goes}
 use Rattle.machine.specs.Step as steps
-use Rattle.owned_ways.specs.Ways.{Step, OfRoot, Empty, Gone, Held}
-use Rattle.owned_ways.specs.Ways as ways
-use Rattle.part_offsets.specs.Parts.{offset_in, is_leaf}
-use Rattle.viewed_soundness.specs.soundness.Seen.{content, owner_at, owner_word, word_in, home, is_view_formal}
+use Rattle.soundness.specs.OwnedWays.Ways.{Step, OfRoot, Empty, Gone, Held}
+use Rattle.soundness.specs.OwnedWays.Ways as ways
+use Rattle.soundness.specs.PartOffsets.Parts.{offset_in, is_leaf}
+use Rattle.soundness.specs.Seen.{content, owner_at, owner_word, word_in, home, is_view_formal}
 use Rattle.typed_laws.specs.Needed.{IsFine, FirstStays, Returns}
-use Rattle.viewed_soundness.proofs.soundness.Contents.{bool_cases}
-use Rattle.viewed_soundness.proofs.soundness.Memories.{put_other, removed_other}
-use Rattle.viewed_soundness.proofs.soundness.Fading.{Fainter, FadesTo, Fades, still, then_fades, if_fades, checked_fades, fades, steps_fade}
-use Rattle.viewed_soundness.proofs.soundness.Following.{Each}
-use Rattle.viewed_soundness.proofs.soundness.Onward.{Gets}
-use Rattle.viewed_soundness.proofs.soundness.Scoped.{IsFrom, LeadsFrom, walked_from}
+use Rattle.soundness.proofs.Contents.{bool_cases}
+use Rattle.soundness.proofs.Memories.{put_other, removed_other}
+use Rattle.soundness.proofs.Fading.{Fainter, FadesTo, Fades, still, then_fades, if_fades, checked_fades, fades, steps_fade}
+use Rattle.soundness.proofs.Following.{Each}
+use Rattle.soundness.proofs.Onward.{Gets}
+use Rattle.soundness.proofs.Scoped.{IsFrom, LeadsFrom, walked_from}
 
 -- Another instruction than a call, an operand that waits, a return with a value, and the end of a
 -- call.

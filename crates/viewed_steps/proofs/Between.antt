@@ -3,19 +3,19 @@ use Rattle.std.proofs.Common.{◌≡◌, refl, sym, ap, ◌∙◌, subst, ◌⊎
 use Rattle.spark_base.specs.Lists.{Has}
 use Rattle.place_names.specs.declared.fact.Fact.{Fact}
 use Rattle.place_names.specs.declared.fact.Fact.TheVariants.{Lent, Moved}
-use Rattle.owned_ways.specs.Ways.{Step, OfVariable, OfHand, Loc, OfRoot, OfCell, Way, Object, Lost, Into, All, Gone, View, Reaches, IsSame, part, along, IsRooted, Under, Named, base_of, number_of, Owned, Covered, Known, Sound}
-use Rattle.owned_ways.proofs.Locations.{under_along, under_itself}
-use Rattle.owned_ways.proofs.Named.{longer}
-use Rattle.owned_ways.proofs.Moving.{Given, owned_after, covered_after, known_after}
-use Rattle.owned_ways.proofs.Dropped.{named_base}
-use Rattle.owned_loans.specs.Views.{Views, IsMovedBy}
-use Rattle.owned_loans.proofs.Ways.{beginnings}
+use Rattle.soundness.specs.OwnedWays.Ways.{Step, OfVariable, OfHand, Loc, OfRoot, OfCell, Way, Object, Lost, Into, All, Gone, View, Reaches, IsSame, part, along, IsRooted, Under, Named, base_of, number_of, Owned, Covered, Known, Sound}
+use Rattle.soundness.proofs.OwnedWays.Locations.{under_along, under_itself}
+use Rattle.soundness.proofs.OwnedWays.Named.{longer}
+use Rattle.soundness.proofs.OwnedWays.Moving.{Given, owned_after, covered_after, known_after}
+use Rattle.soundness.proofs.OwnedWays.Dropped.{named_base}
+use Rattle.soundness.specs.OwnedLoans.Views.{Views, IsMovedBy}
+use Rattle.soundness.proofs.OwnedLoans.Ways.{beginnings}
 use Rattle.flow_paths.specs.Objects.{Typing, is_package_object}
 use Rattle.machine.specs.Memory.{Memory, Place}
 use Rattle.machine.specs.States.{Return}
-use Rattle.viewed_soundness.specs.soundness.Seen.{IsNear, content, word_in, home}
+use Rattle.soundness.specs.Seen.{IsNear, content, word_in, home}
 use Rattle.viewed_steps.specs.Taken.{Lodge, IsInside, IsAmong, IsBare, TakenBy, AreTaken, AreCarried}
-use Rattle.owned_ways.proofs.Assigned.{same_sound}
+use Rattle.soundness.proofs.OwnedWays.Assigned.{same_sound}
 
 -- where owners see the same, ways reach the same
 pub same_reaches : (s t : View) → IsSame s t → (w : Way) (l : Loc) → Reaches s w l → Reaches t w l

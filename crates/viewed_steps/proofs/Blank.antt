@@ -7,18 +7,18 @@ use Rattle.flow_paths.specs.Objects.{Typing, is_anonymous}
 use Rattle.machine.specs.Words as machine
 use Rattle.machine.specs.Memory.{Memory, fresh, no_slot}
 use Rattle.machine.specs.States.{Waiting, Leak}
-use Rattle.owned_ways.specs.Ways.{Loc, Way, Object, Lost, Into, All, View, Reaches, IsSame}
-use Rattle.part_offsets.specs.Parts.{type_in, offset_in, IsSettled}
-use Rattle.viewed_soundness.specs.soundness.Seen.{in_hand, seen}
-use Rattle.viewed_soundness.specs.soundness.Typed.{IsCell, Points, Kept}
-use Rattle.viewed_soundness.proofs.soundness.Contents.{word_no}
-use Rattle.viewed_soundness.proofs.soundness.Keeping.{kept_with, top_points}
-use Rattle.viewed_soundness.proofs.soundness.Steps.{plain_end}
-use Rattle.viewed_soundness.proofs.soundness.Evaluated.{blank_hand}
-use Rattle.owned_loans.specs.Views.{Around, Views, Viewed}
-use Rattle.owned_loans.proofs.Moves.{same_viewed}
-use Rattle.viewed_soundness.proofs.ViewKinds.{view_access}
-use Rattle.viewed_soundness.proofs.Viewing.{view_leaf}
+use Rattle.soundness.specs.OwnedWays.Ways.{Loc, Way, Object, Lost, Into, All, View, Reaches, IsSame}
+use Rattle.soundness.specs.PartOffsets.Parts.{type_in, offset_in, IsSettled}
+use Rattle.soundness.specs.Seen.{in_hand, seen}
+use Rattle.soundness.specs.Typed.{IsCell, Points, Kept}
+use Rattle.soundness.proofs.Contents.{word_no}
+use Rattle.soundness.proofs.Keeping.{kept_with, top_points}
+use Rattle.soundness.proofs.Steps.{plain_end}
+use Rattle.soundness.proofs.Evaluated.{blank_hand}
+use Rattle.soundness.specs.OwnedLoans.Views.{Around, Views, Viewed}
+use Rattle.soundness.proofs.OwnedLoans.Moves.{same_viewed}
+use Rattle.soundness.proofs.ViewedSoundness.ViewKinds.{view_access}
+use Rattle.soundness.proofs.ViewedSoundness.Viewing.{view_leaf}
 use Rattle.viewed_steps.proofs.Eased.{same_back}
 
 -- what ways reach goes by what owners see

@@ -36,29 +36,29 @@ use Rattle.machine.specs.Step as steps
 use Rattle.machine.specs.Typed.{successors}
 use Rattle.machine.specs.Owners.{is_in_formal, waiting_in, is_in}
 use Rattle.place_names.specs.declared.act.Mode.TheVariants as mode
-use Rattle.owned_ways.specs.Ways.{Way, after, AllowsAll}
-use Rattle.owned_ways.specs.Ways as ways
-use Rattle.viewed_soundness.specs.soundness.Seen.{is_view_formal, IsNear, content, seen, home, trunk}
-use Rattle.viewed_soundness.specs.soundness.Typed.{Kept}
-use Rattle.viewed_soundness.specs.soundness.Sound.{Uses, Stage, facts_of, AreStages, IsRunnable, InScope, IsNamedSub, IsAtPoint, view_of as view_here}
-use Rattle.viewed_soundness.proofs.soundness.Numbers.{index_law}
-use Rattle.viewed_soundness.proofs.soundness.Lasting.{keeps}
-use Rattle.viewed_soundness.proofs.soundness.Passing.{AreReads, reads_keep, signature_is}
-use Rattle.viewed_soundness.proofs.soundness.Contents.{bool_cases}
-use Rattle.viewed_soundness.proofs.soundness.Inherited.{global_after}
-use Rattle.viewed_soundness.proofs.soundness.Points.{flow_at}
-use Rattle.viewed_soundness.proofs.soundness.Scalars.{acts, acts_append, after_append, allows_both}
-use Rattle.viewed_soundness.proofs.soundness.Successors.{below_one, successor_there}
-use Rattle.viewed_soundness.proofs.soundness.Used.{called_are, added_after, globals_are}
-use Rattle.viewed_soundness.proofs.soundness.Around.{IsFar}
-use Rattle.viewed_soundness.proofs.soundness.Eased.{eased}
-use Rattle.owned_loans.specs.Views.{Around, known_gone, Views, Viewed, ViewedAlone}
-use Rattle.viewed_soundness.specs.Holds.{Holds, is_view, IsOwners, AllKeep, is_fixed, is_given, Seeing, is_bundle}
-use Rattle.viewed_soundness.proofs.Evaluated.{live_trunk, keep_both}
+use Rattle.soundness.specs.OwnedWays.Ways.{Way, after, AllowsAll}
+use Rattle.soundness.specs.OwnedWays.Ways as ways
+use Rattle.soundness.specs.Seen.{is_view_formal, IsNear, content, seen, home, trunk}
+use Rattle.soundness.specs.Typed.{Kept}
+use Rattle.soundness.specs.Sound.{Uses, Stage, facts_of, AreStages, IsRunnable, InScope, IsNamedSub, IsAtPoint, view_of as view_here}
+use Rattle.soundness.proofs.Numbers.{index_law}
+use Rattle.soundness.proofs.Lasting.{keeps}
+use Rattle.soundness.proofs.Passing.{AreReads, reads_keep, signature_is}
+use Rattle.soundness.proofs.Contents.{bool_cases}
+use Rattle.soundness.proofs.Inherited.{global_after}
+use Rattle.soundness.proofs.Points.{flow_at}
+use Rattle.soundness.proofs.Scalars.{acts, acts_append, after_append, allows_both}
+use Rattle.soundness.proofs.Successors.{below_one, successor_there}
+use Rattle.soundness.proofs.Used.{called_are, added_after, globals_are}
+use Rattle.soundness.proofs.Around.{IsFar}
+use Rattle.soundness.proofs.Eased.{eased}
+use Rattle.soundness.specs.OwnedLoans.Views.{Around, known_gone, Views, Viewed, ViewedAlone}
+use Rattle.soundness.specs.ViewedSoundness.Holds.{Holds, is_view, IsOwners, AllKeep, is_fixed, is_given, Seeing, is_bundle}
+use Rattle.soundness.proofs.ViewedSoundness.Evaluated.{live_trunk, keep_both}
 use Rattle.viewed_steps.specs.Awaited.{temporaries_of, lasting_of, AreAwaited, AreOwnless, TakesPassed}
 use Rattle.viewed_steps.specs.Sound.{Disturbs, IsCopiedBack, IsBeyond, HoldsAt, ArePlaced, NoneAbove, ViewStage, stages_of, GoneElsewhere, AreWaiting, IsResting, IsKindOfFormal, HasTraversals}
 use Rattle.viewed_steps.specs.Ready.{IsReady, IsCalled, IsTraversalCall, IsSeen, AreActualsTo}
-use Rattle.owned_loans.proofs.Allowed.{Cleared}
+use Rattle.soundness.proofs.OwnedLoans.Allowed.{Cleared}
 use Rattle.viewed_steps.specs.Traversals.{traversed_name}
 use Rattle.viewed_steps.proofs.Lent.{Spare, spare_both}
 use Rattle.viewed_steps.proofs.Apart.{same_root}
@@ -78,8 +78,8 @@ use Rattle.viewed_steps.proofs.Followed as followed
 use Rattle.viewed_steps.proofs.Followed.{IsTraversing}
 use Rattle.viewed_steps.proofs.Lending.{named_has, borrowed_lent, shown_clear}
 use Rattle.viewed_steps.proofs.Traversing.{first_actual, first_reads}
-use Rattle.viewed_soundness.proofs.ViewKinds.{true_false}
-use Rattle.viewed_soundness.proofs.ViewKinds.{given_sees, true_false}
+use Rattle.soundness.proofs.ViewedSoundness.ViewKinds.{true_false}
+use Rattle.soundness.proofs.ViewedSoundness.ViewKinds.{given_sees, true_false}
 use Rattle.viewed_steps.proofs.Exclusive.{first_true, second_true, mode_in, ChangesLent, AreLent, are_lent, lent_clears}
 use Rattle.viewed_steps.proofs.Globals.{shown_act}
 use Rattle.viewed_steps.specs.Seeing.{sees_in}

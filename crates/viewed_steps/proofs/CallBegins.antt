@@ -1,5 +1,5 @@
 -- The state after a call: the caller waits, and what is called begins.
-use Rattle.part_offsets.specs.Parts.{offset_in}
+use Rattle.soundness.specs.PartOffsets.Parts.{offset_in}
 use Rattle.spark_base.proofs.Lists.{Has-append_cases}
 use Rattle.std.proofs.Common.{◌≡◌, refl, sym, ap, ◌∙◌, subst, ◌⊎◌, inl, inr, ℕ, suc, ◌<◌, true, false, List, [], ◌∷◌, ◌++◌, take, drop, length, get_or, arith, Option, Some, None, Bool, flat_map}
 use Rattle.spark_base.specs.Lists.{Has}
@@ -30,23 +30,23 @@ use Rattle.machine.specs.Step as steps
 use Rattle.machine.specs.Calls.{Passed, all_passed, with_formals, returns_of, out_checks}
 use Rattle.machine.specs.Owners.{waiting_in}
 use Rattle.place_names.specs.declared.act.Mode.TheVariants as mode
-use Rattle.owned_ways.specs.Ways.{Step, Way, after, AllowsAll, Past}
-use Rattle.owned_ways.specs.Ways as ways
-use Rattle.viewed_soundness.specs.soundness.Seen.{IsNear, content, seen, home, trunk, word_in, steps_in}
-use Rattle.viewed_soundness.specs.soundness.Typed.{Kept}
-use Rattle.viewed_soundness.specs.soundness.Sound.{Stage, facts_of, AreStages, Uses, IsRunnable, returns_value, InScope, IsNamedSub, IsAtPoint, view_of as view_here}
-use Rattle.viewed_soundness.proofs.soundness.Stays.{Quiet}
-use Rattle.viewed_soundness.proofs.soundness.Passing.{entered, signature_is}
-use Rattle.viewed_soundness.proofs.soundness.Points.{path_there}
-use Rattle.viewed_soundness.proofs.soundness.Used.{called_used}
-use Rattle.viewed_soundness.proofs.soundness.Around.{IsFar}
-use Rattle.viewed_soundness.proofs.soundness.Waits.{led_waits}
-use Rattle.viewed_soundness.proofs.soundness.Eased.{eased}
-use Rattle.owned_loans.specs.Views.{Around, known_gone, Views, IsMovedBy, AreClear as FactsAreClear, AreViews, Viewed, ViewedAlone, IsOuter}
-use Rattle.owned_loans.proofs.Moves.{parts_on, view_on, reached}
-use Rattle.viewed_soundness.proofs.Names.{parts_same}
-use Rattle.viewed_soundness.proofs.ViewKinds.{bundle_view}
-use Rattle.viewed_soundness.specs.Holds.{Holds, is_view, IsOwners}
+use Rattle.soundness.specs.OwnedWays.Ways.{Step, Way, after, AllowsAll, Past}
+use Rattle.soundness.specs.OwnedWays.Ways as ways
+use Rattle.soundness.specs.Seen.{IsNear, content, seen, home, trunk, word_in, steps_in}
+use Rattle.soundness.specs.Typed.{Kept}
+use Rattle.soundness.specs.Sound.{Stage, facts_of, AreStages, Uses, IsRunnable, returns_value, InScope, IsNamedSub, IsAtPoint, view_of as view_here}
+use Rattle.soundness.proofs.Stays.{Quiet}
+use Rattle.soundness.proofs.Passing.{entered, signature_is}
+use Rattle.soundness.proofs.Points.{path_there}
+use Rattle.soundness.proofs.Used.{called_used}
+use Rattle.soundness.proofs.Around.{IsFar}
+use Rattle.soundness.proofs.Waits.{led_waits}
+use Rattle.soundness.proofs.Eased.{eased}
+use Rattle.soundness.specs.OwnedLoans.Views.{Around, known_gone, Views, IsMovedBy, AreClear as FactsAreClear, AreViews, Viewed, ViewedAlone, IsOuter}
+use Rattle.soundness.proofs.OwnedLoans.Moves.{parts_on, view_on, reached}
+use Rattle.soundness.proofs.ViewedSoundness.Names.{parts_same}
+use Rattle.soundness.proofs.ViewedSoundness.ViewKinds.{bundle_view}
+use Rattle.soundness.specs.ViewedSoundness.Holds.{Holds, is_view, IsOwners}
 use Rattle.viewed_steps.specs.Awaited.{temporaries_of, lasting_of, awaited, WaitsAt, AreAwaited, AreOwnless, TakesPassed}
 use Rattle.viewed_steps.proofs.Waited.{Shares}
 use Rattle.viewed_steps.specs.Sound.{IsCopiedBack, IsBeyond, AreUnmet, HoldsAt, ArePlaced, NoneAbove, ViewStage, stages_of, GoneElsewhere, Disturbs, IsWaiting, AreWaiting, LeadsAlong, IsResting, IsKindOfFormal, AreReturned, withheld, IsBareOf, HasTraversals, passed_roots, shown_at, shown_one, known_at}

@@ -1,5 +1,5 @@
 -- The end of a call leads on, in the frame below.
-use Rattle.part_offsets.specs.Parts.{offset_in}
+use Rattle.soundness.specs.PartOffsets.Parts.{offset_in}
 use Rattle.viewed_steps.proofs.Traversed.{none_given}
 use Rattle.viewed_steps.proofs.Low.{given_again}
 use Rattle.std.specs.List.{AllByRecursion}
@@ -32,22 +32,22 @@ use Rattle.machine.specs.Run.{no_point}
 use Rattle.machine.specs.Step.{Turn, turn, counted}
 use Rattle.machine.specs.Step as steps
 use Rattle.machine.specs.Owners.{is_in_formal, waiting_in}
-use Rattle.owned_ways.specs.Ways.{Step, OfVariable, OfRoot, Way, Held, AllowsAll, number_of}
-use Rattle.owned_ways.specs.Ways as ways
-use Rattle.viewed_soundness.specs.soundness.Seen.{content, word_in, seen, home}
-use Rattle.viewed_soundness.specs.soundness.Typed.{Kept}
-use Rattle.viewed_soundness.specs.soundness.Sound.{Stage, facts_of, AreStages, IsRunnable, is_temporary_object, has_returned, InScope, IsNamedSub, IsAtPoint, view_of as view_here}
-use Rattle.viewed_soundness.proofs.soundness.Contents.{bool_cases, word_no, word_dead}
-use Rattle.viewed_soundness.proofs.soundness.Steps.{no_leaf}
-use Rattle.viewed_soundness.proofs.soundness.Typings.{package_same, formal_same}
-use Rattle.viewed_soundness.proofs.soundness.Around.{same_or_not}
-use Rattle.owned_ways.proofs.Locations.{under_itself, under_along}
-use Rattle.viewed_soundness.proofs.soundness.Returning.{returned_kept, left_same, left_held, returns_lead, ends_lead, left_waits, ended_owned, Backs}
-use Rattle.owned_loans.specs.Views.{known_gone, Views, IsMovedBy, ExcusedBy, AreViews, expand, ViewedAlone}
-use Rattle.owned_loans.proofs.Moves.{parts_on, view_on, reached}
-use Rattle.owned_loans.proofs.Ended.{stands_itself}
-use Rattle.viewed_soundness.proofs.Names.{parts_same}
-use Rattle.viewed_soundness.proofs.ViewKinds.{bundle_formal, bundle_view, neither, true_false}
+use Rattle.soundness.specs.OwnedWays.Ways.{Step, OfVariable, OfRoot, Way, Held, AllowsAll, number_of}
+use Rattle.soundness.specs.OwnedWays.Ways as ways
+use Rattle.soundness.specs.Seen.{content, word_in, seen, home}
+use Rattle.soundness.specs.Typed.{Kept}
+use Rattle.soundness.specs.Sound.{Stage, facts_of, AreStages, IsRunnable, is_temporary_object, has_returned, InScope, IsNamedSub, IsAtPoint, view_of as view_here}
+use Rattle.soundness.proofs.Contents.{bool_cases, word_no, word_dead}
+use Rattle.soundness.proofs.Steps.{no_leaf}
+use Rattle.soundness.proofs.Typings.{package_same, formal_same}
+use Rattle.soundness.proofs.Around.{same_or_not}
+use Rattle.soundness.proofs.OwnedWays.Locations.{under_itself, under_along}
+use Rattle.soundness.proofs.Returning.{returned_kept, left_same, left_held, returns_lead, ends_lead, left_waits, ended_owned, Backs}
+use Rattle.soundness.specs.OwnedLoans.Views.{known_gone, Views, IsMovedBy, ExcusedBy, AreViews, expand, ViewedAlone}
+use Rattle.soundness.proofs.OwnedLoans.Moves.{parts_on, view_on, reached}
+use Rattle.soundness.proofs.OwnedLoans.Ended.{stands_itself}
+use Rattle.soundness.proofs.ViewedSoundness.Names.{parts_same}
+use Rattle.soundness.proofs.ViewedSoundness.ViewKinds.{bundle_formal, bundle_view, neither, true_false}
 use Rattle.viewed_steps.specs.Awaited.{AreFor, AreValues, temporaries_of, lasting_of, awaited, AreAwaited}
 use Rattle.viewed_steps.proofs.Waited.{others_only, lasting_within}
 use Rattle.viewed_steps.specs.Sound.{loan_by, IsBeyond, HoldsAt, ArePlaced, NoneAbove, ViewStage, stages_of, GoneElsewhere, IsWaiting, AreWaiting, ends_one, LeadsAlong, IsResting, HasTraversals, NoneGiven, AreTraversals}
@@ -59,10 +59,10 @@ use Rattle.viewed_steps.proofs.Standing.{or_right}
 use Rattle.viewed_steps.proofs.Standing as standing
 use Rattle.viewed_steps.proofs.Packages as packages
 use Rattle.viewed_steps.proofs.Innermost as innermost
-use Rattle.viewed_soundness.proofs.soundness.Passing.{signature_is}
-use Rattle.owned_ways.proofs.Dropped.{named_base}
-use Rattle.viewed_soundness.specs.Holds.{is_view}
-use Rattle.owned_ways.proofs.Unique.{one_way}
+use Rattle.soundness.proofs.Passing.{signature_is}
+use Rattle.soundness.proofs.OwnedWays.Dropped.{named_base}
+use Rattle.soundness.specs.ViewedSoundness.Holds.{is_view}
+use Rattle.soundness.proofs.OwnedWays.Unique.{one_way}
 use Rattle.viewed_steps.specs.Taken.{TakenBy, Lodge, IsTakenIn, AreCarried}
 use Rattle.viewed_steps.proofs.Between.{home_low, base_under, same_variable}
 use Rattle.viewed_steps.proofs.Outside.{IsSpared, kept_clear, bare_clear, IsFree, free_name}
@@ -71,10 +71,10 @@ use Rattle.flow_paths.specs.Effects.{written_by}
 use Rattle.viewed_steps.proofs.Backed.{AwayBy, IsBack, all_given_back, StandsAway}
 use Rattle.viewed_steps.proofs.Whole.{leaves_whole}
 use Rattle.viewed_steps.proofs.Views.{given_formal, AreAccess, AreFar, lies_far}
-use Rattle.viewed_soundness.proofs.soundness.Lasting.{keeps}
-use Rattle.owned_loans.proofs.Meeting.{stands}
+use Rattle.soundness.proofs.Lasting.{keeps}
+use Rattle.soundness.proofs.OwnedLoans.Meeting.{stands}
 use Rattle.viewed_steps.proofs.Roots.{FromGiven}
-use Rattle.owned_loans.proofs.Safe.{Unlent}
+use Rattle.soundness.proofs.OwnedLoans.Safe.{Unlent}
 use Rattle.viewed_steps.specs.Seeing.{sees_in}
 
 smaller : (f b low : ℕ) → f < suc b → (f ≡ low → ⊥) → low ≡ b → f < low

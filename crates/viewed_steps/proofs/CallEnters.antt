@@ -1,8 +1,8 @@
 -- What is called sees, and the state where its frame has begun is sound.
-use Rattle.owned_loans.proofs.Meeting.{no_part}
+use Rattle.soundness.proofs.OwnedLoans.Meeting.{no_part}
 use Rattle.flow_paths.specs.Views.{sub_acts}
 use Rattle.viewed_steps.specs.Traversals.{SeesFirst}
-use Rattle.owned_ways.proofs.Dropped.{named_base}
+use Rattle.soundness.proofs.OwnedWays.Dropped.{named_base}
 use Rattle.viewed_steps.proofs.Begun.{begins_traversal, no_returns, taker_takes}
 use Rattle.viewed_steps.proofs.CallActs as acting
 use Rattle.viewed_steps.proofs.Followed as followed
@@ -37,24 +37,24 @@ use Rattle.machine.specs.Step as steps
 use Rattle.machine.specs.Calls.{Passed, all_passed, with_formals, returns_of, out_checks}
 use Rattle.machine.specs.Owners.{waiting_in}
 use Rattle.place_names.specs.declared.act.Mode.TheVariants as mode
-use Rattle.owned_ways.specs.Ways.{Step, Way, Past}
-use Rattle.owned_ways.specs.Ways as ways
-use Rattle.owned_ways.proofs.Locations.{past_under, under_along, under_itself}
-use Rattle.viewed_soundness.specs.soundness.Seen.{IsNear, content, seen, home, trunk}
-use Rattle.viewed_soundness.specs.soundness.Typed.{Kept}
-use Rattle.viewed_soundness.specs.soundness.Sound.{Stage, facts_of, AreStages, IsRunnable, returns_value, InScope, IsNamedSub, IsAtPoint, view_of as view_here}
-use Rattle.viewed_soundness.proofs.soundness.Stays.{Quiet}
-use Rattle.viewed_soundness.proofs.soundness.Numbers.{index_law}
-use Rattle.viewed_soundness.proofs.soundness.Lasting.{keeps}
-use Rattle.viewed_soundness.proofs.soundness.Passing.{entered}
-use Rattle.viewed_soundness.proofs.soundness.Around.{IsFar, package_named}
-use Rattle.viewed_soundness.proofs.soundness.Eased.{eased}
-use Rattle.owned_loans.specs.Views.{expand, Around, known_gone, Views, IsMovedBy, ExcusedBy, Viewed, ViewedAlone, AreShared, IsShared}
-use Rattle.owned_loans.proofs.Ways.{under_on, Meet, meets_front, flip}
-use Rattle.owned_loans.proofs.Moves.{expand_under}
-use Rattle.viewed_soundness.proofs.ViewKinds.{bundle_view, true_false, given_view}
-use Rattle.viewed_soundness.specs.Holds.{is_bundle, Holds, is_view, IsOwners, is_given, Seeing}
-use Rattle.viewed_soundness.proofs.Given.{IsLow, low_there, low_begins}
+use Rattle.soundness.specs.OwnedWays.Ways.{Step, Way, Past}
+use Rattle.soundness.specs.OwnedWays.Ways as ways
+use Rattle.soundness.proofs.OwnedWays.Locations.{past_under, under_along, under_itself}
+use Rattle.soundness.specs.Seen.{IsNear, content, seen, home, trunk}
+use Rattle.soundness.specs.Typed.{Kept}
+use Rattle.soundness.specs.Sound.{Stage, facts_of, AreStages, IsRunnable, returns_value, InScope, IsNamedSub, IsAtPoint, view_of as view_here}
+use Rattle.soundness.proofs.Stays.{Quiet}
+use Rattle.soundness.proofs.Numbers.{index_law}
+use Rattle.soundness.proofs.Lasting.{keeps}
+use Rattle.soundness.proofs.Passing.{entered}
+use Rattle.soundness.proofs.Around.{IsFar, package_named}
+use Rattle.soundness.proofs.Eased.{eased}
+use Rattle.soundness.specs.OwnedLoans.Views.{expand, Around, known_gone, Views, IsMovedBy, ExcusedBy, Viewed, ViewedAlone, AreShared, IsShared}
+use Rattle.soundness.proofs.OwnedLoans.Ways.{under_on, Meet, meets_front, flip}
+use Rattle.soundness.proofs.OwnedLoans.Moves.{expand_under}
+use Rattle.soundness.proofs.ViewedSoundness.ViewKinds.{bundle_view, true_false, given_view}
+use Rattle.soundness.specs.ViewedSoundness.Holds.{is_bundle, Holds, is_view, IsOwners, is_given, Seeing}
+use Rattle.soundness.proofs.ViewedSoundness.Given.{IsLow, low_there, low_begins}
 use Rattle.viewed_steps.specs.Awaited.{temporaries_of, lasting_of, awaited, WaitsAt, AreAwaited, AreOwnless, TakesPassed}
 use Rattle.viewed_steps.proofs.Waited.{within_lasting, Shares, plain_unheld}
 use Rattle.viewed_steps.specs.Sound.{IsCopiedBack, IsBeyond, AreUnmet, HoldsAt, ArePlaced, NoneAbove, ViewStage, stages_of, GoneElsewhere, IsWaiting, AreWaiting, calls_one, LeadsAlong, IsResting, IsKindOfFormal, AreReturned, KeptBy, IsWayOf, HasTraversals, NoneGiven, IsTraversal, LentBy}
@@ -75,15 +75,15 @@ use Rattle.viewed_steps.proofs.Views.{AreLowFormals, AreAccess, AreFar, kind_giv
 use Rattle.viewed_steps.proofs.Exclusive.{ChangesLent, IsLentAs, IsSeenFrom, AreLent, IsFrom, from_past, from_past_part, from_far, from_apart, from_place, mode_in, second_true}
 use Rattle.viewed_steps.proofs.SeenApart.{seen_apart}
 use Rattle.viewed_steps.proofs.Passed.{apart_there}
-use Rattle.viewed_soundness.proofs.soundness.Passing.{signature_is}
+use Rattle.soundness.proofs.Passing.{signature_is}
 use Rattle.machine.specs.Owners.{is_in}
 use Rattle.place_names.specs.Names.{overlaps}
 use Rattle.place_names.specs.declared.rule.Loan.TheVariants.{Borrowed}
-use Rattle.owned_loans.proofs.Safe.{Unborrowed}
+use Rattle.soundness.proofs.OwnedLoans.Safe.{Unborrowed}
 use Rattle.flow_paths.specs.Objects.{Signature, is_formal}
 use Rattle.viewed_steps.proofs.Lending.{IsNameOf, apart_listed}
 use Rattle.viewed_steps.proofs.CallShows.{clear_named}
-use Rattle.viewed_soundness.proofs.ViewKinds.{sees_view}
+use Rattle.soundness.proofs.ViewedSoundness.ViewKinds.{sees_view}
 use Rattle.flow_paths.specs.Names.{Written}
 use Rattle.viewed_steps.proofs.Opening.{opened_first, opened_rooted, Opens, all_opened, low_of, low_part, opened_seen, opened_part, opened_from, opened_views, opened_whole, opened_parts, opened_parts_whole, opened_parts_low, opened_lies, opened_held, opened_placed}
 use Rattle.viewed_steps.proofs.Calling as calling

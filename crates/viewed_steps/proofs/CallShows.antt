@@ -25,19 +25,19 @@ use Rattle.machine.specs.Step.{Turn}
 use Rattle.machine.specs.Calls.{Passed}
 use Rattle.machine.specs.Owners.{waiting_in}
 use Rattle.place_names.specs.declared.act.Mode.TheVariants as mode
-use Rattle.owned_ways.specs.Ways.{Step, Way}
-use Rattle.owned_ways.specs.Ways as ways
-use Rattle.viewed_soundness.specs.soundness.Seen.{is_view_formal, seen, home}
-use Rattle.owned_ways.proofs.Named.{longer}
-use Rattle.owned_ways.proofs.Dropped.{named_base}
-use Rattle.viewed_soundness.proofs.soundness.Contents.{bool_cases}
-use Rattle.viewed_soundness.specs.soundness.Typed.{Kept}
-use Rattle.viewed_soundness.specs.soundness.Sound.{Stage, facts_of, AreStages, Uses, IsRunnable, InScope, IsNamedSub, IsAtPoint, view_of as view_here}
-use Rattle.viewed_soundness.proofs.soundness.Around.{package_named}
-use Rattle.owned_loans.specs.Views.{expand, Around, known_gone, Views, ViewedAlone, IsThrough, IsShared, on}
-use Rattle.owned_loans.proofs.Ways.{under_on, Lifted, lifted_way, stands_alone, on_named, on_under, InPart, in_part_way}
-use Rattle.viewed_soundness.proofs.ViewKinds.{open_bundle, bundle_view, true_false}
-use Rattle.viewed_soundness.specs.Holds.{Seeing, is_view, is_given, is_exclusive, is_bundle, GoesBy}
+use Rattle.soundness.specs.OwnedWays.Ways.{Step, Way}
+use Rattle.soundness.specs.OwnedWays.Ways as ways
+use Rattle.soundness.specs.Seen.{is_view_formal, seen, home}
+use Rattle.soundness.proofs.OwnedWays.Named.{longer}
+use Rattle.soundness.proofs.OwnedWays.Dropped.{named_base}
+use Rattle.soundness.proofs.Contents.{bool_cases}
+use Rattle.soundness.specs.Typed.{Kept}
+use Rattle.soundness.specs.Sound.{Stage, facts_of, AreStages, Uses, IsRunnable, InScope, IsNamedSub, IsAtPoint, view_of as view_here}
+use Rattle.soundness.proofs.Around.{package_named}
+use Rattle.soundness.specs.OwnedLoans.Views.{expand, Around, known_gone, Views, ViewedAlone, IsThrough, IsShared, on}
+use Rattle.soundness.proofs.OwnedLoans.Ways.{under_on, Lifted, lifted_way, stands_alone, on_named, on_under, InPart, in_part_way}
+use Rattle.soundness.proofs.ViewedSoundness.ViewKinds.{open_bundle, bundle_view, true_false}
+use Rattle.soundness.specs.ViewedSoundness.Holds.{Seeing, is_view, is_given, is_exclusive, is_bundle, GoesBy}
 use Rattle.viewed_steps.specs.Awaited.{lasting_of, AreAwaited}
 use Rattle.viewed_steps.specs.Sound.{IsBeyond, HoldsAt, ArePlaced, NoneAbove, ViewStage, stages_of, GoneElsewhere, Disturbs, AreWaiting, IsResting, HasTraversals, passed_roots, LentBy, known_at}
 use Rattle.viewed_steps.specs.Ready.{IsReady, IsCalled}
@@ -67,9 +67,9 @@ use Rattle.flow_paths.specs.Objects.{sub_at, Signature, is_named_access, is_vari
 use Rattle.flow_paths.specs.Names.{written}
 use Rattle.flow_paths.specs.Views.{is_in_mode}
 use Rattle.flow_paths.specs.Effects.{act_writes, act_reads}
-use Rattle.viewed_soundness.proofs.soundness.Passing.{signature_is}
-use Rattle.owned_loans.specs.Views.{AreClear as FactsAreClear}
-use Rattle.owned_loans.proofs.Allowed.{Cleared}
+use Rattle.soundness.proofs.Passing.{signature_is}
+use Rattle.soundness.specs.OwnedLoans.Views.{AreClear as FactsAreClear}
+use Rattle.soundness.proofs.OwnedLoans.Allowed.{Cleared}
 use Rattle.viewed_steps.specs.Sound.{lent_to, shown_one, shown_by, shown_at, loan_by}
 use Rattle.viewed_steps.proofs.Seeing.{IsClear}
 use Rattle.viewed_steps.proofs.Showing.{IsShownOf, all_are, all_shown}

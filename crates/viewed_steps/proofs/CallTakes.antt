@@ -25,24 +25,24 @@ use Rattle.machine.specs.Step.{Turn, turn, start, led, successor}
 use Rattle.machine.specs.Step as steps
 use Rattle.machine.specs.Calls.{Passed}
 use Rattle.machine.specs.Owners.{waiting_in}
-use Rattle.owned_ways.specs.Ways.{Step, Way, after, AllowsAll, Past}
-use Rattle.owned_ways.specs.Ways as ways
-use Rattle.viewed_soundness.specs.soundness.Seen.{IsNear, content, seen, home, trunk}
-use Rattle.owned_ways.proofs.Named.{longer}
-use Rattle.owned_ways.proofs.Dropped.{named_base}
-use Rattle.viewed_soundness.proofs.soundness.Contents.{bool_cases}
-use Rattle.viewed_soundness.specs.soundness.Typed.{Kept}
-use Rattle.viewed_soundness.specs.soundness.Sound.{Stage, facts_of, AreStages, Uses, IsRunnable, InScope, IsNamedSub, IsAtPoint, view_of as view_here}
-use Rattle.viewed_soundness.proofs.soundness.Numbers.{index_law}
-use Rattle.viewed_soundness.proofs.soundness.Scalars.{acts}
-use Rattle.viewed_soundness.proofs.soundness.Around.{IsFar}
-use Rattle.viewed_soundness.proofs.soundness.Eased.{eased}
-use Rattle.owned_loans.specs.Views.{Around, known_gone, Views, Viewed, AreViews, AreClear as FactsAreClear, IsMovedBy, on, ViewedAlone}
-use Rattle.owned_loans.proofs.Ways.{part_root, under_on, lifts, lifted_root, lifted_way, on_named, base_on, on_under}
-use Rattle.owned_loans.proofs.Meeting.{stands_base}
-use Rattle.owned_loans.proofs.Moves.{view_rooted}
-use Rattle.viewed_soundness.proofs.ViewKinds.{true_false}
-use Rattle.viewed_soundness.specs.Holds.{Holds, is_view, IsOwners, Seeing}
+use Rattle.soundness.specs.OwnedWays.Ways.{Step, Way, after, AllowsAll, Past}
+use Rattle.soundness.specs.OwnedWays.Ways as ways
+use Rattle.soundness.specs.Seen.{IsNear, content, seen, home, trunk}
+use Rattle.soundness.proofs.OwnedWays.Named.{longer}
+use Rattle.soundness.proofs.OwnedWays.Dropped.{named_base}
+use Rattle.soundness.proofs.Contents.{bool_cases}
+use Rattle.soundness.specs.Typed.{Kept}
+use Rattle.soundness.specs.Sound.{Stage, facts_of, AreStages, Uses, IsRunnable, InScope, IsNamedSub, IsAtPoint, view_of as view_here}
+use Rattle.soundness.proofs.Numbers.{index_law}
+use Rattle.soundness.proofs.Scalars.{acts}
+use Rattle.soundness.proofs.Around.{IsFar}
+use Rattle.soundness.proofs.Eased.{eased}
+use Rattle.soundness.specs.OwnedLoans.Views.{Around, known_gone, Views, Viewed, AreViews, AreClear as FactsAreClear, IsMovedBy, on, ViewedAlone}
+use Rattle.soundness.proofs.OwnedLoans.Ways.{part_root, under_on, lifts, lifted_root, lifted_way, on_named, base_on, on_under}
+use Rattle.soundness.proofs.OwnedLoans.Meeting.{stands_base}
+use Rattle.soundness.proofs.OwnedLoans.Moves.{view_rooted}
+use Rattle.soundness.proofs.ViewedSoundness.ViewKinds.{true_false}
+use Rattle.soundness.specs.ViewedSoundness.Holds.{Holds, is_view, IsOwners, Seeing}
 use Rattle.viewed_steps.specs.Awaited.{temporaries_of, lasting_of, AreAwaited, AreOwnless, TakesPassed}
 use Rattle.viewed_steps.proofs.Waited.{Shares}
 use Rattle.viewed_steps.specs.Sound.{IsCopiedBack, IsBeyond, HoldsAt, ArePlaced, NoneAbove, ViewStage, stages_of, GoneElsewhere, Disturbs, AreWaiting, IsResting, HasTraversals, passed_roots}
@@ -70,7 +70,7 @@ use Rattle.viewed_steps.proofs.Lending.{named_has}
 use Rattle.viewed_steps.proofs.CallActs as acting
 use Rattle.viewed_steps.proofs.Withheld.{passed_from}
 use Rattle.viewed_steps.proofs.Roots.{borrower_from, FromGiven}
-use Rattle.owned_loans.proofs.Safe.{off_parts, off_view}
+use Rattle.soundness.proofs.OwnedLoans.Safe.{off_parts, off_view}
 use Rattle.viewed_steps.proofs.Handed.{gone_lent}
 use Rattle.viewed_steps.proofs.Stilled.{still, lent_only}
 use Rattle.viewed_steps.proofs.Calling as calling

@@ -21,22 +21,22 @@ use Rattle.machine.specs.Evaluate.{Here, Now, Evaluated, Done, Raises, Traps, fo
 use Rattle.machine.specs.Calls.{Passed, Value, From, To, type_of, value_passed, passed, all_passed}
 use Rattle.machine.specs.States.{Waiting, Leak, sub_of}
 use Rattle.machine.specs.Owners.{is_in}
-use Rattle.owned_ways.specs.Ways.{Loc, Way, Reaches, AllowsAll, after}
-use Rattle.part_offsets.specs.Parts.{IsSettled}
-use Rattle.viewed_soundness.specs.soundness.Seen.{IsNear, content, trunk, seen, home}
-use Rattle.viewed_soundness.specs.soundness.Typed.{Matches, OwnsByShape, Kept}
-use Rattle.viewed_soundness.specs.soundness.Sound.{goes_through_none}
+use Rattle.soundness.specs.OwnedWays.Ways.{Loc, Way, Reaches, AllowsAll, after}
+use Rattle.soundness.specs.PartOffsets.Parts.{IsSettled}
+use Rattle.soundness.specs.Seen.{IsNear, content, trunk, seen, home}
+use Rattle.soundness.specs.Typed.{Matches, OwnsByShape, Kept}
+use Rattle.soundness.specs.Sound.{goes_through_none}
 use Rattle.typed_laws.specs.Needed.{Gives, Stays, IndexLaw, IsPlace as IsPlaceOf}
-use Rattle.viewed_soundness.proofs.soundness.Contents.{bool_cases}
-use Rattle.viewed_soundness.proofs.soundness.Fixed.{matches_scalar}
-use Rattle.viewed_soundness.proofs.soundness.Scalars.{acts, acts_append, allows_both}
-use Rattle.viewed_soundness.proofs.soundness.Stays.{One, Quiet, quiet_then, quiet_from}
-use Rattle.viewed_soundness.proofs.soundness.Taking.{Takes}
-use Rattle.viewed_soundness.proofs.soundness.Passing.{IsRead, AreReads, AddNone, IsValue, plain_type, reads_keep, read_adds_none, signature_is}
-use Rattle.owned_loans.specs.Views.{Around, Views, Viewed}
-use Rattle.viewed_soundness.specs.Holds.{IsNamed, IsAccess, PartsAreNamed, Holds, IsOwners, is_given, Seeing, is_bundle}
-use Rattle.viewed_soundness.proofs.ViewKinds.{true_false, both_no, plain_named, bundle_access, given_view}
-use Rattle.viewed_soundness.proofs.Evaluated.{matches_named}
+use Rattle.soundness.proofs.Contents.{bool_cases}
+use Rattle.soundness.proofs.Fixed.{matches_scalar}
+use Rattle.soundness.proofs.Scalars.{acts, acts_append, allows_both}
+use Rattle.soundness.proofs.Stays.{One, Quiet, quiet_then, quiet_from}
+use Rattle.soundness.proofs.Taking.{Takes}
+use Rattle.soundness.proofs.Passing.{IsRead, AreReads, AddNone, IsValue, plain_type, reads_keep, read_adds_none, signature_is}
+use Rattle.soundness.specs.OwnedLoans.Views.{Around, Views, Viewed}
+use Rattle.soundness.specs.ViewedSoundness.Holds.{IsNamed, IsAccess, PartsAreNamed, Holds, IsOwners, is_given, Seeing, is_bundle}
+use Rattle.soundness.proofs.ViewedSoundness.ViewKinds.{true_false, both_no, plain_named, bundle_access, given_view}
+use Rattle.soundness.proofs.ViewedSoundness.Evaluated.{matches_named}
 use Rattle.viewed_steps.specs.Sound.{IsScalarObject}
 use Rattle.viewed_steps.specs.Ready.{is_shown_type, IsOwnPlace, IsSeen, IsActualTo, AreActualsTo}
 use Rattle.viewed_steps.proofs.Views.{AreAccess, AreUnseen, AreLowFormals, bundle_owns, view_access}
@@ -47,7 +47,7 @@ use Rattle.viewed_steps.proofs.Lent.{ends, Spare, spare_both, spare_naming}
 use Rattle.viewed_steps.proofs.Copies.{copies_read}
 use Rattle.viewed_steps.proofs.Reading.{no_reads, both_reads, naming_adds, index_reads}
 use Rattle.viewed_steps.proofs.Puts as puts
-use Rattle.viewed_soundness.specs.Taken.{types_taken, TakesFit}
+use Rattle.soundness.specs.ViewedSoundness.Taken.{types_taken, TakesFit}
 use Rattle.viewed_steps.proofs.Supplied.{Supplies, SuppliesAll, takes_supplied, scalar_types, place_types, seen_types}
 
 module _ (s : Typing) (own_law : OwnsByShape s.table) (procedure : Bool) where

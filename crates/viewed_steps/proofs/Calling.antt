@@ -37,31 +37,31 @@ use Rattle.machine.specs.Typed.{successors}
 use Rattle.machine.specs.Calls.{Passed, all_passed}
 use Rattle.machine.specs.Owners.{waiting_in}
 use Rattle.place_names.specs.declared.act.Mode.TheVariants as mode
-use Rattle.owned_ways.specs.Ways.{Step, Way, after, AllowsAll, Past}
-use Rattle.owned_ways.specs.Ways as ways
-use Rattle.owned_ways.proofs.Locations.{reaches_along, named_along as rooted_along, past_under, under_along, under_itself}
-use Rattle.viewed_soundness.specs.soundness.Seen.{IsNear, content, seen, home, trunk, word_in}
-use Rattle.owned_ways.proofs.Named.{longer}
-use Rattle.owned_ways.proofs.Dropped.{named_base}
-use Rattle.viewed_soundness.proofs.soundness.Contents.{word_root}
-use Rattle.viewed_soundness.specs.soundness.Typed.{Kept}
-use Rattle.viewed_soundness.specs.soundness.Sound.{Stage, facts_of, AreStages, Uses, IsRunnable, InScope, IsNamedSub, IsAtPoint, view_of as view_here}
-use Rattle.viewed_soundness.proofs.soundness.Stays.{Quiet}
-use Rattle.viewed_soundness.proofs.soundness.Numbers.{index_law}
-use Rattle.viewed_soundness.proofs.soundness.Scalars.{acts}
-use Rattle.viewed_soundness.proofs.soundness.Points.{flow_at, sub_in_range, one_named, one_point}
-use Rattle.viewed_soundness.proofs.soundness.Inherited.{after_splits, AreGlobal, global_after, global_allowed, global_apart, Splits}
-use Rattle.viewed_soundness.proofs.soundness.Used.{used_global, globals_are}
-use Rattle.viewed_soundness.proofs.soundness.Around.{IsFar}
-use Rattle.viewed_soundness.proofs.soundness.Eased.{eased}
-use Rattle.viewed_soundness.proofs.soundness.Scoped.{Inside}
-use Rattle.owned_loans.specs.Views.{expand, Around, known_gone, Views, Viewed, AreViews, AreClear as FactsAreClear, ViewedAlone}
-use Rattle.owned_loans.proofs.Ways.{under_on}
-use Rattle.owned_loans.proofs.Meeting.{no_part, stands}
-use Rattle.owned_loans.proofs.Moves.{expand_under, view_on, own_loan, reached, lends_on}
-use Rattle.viewed_soundness.proofs.ViewKinds.{true_false}
-use Rattle.viewed_soundness.specs.Holds.{Holds, is_view, IsOwners, Seeing}
-use Rattle.viewed_soundness.specs.soundness.Ready.{IsSupplied, Fills}
+use Rattle.soundness.specs.OwnedWays.Ways.{Step, Way, after, AllowsAll, Past}
+use Rattle.soundness.specs.OwnedWays.Ways as ways
+use Rattle.soundness.proofs.OwnedWays.Locations.{reaches_along, named_along as rooted_along, past_under, under_along, under_itself}
+use Rattle.soundness.specs.Seen.{IsNear, content, seen, home, trunk, word_in}
+use Rattle.soundness.proofs.OwnedWays.Named.{longer}
+use Rattle.soundness.proofs.OwnedWays.Dropped.{named_base}
+use Rattle.soundness.proofs.Contents.{word_root}
+use Rattle.soundness.specs.Typed.{Kept}
+use Rattle.soundness.specs.Sound.{Stage, facts_of, AreStages, Uses, IsRunnable, InScope, IsNamedSub, IsAtPoint, view_of as view_here}
+use Rattle.soundness.proofs.Stays.{Quiet}
+use Rattle.soundness.proofs.Numbers.{index_law}
+use Rattle.soundness.proofs.Scalars.{acts}
+use Rattle.soundness.proofs.Points.{flow_at, sub_in_range, one_named, one_point}
+use Rattle.soundness.proofs.Inherited.{after_splits, AreGlobal, global_after, global_allowed, global_apart, Splits}
+use Rattle.soundness.proofs.Used.{used_global, globals_are}
+use Rattle.soundness.proofs.Around.{IsFar}
+use Rattle.soundness.proofs.Eased.{eased}
+use Rattle.soundness.proofs.Scoped.{Inside}
+use Rattle.soundness.specs.OwnedLoans.Views.{expand, Around, known_gone, Views, Viewed, AreViews, AreClear as FactsAreClear, ViewedAlone}
+use Rattle.soundness.proofs.OwnedLoans.Ways.{under_on}
+use Rattle.soundness.proofs.OwnedLoans.Meeting.{no_part, stands}
+use Rattle.soundness.proofs.OwnedLoans.Moves.{expand_under, view_on, own_loan, reached, lends_on}
+use Rattle.soundness.proofs.ViewedSoundness.ViewKinds.{true_false}
+use Rattle.soundness.specs.ViewedSoundness.Holds.{Holds, is_view, IsOwners, Seeing}
+use Rattle.soundness.specs.Ready.{IsSupplied, Fills}
 use Rattle.viewed_steps.specs.Awaited.{AreValuesBut, temporaries_of, lasting_of, awaited, WaitsAt, AreAwaited, AreOwnless, TakesPassed, FillsTyped}
 use Rattle.viewed_steps.proofs.Waited.{late_scope, within_lasting, lasting_more, Shares}
 use Rattle.viewed_steps.specs.Sound.{IsCopiedBack, IsBeyond, HoldsAt, ArePlaced, NoneAbove, ViewStage, stages_of, GoneElsewhere, Disturbs, AreWaiting, IsResting, IsKindOfFormal, IsScalarObject, HasTraversals}
@@ -90,7 +90,7 @@ use Rattle.viewed_steps.proofs.Seeing.{AreClear}
 use Rattle.viewed_steps.proofs.Followed as followed
 use Rattle.viewed_steps.proofs.Traversing.{all_traversed}
 use Rattle.viewed_steps.proofs.Exclusive.{ChangesLent, AreLent}
-use Rattle.owned_ways.proofs.Unique.{one_way}
+use Rattle.soundness.proofs.OwnedWays.Unique.{one_way}
 use Rattle.viewed_steps.proofs.Bared.{not_before}
 use Rattle.viewed_steps.proofs.CallActs as acting
 use Rattle.viewed_steps.proofs.Emptied.{fewer_clear}

@@ -9,18 +9,18 @@ use Rattle.machine.specs.Words as machine
 use Rattle.machine.specs.Memory as memory
 use Rattle.machine.specs.Memory.{Slot, Memory, Place, fresh, cell, no_slot, slots_of, slots_at, words_of, gone_at, stored, moved_out}
 use Rattle.machine.specs.States.{Waiting, Leak}
-use Rattle.owned_ways.specs.Ways.{Step, OfVariable, OfHand, Loc, OfRoot, OfCell, Way, Object, Lost, Into, All, Gone, Held, View, Reaches, Owned, IsMove, IsRooted, Root, Below, Under, Past, part, along, base_of}
-use Rattle.owned_ways.proofs.Locations.{below, past_under, reaches_along, under_along, under_itself, named_along}
-use Rattle.owned_ways.proofs.Assigned.{given_apart}
-use Rattle.owned_ways.proofs.Moving.{Given, keeps, owner_before}
-use Rattle.part_offsets.specs.Parts.{type_in, offset_in, has_part, is_leaf, IsSettled}
-use Rattle.viewed_soundness.specs.soundness.Seen.{Content, content, trunk, steps_in, word_in, owner_at, seen_of, seen}
-use Rattle.viewed_soundness.specs.soundness.Changes.{hand, Checks, Stores}
-use Rattle.viewed_soundness.specs.soundness.Typed.{Matches, Kept, Spot, IsMade, loc_of}
-use Rattle.viewed_soundness.proofs.soundness.Joined.{trunk_part, steps_part}
-use Rattle.viewed_soundness.proofs.soundness.Contents.{bool_cases, word_yes, word_part, word_root, stored_step, stored_whole, taken_step}
-use Rattle.viewed_soundness.proofs.soundness.Steps.{put_count, put_freed, stores, takes}
-use Rattle.owned_loans.specs.Views.{Views, IsMovedBy}
+use Rattle.soundness.specs.OwnedWays.Ways.{Step, OfVariable, OfHand, Loc, OfRoot, OfCell, Way, Object, Lost, Into, All, Gone, Held, View, Reaches, Owned, IsMove, IsRooted, Root, Below, Under, Past, part, along, base_of}
+use Rattle.soundness.proofs.OwnedWays.Locations.{below, past_under, reaches_along, under_along, under_itself, named_along}
+use Rattle.soundness.proofs.OwnedWays.Assigned.{given_apart}
+use Rattle.soundness.proofs.OwnedWays.Moving.{Given, keeps, owner_before}
+use Rattle.soundness.specs.PartOffsets.Parts.{type_in, offset_in, has_part, is_leaf, IsSettled}
+use Rattle.soundness.specs.Seen.{Content, content, trunk, steps_in, word_in, owner_at, seen_of, seen}
+use Rattle.soundness.specs.Changes.{hand, Checks, Stores}
+use Rattle.soundness.specs.Typed.{Matches, Kept, Spot, IsMade, loc_of}
+use Rattle.soundness.proofs.Joined.{trunk_part, steps_part}
+use Rattle.soundness.proofs.Contents.{bool_cases, word_yes, word_part, word_root, stored_step, stored_whole, taken_step}
+use Rattle.soundness.proofs.Steps.{put_count, put_freed, stores, takes}
+use Rattle.soundness.specs.OwnedLoans.Views.{Views, IsMovedBy}
 use Rattle.viewed_steps.specs.Taken.{IsCellAt, IsInside, trunk_type, IsOwnAt}
 use Rattle.viewed_steps.proofs.Lodged.{lodged_spot, cell_live}
 use Rattle.viewed_steps.proofs.Between.{moved_between, base_under, base_along, same_variable, OwnersStand, Begins, begun_low}

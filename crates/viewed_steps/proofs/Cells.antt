@@ -28,17 +28,17 @@ use Rattle.machine.specs.Memory.{Memory, Place}
 use Rattle.machine.specs.Memory as memory
 use Rattle.machine.specs.Calls.{Passed, Value, From, To}
 use Rattle.machine.specs.Owners.{is_in}
-use Rattle.owned_ways.specs.Ways.{OfRoot, OfCell, Way, Under, Past, Named, Reaches, Allows, AllowsAll, after, number_of}
-use Rattle.owned_ways.specs.Ways as ways
-use Rattle.owned_ways.proofs.Assigned.{kept_fact}
-use Rattle.part_offsets.specs.Parts.{IsSettled}
-use Rattle.viewed_soundness.specs.soundness.Seen.{home}
-use Rattle.viewed_soundness.specs.soundness.Typed.{OwnsByShape}
-use Rattle.viewed_soundness.specs.soundness.Ready.{root_of}
-use Rattle.viewed_soundness.proofs.soundness.Contents.{bool_cases}
-use Rattle.viewed_soundness.proofs.soundness.Scalars.{acts, acts_append, after_append, allows_both}
-use Rattle.owned_loans.specs.Views.{Views, expand}
-use Rattle.owned_loans.proofs.Safe.{Unlent}
+use Rattle.soundness.specs.OwnedWays.Ways.{OfRoot, OfCell, Way, Under, Past, Named, Reaches, Allows, AllowsAll, after, number_of}
+use Rattle.soundness.specs.OwnedWays.Ways as ways
+use Rattle.soundness.proofs.OwnedWays.Assigned.{kept_fact}
+use Rattle.soundness.specs.PartOffsets.Parts.{IsSettled}
+use Rattle.soundness.specs.Seen.{home}
+use Rattle.soundness.specs.Typed.{OwnsByShape}
+use Rattle.soundness.specs.Ready.{root_of}
+use Rattle.soundness.proofs.Contents.{bool_cases}
+use Rattle.soundness.proofs.Scalars.{acts, acts_append, after_append, allows_both}
+use Rattle.soundness.specs.OwnedLoans.Views.{Views, expand}
+use Rattle.soundness.proofs.OwnedLoans.Safe.{Unlent}
 use Rattle.viewed_steps.specs.Taken.{Lodge}
 use Rattle.viewed_steps.specs.Sound.{IsScalarObject, IsCopiedBack}
 use Rattle.viewed_steps.specs.Ready.{AreUnobserved}

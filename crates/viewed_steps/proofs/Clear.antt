@@ -16,12 +16,12 @@ use Rattle.flow_paths.specs.Objects.{Typing, object_at, is_anonymous, is_named_a
 use Rattle.flow_paths.specs.Names.{Written, written}
 use Rattle.flow_paths.specs.Acts.{naming, actual_act, actual_acts}
 use Rattle.machine.specs.Owners.{is_in_formal}
-use Rattle.owned_ways.specs.Ways.{Way, Allows, AllowsAll, after}
-use Rattle.owned_ways.specs.Ways as ways
-use Rattle.owned_loans.proofs.Clear.{refused}
-use Rattle.viewed_soundness.proofs.soundness.Scalars.{acts, acts_append, allows_both, read_effect}
-use Rattle.owned_loans.proofs.Allowed.{Cleared}
-use Rattle.viewed_soundness.specs.Holds.{is_given}
+use Rattle.soundness.specs.OwnedWays.Ways.{Way, Allows, AllowsAll, after}
+use Rattle.soundness.specs.OwnedWays.Ways as ways
+use Rattle.soundness.proofs.OwnedLoans.Clear.{refused}
+use Rattle.soundness.proofs.Scalars.{acts, acts_append, allows_both, read_effect}
+use Rattle.soundness.proofs.OwnedLoans.Allowed.{Cleared}
+use Rattle.soundness.specs.ViewedSoundness.Holds.{is_given}
 use Rattle.viewed_steps.proofs.Seeing.{IsClear, AreClear}
 use Rattle.viewed_steps.proofs.Views.{AreUnseen, given_cases}
 

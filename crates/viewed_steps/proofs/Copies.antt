@@ -10,42 +10,42 @@ use Rattle.type_definitions.specs.declared.table.Shape.{Shape}
 use Rattle.type_definitions.specs.declared.table.Shape.TheVariants as shape
 use Rattle.type_definitions.specs.Types.{shape_of, full, is_scalar, is_owning, words, owns_of, any_owns}
 use Rattle.typed_tree.specs.Trees.{TypedTree, Number, Literal, Text, Name, Component as IntoComponent, Designated, Element, Call, EndOfFile, Parens, Image, Unary, Binary, Short, IsNull, Aggregate, Alike, New, NoMore, More}
-use Rattle.owned_ways.specs.Ways.{Allows, AllowsAll, Loc, Object, OfVariable, Reaches, Step, Way, after}
-use Rattle.owned_loans.specs.Views.{Around, Viewed, Views, expand}
+use Rattle.soundness.specs.OwnedWays.Ways.{Allows, AllowsAll, Loc, Object, OfVariable, Reaches, Step, Way, after}
+use Rattle.soundness.specs.OwnedLoans.Views.{Around, Viewed, Views, expand}
 use Rattle.machine.specs.Evaluate.{AsValue, ConstraintError, Done, Evaluated, Here, Now, Raises, Traps, checked, evaluate, followed_by, held_or_taken, part_type, parts_of, steps_of, variable_place, waited, walked}
 use Rattle.typed_laws.specs.Needed.{Gives, GivesParts, IndexLaw, Leads, Stays}
-use Rattle.viewed_soundness.proofs.Stays.{Goes as GoesAlong, name_quiet, steps_taking, taking}
-use Rattle.viewed_soundness.specs.Holds.{Holds, IsNamed, IsOwners, PartsAreNamed, Seeing}
-use Rattle.viewed_soundness.specs.Taken.{type_given, types_taken, TakesFit}
-use Rattle.viewed_soundness.proofs.Evaluated.{part_named}
+use Rattle.soundness.proofs.ViewedSoundness.Stays.{Goes as GoesAlong, name_quiet, steps_taking, taking}
+use Rattle.soundness.specs.ViewedSoundness.Holds.{Holds, IsNamed, IsOwners, PartsAreNamed, Seeing}
+use Rattle.soundness.specs.ViewedSoundness.Taken.{type_given, types_taken, TakesFit}
+use Rattle.soundness.proofs.ViewedSoundness.Evaluated.{part_named}
 use Rattle.viewed_steps.proofs.Entered.{IsFit}
-use Rattle.viewed_soundness.specs.soundness.Seen.{IsNear, content, home, in_hand, seen, trunk}
-use Rattle.part_offsets.specs.Parts.{IsSettled, has_part, offset_in, type_in}
-use Rattle.viewed_soundness.specs.soundness.Typed.{Kept, Matches, OwnsByShape, Points}
+use Rattle.soundness.specs.Seen.{IsNear, content, home, in_hand, seen, trunk}
+use Rattle.soundness.specs.PartOffsets.Parts.{IsSettled, has_part, offset_in, type_in}
+use Rattle.soundness.specs.Typed.{Kept, Matches, OwnsByShape, Points}
 use Rattle.machine.specs.States.{Leak, Waiting}
 use Rattle.machine.specs.Memory.{Memory, Place, Slot, moved_out, slots_of, words_of}
-use Rattle.viewed_soundness.proofs.soundness.Stays.{One, Quiet, quiet_then, quiet_from}
+use Rattle.soundness.proofs.Stays.{One, Quiet, quiet_then, quiet_from}
 use Rattle.spark_base.specs.declared.position.Pos.{Pos}
-use Rattle.viewed_soundness.proofs.soundness.Taking.{Takes}
-use Rattle.viewed_soundness.proofs.soundness.Waits.{drop_none}
+use Rattle.soundness.proofs.Taking.{Takes}
+use Rattle.soundness.proofs.Waits.{drop_none}
 use Rattle.viewed_steps.proofs.Supplied.{Supplies, supplies_both, supplies_none, supplies_one, takes_supplied}
 use Rattle.flow_paths.specs.Objects.{Typing, object_at}
-use Rattle.viewed_soundness.proofs.soundness.Walks.{Walked, way_along}
-use Rattle.viewed_soundness.proofs.soundness.Scalars.{acts, acts_append, after_append, allows_both, read_effect}
+use Rattle.soundness.proofs.Walks.{Walked, way_along}
+use Rattle.soundness.proofs.Scalars.{acts, acts_append, after_append, allows_both, read_effect}
 use Rattle.flow_paths.specs.Acts.{acts_in, placed, used}
 use Rattle.place_names.specs.Facts.{effect}
 use Rattle.machine.specs.Words.{element_of, element_type, fits_type, no_component, element_count}
 use Rattle.machine.specs.Typed.{field_count, is_array, is_record, tree_count}
-use Rattle.viewed_soundness.proofs.soundness.Keeping.{joined, repeated, repeated_long, retyped_points, scalar, top_points, kept_with}
-use Rattle.viewed_soundness.proofs.soundness.Lasting.{keeps}
-use Rattle.viewed_soundness.proofs.soundness.Steps.{matches_words, room, taken_slots}
+use Rattle.soundness.proofs.Keeping.{joined, repeated, repeated_long, retyped_points, scalar, top_points, kept_with}
+use Rattle.soundness.proofs.Lasting.{keeps}
+use Rattle.soundness.proofs.Steps.{matches_words, room, taken_slots}
 use Rattle.flow_paths.specs.Names.{name_of, waiting as waits_in}
-use Rattle.viewed_soundness.proofs.soundness.Filling.{nth_part, part_is, part_offset, part_there, words_next, words_none, words_to, words_whole}
-use Rattle.viewed_soundness.proofs.soundness.Fixed.{plain_word}
-use Rattle.owned_loans.proofs.Allowed.{read_open}
+use Rattle.soundness.proofs.Filling.{nth_part, part_is, part_offset, part_there, words_next, words_none, words_to, words_whole}
+use Rattle.soundness.proofs.Fixed.{plain_word}
+use Rattle.soundness.proofs.OwnedLoans.Allowed.{read_open}
 use Rattle.machine.specs.Words as machine
 use Rattle.typed_tree.specs.Trees as typed
-use Rattle.viewed_soundness.proofs.soundness.Passing.{AreReads}
+use Rattle.soundness.proofs.Passing.{AreReads}
 use Rattle.viewed_steps.proofs.Reading.{no_reads, one_read, both_reads, reads_in, index_reads, unowned, unowned_read}
 
 -- ---- parts of what owns nothing own nothing

@@ -21,40 +21,40 @@ use Rattle.machine.specs.States.{Waiting, Leak, State, Outcome}
 use Rattle.machine.specs.Step.{Turn, counted, typing, here, first_value, taken_by, goes, declare}
 use Rattle.machine.specs.Step as steps
 use Rattle.machine.specs.Owners.{waiting_in, WellOwned}
-use Rattle.owned_ways.specs.Ways.{Step, Root, OfVariable, OfHand, Loc, OfRoot, OfCell, Inside, Way, Object, Lost, Into, All, Empty, View, Reaches, Under, Named, part, along, base_of, after, AllowsAll, number_of}
-use Rattle.owned_ways.specs.Ways as ways
-use Rattle.owned_ways.proofs.Named.{longer}
-use Rattle.owned_ways.proofs.Dropped.{named_base}
-use Rattle.owned_ways.proofs.Locations.{reaches_along, named_along as rooted_along}
-use Rattle.owned_ways.proofs.Assigned.{is_false}
-use Rattle.part_offsets.specs.Parts.{offset_in, is_leaf, IsSettled}
-use Rattle.viewed_soundness.specs.soundness.Seen.{IsNear, is_view_formal, content, trunk, steps_in, word_in, owner_at, seen, home}
-use Rattle.viewed_soundness.specs.soundness.Changes.{Alike}
-use Rattle.viewed_soundness.specs.soundness.Typed.{OwnsByShape, Kept}
+use Rattle.soundness.specs.OwnedWays.Ways.{Step, Root, OfVariable, OfHand, Loc, OfRoot, OfCell, Inside, Way, Object, Lost, Into, All, Empty, View, Reaches, Under, Named, part, along, base_of, after, AllowsAll, number_of}
+use Rattle.soundness.specs.OwnedWays.Ways as ways
+use Rattle.soundness.proofs.OwnedWays.Named.{longer}
+use Rattle.soundness.proofs.OwnedWays.Dropped.{named_base}
+use Rattle.soundness.proofs.OwnedWays.Locations.{reaches_along, named_along as rooted_along}
+use Rattle.soundness.proofs.OwnedWays.Assigned.{is_false}
+use Rattle.soundness.specs.PartOffsets.Parts.{offset_in, is_leaf, IsSettled}
+use Rattle.soundness.specs.Seen.{IsNear, is_view_formal, content, trunk, steps_in, word_in, owner_at, seen, home}
+use Rattle.soundness.specs.Changes.{Alike}
+use Rattle.soundness.specs.Typed.{OwnsByShape, Kept}
 use Rattle.typed_laws.specs.Needed.{Source, FirstSource}
-use Rattle.viewed_soundness.proofs.soundness.Near.{near_under, near_along}
-use Rattle.viewed_soundness.proofs.soundness.Contents.{bool_cases, word_yes, word_no, word_root}
-use Rattle.viewed_soundness.proofs.soundness.Memories.{put_other}
-use Rattle.viewed_soundness.proofs.soundness.Moments.{declared_sound, number_part}
-use Rattle.viewed_soundness.proofs.soundness.Steps.{alike}
-use Rattle.viewed_soundness.proofs.soundness.Defaults.{none_default}
-use Rattle.viewed_soundness.proofs.soundness.Following.{Each}
-use Rattle.viewed_soundness.proofs.soundness.Fading.{FadesTo, still, then_fades, if_fades, checked_fades, fades}
-use Rattle.viewed_soundness.proofs.soundness.Lasting.{keeps, lengths, declared_kept}
-use Rattle.viewed_soundness.proofs.soundness.Numbers.{index_law}
-use Rattle.viewed_soundness.proofs.soundness.Scalars.{acts}
-use Rattle.viewed_soundness.proofs.soundness.Taking.{Takes, takes_as, takes_zero, no_takes, nothing_more}
-use Rattle.owned_loans.specs.Views.{Around, Views, expand, ExcusedBy, Viewed, IsForeign}
-use Rattle.owned_loans.proofs.Ways.{lifts, lifted_way, root_on, base_on, home_or_foreign, part_root}
-use Rattle.owned_loans.proofs.Moves.{as_sound, all_known, view_on, view_rooted, reached, parts_on}
-use Rattle.owned_loans.proofs.Meeting.{stands, no_part}
-use Rattle.viewed_soundness.specs.Taken.{GivesPlainly}
-use Rattle.viewed_soundness.specs.Holds.{IsNamed, PartsAreNamed, Holds, AllKeep, is_view, is_fixed, Seeing}
-use Rattle.viewed_soundness.proofs.Names.{parts_same}
-use Rattle.viewed_soundness.proofs.ViewKinds.{bundle_view, both_no, true_false}
-use Rattle.viewed_soundness.proofs.Moments.{hands_spared}
-use Rattle.viewed_soundness.proofs.Evaluated.{gives_plainly, Given, blank_ready, checked_given, evaluated_on}
-use Rattle.viewed_soundness.proofs.Outcomes.{named_plain, not_views, IsGood, Leads_on, raises, start_is, unturned, goes_to}
+use Rattle.soundness.proofs.Near.{near_under, near_along}
+use Rattle.soundness.proofs.Contents.{bool_cases, word_yes, word_no, word_root}
+use Rattle.soundness.proofs.Memories.{put_other}
+use Rattle.soundness.proofs.Moments.{declared_sound, number_part}
+use Rattle.soundness.proofs.Steps.{alike}
+use Rattle.soundness.proofs.Defaults.{none_default}
+use Rattle.soundness.proofs.Following.{Each}
+use Rattle.soundness.proofs.Fading.{FadesTo, still, then_fades, if_fades, checked_fades, fades}
+use Rattle.soundness.proofs.Lasting.{keeps, lengths, declared_kept}
+use Rattle.soundness.proofs.Numbers.{index_law}
+use Rattle.soundness.proofs.Scalars.{acts}
+use Rattle.soundness.proofs.Taking.{Takes, takes_as, takes_zero, no_takes, nothing_more}
+use Rattle.soundness.specs.OwnedLoans.Views.{Around, Views, expand, ExcusedBy, Viewed, IsForeign}
+use Rattle.soundness.proofs.OwnedLoans.Ways.{lifts, lifted_way, root_on, base_on, home_or_foreign, part_root}
+use Rattle.soundness.proofs.OwnedLoans.Moves.{as_sound, all_known, view_on, view_rooted, reached, parts_on}
+use Rattle.soundness.proofs.OwnedLoans.Meeting.{stands, no_part}
+use Rattle.soundness.specs.ViewedSoundness.Taken.{GivesPlainly}
+use Rattle.soundness.specs.ViewedSoundness.Holds.{IsNamed, PartsAreNamed, Holds, AllKeep, is_view, is_fixed, Seeing}
+use Rattle.soundness.proofs.ViewedSoundness.Names.{parts_same}
+use Rattle.soundness.proofs.ViewedSoundness.ViewKinds.{bundle_view, both_no, true_false}
+use Rattle.soundness.proofs.ViewedSoundness.Moments.{hands_spared}
+use Rattle.soundness.proofs.ViewedSoundness.Evaluated.{gives_plainly, Given, blank_ready, checked_given, evaluated_on}
+use Rattle.soundness.proofs.ViewedSoundness.Outcomes.{named_plain, not_views, IsGood, Leads_on, raises, start_is, unturned, goes_to}
 use Rattle.viewed_steps.proofs.Views.{AreAccess, same_named}
 
 -- ---- a variable that had nothing gets a value

@@ -6,12 +6,12 @@ use Rattle.flow_paths.specs.Objects.{Typing}
 use Rattle.machine.specs.Memory.{Base, Place}
 use Rattle.machine.specs.Evaluate.{Here, Now, AsValue, Evaluated, Done, Raises, Traps, followed_by, evaluate, indexed, steps_of, walked, component_place, element_place}
 use Rattle.machine.specs.Evaluate as run
-use Rattle.owned_ways.specs.Ways.{Step, Root, Component, Loc, OfRoot, Way, Object, Into, Past, Reaches, part, along}
-use Rattle.owned_ways.specs.Ways as ways
-use Rattle.viewed_soundness.specs.soundness.Sound.{goes_through_none}
-use Rattle.viewed_soundness.proofs.soundness.Walks.{Lead, way_along}
-use Rattle.viewed_soundness.proofs.soundness.Stays.{Quiet}
-use Rattle.viewed_soundness.proofs.Names.{Starts}
+use Rattle.soundness.specs.OwnedWays.Ways.{Step, Root, Component, Loc, OfRoot, Way, Object, Into, Past, Reaches, part, along}
+use Rattle.soundness.specs.OwnedWays.Ways as ways
+use Rattle.soundness.specs.Sound.{goes_through_none}
+use Rattle.soundness.proofs.Walks.{Lead, way_along}
+use Rattle.soundness.proofs.Stays.{Quiet}
+use Rattle.soundness.proofs.ViewedSoundness.Names.{Starts}
 
 -- ---- names that go through no access value
 

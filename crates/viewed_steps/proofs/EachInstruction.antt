@@ -2,7 +2,7 @@
 -- ends of scopes.
 use Rattle.viewed_steps.proofs.Traversed.{declared_source, assigned_source}
 use Rattle.flow_paths.specs.Views.{sub_acts}
-use Rattle.viewed_soundness.proofs.soundness.Passing.{plain_type}
+use Rattle.soundness.proofs.Passing.{plain_type}
 use Rattle.std.proofs.Common.{◌≡◌, refl, sym, ap, ◌∙◌, subst, ◌⊎◌, inl, inr, ℕ, suc, ◌+◌, ◌<◌, Bool, true, false, not, ◌||◌, List, [], ◌∷◌, ◌++◌, map, drop, length, arith, append-nil, Option, Some, None, nat_lt, int_le, ◌&&◌, if◌then◌else◌, take}
 use Rattle.spark_base.specs.Lists.{Has}
 use Rattle.spark_base.specs.declared.position.Pos.{Pos}
@@ -40,33 +40,33 @@ use Rattle.machine.specs.Step.{Turn, turn, start, successor}
 use Rattle.machine.specs.Step as steps
 use Rattle.machine.specs.Typed.{successors}
 use Rattle.machine.specs.Owners.{WellOwned, waiting_in}
-use Rattle.owned_ways.specs.Ways.{Step, OfVariable, OfRoot, Way, Held, after, AllowsAll, along, number_of, Named}
-use Rattle.owned_ways.specs.Ways as ways
-use Rattle.owned_ways.proofs.Locations.{reaches_along, named_along as rooted_along}
-use Rattle.owned_ways.proofs.Dropped.{named_base}
-use Rattle.viewed_soundness.specs.soundness.Seen.{IsNear, content, word_in, home}
-use Rattle.viewed_soundness.specs.soundness.Typed.{Kept}
+use Rattle.soundness.specs.OwnedWays.Ways.{Step, OfVariable, OfRoot, Way, Held, after, AllowsAll, along, number_of, Named}
+use Rattle.soundness.specs.OwnedWays.Ways as ways
+use Rattle.soundness.proofs.OwnedWays.Locations.{reaches_along, named_along as rooted_along}
+use Rattle.soundness.proofs.OwnedWays.Dropped.{named_base}
+use Rattle.soundness.specs.Seen.{IsNear, content, word_in, home}
+use Rattle.soundness.specs.Typed.{Kept}
 use Rattle.typed_laws.specs.Needed.{IsFine, Stays, Source, FirstSource, FirstWrites, FirstStays, Returns}
-use Rattle.viewed_soundness.specs.soundness.Sound.{IsNoCall, Stage, facts_of, AreStages, IsRunnable, returns_value, InScope, IsNamedSub, IsAtPoint, view_of as view_here, is_temporary_object}
-use Rattle.viewed_soundness.specs.soundness.Ready.{stored_at, Fills, IsSupplied}
-use Rattle.viewed_soundness.proofs.soundness.Contents.{bool_cases, word_root}
-use Rattle.viewed_soundness.proofs.soundness.Scalars.{acts, acts_append}
-use Rattle.viewed_soundness.proofs.soundness.Scoped.{MayHold, Inside}
-use Rattle.viewed_soundness.proofs.soundness.Inherited.{Splits, after_splits}
-use Rattle.viewed_soundness.proofs.soundness.Around.{IsFar}
-use Rattle.viewed_soundness.proofs.soundness.Following.{Each}
-use Rattle.viewed_soundness.proofs.soundness.Onward.{GoesOn, declare_follows, assign_follows, release_follows, input_follows, test_follows, choose_follows, stays_follows, output_follows, start_follows, next_follows}
-use Rattle.viewed_soundness.proofs.soundness.Waits.{drop_none}
-use Rattle.viewed_soundness.proofs.soundness.Taking.{Takes, takes_as, takes_both, nothing_more}
-use Rattle.viewed_soundness.proofs.soundness.Waited.{FillsNone}
-use Rattle.viewed_soundness.proofs.soundness.Eased.{eased, waits_same, goes_same, from_eased}
-use Rattle.viewed_soundness.proofs.soundness.Continued.{got_with, released_with, started_with, input_eased, release_eased, start_eased}
-use Rattle.viewed_soundness.proofs.soundness.Successors.{not_true, below_one, below_two}
-use Rattle.owned_loans.specs.Views.{Around, known_gone, Views, Viewed, Unused, IsForeign, ViewedAlone}
-use Rattle.viewed_soundness.specs.Holds.{AllKeep, is_view, is_fixed, Seeing}
-use Rattle.viewed_soundness.proofs.ViewKinds.{plain_named, true_false}
-use Rattle.viewed_soundness.proofs.Evaluated.{keep_both}
-use Rattle.viewed_soundness.proofs.Outcomes.{named_plain, IsGood, Leads_on, decides_on, choose_on, assign_on}
+use Rattle.soundness.specs.Sound.{IsNoCall, Stage, facts_of, AreStages, IsRunnable, returns_value, InScope, IsNamedSub, IsAtPoint, view_of as view_here, is_temporary_object}
+use Rattle.soundness.specs.Ready.{stored_at, Fills, IsSupplied}
+use Rattle.soundness.proofs.Contents.{bool_cases, word_root}
+use Rattle.soundness.proofs.Scalars.{acts, acts_append}
+use Rattle.soundness.proofs.Scoped.{MayHold, Inside}
+use Rattle.soundness.proofs.Inherited.{Splits, after_splits}
+use Rattle.soundness.proofs.Around.{IsFar}
+use Rattle.soundness.proofs.Following.{Each}
+use Rattle.soundness.proofs.Onward.{GoesOn, declare_follows, assign_follows, release_follows, input_follows, test_follows, choose_follows, stays_follows, output_follows, start_follows, next_follows}
+use Rattle.soundness.proofs.Waits.{drop_none}
+use Rattle.soundness.proofs.Taking.{Takes, takes_as, takes_both, nothing_more}
+use Rattle.soundness.proofs.Waited.{FillsNone}
+use Rattle.soundness.proofs.Eased.{eased, waits_same, goes_same, from_eased}
+use Rattle.soundness.proofs.Continued.{got_with, released_with, started_with, input_eased, release_eased, start_eased}
+use Rattle.soundness.proofs.Successors.{not_true, below_one, below_two}
+use Rattle.soundness.specs.OwnedLoans.Views.{Around, known_gone, Views, Viewed, Unused, IsForeign, ViewedAlone}
+use Rattle.soundness.specs.ViewedSoundness.Holds.{AllKeep, is_view, is_fixed, Seeing}
+use Rattle.soundness.proofs.ViewedSoundness.ViewKinds.{plain_named, true_false}
+use Rattle.soundness.proofs.ViewedSoundness.Evaluated.{keep_both}
+use Rattle.soundness.proofs.ViewedSoundness.Outcomes.{named_plain, IsGood, Leads_on, decides_on, choose_on, assign_on}
 use Rattle.viewed_steps.specs.Awaited.{AreValues, temporaries_of, is_held, lasting_of, awaited, AreAwaited, AreScalar, TakesScalars}
 use Rattle.viewed_steps.proofs.Waited.{lasting_within, within_lasting}
 use Rattle.viewed_steps.specs.Sound.{IsBeyond, Lasts, HoldsAt, ArePlaced, NoneAbove, ViewStage, stages_of, GoneElsewhere, AreWaiting, IsStoredAt, LeadsAlong, IsResting, HasTraversals}
@@ -77,7 +77,7 @@ use Rattle.viewed_steps.proofs.Read.{got_on, scalar_named}
 use Rattle.viewed_steps.proofs.Rounds.{skip_leads, line_leads, next_leads, output_on, started_on}
 use Rattle.viewed_steps.proofs.Lent.{Spare, spare_acts}
 use Rattle.viewed_steps.proofs.Placed.{brought_more, lasts_more, MayBe}
-use Rattle.viewed_soundness.specs.Taken.{GivesPlainly}
+use Rattle.soundness.specs.ViewedSoundness.Taken.{GivesPlainly}
 use Rattle.viewed_steps.specs.Traversals.{GivesView, IsSourceIn}
 use Rattle.viewed_steps.proofs.Sources.{leads_or, view_scalar, view_declared, view_assigned}
 use Rattle.viewed_steps.proofs.Beside.{IsOther, OthersKept}

@@ -9,18 +9,18 @@ use Rattle.flow_paths.specs.Scopes.{taken}
 use Rattle.machine.specs.Memory.{Memory}
 use Rattle.machine.specs.States.{Waiting, Leak}
 use Rattle.machine.specs.Step.{Turn, typing, waiting}
-use Rattle.owned_ways.specs.Ways.{IsSame}
-use Rattle.owned_ways.specs.Ways as ways
-use Rattle.part_offsets.specs.Parts.{IsSettled}
-use Rattle.viewed_soundness.specs.soundness.Seen.{in_hand, seen}
-use Rattle.viewed_soundness.specs.soundness.Typed.{Kept, OwnsByShape}
-use Rattle.viewed_soundness.proofs.soundness.Contents.{word_no}
-use Rattle.viewed_soundness.proofs.soundness.Lasting.{less_kept, ownerless}
-use Rattle.viewed_soundness.proofs.soundness.Waits.{waits_of}
-use Rattle.viewed_soundness.proofs.soundness.Evaluated.{blank_hand}
-use Rattle.viewed_soundness.proofs.soundness.Eased.{eased}
-use Rattle.owned_loans.specs.Views.{Around, Views, Viewed}
-use Rattle.owned_loans.proofs.Moves.{same_viewed}
+use Rattle.soundness.specs.OwnedWays.Ways.{IsSame}
+use Rattle.soundness.specs.OwnedWays.Ways as ways
+use Rattle.soundness.specs.PartOffsets.Parts.{IsSettled}
+use Rattle.soundness.specs.Seen.{in_hand, seen}
+use Rattle.soundness.specs.Typed.{Kept, OwnsByShape}
+use Rattle.soundness.proofs.Contents.{word_no}
+use Rattle.soundness.proofs.Lasting.{less_kept, ownerless}
+use Rattle.soundness.proofs.Waits.{waits_of}
+use Rattle.soundness.proofs.Evaluated.{blank_hand}
+use Rattle.soundness.proofs.Eased.{eased}
+use Rattle.soundness.specs.OwnedLoans.Views.{Around, Views, Viewed}
+use Rattle.soundness.proofs.OwnedLoans.Moves.{same_viewed}
 
 pub same_back : (a b : ways.View) → IsSame a b → IsSame b a
 same_back a b same = record {

@@ -6,22 +6,22 @@ use Rattle.place_names.specs.declared.fact.Fact.{Fact}
 use Rattle.place_names.specs.declared.fact.Fact.TheVariants.{Moved, Lent}
 use Rattle.place_names.specs.declared.rule.Loan.{Loan}
 use Rattle.place_names.specs.Names.{Name as PlaceName}
-use Rattle.owned_ways.specs.Ways.{Step, Loc, OfCell, Way, Object, Lost, Into, All, Empty, Gone, Held, View, Owned, Covered, Below, Reaches, IsRooted, Under, Past, Named, part, along, name_of}
-use Rattle.owned_ways.specs.Ways as ways
-use Rattle.owned_ways.proofs.Locations.{below, reaches_along, past_under, under_along, under_itself}
-use Rattle.owned_ways.proofs.Unique.{one_location, one_way}
-use Rattle.owned_ways.proofs.Assigned.{is_false, kept_fact}
-use Rattle.owned_ways.proofs.Named.{longer, covered_under}
+use Rattle.soundness.specs.OwnedWays.Ways.{Step, Loc, OfCell, Way, Object, Lost, Into, All, Empty, Gone, Held, View, Owned, Covered, Below, Reaches, IsRooted, Under, Past, Named, part, along, name_of}
+use Rattle.soundness.specs.OwnedWays.Ways as ways
+use Rattle.soundness.proofs.OwnedWays.Locations.{below, reaches_along, past_under, under_along, under_itself}
+use Rattle.soundness.proofs.OwnedWays.Unique.{one_location, one_way}
+use Rattle.soundness.proofs.OwnedWays.Assigned.{is_false, kept_fact}
+use Rattle.soundness.proofs.OwnedWays.Named.{longer, covered_under}
 use Rattle.place_names.specs.Names.{covers}
 use Rattle.place_names.specs.Facts.{removes, effect}
 use Rattle.place_names.specs.declared.act.Act.TheVariants as act
 use Rattle.place_names.specs.declared.act.Mode.TheVariants as mode
 use Rattle.spark_base.proofs.Lists.{Has-append_cases, Has-filter}
-use Rattle.viewed_soundness.proofs.soundness.Contents.{bool_cases}
+use Rattle.soundness.proofs.Contents.{bool_cases}
 use Rattle.std.specs.List.{filter}
-use Rattle.owned_loans.specs.Views.{Views, AreClear, expand}
+use Rattle.soundness.specs.OwnedLoans.Views.{Views, AreClear, expand}
 use Rattle.viewed_steps.proofs.Between.{OwnersStand}
-use Rattle.owned_loans.proofs.Moves.{IsPlace, expand_under}
+use Rattle.soundness.proofs.OwnedLoans.Moves.{IsPlace, expand_under}
 
 -- The numbers at a place and in it are leaked, and the place has none.
 pub record IsEmptied (s t : View) (l : Loc) : Type 0 where

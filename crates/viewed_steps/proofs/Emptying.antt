@@ -7,20 +7,20 @@ use Rattle.flow_paths.specs.Objects.{Typing, object_at}
 use Rattle.machine.specs.Words.{access_offsets, default}
 use Rattle.machine.specs.Memory.{Slot, Memory, Place, fresh, no_slot, variable_slots, slots_at, slots_of, words_of, gone_at, moved_out, declared}
 use Rattle.machine.specs.States.{Waiting, Leak}
-use Rattle.owned_ways.specs.Ways.{Step, OfVariable, Loc, OfRoot, OfCell, IsSame, Reaches, Way, Empty, Gone, Held, Under, Past, part, along}
-use Rattle.owned_ways.proofs.Locations.{below}
-use Rattle.part_offsets.specs.Parts.{IsSettled}
-use Rattle.viewed_soundness.specs.soundness.Seen.{content, trunk, steps_in, word_in, seen, home, is_view_formal}
-use Rattle.viewed_soundness.specs.soundness.Changes.{Checks}
-use Rattle.viewed_soundness.specs.soundness.Typed.{OwnsByShape, Kept, Spot}
-use Rattle.viewed_soundness.proofs.soundness.Contents.{word_part, word_root}
-use Rattle.viewed_soundness.proofs.soundness.Defaults.{none_default}
-use Rattle.viewed_soundness.proofs.soundness.Memories.{put_other}
-use Rattle.viewed_soundness.proofs.soundness.Lasting.{keeps, lengths, less_kept, declared_kept}
-use Rattle.owned_loans.specs.Views.{Views}
-use Rattle.viewed_soundness.specs.Holds.{is_view}
-use Rattle.viewed_soundness.proofs.ViewKinds.{true_false, not_view}
-use Rattle.viewed_soundness.proofs.Evaluated.{matches_named}
+use Rattle.soundness.specs.OwnedWays.Ways.{Step, OfVariable, Loc, OfRoot, OfCell, IsSame, Reaches, Way, Empty, Gone, Held, Under, Past, part, along}
+use Rattle.soundness.proofs.OwnedWays.Locations.{below}
+use Rattle.soundness.specs.PartOffsets.Parts.{IsSettled}
+use Rattle.soundness.specs.Seen.{content, trunk, steps_in, word_in, seen, home, is_view_formal}
+use Rattle.soundness.specs.Changes.{Checks}
+use Rattle.soundness.specs.Typed.{OwnsByShape, Kept, Spot}
+use Rattle.soundness.proofs.Contents.{word_part, word_root}
+use Rattle.soundness.proofs.Defaults.{none_default}
+use Rattle.soundness.proofs.Memories.{put_other}
+use Rattle.soundness.proofs.Lasting.{keeps, lengths, less_kept, declared_kept}
+use Rattle.soundness.specs.OwnedLoans.Views.{Views}
+use Rattle.soundness.specs.ViewedSoundness.Holds.{is_view}
+use Rattle.soundness.proofs.ViewedSoundness.ViewKinds.{true_false, not_view}
+use Rattle.soundness.proofs.ViewedSoundness.Evaluated.{matches_named}
 use Rattle.viewed_steps.specs.Taken.{Lodge, AreCarried, IsPassedOn, IsBare}
 use Rattle.viewed_steps.proofs.Between.{same_reaches, same_variable, OwnersStand, same_stand}
 use Rattle.viewed_steps.proofs.Carried.{inside_low, inside_other, inside_at, inside_spot, inside_reached, inside_rooted, inside_owns, inside_word}

@@ -18,26 +18,26 @@ use Rattle.machine.specs.Memory.{Memory, Slot, fresh, no_slot, variable_slots, u
 use Rattle.machine.specs.Step.{Turn, typing}
 use Rattle.machine.specs.Step as steps
 use Rattle.machine.specs.Owners.{waiting_in}
-use Rattle.owned_ways.specs.Ways.{Step, OfVariable, Way, Named, Allows, name_of, number_of}
-use Rattle.owned_ways.proofs.Assigned.{kept_fact}
-use Rattle.part_offsets.specs.Parts.{offset_in, IsSettled}
-use Rattle.viewed_soundness.specs.soundness.Seen.{IsNear, is_view_formal, home}
-use Rattle.viewed_soundness.specs.soundness.Typed.{OwnsByShape, Kept}
-use Rattle.viewed_soundness.specs.soundness.Sound as sound
-use Rattle.viewed_soundness.proofs.soundness.Defaults.{none_default}
-use Rattle.viewed_soundness.proofs.soundness.Keeping.{cell_has}
-use Rattle.viewed_soundness.proofs.soundness.Memories.{removed_same, removed_other}
-use Rattle.owned_loans.specs.Views.{Around, Views, Viewed, Unused, with_view, IsThrough}
-use Rattle.owned_loans.proofs.Safe.{root_before}
-use Rattle.owned_loans.proofs.Taken.{becomes_with, given_up}
-use Rattle.viewed_soundness.specs.Holds.{is_bundle, PartsAreNamed, is_view, Seeing}
-use Rattle.viewed_soundness.proofs.ViewKinds.{observer_sees, both_no, true_false}
-use Rattle.viewed_soundness.proofs.Outcomes.{LeavesOthers, Is_left, scope_left, borrower_unmoved}
+use Rattle.soundness.specs.OwnedWays.Ways.{Step, OfVariable, Way, Named, Allows, name_of, number_of}
+use Rattle.soundness.proofs.OwnedWays.Assigned.{kept_fact}
+use Rattle.soundness.specs.PartOffsets.Parts.{offset_in, IsSettled}
+use Rattle.soundness.specs.Seen.{IsNear, is_view_formal, home}
+use Rattle.soundness.specs.Typed.{OwnsByShape, Kept}
+use Rattle.soundness.specs.Sound as sound
+use Rattle.soundness.proofs.Defaults.{none_default}
+use Rattle.soundness.proofs.Keeping.{cell_has}
+use Rattle.soundness.proofs.Memories.{removed_same, removed_other}
+use Rattle.soundness.specs.OwnedLoans.Views.{Around, Views, Viewed, Unused, with_view, IsThrough}
+use Rattle.soundness.proofs.OwnedLoans.Safe.{root_before}
+use Rattle.soundness.proofs.OwnedLoans.Taken.{becomes_with, given_up}
+use Rattle.soundness.specs.ViewedSoundness.Holds.{is_bundle, PartsAreNamed, is_view, Seeing}
+use Rattle.soundness.proofs.ViewedSoundness.ViewKinds.{observer_sees, both_no, true_false}
+use Rattle.soundness.proofs.ViewedSoundness.Outcomes.{LeavesOthers, Is_left, scope_left, borrower_unmoved}
 use Rattle.viewed_steps.specs.Sound.{Lasts, IsFading, HoldsAt, ArePlacedWith}
 use Rattle.viewed_steps.proofs.Faded.{without, had_way, has_way, no_way, faded}
 use Rattle.viewed_steps.proofs.Placed.{lasts_on, within_on}
 use Rattle.viewed_steps.proofs.Views.{view_ends}
-use Rattle.owned_ways.proofs.Named.{longer}
+use Rattle.soundness.proofs.OwnedWays.Named.{longer}
 
 -- an object that isn't a borrower or observer has no anonymous type, if those that have one are
 -- variables

@@ -1,7 +1,7 @@
 -- What a call takes for formals: a scalar value, a scalar place, or another place in a variable of its
 -- caller. A formal of mode `in out` has what its actual had; the place of the actual is gone meanwhile, and
 -- has no number.
-use Rattle.viewed_soundness.specs.Holds.{is_bundle, is_view, IsNamed, is_given}
+use Rattle.soundness.specs.ViewedSoundness.Holds.{is_bundle, is_view, IsNamed, is_given}
 use Rattle.std.proofs.Common.{◌≡◌, refl, sym, ap, ◌∙◌, subst, ◌⊎◌, inl, inr, ℕ, suc, ◌+◌, Bool, true, false, not, List, [], ◌∷◌, ◌++◌, take, drop, length, get_or, arith, if◌then◌else◌, Some}
 use Rattle.std.proofs.lemmas.List.{length-map}
 use Rattle.spark_base.specs.Lists.{Has}
@@ -15,21 +15,21 @@ use Rattle.machine.specs.Memory.{Slot, Memory, Place, fresh, no_slot, variable_s
 use Rattle.machine.specs.Words as machine
 use Rattle.machine.specs.Calls.{Passed, Value, From, To}
 use Rattle.machine.specs.States.{Waiting, Leak}
-use Rattle.owned_ways.specs.Ways.{Step, OfVariable, OfHand, Loc, OfRoot, OfCell, Reaches, Way, Object, Empty, Held, Under, Past, Named, along, base_of, number_of}
-use Rattle.owned_ways.proofs.Locations.{same_loc}
-use Rattle.part_offsets.specs.Parts.{type_in, has_part, IsSettled}
-use Rattle.viewed_soundness.specs.soundness.Seen.{content, word_in, seen, home, is_view_formal, in_hand}
+use Rattle.soundness.specs.OwnedWays.Ways.{Step, OfVariable, OfHand, Loc, OfRoot, OfCell, Reaches, Way, Object, Empty, Held, Under, Past, Named, along, base_of, number_of}
+use Rattle.soundness.proofs.OwnedWays.Locations.{same_loc}
+use Rattle.soundness.specs.PartOffsets.Parts.{type_in, has_part, IsSettled}
+use Rattle.soundness.specs.Seen.{content, word_in, seen, home, is_view_formal, in_hand}
 use Rattle.type_definitions.specs.declared.table.Shape.TheVariants as shape
-use Rattle.viewed_soundness.specs.soundness.Typed.{Matches, IsCell, OwnsByShape, Kept, Spot, Points}
-use Rattle.viewed_soundness.proofs.soundness.Memories.{put_other}
-use Rattle.viewed_soundness.proofs.soundness.Moments.{number_part, declared_sound}
-use Rattle.viewed_soundness.proofs.soundness.Steps.{matches_words, plain_end, alike, taken_slots, room}
-use Rattle.viewed_soundness.proofs.soundness.Lasting.{keeps, declared_kept}
-use Rattle.viewed_soundness.proofs.soundness.Stays.{One}
-use Rattle.owned_loans.specs.Views.{Views, IsMovedBy, expand}
-use Rattle.owned_loans.proofs.Ways.{lifts, lifted_root, part_root}
-use Rattle.viewed_soundness.proofs.ViewKinds.{both_no, true_false, view_access, not_view}
-use Rattle.viewed_soundness.proofs.Evaluated.{matches_named}
+use Rattle.soundness.specs.Typed.{Matches, IsCell, OwnsByShape, Kept, Spot, Points}
+use Rattle.soundness.proofs.Memories.{put_other}
+use Rattle.soundness.proofs.Moments.{number_part, declared_sound}
+use Rattle.soundness.proofs.Steps.{matches_words, plain_end, alike, taken_slots, room}
+use Rattle.soundness.proofs.Lasting.{keeps, declared_kept}
+use Rattle.soundness.proofs.Stays.{One}
+use Rattle.soundness.specs.OwnedLoans.Views.{Views, IsMovedBy, expand}
+use Rattle.soundness.proofs.OwnedLoans.Ways.{lifts, lifted_root, part_root}
+use Rattle.soundness.proofs.ViewedSoundness.ViewKinds.{both_no, true_false, view_access, not_view}
+use Rattle.soundness.proofs.ViewedSoundness.Evaluated.{matches_named}
 use Rattle.viewed_steps.specs.Taken.{Lodge, trunk_type, IsPlainPlace, AreCarried, IsInside, IsPassedOn, IsBare, IsApartFrom, IsOwnAt}
 use Rattle.viewed_steps.proofs.Between.{base_along, base_under, same_variable, OwnersStand, Begins, as_sound, from_sound}
 use Rattle.viewed_steps.proofs.Carried.{inside_begins, inside_low, carried_gone, carried_held_cell, carried_gone_cell, carried_beside_cell, inside_other, inside_at, inside_spot, inside_reached, inside_base, inside_rooted, inside_owns, inside_word, carried_bare, carried_held, carried_beside, carried_off_stays, carried_off}

@@ -10,18 +10,18 @@ use Rattle.machine.specs.Words as machine
 use Rattle.machine.specs.Memory.{Memory, Place, no_slot, variable_slots, words_of, moved_out, declared}
 use Rattle.machine.specs.Calls.{Passed, Value, From, To, with_formal, with_formals, returns_of}
 use Rattle.machine.specs.States.{Waiting, Leak, Return}
-use Rattle.owned_ways.specs.Ways.{Step, OfVariable, OfHand, Loc, OfRoot, OfCell, Reaches, Owned, Way, Object, Empty, Held, Under, Past, along, base_of}
-use Rattle.owned_ways.proofs.Locations.{under_along, under_itself}
+use Rattle.soundness.specs.OwnedWays.Ways.{Step, OfVariable, OfHand, Loc, OfRoot, OfCell, Reaches, Owned, Way, Object, Empty, Held, Under, Past, along, base_of}
+use Rattle.soundness.proofs.OwnedWays.Locations.{under_along, under_itself}
 use Rattle.type_definitions.specs.Types.{is_owning}
-use Rattle.part_offsets.specs.Parts.{IsSettled}
-use Rattle.viewed_soundness.proofs.soundness.Contents.{word_no}
-use Rattle.viewed_soundness.proofs.soundness.Lasting.{keeps}
-use Rattle.viewed_soundness.specs.soundness.Seen.{content, trunk, steps_in, word_in, seen, home}
-use Rattle.viewed_soundness.specs.soundness.Changes.{Checks, leaks_at}
-use Rattle.viewed_soundness.specs.soundness.Typed.{OwnsByShape, Kept}
-use Rattle.owned_loans.specs.Views.{Views, IsMovedBy}
-use Rattle.owned_loans.proofs.Ways.{beginnings}
-use Rattle.viewed_soundness.specs.Holds.{is_view}
+use Rattle.soundness.specs.PartOffsets.Parts.{IsSettled}
+use Rattle.soundness.proofs.Contents.{word_no}
+use Rattle.soundness.proofs.Lasting.{keeps}
+use Rattle.soundness.specs.Seen.{content, trunk, steps_in, word_in, seen, home}
+use Rattle.soundness.specs.Changes.{Checks, leaks_at}
+use Rattle.soundness.specs.Typed.{OwnsByShape, Kept}
+use Rattle.soundness.specs.OwnedLoans.Views.{Views, IsMovedBy}
+use Rattle.soundness.proofs.OwnedLoans.Ways.{beginnings}
+use Rattle.soundness.specs.ViewedSoundness.Holds.{is_view}
 use Rattle.viewed_steps.specs.Taken.{Lodge, AreCarried, TakenBy, IsPassedOn, IsBare, IsApartFrom, AreTaken}
 use Rattle.viewed_steps.proofs.Left.{cells_same}
 use Rattle.viewed_steps.proofs.Between.{carried_same, carried_then, same_reaches, more_gone, base_along, base_under, taken_more, OwnersStand, same_stand, Begins}

@@ -19,18 +19,18 @@ use Rattle.machine.specs.Owners.{is_in}
 use Rattle.flow_paths.specs.Names.{Written, written, name_of}
 use Rattle.flow_paths.specs.Aliases.{overlap_reports}
 use Rattle.flow_paths.specs.Aliases as alias
-use Rattle.owned_ways.specs.Ways.{Step, Way, All, View, Under, Past, Named, AllowsAll, number_of}
-use Rattle.owned_ways.specs.Ways as ways
-use Rattle.viewed_soundness.specs.soundness.Seen.{home}
-use Rattle.viewed_soundness.proofs.soundness.Scalars.{acts}
-use Rattle.owned_loans.specs.Views.{Around, Views, expand, Viewed}
-use Rattle.owned_loans.proofs.Safe.{Unlent, Unborrowed, unlent_below, designated_over}
+use Rattle.soundness.specs.OwnedWays.Ways.{Step, Way, All, View, Under, Past, Named, AllowsAll, number_of}
+use Rattle.soundness.specs.OwnedWays.Ways as ways
+use Rattle.soundness.specs.Seen.{home}
+use Rattle.soundness.proofs.Scalars.{acts}
+use Rattle.soundness.specs.OwnedLoans.Views.{Around, Views, expand, Viewed}
+use Rattle.soundness.proofs.OwnedLoans.Safe.{Unlent, Unborrowed, unlent_below, designated_over}
 use Rattle.place_names.proofs.Names.{overlaps-sym}
-use Rattle.owned_loans.proofs.Ways.{Meet}
-use Rattle.viewed_soundness.specs.Holds.{is_given, is_view, is_bundle, is_fixed, AllKeep, GoesBy}
+use Rattle.soundness.proofs.OwnedLoans.Ways.{Meet}
+use Rattle.soundness.specs.ViewedSoundness.Holds.{is_given, is_view, is_bundle, is_fixed, AllKeep, GoesBy}
 use Rattle.viewed_steps.proofs.SeenApart.{seen_apart}
-use Rattle.viewed_soundness.proofs.soundness.Contents.{bool_cases}
-use Rattle.viewed_soundness.proofs.Given.{lent_past, lent_past_part, lent_far, lent_beside}
+use Rattle.soundness.proofs.Contents.{bool_cases}
+use Rattle.soundness.proofs.ViewedSoundness.Given.{lent_past, lent_past_part, lent_far, lent_beside}
 use Rattle.viewed_steps.specs.Ready.{AreDifferent}
 use Rattle.viewed_steps.proofs.Seeing.{IsClear, AreClear}
 use Rattle.viewed_steps.specs.Sound.{IsCopiedBack}

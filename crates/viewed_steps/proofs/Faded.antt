@@ -1,8 +1,8 @@
 -- Some observers give up their ways.
 use Rattle.std.proofs.Common.{◌≡◌, refl, sym, ap, ◌∙◌, inl, inr, ℕ, Bool, true, false, List, Some, None, if◌then◌else◌}
 use Rattle.place_names.specs.declared.fact.Fact.{Fact}
-use Rattle.owned_ways.specs.Ways.{Step, OfVariable, OfHand, Way, Object, Lost, Into, All, View, number_of, name_of}
-use Rattle.owned_loans.specs.Views.{Around, Views, expand_root, expand_part, inner_steps, part_from, expand, Viewed}
+use Rattle.soundness.specs.OwnedWays.Ways.{Step, OfVariable, OfHand, Way, Object, Lost, Into, All, View, number_of, name_of}
+use Rattle.soundness.specs.OwnedLoans.Views.{Around, Views, expand_root, expand_part, inner_steps, part_from, expand, Viewed}
 
 abbrev pub without : Views → (ℕ → Bool) → Views
 without v fades = record {

@@ -16,11 +16,11 @@ use Rattle.type_definitions.specs.Types.{is_owning}
 use Rattle.typed_tree.specs.Trees.{TypedTree, Name}
 use Rattle.flow_paths.specs.Objects.{Typing, object_at, passing, passing_by}
 use Rattle.flow_paths.specs.Acts.{actual_act}
-use Rattle.owned_ways.specs.Ways.{OfVariable, Way, Object, Into, All, Component, Element, Allows, AllowsAll, after}
-use Rattle.owned_ways.specs.Ways as ways
-use Rattle.viewed_soundness.proofs.soundness.Contents.{bool_cases}
-use Rattle.viewed_soundness.proofs.soundness.Scalars.{acts}
-use Rattle.owned_loans.proofs.Allowed.{Cleared}
+use Rattle.soundness.specs.OwnedWays.Ways.{OfVariable, Way, Object, Into, All, Component, Element, Allows, AllowsAll, after}
+use Rattle.soundness.specs.OwnedWays.Ways as ways
+use Rattle.soundness.proofs.Contents.{bool_cases}
+use Rattle.soundness.proofs.Scalars.{acts}
+use Rattle.soundness.proofs.OwnedLoans.Allowed.{Cleared}
 use Rattle.viewed_steps.specs.Traversals.{TraversalCall, traversed_name}
 use Rattle.viewed_steps.proofs.Clear.{head_keeps}
 

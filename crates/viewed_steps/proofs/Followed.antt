@@ -2,17 +2,17 @@
 use Rattle.viewed_steps.proofs.Standing as standing
 use Rattle.viewed_steps.proofs.Successor as next
 use Rattle.viewed_steps.proofs.Traversing.{first_actual, traversal_keeps}
-use Rattle.viewed_soundness.specs.Holds.{is_given, IsAccess}
+use Rattle.soundness.specs.ViewedSoundness.Holds.{is_given, IsAccess}
 use Rattle.viewed_steps.proofs.Views.{AreUnseen, given_type}
 use Rattle.viewed_steps.specs.Ready.{IsReady, IsCalled, IsTraversalCall, IsSeen, IsActualTo, AreActualsTo, AreDifferent, is_shown_type}
 use Rattle.viewed_steps.specs.Sound.{ViewStage}
 use Rattle.viewed_steps.specs.Traversals.{traversed_name}
-use Rattle.viewed_soundness.proofs.soundness.Points.{flow_at}
-use Rattle.viewed_soundness.proofs.soundness.Scalars.{acts, acts_append, after_append}
-use Rattle.viewed_soundness.proofs.soundness.Inherited.{global_after}
-use Rattle.viewed_soundness.proofs.soundness.Used.{globals_are, called_are}
-use Rattle.viewed_soundness.proofs.soundness.Passing.{signature_is}
-use Rattle.viewed_soundness.specs.soundness.Sound.{Stage, IsNamedSub, IsAtPoint}
+use Rattle.soundness.proofs.Points.{flow_at}
+use Rattle.soundness.proofs.Scalars.{acts, acts_append, after_append}
+use Rattle.soundness.proofs.Inherited.{global_after}
+use Rattle.soundness.proofs.Used.{globals_are, called_are}
+use Rattle.soundness.proofs.Passing.{signature_is}
+use Rattle.soundness.specs.Sound.{Stage, IsNamedSub, IsAtPoint}
 use Rattle.std.proofs.Common.{◌≡◌, refl, sym, ap, ◌∙◌, subst, ◌⊎◌, inl, inr, ℕ, Bool, true, false, List, [], ◌∷◌, ◌++◌, map, Option, Some, None, if◌then◌else◌}
 use Rattle.spark_base.specs.Lists.{Has}
 use Rattle.place_names.specs.declared.act.Mode.TheVariants as mode
@@ -32,9 +32,9 @@ use Rattle.flow_paths.specs.Paths.{ControlPath, facts_before}
 use Rattle.flow_paths.specs.Points.{NamedPoint}
 use Rattle.flow_paths.specs.Views.{traversed_formal, traversed_of}
 use Rattle.machine.specs.States.{State, Frame, sub_of}
-use Rattle.owned_ways.specs.Ways.{Way, after}
-use Rattle.owned_ways.specs.Ways as ways
-use Rattle.owned_loans.proofs.Allowed.{Cleared}
+use Rattle.soundness.specs.OwnedWays.Ways.{Way, after}
+use Rattle.soundness.specs.OwnedWays.Ways as ways
+use Rattle.soundness.proofs.OwnedLoans.Allowed.{Cleared}
 use Rattle.viewed_steps.specs.Seeing.{sees_in}
 
 -- The formals of a traversal function, its result, and how its actuals are passed.

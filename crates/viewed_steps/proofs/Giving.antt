@@ -2,23 +2,23 @@
 use Rattle.place_names.specs.declared.act.Act.TheVariants as act
 use Rattle.flow_paths.specs.Acts as flow
 use Rattle.flow_paths.specs.Acts.{acts_in}
-use Rattle.viewed_soundness.proofs.soundness.Scalars.{acts}
-use Rattle.viewed_soundness.proofs.soundness.Taking.{Takes, takes_as, nothing_more, takes_zero}
+use Rattle.soundness.proofs.Scalars.{acts}
+use Rattle.soundness.proofs.Taking.{Takes, takes_as, nothing_more, takes_zero}
 use Rattle.viewed_steps.proofs.Returned.{goes_on, names_view, name_given, changes_nothing}
 use Rattle.place_names.specs.Facts.{removes, effect}
-use Rattle.viewed_soundness.proofs.soundness.Operands.{hold_is}
-use Rattle.viewed_soundness.proofs.soundness.Stays.{Quiet}
+use Rattle.soundness.proofs.Operands.{hold_is}
+use Rattle.soundness.proofs.Stays.{Quiet}
 use Rattle.type_definitions.specs.declared.table.Shape.TheVariants as shape
 use Rattle.viewed_steps.proofs.Taking as taking
 use Rattle.viewed_steps.proofs.Results as results
 use Rattle.std.specs.Prelude.{is_some, filter}
-use Rattle.owned_loans.proofs.Ways.{expand_on}
+use Rattle.soundness.proofs.OwnedLoans.Ways.{expand_on}
 use Rattle.viewed_steps.proofs.Traversed.{source_named}
 use Rattle.flow_paths.specs.Views.{sub_acts, traversed_formal, IsOnlyRoot}
 use Rattle.viewed_steps.specs.Traversals.{GivesView, IsSourceIn, SeesFirst, IsSourceName, AreGiven, traversed_name}
 use Rattle.viewed_steps.proofs.Sources.{view_shape}
 use Rattle.spark_base.specs.declared.position.Pos.{Pos}
-use Rattle.viewed_soundness.proofs.ViewKinds.{given_view, access_bundle, true_false}
+use Rattle.soundness.proofs.ViewedSoundness.ViewKinds.{given_view, access_bundle, true_false}
 use Rattle.std.proofs.Common.{◌≡◌, refl, sym, ap, ◌∙◌, subst, ◌⊎◌, inl, inr, ℕ, suc, ◌<◌, Bool, true, false, List, [], ◌∷◌, ◌++◌, drop, length, Some, None, map, Option, ◌||◌, append-nil, not, take, if◌then◌else◌}
 use Rattle.spark_base.specs.Lists.{Has}
 use Rattle.place_names.specs.declared.act.Act.{Act}
@@ -40,26 +40,26 @@ use Rattle.flow_paths.specs.Scopes.{taken, scope_behind}
 use Rattle.machine.specs.Words.{fits_type}
 use Rattle.machine.specs.Words as machine
 use Rattle.machine.specs.Evaluate as run
-use Rattle.viewed_soundness.proofs.soundness.Contents.{bool_cases}
+use Rattle.soundness.proofs.Contents.{bool_cases}
 use Rattle.machine.specs.Memory.{given_up, Memory, cell}
 use Rattle.machine.specs.Evaluate.{Done, followed_by, place_of, Raises, Traps, Evaluated, Now, evaluate}
 use Rattle.machine.specs.States.{Waiting, Frame, State, Outcome, sub_of, Goes}
 use Rattle.machine.specs.Step.{Turn, turn, start, successor}
 use Rattle.machine.specs.Step as steps
 use Rattle.machine.specs.Owners.{waiting_in, WellOwned}
-use Rattle.owned_ways.specs.Ways.{Step, OfVariable, OfRoot, Way, Held, after, AllowsAll}
-use Rattle.viewed_soundness.specs.soundness.Seen.{IsNear, content, word_in, home, seen}
-use Rattle.viewed_soundness.specs.soundness.Typed.{Kept, IsCell}
+use Rattle.soundness.specs.OwnedWays.Ways.{Step, OfVariable, OfRoot, Way, Held, after, AllowsAll}
+use Rattle.soundness.specs.Seen.{IsNear, content, word_in, home, seen}
+use Rattle.soundness.specs.Typed.{Kept, IsCell}
 use Rattle.typed_laws.specs.Needed.{IsFine, Source, Matches, Returns}
-use Rattle.viewed_soundness.specs.Taken.{GivesPlainly}
-use Rattle.viewed_soundness.specs.soundness.Sound.{IsNoCall, Stage, facts_of, AreStages, IsRunnable, returns_value, InScope, IsNamedSub, IsAtPoint, view_of as view_here, has_returned}
-use Rattle.viewed_soundness.proofs.soundness.Scoped.{Inside}
-use Rattle.viewed_soundness.proofs.soundness.Around.{IsFar}
-use Rattle.viewed_soundness.proofs.soundness.Waited.{FillsNone}
-use Rattle.viewed_soundness.proofs.soundness.Eased.{eased}
-use Rattle.owned_loans.specs.Views.{Around, known_gone, Views, Viewed, Go, ViewedAlone}
-use Rattle.viewed_soundness.specs.Holds.{is_view, is_bundle, Seeing}
-use Rattle.viewed_soundness.proofs.Outcomes.{Leads_on, IsGood}
+use Rattle.soundness.specs.ViewedSoundness.Taken.{GivesPlainly}
+use Rattle.soundness.specs.Sound.{IsNoCall, Stage, facts_of, AreStages, IsRunnable, returns_value, InScope, IsNamedSub, IsAtPoint, view_of as view_here, has_returned}
+use Rattle.soundness.proofs.Scoped.{Inside}
+use Rattle.soundness.proofs.Around.{IsFar}
+use Rattle.soundness.proofs.Waited.{FillsNone}
+use Rattle.soundness.proofs.Eased.{eased}
+use Rattle.soundness.specs.OwnedLoans.Views.{Around, known_gone, Views, Viewed, Go, ViewedAlone}
+use Rattle.soundness.specs.ViewedSoundness.Holds.{is_view, is_bundle, Seeing}
+use Rattle.soundness.proofs.ViewedSoundness.Outcomes.{Leads_on, IsGood}
 use Rattle.viewed_steps.specs.Awaited.{AreValues, lasting_of, AreAwaited, TakesAlone, TakesTogether, AreScalar, TakesScalars, temporaries_of}
 use Rattle.viewed_steps.proofs.Waited.{Shares}
 use Rattle.viewed_steps.specs.Sound.{IsBeyond, IsResting, HoldsAt, ArePlaced, NoneAbove, ViewStage, stages_of, GoneElsewhere, AreWaiting, IsStoredAt, LeadsAlong, HasTraversals, IsGivenBelow}
@@ -72,13 +72,13 @@ use Rattle.viewed_steps.proofs.Standing as standing
 use Rattle.viewed_steps.proofs.Packages as packages
 use Rattle.viewed_steps.proofs.Innermost as innermost
 use Rattle.machine.specs.Step.{led}
-use Rattle.viewed_soundness.specs.soundness.Ready.{IsSupplied}
+use Rattle.soundness.specs.Ready.{IsSupplied}
 use Rattle.viewed_steps.proofs.EachInstruction as each
 use Rattle.flow_paths.specs.Instructions.{Hold}
-use Rattle.owned_ways.specs.Ways as ways
-use Rattle.owned_loans.specs.Views.{on, expand}
-use Rattle.viewed_soundness.proofs.Lends.{matches_on}
-use Rattle.viewed_soundness.proofs.Coming.{IsComing}
+use Rattle.soundness.specs.OwnedWays.Ways as ways
+use Rattle.soundness.specs.OwnedLoans.Views.{on, expand}
+use Rattle.soundness.proofs.ViewedSoundness.Lends.{matches_on}
+use Rattle.soundness.proofs.ViewedSoundness.Coming.{IsComing}
 use Rattle.viewed_steps.proofs.Blank.{reached_with, with_view, kept_with_view}
 use Rattle.viewed_steps.proofs.Sources.{view_scalar}
 use Rattle.viewed_steps.specs.Traversals.{IsGivenTo}

@@ -23,9 +23,9 @@ use Rattle.flow_paths.specs.Reports.{AreReports}
 use Rattle.flow_paths.specs.Aliases as alias
 use Rattle.flow_paths.specs.Aliases.{meets_global, global_reports, overlap_reports, passed_reports, call_reports}
 use Rattle.machine.specs.States.{sub_of}
-use Rattle.viewed_soundness.specs.soundness.Sound.{Uses}
-use Rattle.viewed_soundness.proofs.soundness.Passing.{signature_is}
-use Rattle.viewed_soundness.proofs.soundness.Used.{any_has}
+use Rattle.soundness.specs.Sound.{Uses}
+use Rattle.soundness.proofs.Passing.{signature_is}
+use Rattle.soundness.proofs.Used.{any_has}
 use Rattle.viewed_steps.specs.Sound.{IsCopiedBack}
 use Rattle.viewed_steps.proofs.Cells.{passed_formal}
 use Rattle.viewed_steps.proofs.Passed.{no_call_reports}

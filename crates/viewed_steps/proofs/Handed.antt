@@ -12,7 +12,7 @@ use Rattle.place_names.specs.Facts.{place}
 use Rattle.flow_paths.specs.Effects.{AreEffects, written_by}
 use Rattle.flow_paths.specs.Laid.{NamedSub, flow_named}
 use Rattle.machine.specs.States.{Return}
-use Rattle.viewed_soundness.specs.soundness.Sound.{Uses, IsNamedSub}
+use Rattle.soundness.specs.Sound.{Uses, IsNamedSub}
 use Rattle.viewed_steps.specs.Sound.{AreWaiting, IsBeyond, Disturbs, loan_by}
 use Rattle.viewed_steps.proofs.Apart.{moved_written, lent_written, lent_used, written_disturbs, kept_there, held_apart}
 use Rattle.type_definitions.specs.Types.{Table}
@@ -21,14 +21,14 @@ use Rattle.flow_paths.specs.declared.report.Effects.{Effects}
 use Rattle.flow_paths.specs.Objects.{Typing, is_package_object}
 use Rattle.flow_paths.specs.Laid.{FlowProgram, flow_typing, flow_program}
 use Rattle.machine.specs.States.{State}
-use Rattle.owned_ways.specs.Ways.{Way, View, name_of}
-use Rattle.viewed_soundness.specs.soundness.Seen.{home}
-use Rattle.viewed_soundness.specs.soundness.Sound.{Stage, facts_of}
-use Rattle.viewed_soundness.proofs.soundness.Around.{near_or_far}
-use Rattle.viewed_soundness.proofs.soundness.Inherited.{Splits}
-use Rattle.owned_loans.specs.Views.{Around, known_gone, Views, AreClear, ExcusedBy, HasLoan, Viewed, ViewedAlone}
-use Rattle.owned_loans.proofs.Moves.{view_on, own_loan, reached}
-use Rattle.viewed_soundness.specs.Holds.{is_view}
+use Rattle.soundness.specs.OwnedWays.Ways.{Way, View, name_of}
+use Rattle.soundness.specs.Seen.{home}
+use Rattle.soundness.specs.Sound.{Stage, facts_of}
+use Rattle.soundness.proofs.Around.{near_or_far}
+use Rattle.soundness.proofs.Inherited.{Splits}
+use Rattle.soundness.specs.OwnedLoans.Views.{Around, known_gone, Views, AreClear, ExcusedBy, HasLoan, Viewed, ViewedAlone}
+use Rattle.soundness.proofs.OwnedLoans.Moves.{view_on, own_loan, reached}
+use Rattle.soundness.specs.ViewedSoundness.Holds.{is_view}
 use Rattle.viewed_steps.specs.Sound.{ViewStage, GoneElsewhere}
 use Rattle.viewed_steps.proofs.Waiting.{StandsBetween, AreTheirs, LentElsewhere, beside_them, handed, lent_handed, none_moved, loans_has, near_lent, far_met, unused_there}
 use Rattle.viewed_steps.specs.Seeing.{sees_in}

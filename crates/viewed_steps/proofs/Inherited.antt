@@ -20,8 +20,8 @@ use Rattle.place_names.specs.Facts.{adds, removes, effect}
 use Rattle.place_names.specs.Rules.{forbidden_if, forbids, breaks_O1, breaks_O3, breaks_O4, breaks_O5, breaks_O6, breaks_O7, breaks_O10, breaks_O14, breaks_O2}
 use Rattle.flow_paths.specs.Effects.{act_reads, act_writes, actual_writes}
 use Rattle.flow_paths.specs.Objects.{Typing, is_borrower, is_package_object}
-use Rattle.owned_ways.specs.Ways.{after}
-use Rattle.viewed_soundness.proofs.soundness.Contents.{bool_cases}
+use Rattle.soundness.specs.OwnedWays.Ways.{after}
+use Rattle.soundness.proofs.Contents.{bool_cases}
 use Rattle.viewed_steps.proofs.Lent.{ends}
 
 -- ---- facts among others

@@ -4,8 +4,8 @@ use Rattle.place_names.specs.declared.act.Act.TheVariants as act
 use Rattle.flow_paths.specs.Views.{sub_acts, traversed_formal}
 use Rattle.viewed_steps.proofs.Rooted.{own_root}
 use Rattle.viewed_steps.proofs.Traversed.{named_left, named_brought}
-use Rattle.viewed_soundness.specs.Holds.{is_view, Seeing}
-use Rattle.viewed_soundness.proofs.soundness.Lasting.{ownerless}
+use Rattle.soundness.specs.ViewedSoundness.Holds.{is_view, Seeing}
+use Rattle.soundness.proofs.Lasting.{ownerless}
 use Rattle.typed_tree.specs.declared.object.ObjectKind.{ObjectKind}
 use Rattle.typed_tree.specs.declared.object.ObjectKind.TheVariants as object_kind
 use Rattle.std.specs.List.{AllByRecursion}
@@ -40,26 +40,26 @@ use Rattle.machine.specs.Step.{Turn, start}
 use Rattle.machine.specs.Step as steps
 use Rattle.machine.specs.Typed.{successors}
 use Rattle.machine.specs.Owners.{WellOwned, waiting_in}
-use Rattle.owned_ways.specs.Ways.{Step, OfVariable, OfRoot, Way, Held, after, AllowsAll, number_of}
-use Rattle.owned_ways.specs.Ways as ways
-use Rattle.viewed_soundness.specs.soundness.Seen.{IsNear, content, word_in, home}
-use Rattle.viewed_soundness.specs.soundness.Typed.{Kept}
-use Rattle.viewed_soundness.specs.soundness.Sound.{Stage, facts_of, AreStages, Uses, IsRunnable, is_temporary_object, returns_value, has_returned, InScope, IsNamedSub, IsAtPoint, view_of as view_here, IsPlainValue, IsNoCall}
-use Rattle.viewed_soundness.specs.soundness.Ready.{stored_at, IsSupplied}
-use Rattle.viewed_soundness.proofs.soundness.Contents.{bool_cases, word_no}
+use Rattle.soundness.specs.OwnedWays.Ways.{Step, OfVariable, OfRoot, Way, Held, after, AllowsAll, number_of}
+use Rattle.soundness.specs.OwnedWays.Ways as ways
+use Rattle.soundness.specs.Seen.{IsNear, content, word_in, home}
+use Rattle.soundness.specs.Typed.{Kept}
+use Rattle.soundness.specs.Sound.{Stage, facts_of, AreStages, Uses, IsRunnable, is_temporary_object, returns_value, has_returned, InScope, IsNamedSub, IsAtPoint, view_of as view_here, IsPlainValue, IsNoCall}
+use Rattle.soundness.specs.Ready.{stored_at, IsSupplied}
+use Rattle.soundness.proofs.Contents.{bool_cases, word_no}
 use Rattle.machine.specs.Run.{no_point}
-use Rattle.viewed_soundness.proofs.soundness.Points.{flow_at, point_there, sub_at_number, sub_in_range}
-use Rattle.viewed_soundness.proofs.soundness.Scoped.{MayHold, Inside}
-use Rattle.viewed_soundness.proofs.soundness.Inherited.{Splits, after_splits, allowed_beside}
-use Rattle.viewed_soundness.proofs.soundness.Used.{writes_used, reads_used, fact_added}
-use Rattle.viewed_soundness.proofs.soundness.Around.{IsFar}
-use Rattle.viewed_soundness.proofs.soundness.Waits.{waits_of, drop_none}
-use Rattle.viewed_soundness.proofs.soundness.Taking.{Takes}
-use Rattle.viewed_soundness.proofs.soundness.Waited.{within_left, FillsNone}
-use Rattle.viewed_soundness.proofs.soundness.Eased.{eased, takes_all}
-use Rattle.viewed_soundness.proofs.soundness.Raised.{raised_owned}
-use Rattle.owned_loans.specs.Views.{Around, known_gone, Views, Viewed, ViewedAlone}
-use Rattle.viewed_soundness.proofs.ViewKinds.{true_false, given_view}
+use Rattle.soundness.proofs.Points.{flow_at, point_there, sub_at_number, sub_in_range}
+use Rattle.soundness.proofs.Scoped.{MayHold, Inside}
+use Rattle.soundness.proofs.Inherited.{Splits, after_splits, allowed_beside}
+use Rattle.soundness.proofs.Used.{writes_used, reads_used, fact_added}
+use Rattle.soundness.proofs.Around.{IsFar}
+use Rattle.soundness.proofs.Waits.{waits_of, drop_none}
+use Rattle.soundness.proofs.Taking.{Takes}
+use Rattle.soundness.proofs.Waited.{within_left, FillsNone}
+use Rattle.soundness.proofs.Eased.{eased, takes_all}
+use Rattle.soundness.proofs.Raised.{raised_owned}
+use Rattle.soundness.specs.OwnedLoans.Views.{Around, known_gone, Views, Viewed, ViewedAlone}
+use Rattle.soundness.proofs.ViewedSoundness.ViewKinds.{true_false, given_view}
 use Rattle.viewed_steps.specs.Awaited.{TakesPassed, IsTakenAt, AreOwnless, AreFor, AreValues, temporaries_of, is_held, lasting_of, awaited, AreAwaited, AreScalar, TakesScalars, StoresNone, IsTaken}
 use Rattle.viewed_steps.proofs.Waited.{split_list, plain_unheld, ended_held, lasting_within, within_lasting, lasting_more, brought_temporaries, Shares, shares, scalar_values}
 use Rattle.viewed_steps.specs.Sound.{IsBeyond, HoldsAt, ArePlaced, NoneAbove, Lasts, ViewStage, stages_of, GoneElsewhere, Disturbs, AreWaiting, LeadsOn, IsResting, HasTraversals}
@@ -76,10 +76,10 @@ use Rattle.viewed_steps.proofs.Standing.{or_right}
 use Rattle.viewed_steps.proofs.Standing as standing
 use Rattle.viewed_steps.proofs.Packages as packages
 use Rattle.viewed_steps.proofs.Views.{anonymous_view, view_ends}
-use Rattle.viewed_soundness.proofs.ViewKinds.{plain_sees}
+use Rattle.soundness.proofs.ViewedSoundness.ViewKinds.{plain_sees}
 use Rattle.viewed_steps.proofs.Handed.{AreApart, with_them, without_them}
-use Rattle.viewed_soundness.specs.Taken.{types_taken}
-use Rattle.viewed_soundness.proofs.Hands.{words_first}
+use Rattle.soundness.specs.ViewedSoundness.Taken.{types_taken}
+use Rattle.soundness.proofs.ViewedSoundness.Hands.{words_first}
 use Rattle.viewed_steps.proofs.Supplied.{Supplies, scalar_ownless, ownless_values, of_types, points_there}
 use Rattle.viewed_steps.specs.Seeing.{sees_in}
 use Rattle.viewed_steps.proofs.Sees.{sees_seeing}

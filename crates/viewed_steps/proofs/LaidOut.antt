@@ -11,13 +11,13 @@ use Rattle.machine.specs.Words as machine
 use Rattle.machine.specs.Memory.{Memory, Place}
 use Rattle.machine.specs.Calls.{Passed, Value, From, To}
 use Rattle.machine.specs.Owners.{is_in}
-use Rattle.owned_ways.specs.Ways.{Way, Named, Reaches}
-use Rattle.owned_ways.specs.Ways as ways
-use Rattle.viewed_soundness.specs.soundness.Seen.{home}
-use Rattle.viewed_soundness.specs.soundness.Typed.{Matches, IsFixed}
-use Rattle.owned_loans.specs.Views.{Views, expand}
-use Rattle.owned_loans.proofs.Safe.{Open}
-use Rattle.viewed_soundness.specs.Holds.{is_bundle}
+use Rattle.soundness.specs.OwnedWays.Ways.{Way, Named, Reaches}
+use Rattle.soundness.specs.OwnedWays.Ways as ways
+use Rattle.soundness.specs.Seen.{home}
+use Rattle.soundness.specs.Typed.{Matches, IsFixed}
+use Rattle.soundness.specs.OwnedLoans.Views.{Views, expand}
+use Rattle.soundness.proofs.OwnedLoans.Safe.{Open}
+use Rattle.soundness.specs.ViewedSoundness.Holds.{is_bundle}
 use Rattle.viewed_steps.specs.Ready.{is_shown_type}
 use Rattle.viewed_steps.specs.Taken.{Lodge, IsLodged, IsInside, IsOwnAt}
 use Rattle.viewed_steps.specs.Sound.{IsScalarObject}

@@ -5,14 +5,14 @@ use Rattle.machine.specs.Words.{default}
 use Rattle.machine.specs.Words as machine
 use Rattle.machine.specs.Memory.{Memory, Slot, no_slot, variable_slots, without_frame}
 use Rattle.machine.specs.States.{Waiting, Leak}
-use Rattle.owned_ways.specs.Ways.{Step, OfVariable, OfHand, Loc, OfRoot, OfCell, Inside, Way, Object, Lost, Into, All, Empty, Gone, Held, View, Reaches, Named, Owned, Covered, IsSame, part, base_of, number_of}
-use Rattle.viewed_soundness.specs.soundness.Seen.{content, trunk, steps_in, word_in, seen, home, is_view_formal}
-use Rattle.viewed_soundness.proofs.soundness.Joined.{trunk_trunk, not_inside}
-use Rattle.viewed_soundness.proofs.soundness.Contents.{word_part}
-use Rattle.viewed_soundness.proofs.soundness.Defaults.{none_default, blank_word}
-use Rattle.viewed_soundness.proofs.soundness.Keeping.{cell_has}
-use Rattle.viewed_soundness.proofs.soundness.Around.{same_or_not}
-use Rattle.viewed_soundness.proofs.soundness.Endings.{SameNumbers, numbers_owned, numbers_covered, reaches_on, frame_other, frame_same, frame_ends, left_blank}
+use Rattle.soundness.specs.OwnedWays.Ways.{Step, OfVariable, OfHand, Loc, OfRoot, OfCell, Inside, Way, Object, Lost, Into, All, Empty, Gone, Held, View, Reaches, Named, Owned, Covered, IsSame, part, base_of, number_of}
+use Rattle.soundness.specs.Seen.{content, trunk, steps_in, word_in, seen, home, is_view_formal}
+use Rattle.soundness.proofs.Joined.{trunk_trunk, not_inside}
+use Rattle.soundness.proofs.Contents.{word_part}
+use Rattle.soundness.proofs.Defaults.{none_default, blank_word}
+use Rattle.soundness.proofs.Keeping.{cell_has}
+use Rattle.soundness.proofs.Around.{same_or_not}
+use Rattle.soundness.proofs.Endings.{SameNumbers, numbers_owned, numbers_covered, reaches_on, frame_other, frame_same, frame_ends, left_blank}
 
 -- where owners see the same, cells have the same words
 pub cells_same : (s : Typing) (m n : Memory) (hands : List Waiting) (leaks : List Leak) → IsSame (seen s m hands leaks) (seen s n hands leaks)

@@ -28,13 +28,13 @@ use Rattle.flow_paths.specs.Names.{Written, written}
 use Rattle.flow_paths.specs.Views.{is_in_mode, text_report}
 use Rattle.flow_paths.specs.Aliases.{pair_reports, overlap_reports, may_overlap}
 use Rattle.flow_paths.specs.Aliases as alias
-use Rattle.owned_ways.specs.Ways.{Allows, AllowsAll, after}
-use Rattle.owned_ways.proofs.Assigned.{kept_fact, is_false}
-use Rattle.viewed_soundness.proofs.soundness.Scalars.{acts, acts_append, allows_both}
-use Rattle.owned_loans.proofs.Clear.{refused}
-use Rattle.viewed_soundness.specs.Holds.{is_fixed, AllKeep}
-use Rattle.viewed_soundness.proofs.ViewKinds.{free_sees}
-use Rattle.viewed_soundness.proofs.Evaluated.{keep_both}
+use Rattle.soundness.specs.OwnedWays.Ways.{Allows, AllowsAll, after}
+use Rattle.soundness.proofs.OwnedWays.Assigned.{kept_fact, is_false}
+use Rattle.soundness.proofs.Scalars.{acts, acts_append, allows_both}
+use Rattle.soundness.proofs.OwnedLoans.Clear.{refused}
+use Rattle.soundness.specs.ViewedSoundness.Holds.{is_fixed, AllKeep}
+use Rattle.soundness.proofs.ViewedSoundness.ViewKinds.{free_sees}
+use Rattle.soundness.proofs.ViewedSoundness.Evaluated.{keep_both}
 use Rattle.viewed_steps.specs.Ready.{AreDifferent}
 use Rattle.viewed_steps.specs.Sound.{IsCopiedBack}
 use Rattle.viewed_steps.proofs.Passed.{flat_has, later_none}

@@ -21,10 +21,10 @@ use Rattle.flow_paths.specs.Instructions as instruction
 use Rattle.flow_paths.specs.Objects.{Typing, is_borrower, is_observer, traverses, is_package_object}
 use Rattle.flow_paths.specs.Names.{Written, has_call, name_of, written, first, source, whole}
 use Rattle.flow_paths.specs.Acts.{Frame, placed, naming, used, acts_in, index_acts, source_acts, observe, declared_acts, reborrow, target_pos, stored_acts, assigned_to, returned_acts, gives_variable, acts_of}
-use Rattle.owned_ways.specs.Ways.{after}
-use Rattle.owned_ways.proofs.Assigned.{kept_fact}
-use Rattle.viewed_soundness.specs.soundness.Sound.{IsNoCall}
-use Rattle.viewed_soundness.proofs.soundness.Scalars.{acts, acts_append}
+use Rattle.soundness.specs.OwnedWays.Ways.{after}
+use Rattle.soundness.proofs.OwnedWays.Assigned.{kept_fact}
+use Rattle.soundness.specs.Sound.{IsNoCall}
+use Rattle.soundness.proofs.Scalars.{acts, acts_append}
 
 -- An act ends a scope or a call, is that of a call, gives a place to what is no borrower, or a package object
 -- to a caller that may write it.

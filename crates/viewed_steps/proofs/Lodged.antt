@@ -9,13 +9,13 @@ use Rattle.machine.specs.Words as machine
 use Rattle.machine.specs.Memory.{Slot, Memory, Place, cell, no_slot}
 use Rattle.machine.specs.Memory as memory
 use Rattle.machine.specs.States.{Waiting, Leak}
-use Rattle.owned_ways.specs.Ways.{Step, OfVariable, OfHand, Loc, OfRoot, OfCell, Inside, Way, Object, Lost, Into, All, Held, Reaches, Owned, part, base_of}
-use Rattle.part_offsets.specs.Parts.{type_in, offset_in, has_part, owns_one, is_leaf, IsSettled}
-use Rattle.viewed_soundness.specs.soundness.Seen.{Content, content, trunk, steps_in, word_in, seen}
-use Rattle.viewed_soundness.specs.soundness.Typed.{Matches, IsCell, Kept, Spot, IsMade, loc_of}
-use Rattle.viewed_soundness.proofs.soundness.Joined.{trunk_part, steps_part}
-use Rattle.viewed_soundness.proofs.soundness.Contents.{owner_held, Shown, shown}
-use Rattle.viewed_soundness.proofs.soundness.Steps.{same_below, no_leaf, plain_shape, plain_end}
+use Rattle.soundness.specs.OwnedWays.Ways.{Step, OfVariable, OfHand, Loc, OfRoot, OfCell, Inside, Way, Object, Lost, Into, All, Held, Reaches, Owned, part, base_of}
+use Rattle.soundness.specs.PartOffsets.Parts.{type_in, offset_in, has_part, owns_one, is_leaf, IsSettled}
+use Rattle.soundness.specs.Seen.{Content, content, trunk, steps_in, word_in, seen}
+use Rattle.soundness.specs.Typed.{Matches, IsCell, Kept, Spot, IsMade, loc_of}
+use Rattle.soundness.proofs.Joined.{trunk_part, steps_part}
+use Rattle.soundness.proofs.Contents.{owner_held, Shown, shown}
+use Rattle.soundness.proofs.Steps.{same_below, no_leaf, plain_shape, plain_end}
 use Rattle.viewed_steps.specs.Taken.{Lodge, last_steps, trunk_type, IsLodged}
 
 both_parts : (a b : Bool) → a && b ≡ true → (a ≡ true) × (b ≡ true)

@@ -4,13 +4,13 @@ use Rattle.flow_paths.specs.Instructions.{Instruction}
 use Rattle.flow_paths.specs.Objects.{Typing, object_at, is_package_object}
 use Rattle.machine.specs.Memory.{Slot, Memory, undeclared}
 use Rattle.machine.specs.States.{Waiting, Leak}
-use Rattle.owned_ways.specs.Ways.{Step, OfVariable, OfHand, Loc, OfRoot, OfCell, Inside, Way, Object, Lost, Into, All, View, Reaches, base_of, number_of}
-use Rattle.viewed_soundness.specs.soundness.Seen.{content, trunk, steps_in, word_in, seen, home}
-use Rattle.viewed_soundness.proofs.soundness.Contents.{bool_cases}
-use Rattle.viewed_soundness.proofs.soundness.Memories.{removed_other}
-use Rattle.owned_ways.proofs.Dropped.{named_base}
-use Rattle.owned_loans.specs.Views.{on, Views, expand}
-use Rattle.owned_loans.proofs.Ways.{in_part_way, base_on, lifts, lifted_way}
+use Rattle.soundness.specs.OwnedWays.Ways.{Step, OfVariable, OfHand, Loc, OfRoot, OfCell, Inside, Way, Object, Lost, Into, All, View, Reaches, base_of, number_of}
+use Rattle.soundness.specs.Seen.{content, trunk, steps_in, word_in, seen, home}
+use Rattle.soundness.proofs.Contents.{bool_cases}
+use Rattle.soundness.proofs.Memories.{removed_other}
+use Rattle.soundness.proofs.OwnedWays.Dropped.{named_base}
+use Rattle.soundness.specs.OwnedLoans.Views.{on, Views, expand}
+use Rattle.soundness.proofs.OwnedLoans.Ways.{in_part_way, base_on, lifts, lifted_way}
 use Rattle.viewed_steps.specs.Traversals.{IsGivenTo, AreGiven}
 
 -- What a location is a part of is a cell, or a variable of a frame below.

@@ -18,22 +18,22 @@ use Rattle.machine.specs.States.{Frame, State, Ending, Raised, Outcome, Goes, En
 use Rattle.machine.specs.Step.{main_frame}
 use Rattle.machine.specs.Owners.{WellOwned}
 use Rattle.machine.specs.Run.{empty_memory, frames_at_start, state_at_start, step, then_on, within, run_of, main_of, moment}
-use Rattle.owned_ways.specs.Ways.{Way, Lost}
-use Rattle.viewed_soundness.specs.soundness.Seen.{home, seen}
-use Rattle.viewed_soundness.specs.soundness.Sound.{Stage, IsTrap, ending_of, RunIsSound, view_of as view_here}
-use Rattle.viewed_soundness.proofs.soundness.Defaults.{none_default}
-use Rattle.viewed_soundness.proofs.soundness.Keeping.{cell_has}
-use Rattle.viewed_soundness.proofs.soundness.Owners.{well_owned}
-use Rattle.viewed_soundness.proofs.soundness.Beginning.{empty_sound, empty_kept, empty_scope}
-use Rattle.viewed_soundness.proofs.soundness.Points.{sub_there}
-use Rattle.owned_loans.specs.Views.{known_gone, Views, ViewedAlone}
+use Rattle.soundness.specs.OwnedWays.Ways.{Way, Lost}
+use Rattle.soundness.specs.Seen.{home, seen}
+use Rattle.soundness.specs.Sound.{Stage, IsTrap, ending_of, RunIsSound, view_of as view_here}
+use Rattle.soundness.proofs.Defaults.{none_default}
+use Rattle.soundness.proofs.Keeping.{cell_has}
+use Rattle.soundness.proofs.Owners.{well_owned}
+use Rattle.soundness.proofs.Beginning.{empty_sound, empty_kept, empty_scope}
+use Rattle.soundness.proofs.Points.{sub_there}
+use Rattle.soundness.specs.OwnedLoans.Views.{known_gone, Views, ViewedAlone}
 use Rattle.viewed_steps.specs.Sound.{ViewStage, GoneElsewhere, IsSound, LeadsOn}
 use Rattle.viewed_steps.specs.Ready.{IsReady}
 use Rattle.viewed_steps.proofs.Packages.{stage, first_point, first_waits, main_awaits, main_runs}
 use Rattle.viewed_steps.proofs.Stepping.{sound_step}
 use Rattle.viewed_steps.proofs.Standing.{bundle_sees, in_formals}
 use Rattle.viewed_steps.proofs.Views.{parts_none}
-use Rattle.viewed_soundness.specs.Holds.{PartsHold}
+use Rattle.soundness.specs.ViewedSoundness.Holds.{PartsHold}
 use Rattle.viewed_steps.specs.Seeing.{sees_in}
 
 -- ---- the start

@@ -1,8 +1,8 @@
 -- After a step of the innermost frame, those around it wait on.
-use Rattle.viewed_soundness.specs.Holds.{is_view}
-use Rattle.part_offsets.specs.Parts.{offset_in}
-use Rattle.viewed_soundness.proofs.Names.{parts_same}
-use Rattle.viewed_soundness.proofs.ViewKinds.{bundle_view}
+use Rattle.soundness.specs.ViewedSoundness.Holds.{is_view}
+use Rattle.soundness.specs.PartOffsets.Parts.{offset_in}
+use Rattle.soundness.proofs.ViewedSoundness.Names.{parts_same}
+use Rattle.soundness.proofs.ViewedSoundness.ViewKinds.{bundle_view}
 use Rattle.std.proofs.Common.{◌≡◌, refl, sym, ap, ◌∙◌, subst, inl, inr, ℕ, ◌<◌, ◌≤◌, Bool, true, false, List, [], ◌∷◌, ◌++◌, length, get_or, arith, if◌then◌else◌}
 use Rattle.spark_base.specs.Lists.{Has}
 use Rattle.place_names.specs.declared.fact.Fact.TheVariants.{Moved}
@@ -15,11 +15,11 @@ use Rattle.flow_paths.specs.Laid.{FlowProgram, flow_typing, flow_program}
 use Rattle.machine.specs.Words as machine
 use Rattle.machine.specs.Memory.{variable_slots, no_slot, Place}
 use Rattle.machine.specs.States.{Frame, Return, State}
-use Rattle.owned_ways.specs.Ways.{Loc, IsSame, Step, OfVariable, OfRoot, OfCell, Way, Object, Held, Reaches, part}
-use Rattle.viewed_soundness.specs.soundness.Seen.{content, word_in, home}
-use Rattle.viewed_soundness.specs.soundness.Sound.{Stage, facts_of, AreStages, view_of as view_here}
-use Rattle.owned_loans.specs.Views.{known_gone}
-use Rattle.owned_loans.proofs.Moves.{view_on, parts_on}
+use Rattle.soundness.specs.OwnedWays.Ways.{Loc, IsSame, Step, OfVariable, OfRoot, OfCell, Way, Object, Held, Reaches, part}
+use Rattle.soundness.specs.Seen.{content, word_in, home}
+use Rattle.soundness.specs.Sound.{Stage, facts_of, AreStages, view_of as view_here}
+use Rattle.soundness.specs.OwnedLoans.Views.{known_gone}
+use Rattle.soundness.proofs.OwnedLoans.Moves.{view_on, parts_on}
 use Rattle.viewed_steps.specs.Taken.{IsInside, IsBare, IsAmong, IsOwnAt}
 use Rattle.viewed_steps.proofs.Between.{still_taken}
 use Rattle.viewed_steps.specs.Awaited.{lasting_of}

@@ -15,11 +15,11 @@ use Rattle.place_names.specs.declared.rule.Rule.TheVariants.{O10}
 use Rattle.place_names.specs.Names.{Name as PlaceName, is_equal, begins, is_prefix, agree_along, agrees_whole, overlaps, leads_to, has_elem, covers, strict_prefixes}
 use Rattle.place_names.specs.Rules.{lent, moved_or_borrowed, moved_or_lent, breaks_O2, breaks_O3, breaks_O10}
 use Rattle.place_names.proofs.Names.{both_parts, both_true}
-use Rattle.owned_ways.specs.Ways.{Way, Allows, name_of}
-use Rattle.viewed_soundness.proofs.soundness.Freeing.{switched}
-use Rattle.owned_loans.proofs.Clear.{refused}
-use Rattle.owned_loans.proofs.Allowed.{either_right, leads_overlaps, write_open, write_unlent}
-use Rattle.owned_loans.proofs.Safe.{Open, Unlent}
+use Rattle.soundness.specs.OwnedWays.Ways.{Way, Allows, name_of}
+use Rattle.soundness.proofs.Freeing.{switched}
+use Rattle.soundness.proofs.OwnedLoans.Clear.{refused}
+use Rattle.soundness.proofs.OwnedLoans.Allowed.{either_right, leads_overlaps, write_open, write_unlent}
+use Rattle.soundness.proofs.OwnedLoans.Safe.{Open, Unlent}
 
 -- ---- names
 

@@ -19,20 +19,20 @@ use Rattle.machine.specs.Owners.{is_in}
 use Rattle.machine.specs.Evaluate.{Here}
 use Rattle.machine.specs.Calls.{Passed, Value, From, To}
 use Rattle.machine.specs.States.{Waiting, Leak}
-use Rattle.owned_ways.specs.Ways.{Loc, OfCell, Way, Lost, All, View, Reaches, Under, Named, number_of, Step, along}
-use Rattle.owned_ways.specs.Ways as ways
-use Rattle.owned_ways.proofs.Locations.{under_itself, under_along}
-use Rattle.part_offsets.specs.Parts.{IsSettled, has_part, type_in, offset_in}
+use Rattle.soundness.specs.OwnedWays.Ways.{Loc, OfCell, Way, Lost, All, View, Reaches, Under, Named, number_of, Step, along}
+use Rattle.soundness.specs.OwnedWays.Ways as ways
+use Rattle.soundness.proofs.OwnedWays.Locations.{under_itself, under_along}
+use Rattle.soundness.specs.PartOffsets.Parts.{IsSettled, has_part, type_in, offset_in}
 use Rattle.type_definitions.specs.declared.table.Shape.{Shape}
 use Rattle.type_definitions.specs.declared.table.Shape.TheVariants as shape
 use Rattle.type_definitions.specs.Types.{shape_of}
-use Rattle.viewed_soundness.specs.soundness.Seen.{IsNear, content, trunk, seen, home}
-use Rattle.viewed_soundness.specs.soundness.Typed.{OwnsByShape, Kept}
+use Rattle.soundness.specs.Seen.{IsNear, content, trunk, seen, home}
+use Rattle.soundness.specs.Typed.{OwnsByShape, Kept}
 use Rattle.typed_laws.specs.Needed.{IndexLaw}
-use Rattle.owned_loans.specs.Views.{Around, Views, AreViews, ExcusedBy, Viewed, with_view}
-use Rattle.viewed_soundness.specs.Holds.{PartsAreNamed, is_view, IsOwners, Holds, PartsHold, is_given, is_bundle, GoesBy, Seeing}
-use Rattle.viewed_soundness.proofs.Given.{IsLow, low_begins, low_there}
-use Rattle.viewed_soundness.proofs.ViewKinds.{true_false, bundle_view}
+use Rattle.soundness.specs.OwnedLoans.Views.{Around, Views, AreViews, ExcusedBy, Viewed, with_view}
+use Rattle.soundness.specs.ViewedSoundness.Holds.{PartsAreNamed, is_view, IsOwners, Holds, PartsHold, is_given, is_bundle, GoesBy, Seeing}
+use Rattle.soundness.proofs.ViewedSoundness.Given.{IsLow, low_begins, low_there}
+use Rattle.soundness.proofs.ViewedSoundness.ViewKinds.{true_false, bundle_view}
 use Rattle.viewed_steps.specs.Sound.{Lies, ArePlaced, NoneAbove, ArePartsLow}
 use Rattle.viewed_steps.specs.Awaited.{is_held, IsTakenBy}
 use Rattle.viewed_steps.specs.Traversals.{TraversalCall, call_in, traversed_name, AreRooted, SeesFirst}

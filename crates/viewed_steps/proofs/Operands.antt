@@ -17,28 +17,28 @@ use Rattle.machine.specs.States.{Waiting, Outcome, Goes}
 use Rattle.machine.specs.Step.{Turn, typing, here, waiting, behind, led, successor}
 use Rattle.machine.specs.Step as steps
 use Rattle.machine.specs.Owners.{waiting_in}
-use Rattle.owned_ways.specs.Ways.{Way, after, AllowsAll}
-use Rattle.owned_ways.specs.Ways as ways
-use Rattle.part_offsets.specs.Parts.{IsSettled}
-use Rattle.viewed_soundness.specs.soundness.Seen.{in_hand, word_in, seen, home, IsNear}
-use Rattle.viewed_soundness.specs.soundness.Typed.{OwnsByShape, Kept}
+use Rattle.soundness.specs.OwnedWays.Ways.{Way, after, AllowsAll}
+use Rattle.soundness.specs.OwnedWays.Ways as ways
+use Rattle.soundness.specs.PartOffsets.Parts.{IsSettled}
+use Rattle.soundness.specs.Seen.{in_hand, word_in, seen, home, IsNear}
+use Rattle.soundness.specs.Typed.{OwnsByShape, Kept}
 use Rattle.typed_laws.specs.Needed.{Stays}
-use Rattle.viewed_soundness.proofs.soundness.Contents.{word_no}
-use Rattle.viewed_soundness.proofs.soundness.Steps.{no_leaf}
-use Rattle.viewed_soundness.proofs.soundness.Scalars.{acts}
-use Rattle.viewed_soundness.proofs.soundness.Taking.{Takes}
-use Rattle.viewed_soundness.proofs.soundness.Stays.{Quiet, One}
-use Rattle.viewed_soundness.proofs.soundness.Numbers.{index_law}
-use Rattle.viewed_soundness.proofs.soundness.Keeping.{scalar}
-use Rattle.viewed_soundness.proofs.soundness.Lasting.{keeps, less_kept}
-use Rattle.viewed_soundness.proofs.soundness.Evaluated.{changed_hand}
-use Rattle.viewed_soundness.proofs.soundness.Waits.{waits_of, led_waits, drop_none}
-use Rattle.owned_loans.specs.Views.{Around, Views, Viewed}
-use Rattle.owned_loans.proofs.Moves.{same_viewed}
-use Rattle.viewed_soundness.specs.Holds.{PartsAreNamed, Holds, Seeing}
-use Rattle.viewed_soundness.proofs.Evaluated.{scalar_given}
+use Rattle.soundness.proofs.Contents.{word_no}
+use Rattle.soundness.proofs.Steps.{no_leaf}
+use Rattle.soundness.proofs.Scalars.{acts}
+use Rattle.soundness.proofs.Taking.{Takes}
+use Rattle.soundness.proofs.Stays.{Quiet, One}
+use Rattle.soundness.proofs.Numbers.{index_law}
+use Rattle.soundness.proofs.Keeping.{scalar}
+use Rattle.soundness.proofs.Lasting.{keeps, less_kept}
+use Rattle.soundness.proofs.Evaluated.{changed_hand}
+use Rattle.soundness.proofs.Waits.{waits_of, led_waits, drop_none}
+use Rattle.soundness.specs.OwnedLoans.Views.{Around, Views, Viewed}
+use Rattle.soundness.proofs.OwnedLoans.Moves.{same_viewed}
+use Rattle.soundness.specs.ViewedSoundness.Holds.{PartsAreNamed, Holds, Seeing}
+use Rattle.soundness.proofs.ViewedSoundness.Evaluated.{scalar_given}
 use Rattle.viewed_steps.proofs.Views.{AreAccess}
-use Rattle.viewed_soundness.proofs.Outcomes.{IsGood, Leads_on, raises, unturned, scalar_taken}
+use Rattle.soundness.proofs.ViewedSoundness.Outcomes.{IsGood, Leads_on, raises, unturned, scalar_taken}
 
 module _ (t : Turn) (sees : ℕ → Bool) (seeing : Seeing (typing t) sees) (settled : IsSettled (typing t).table) (own_law : OwnsByShape (typing t).table) (other : Around (home (typing t) (length t.outer)))
     (alone : (w : Way) → IsNear (length t.outer) w → other.gone w → ⊥) (in_formals : AreAccess (typing t))

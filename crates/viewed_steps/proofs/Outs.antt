@@ -6,13 +6,13 @@ use Rattle.spark_base.specs.declared.position.Pos.{Pos}
 use Rattle.flow_paths.specs.Objects.{Typing}
 use Rattle.machine.specs.Memory.{Memory, Place}
 use Rattle.machine.specs.States.{Leak}
-use Rattle.owned_ways.specs.Ways.{Step, OfVariable, OfRoot, OfCell, Loc, Way, Object, View, Owned, Reaches, Below, Under, part, along}
-use Rattle.owned_ways.proofs.Locations.{reaches_along, under_along, under_itself}
-use Rattle.owned_ways.proofs.Unique.{one_way}
-use Rattle.owned_loans.proofs.Ways.{beginnings}
-use Rattle.viewed_soundness.specs.soundness.Seen.{content, word_in}
-use Rattle.viewed_soundness.specs.soundness.Changes.{leaks_at}
-use Rattle.viewed_soundness.proofs.soundness.Joined.{part_part}
+use Rattle.soundness.specs.OwnedWays.Ways.{Step, OfVariable, OfRoot, OfCell, Loc, Way, Object, View, Owned, Reaches, Below, Under, part, along}
+use Rattle.soundness.proofs.OwnedWays.Locations.{reaches_along, under_along, under_itself}
+use Rattle.soundness.proofs.OwnedWays.Unique.{one_way}
+use Rattle.soundness.proofs.OwnedLoans.Ways.{beginnings}
+use Rattle.soundness.specs.Seen.{content, word_in}
+use Rattle.soundness.specs.Changes.{leaks_at}
+use Rattle.soundness.proofs.Joined.{part_part}
 use Rattle.viewed_steps.specs.Taken.{Lodge}
 
 -- Its way, and where its leak checks are reported.

@@ -12,21 +12,21 @@ use Rattle.flow_paths.specs.declared.report.Effects.{Effects}
 use Rattle.flow_paths.specs.Objects.{Typing, is_package_object}
 use Rattle.flow_paths.specs.Laid.{FlowProgram, flow_program, flow_typing}
 use Rattle.machine.specs.States.{State}
-use Rattle.owned_ways.specs.Ways.{Step, OfVariable, OfRoot, Way, Loc, along, base_of, name_of, number_of, Past, Under, Named, View}
-use Rattle.owned_ways.proofs.Dropped.{named_base}
-use Rattle.viewed_soundness.specs.soundness.Seen.{home}
-use Rattle.viewed_soundness.specs.soundness.Sound.{Stage, facts_of}
-use Rattle.viewed_soundness.proofs.soundness.Near.{named_near}
-use Rattle.viewed_soundness.specs.Holds.{is_view}
+use Rattle.soundness.specs.OwnedWays.Ways.{Step, OfVariable, OfRoot, Way, Loc, along, base_of, name_of, number_of, Past, Under, Named, View}
+use Rattle.soundness.proofs.OwnedWays.Dropped.{named_base}
+use Rattle.soundness.specs.Seen.{home}
+use Rattle.soundness.specs.Sound.{Stage, facts_of}
+use Rattle.soundness.proofs.Near.{named_near}
+use Rattle.soundness.specs.ViewedSoundness.Holds.{is_view}
 use Rattle.viewed_steps.specs.Sound.{ViewStage, GoneElsewhere, KeptBy}
 use Rattle.viewed_steps.proofs.Views.{base_named}
 use Rattle.viewed_steps.proofs.Between.{base_under, same_variable}
 use Rattle.viewed_steps.proofs.Waiting.{StandsBetween, LentElsewhere, KeptElsewhere, BareElsewhere, IsLentFor, begins_elsewhere, near_lent, along_both}
-use Rattle.owned_ways.proofs.Locations.{past_under}
-use Rattle.owned_loans.proofs.Others.{under_past}
-use Rattle.owned_loans.proofs.Ways.{under_on, beginnings}
-use Rattle.owned_loans.specs.Views.{Views, expand, AreViews, IsOuter}
-use Rattle.owned_loans.proofs.Meeting.{stands}
+use Rattle.soundness.proofs.OwnedWays.Locations.{past_under}
+use Rattle.soundness.proofs.OwnedLoans.Others.{under_past}
+use Rattle.soundness.proofs.OwnedLoans.Ways.{under_on, beginnings}
+use Rattle.soundness.specs.OwnedLoans.Views.{Views, expand, AreViews, IsOuter}
+use Rattle.soundness.proofs.OwnedLoans.Meeting.{stands}
 use Rattle.place_names.specs.declared.fact.Fact.{Fact}
 use Rattle.viewed_steps.proofs.Roots.{FromGiven}
 use Rattle.viewed_steps.specs.Seeing.{sees_in}

@@ -1,7 +1,7 @@
 -- The package objects are elaborated: no part of theirs is moved, no object has a way, and the main
 -- procedure begins after them.
 use Rattle.viewed_steps.proofs.Traversed.{none_given, empty_given, begins_given, procedure_traverses}
-use Rattle.viewed_soundness.specs.soundness.Ready.{Fills}
+use Rattle.soundness.specs.Ready.{Fills}
 use Rattle.viewed_steps.proofs.Waited.{within_lasting, lasting_within, lasting_more, plain_unheld}
 use Rattle.std.proofs.Common.{◌≡◌, refl, sym, ap, ◌∙◌, subst, inl, inr, ℕ, ◌<◌, true, false, not, ◌||◌, ◌==◌, eq-eqb, List, [], ◌∷◌, ◌++◌, drop, get_or, arith, Option, Some, None, if◌then◌else◌, length, Bool}
 use Rattle.spark_base.specs.Lists.{Has}
@@ -32,24 +32,24 @@ use Rattle.machine.specs.States.{Return, Frame, State, Outcome, Goes, Ends, sub_
 use Rattle.machine.specs.Step.{Turn, turn, start, led, main_frame}
 use Rattle.machine.specs.Owners.{waiting_in}
 use Rattle.machine.specs.Run.{no_point, step}
-use Rattle.owned_ways.specs.Ways.{Step, OfVariable, OfRoot, Way, Held, after, AllowsAll, along}
-use Rattle.owned_ways.specs.Ways as ways
-use Rattle.owned_ways.proofs.Locations.{reaches_along, named_along as rooted_along}
-use Rattle.viewed_soundness.specs.soundness.Seen.{IsNear, is_view_formal, content, word_in, home}
-use Rattle.viewed_soundness.specs.soundness.Typed.{Kept}
+use Rattle.soundness.specs.OwnedWays.Ways.{Step, OfVariable, OfRoot, Way, Held, after, AllowsAll, along}
+use Rattle.soundness.specs.OwnedWays.Ways as ways
+use Rattle.soundness.proofs.OwnedWays.Locations.{reaches_along, named_along as rooted_along}
+use Rattle.soundness.specs.Seen.{IsNear, is_view_formal, content, word_in, home}
+use Rattle.soundness.specs.Typed.{Kept}
 use Rattle.typed_laws.specs.Needed.{IsFine}
-use Rattle.viewed_soundness.specs.soundness.Sound.{IsNoCall, IsRunnable, temporaries_in, Stage, facts_of, AreStages, IsPlain, InScope, IsNamedSub, IsAtPoint, view_of as view_here, is_temporary_object}
-use Rattle.viewed_soundness.proofs.soundness.Contents.{word_root}
-use Rattle.viewed_soundness.proofs.soundness.Paths.{facts_next}
-use Rattle.viewed_soundness.proofs.soundness.Points.{named_has, sub_there, point_there, one_named, one_point}
-use Rattle.viewed_soundness.proofs.soundness.Used.{path_acts}
-use Rattle.viewed_soundness.proofs.soundness.Following.{Each, Declares, declare_on}
-use Rattle.viewed_soundness.proofs.soundness.Waits.{no_waits, drop_none}
-use Rattle.viewed_soundness.proofs.soundness.Successors.{not_true, successor_cases, unmoved_after}
-use Rattle.owned_loans.specs.Views.{Around, known_gone, Views, Viewed, IsForeign, ViewedAlone}
-use Rattle.viewed_soundness.specs.Holds.{AllKeep, is_view, is_fixed, Seeing}
-use Rattle.viewed_soundness.proofs.ViewKinds.{bundle_view, plain_named, true_false}
-use Rattle.viewed_soundness.proofs.Outcomes.{IsGood, Turned, Leads_on}
+use Rattle.soundness.specs.Sound.{IsNoCall, IsRunnable, temporaries_in, Stage, facts_of, AreStages, IsPlain, InScope, IsNamedSub, IsAtPoint, view_of as view_here, is_temporary_object}
+use Rattle.soundness.proofs.Contents.{word_root}
+use Rattle.soundness.proofs.Paths.{facts_next}
+use Rattle.soundness.proofs.Points.{named_has, sub_there, point_there, one_named, one_point}
+use Rattle.soundness.proofs.Used.{path_acts}
+use Rattle.soundness.proofs.Following.{Each, Declares, declare_on}
+use Rattle.soundness.proofs.Waits.{no_waits, drop_none}
+use Rattle.soundness.proofs.Successors.{not_true, successor_cases, unmoved_after}
+use Rattle.soundness.specs.OwnedLoans.Views.{Around, known_gone, Views, Viewed, IsForeign, ViewedAlone}
+use Rattle.soundness.specs.ViewedSoundness.Holds.{AllKeep, is_view, is_fixed, Seeing}
+use Rattle.soundness.proofs.ViewedSoundness.ViewKinds.{bundle_view, plain_named, true_false}
+use Rattle.soundness.proofs.ViewedSoundness.Outcomes.{IsGood, Turned, Leads_on}
 use Rattle.viewed_steps.specs.Awaited.{AreFor, temporaries_of, lasting_of, awaited, WaitsAt}
 use Rattle.viewed_steps.specs.Sound.{HoldsAt, NoneAbove, ViewStage, GoneElsewhere, IsFirst, steps_on, begins_main, IsSound, LeadsAlong}
 use Rattle.viewed_steps.specs.Ready.{IsReady}
@@ -59,7 +59,7 @@ use Rattle.viewed_steps.proofs.Ended.{none_some}
 use Rattle.viewed_steps.proofs.Standing.{or_right}
 use Rattle.viewed_steps.proofs.Standing as standing
 use Rattle.viewed_steps.proofs.Views.{AreAccess, all_held, parts_none}
-use Rattle.owned_loans.proofs.Alone.{viewed_alone, alone_viewed}
+use Rattle.soundness.proofs.OwnedLoans.Alone.{viewed_alone, alone_viewed}
 use Rattle.viewed_steps.specs.Seeing.{sees_in}
 use Rattle.viewed_steps.proofs.Sees.{sees_seeing}
 

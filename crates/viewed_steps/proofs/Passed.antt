@@ -27,7 +27,7 @@ use Rattle.flow_paths.specs.declared.report.Effects.{Effects}
 use Rattle.flow_paths.specs.Instructions.{Call}
 use Rattle.flow_paths.specs.Objects.{Typing, Signature, object_at, sub_at, is_formal, is_package_object, is_named_access, is_variable_access, is_anonymous, view_of, Passing, passing, passing_by, passings}
 use Rattle.machine.specs.Owners.{is_in}
-use Rattle.viewed_soundness.specs.soundness.Seen.{is_view_formal, home}
+use Rattle.soundness.specs.Seen.{is_view_formal, home}
 use Rattle.flow_paths.specs.Names.{Written, written, name_of}
 use Rattle.flow_paths.specs.Acts.{actual_act, actual_acts}
 use Rattle.flow_paths.specs.Views.{is_in_mode, text_report}
@@ -44,34 +44,34 @@ use Rattle.machine.specs.Calls.{Passed, Value, From, To, all_passed, out_checks,
 use Rattle.machine.specs.States.{Leak, Return, Outcome, Goes, stack_words, frame_words, frame_at_start, sub_of}
 use Rattle.machine.specs.Step.{Turn, typing, here, start, raised, leaking_goes, call}
 use Rattle.machine.specs.Step as steps
-use Rattle.owned_ways.specs.Ways.{Way, Under, Allows, AllowsAll, after, Named}
-use Rattle.owned_ways.specs.Ways as ways
-use Rattle.part_offsets.specs.Parts.{IsSettled}
-use Rattle.viewed_soundness.specs.soundness.Typed.{Matches, OwnsByShape}
-use Rattle.viewed_soundness.specs.soundness.Changes.{leaks_at}
-use Rattle.viewed_soundness.specs.soundness.Ready.{root_of}
-use Rattle.viewed_soundness.proofs.soundness.Contents.{bool_cases, all_checks}
-use Rattle.viewed_soundness.proofs.soundness.Freeing.{plain_parts}
-use Rattle.viewed_soundness.proofs.soundness.Passing.{Enters, formals_there, entered, signature_is, plain_type}
-use Rattle.viewed_soundness.proofs.soundness.Scalars.{acts, acts_append, after_append, allows_both}
-use Rattle.viewed_soundness.proofs.soundness.Stays.{Quiet}
-use Rattle.owned_loans.specs.Views.{Views, expand, Around, Viewed}
-use Rattle.owned_loans.proofs.Clear.{refused}
-use Rattle.owned_loans.proofs.Allowed.{either_right}
-use Rattle.owned_loans.proofs.Safe.{Unlent, Unmoved, clean_below}
+use Rattle.soundness.specs.OwnedWays.Ways.{Way, Under, Allows, AllowsAll, after, Named}
+use Rattle.soundness.specs.OwnedWays.Ways as ways
+use Rattle.soundness.specs.PartOffsets.Parts.{IsSettled}
+use Rattle.soundness.specs.Typed.{Matches, OwnsByShape}
+use Rattle.soundness.specs.Changes.{leaks_at}
+use Rattle.soundness.specs.Ready.{root_of}
+use Rattle.soundness.proofs.Contents.{bool_cases, all_checks}
+use Rattle.soundness.proofs.Freeing.{plain_parts}
+use Rattle.soundness.proofs.Passing.{Enters, formals_there, entered, signature_is, plain_type}
+use Rattle.soundness.proofs.Scalars.{acts, acts_append, after_append, allows_both}
+use Rattle.soundness.proofs.Stays.{Quiet}
+use Rattle.soundness.specs.OwnedLoans.Views.{Views, expand, Around, Viewed}
+use Rattle.soundness.proofs.OwnedLoans.Clear.{refused}
+use Rattle.soundness.proofs.OwnedLoans.Allowed.{either_right}
+use Rattle.soundness.proofs.OwnedLoans.Safe.{Unlent, Unmoved, clean_below}
 use Rattle.viewed_steps.specs.Sound.{IsScalarObject, IsCopiedBack, IsKindOfFormal}
 use Rattle.viewed_steps.specs.Ready.{roots_passed, AreDifferent, AreActualsTo}
-use Rattle.viewed_soundness.proofs.ViewKinds.{sees_view, true_false, both_no, owner_sees}
-use Rattle.viewed_soundness.proofs.Outcomes.{named_plain}
+use Rattle.soundness.proofs.ViewedSoundness.ViewKinds.{sees_view, true_false, both_no, owner_sees}
+use Rattle.soundness.proofs.ViewedSoundness.Outcomes.{named_plain}
 use Rattle.viewed_steps.proofs.Views.{given_cases, given_type, unowned_view, scalar_unseen}
 use Rattle.viewed_steps.specs.Taken.{Lodge, IsInside, IsAmong, IsPlainPlace, IsApartFrom, IsOwnAt}
 use Rattle.viewed_steps.proofs.Outs.{Out, found_in}
 use Rattle.viewed_steps.proofs.LaidOut.{IsHoused, house_of, IsValueLaid, IsOwnPut, IsPlainAt, IsHousedPut, IsPlaceLaid, IsBackLaid, IsLaidOne, AreLaidOut, own_out, place_out, housed_out, back_out, out_of, outs_of, plain_cell, back_cell, cell_of, cells_of}
 use Rattle.viewed_steps.proofs.Called.{copies_add}
 use Rattle.viewed_steps.proofs.Entered.{IsPlainOne, DiffersFrom, IsTakenAs, ArePassedOn, own_named, own_number, own_plain, own_itself}
-use Rattle.viewed_soundness.proofs.soundness.Fixed.{plain_word}
+use Rattle.soundness.proofs.Fixed.{plain_word}
 use Rattle.viewed_steps.proofs.Aside.{names_off}
-use Rattle.viewed_soundness.specs.Holds.{is_bundle, is_view, Seeing}
+use Rattle.soundness.specs.ViewedSoundness.Holds.{is_bundle, is_view, Seeing}
 use Rattle.place_names.specs.declared.rule.Loan.TheVariants.{Borrowed}
 
 -- ---- what the rules on facts say

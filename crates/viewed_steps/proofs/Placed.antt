@@ -15,24 +15,24 @@ use Rattle.flow_paths.specs.Scopes.{taken, brought, Leads, Silent, is_within, is
 use Rattle.flow_paths.specs.Views.{encloses, scope_of}
 use Rattle.machine.specs.Memory.{Memory}
 use Rattle.machine.specs.Step.{Turn, typing}
-use Rattle.owned_ways.specs.Ways.{OfRoot, Held, Way, name_of, number_of, Named, base_of}
-use Rattle.owned_ways.specs.Ways as ways
-use Rattle.part_offsets.specs.Parts.{IsSettled}
-use Rattle.viewed_soundness.specs.soundness.Seen.{home, IsNear, content, word_in}
-use Rattle.viewed_soundness.specs.soundness.Typed.{OwnsByShape}
-use Rattle.viewed_soundness.specs.soundness.Sound.{InScope}
-use Rattle.viewed_soundness.proofs.soundness.Contents.{word_no}
-use Rattle.viewed_soundness.proofs.soundness.Lasting.{ownerless}
-use Rattle.owned_loans.specs.Views.{Around, Views}
-use Rattle.viewed_soundness.specs.Holds.{PartsAreNamed, is_view, Seeing}
-use Rattle.viewed_soundness.proofs.ViewKinds.{true_false}
-use Rattle.viewed_soundness.proofs.Outcomes.{Turned}
+use Rattle.soundness.specs.OwnedWays.Ways.{OfRoot, Held, Way, name_of, number_of, Named, base_of}
+use Rattle.soundness.specs.OwnedWays.Ways as ways
+use Rattle.soundness.specs.PartOffsets.Parts.{IsSettled}
+use Rattle.soundness.specs.Seen.{home, IsNear, content, word_in}
+use Rattle.soundness.specs.Typed.{OwnsByShape}
+use Rattle.soundness.specs.Sound.{InScope}
+use Rattle.soundness.proofs.Contents.{word_no}
+use Rattle.soundness.proofs.Lasting.{ownerless}
+use Rattle.soundness.specs.OwnedLoans.Views.{Around, Views}
+use Rattle.soundness.specs.ViewedSoundness.Holds.{PartsAreNamed, is_view, Seeing}
+use Rattle.soundness.proofs.ViewedSoundness.ViewKinds.{true_false}
+use Rattle.soundness.proofs.ViewedSoundness.Outcomes.{Turned}
 use Rattle.viewed_steps.specs.Awaited.{is_held, lasting_of}
 use Rattle.viewed_steps.proofs.Waited.{lasting_within, within_lasting}
 use Rattle.viewed_steps.specs.Sound.{Lasts, Lies, ArePartsLow, ArePlaced, ArePlacedWith}
 use Rattle.viewed_steps.proofs.Views.{base_named, same_named, same_lies, anonymous_view, view_ends}
-use Rattle.owned_ways.proofs.Dropped.{named_base}
-use Rattle.owned_loans.proofs.Ended.{number_base}
+use Rattle.soundness.proofs.OwnedWays.Dropped.{named_base}
+use Rattle.soundness.proofs.OwnedLoans.Ended.{number_base}
 
 either : (a b : Bool) → a || b ≡ true → (a ≡ true) ⊎ (b ≡ true)
 either true b e = inl refl

@@ -16,32 +16,32 @@ use Rattle.machine.specs.Evaluate.{Here, Now, AsValue, AsView, Evaluated, Done, 
 use Rattle.machine.specs.Evaluate as run
 use Rattle.machine.specs.Calls.{Passed, Value, type_of, value_passed, passed}
 use Rattle.machine.specs.States.{Waiting, Leak}
-use Rattle.owned_ways.specs.Ways.{Step, Root, Component, OfVariable, Loc, OfRoot, OfCell, Way, Object, Lost, Into, All, Empty, Named, Past, Under, IsRooted, Reaches, IsSame, AllowsAll, after, part, along, Allows}
-use Rattle.owned_ways.specs.Ways as ways
-use Rattle.owned_ways.proofs.Locations.{under_along, under_itself, reaches_along}
-use Rattle.owned_ways.proofs.Unique.{one_location}
-use Rattle.owned_ways.proofs.Dropped.{named_base}
-use Rattle.owned_loans.proofs.Ways.{in_part_way, lifts, lifted_way}
-use Rattle.part_offsets.specs.Parts.{type_in, offset_in, has_part, IsSettled}
-use Rattle.viewed_soundness.specs.soundness.Seen.{IsNear, content, trunk, steps_in, seen, home, is_view_formal}
-use Rattle.viewed_soundness.specs.soundness.Typed.{Matches, OwnsByShape, Kept, Spot, IsFixed, loc_of}
-use Rattle.viewed_soundness.specs.soundness.Sound.{goes_through_none}
+use Rattle.soundness.specs.OwnedWays.Ways.{Step, Root, Component, OfVariable, Loc, OfRoot, OfCell, Way, Object, Lost, Into, All, Empty, Named, Past, Under, IsRooted, Reaches, IsSame, AllowsAll, after, part, along, Allows}
+use Rattle.soundness.specs.OwnedWays.Ways as ways
+use Rattle.soundness.proofs.OwnedWays.Locations.{under_along, under_itself, reaches_along}
+use Rattle.soundness.proofs.OwnedWays.Unique.{one_location}
+use Rattle.soundness.proofs.OwnedWays.Dropped.{named_base}
+use Rattle.soundness.proofs.OwnedLoans.Ways.{in_part_way, lifts, lifted_way}
+use Rattle.soundness.specs.PartOffsets.Parts.{type_in, offset_in, has_part, IsSettled}
+use Rattle.soundness.specs.Seen.{IsNear, content, trunk, steps_in, seen, home, is_view_formal}
+use Rattle.soundness.specs.Typed.{Matches, OwnsByShape, Kept, Spot, IsFixed, loc_of}
+use Rattle.soundness.specs.Sound.{goes_through_none}
 use Rattle.typed_laws.specs.Needed.{Stays, IndexLaw, IsPlace as IsPlaceOf, Leads, Gives}
-use Rattle.viewed_soundness.proofs.soundness.Joined.{steps_part}
-use Rattle.viewed_soundness.proofs.soundness.Fixed.{plain_word}
-use Rattle.viewed_soundness.proofs.soundness.Scalars.{acts, number_along, named_along}
-use Rattle.viewed_soundness.proofs.soundness.Stays.{One, Quiet, quiet_then}
-use Rattle.viewed_soundness.proofs.soundness.Taking.{Takes}
-use Rattle.viewed_soundness.proofs.soundness.Walks.{way_along, Walked}
-use Rattle.viewed_soundness.proofs.Walks.{walk}
-use Rattle.viewed_soundness.proofs.soundness.Passing.{IsValue}
-use Rattle.owned_loans.specs.Views.{Around, Views, expand, ExcusedBy, Viewed, Go, Part, Down, on}
-use Rattle.owned_loans.proofs.Moves.{IsPlace, expand_along, reached}
-use Rattle.owned_loans.proofs.Meeting.{stands_base, stands}
-use Rattle.viewed_soundness.specs.Holds.{IsNamed, PartsAreNamed, Holds, is_bundle, IsOwners, Seeing}
-use Rattle.viewed_soundness.proofs.Names.{Starts, is_place, changed_owners}
-use Rattle.viewed_soundness.proofs.ViewKinds.{own_bundle, true_false}
-use Rattle.viewed_soundness.proofs.Stays.{Goes as GoesAlong, taking, steps_taking, name_quiet}
+use Rattle.soundness.proofs.Joined.{steps_part}
+use Rattle.soundness.proofs.Fixed.{plain_word}
+use Rattle.soundness.proofs.Scalars.{acts, number_along, named_along}
+use Rattle.soundness.proofs.Stays.{One, Quiet, quiet_then}
+use Rattle.soundness.proofs.Taking.{Takes}
+use Rattle.soundness.proofs.Walks.{way_along, Walked}
+use Rattle.soundness.proofs.ViewedSoundness.Walks.{walk}
+use Rattle.soundness.proofs.Passing.{IsValue}
+use Rattle.soundness.specs.OwnedLoans.Views.{Around, Views, expand, ExcusedBy, Viewed, Go, Part, Down, on}
+use Rattle.soundness.proofs.OwnedLoans.Moves.{IsPlace, expand_along, reached}
+use Rattle.soundness.proofs.OwnedLoans.Meeting.{stands_base, stands}
+use Rattle.soundness.specs.ViewedSoundness.Holds.{IsNamed, PartsAreNamed, Holds, is_bundle, IsOwners, Seeing}
+use Rattle.soundness.proofs.ViewedSoundness.Names.{Starts, is_place, changed_owners}
+use Rattle.soundness.proofs.ViewedSoundness.ViewKinds.{own_bundle, true_false}
+use Rattle.soundness.proofs.ViewedSoundness.Stays.{Goes as GoesAlong, taking, steps_taking, name_quiet}
 use Rattle.viewed_steps.specs.Taken.{Lodge}
 use Rattle.viewed_steps.specs.Sound.{IsKindOfFormal}
 use Rattle.viewed_steps.specs.Ready.{IsOwnPlace}
@@ -53,14 +53,14 @@ use Rattle.viewed_steps.proofs.Aside.{cell_name}
 use Rattle.viewed_steps.proofs.Direct.{IsDirect, steps_direct, past_none, direct_leads, IsIn, walked_in, both_quiet, direct_part, part_reached}
 use Rattle.viewed_steps.proofs.LaidOut.{IsOwnPut, IsPlainAt, IsOpenActual, IsHousedPut}
 use Rattle.viewed_steps.proofs.Entered.{IsFit}
-use Rattle.viewed_soundness.proofs.soundness.Keeping.{top_points, scalar}
+use Rattle.soundness.proofs.Keeping.{top_points, scalar}
 use Rattle.place_names.specs.declared.selector.Sel.{Sel}
 use Rattle.place_names.specs.declared.selector.Sel.TheVariants.{Field, Elem, Deref}
 use Rattle.place_names.specs.Names.{Name as PlaceName}
-use Rattle.owned_ways.proofs.Named.{longer}
+use Rattle.soundness.proofs.OwnedWays.Named.{longer}
 use Rattle.viewed_steps.proofs.Copies.{copy_quiet}
-use Rattle.viewed_soundness.proofs.Outcomes.{named_plain}
-use Rattle.viewed_soundness.specs.Taken.{types_taken, TakesFit}
+use Rattle.soundness.proofs.ViewedSoundness.Outcomes.{named_plain}
+use Rattle.soundness.specs.ViewedSoundness.Taken.{types_taken, TakesFit}
 use Rattle.viewed_steps.proofs.Supplied.{Supplies}
 
 -- ---- names that go through access values

@@ -29,32 +29,32 @@ use Rattle.machine.specs.States.{Waiting, Outcome, Goes}
 use Rattle.machine.specs.Step.{Turn, typing, here, waiting, goes, behind}
 use Rattle.machine.specs.Step as steps
 use Rattle.machine.specs.Owners.{waiting_in}
-use Rattle.owned_ways.specs.Ways.{OfVariable, OfHand, Loc, Way, Object, Reaches, IsRooted, Named, Allows, after, AllowsAll, number_of}
-use Rattle.owned_ways.specs.Ways as ways
-use Rattle.part_offsets.specs.Parts.{IsSettled}
-use Rattle.viewed_soundness.specs.soundness.Seen.{IsNear, is_view_formal, content, trunk, seen, home}
-use Rattle.viewed_soundness.specs.soundness.Changes.{leaks_at}
-use Rattle.viewed_soundness.specs.soundness.Typed.{Matches, OwnsByShape, Spot}
+use Rattle.soundness.specs.OwnedWays.Ways.{OfVariable, OfHand, Loc, Way, Object, Reaches, IsRooted, Named, Allows, after, AllowsAll, number_of}
+use Rattle.soundness.specs.OwnedWays.Ways as ways
+use Rattle.soundness.specs.PartOffsets.Parts.{IsSettled}
+use Rattle.soundness.specs.Seen.{IsNear, is_view_formal, content, trunk, seen, home}
+use Rattle.soundness.specs.Changes.{leaks_at}
+use Rattle.soundness.specs.Typed.{Matches, OwnsByShape, Spot}
 use Rattle.typed_laws.specs.Needed.{Leads}
-use Rattle.viewed_soundness.proofs.soundness.Near.{near_under}
-use Rattle.viewed_soundness.proofs.soundness.Contents.{bool_cases}
-use Rattle.viewed_soundness.proofs.soundness.Walks.{way_along, Walked}
-use Rattle.viewed_soundness.proofs.soundness.Steps.{plain_shape}
-use Rattle.viewed_soundness.proofs.soundness.Scalars.{acts, acts_append, after_append, allows_both, number_along, named_along}
-use Rattle.viewed_soundness.proofs.soundness.Stays.{Quiet}
-use Rattle.viewed_soundness.proofs.soundness.Taking.{Takes}
-use Rattle.viewed_soundness.proofs.soundness.Numbers.{index_law}
-use Rattle.viewed_soundness.proofs.soundness.Lasting.{keeps, put_away}
-use Rattle.viewed_soundness.proofs.soundness.Freeing.{plain_parts, switched}
-use Rattle.owned_loans.specs.Views.{Around, Views, expand, Viewed}
-use Rattle.owned_loans.proofs.Allowed.{write_open}
-use Rattle.viewed_soundness.specs.Holds.{IsNamed, PartsAreNamed, IsOwners, Seeing}
-use Rattle.viewed_soundness.proofs.Names.{Starts, is_place, changed_owners}
-use Rattle.viewed_soundness.proofs.Stays.{Goes as GoesAlong, steps_taking, name_quiet}
-use Rattle.viewed_soundness.proofs.Moments.{stored_viewed}
-use Rattle.viewed_soundness.proofs.Evaluated.{Ready, blank_ready, live_trunk}
-use Rattle.viewed_soundness.proofs.Stored.{holds_stored, no_view_place}
-use Rattle.viewed_soundness.proofs.Outcomes.{IsGood, Leads_on, raises, unturned, goes_to, live}
+use Rattle.soundness.proofs.Near.{near_under}
+use Rattle.soundness.proofs.Contents.{bool_cases}
+use Rattle.soundness.proofs.Walks.{way_along, Walked}
+use Rattle.soundness.proofs.Steps.{plain_shape}
+use Rattle.soundness.proofs.Scalars.{acts, acts_append, after_append, allows_both, number_along, named_along}
+use Rattle.soundness.proofs.Stays.{Quiet}
+use Rattle.soundness.proofs.Taking.{Takes}
+use Rattle.soundness.proofs.Numbers.{index_law}
+use Rattle.soundness.proofs.Lasting.{keeps, put_away}
+use Rattle.soundness.proofs.Freeing.{plain_parts, switched}
+use Rattle.soundness.specs.OwnedLoans.Views.{Around, Views, expand, Viewed}
+use Rattle.soundness.proofs.OwnedLoans.Allowed.{write_open}
+use Rattle.soundness.specs.ViewedSoundness.Holds.{IsNamed, PartsAreNamed, IsOwners, Seeing}
+use Rattle.soundness.proofs.ViewedSoundness.Names.{Starts, is_place, changed_owners}
+use Rattle.soundness.proofs.ViewedSoundness.Stays.{Goes as GoesAlong, steps_taking, name_quiet}
+use Rattle.soundness.proofs.ViewedSoundness.Moments.{stored_viewed}
+use Rattle.soundness.proofs.ViewedSoundness.Evaluated.{Ready, blank_ready, live_trunk}
+use Rattle.soundness.proofs.ViewedSoundness.Stored.{holds_stored, no_view_place}
+use Rattle.soundness.proofs.ViewedSoundness.Outcomes.{IsGood, Leads_on, raises, unturned, goes_to, live}
 use Rattle.viewed_steps.proofs.Views.{AreAccess, scalar_no_view, formal_view}
 
 -- a scalar type isn't anonymous

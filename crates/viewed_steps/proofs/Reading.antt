@@ -13,9 +13,9 @@ use Rattle.typed_tree.specs.Trees as typed
 use Rattle.flow_paths.specs.Objects.{Typing, object_at}
 use Rattle.flow_paths.specs.Names.{Written, has_call, name_of}
 use Rattle.flow_paths.specs.Acts.{placed, naming, used, acts_in, index_acts}
-use Rattle.viewed_soundness.specs.soundness.Typed.{Matches, OwnsByShape}
+use Rattle.soundness.specs.Typed.{Matches, OwnsByShape}
 use Rattle.typed_laws.specs.Needed.{Stays, Leads, IsPlace as IsPlaceOf}
-use Rattle.viewed_soundness.proofs.soundness.Passing.{IsRead, AreReads, AddNone, plain_type}
+use Rattle.soundness.proofs.Passing.{IsRead, AreReads, AddNone, plain_type}
 
 -- ---- acts that read
 

@@ -24,44 +24,44 @@ use Rattle.machine.specs.States.{Waiting, Leak, Outcome}
 use Rattle.machine.specs.Step.{Turn, typing, here, goes, leaking_goes}
 use Rattle.machine.specs.Step as steps
 use Rattle.machine.specs.Owners.{waiting_in}
-use Rattle.owned_ways.specs.Ways.{OfVariable, Loc, OfCell, Inside, Way, Object, Lost, Into, All, Empty, Gone, Held, View, Reaches, Below, IsRooted, Under, Named, IsMoved, Allows, part, after, AllowsAll, number_of}
-use Rattle.owned_ways.specs.Ways as ways
-use Rattle.owned_ways.proofs.Locations.{under_itself, depth as depth_of}
-use Rattle.owned_ways.proofs.Named.{covered_under}
-use Rattle.owned_ways.proofs.Assigned.{kept_fact, is_false}
-use Rattle.part_offsets.specs.Parts.{type_in, offset_in, has_part, owns_one, is_leaf, IsSettled}
-use Rattle.part_offsets.proofs.Ranges.{leaf_end, leaf_part}
-use Rattle.viewed_soundness.specs.soundness.Seen.{IsNear, is_view_formal, Content, content, trunk, steps_in, owner_at, owner_word, seen, home}
-use Rattle.viewed_soundness.specs.soundness.Changes.{Alike as AlikeTypes, Checks, leaks_at}
-use Rattle.viewed_soundness.specs.soundness.Typed.{Matches, OwnsByShape, Spot}
+use Rattle.soundness.specs.OwnedWays.Ways.{OfVariable, Loc, OfCell, Inside, Way, Object, Lost, Into, All, Empty, Gone, Held, View, Reaches, Below, IsRooted, Under, Named, IsMoved, Allows, part, after, AllowsAll, number_of}
+use Rattle.soundness.specs.OwnedWays.Ways as ways
+use Rattle.soundness.proofs.OwnedWays.Locations.{under_itself, depth as depth_of}
+use Rattle.soundness.proofs.OwnedWays.Named.{covered_under}
+use Rattle.soundness.proofs.OwnedWays.Assigned.{kept_fact, is_false}
+use Rattle.soundness.specs.PartOffsets.Parts.{type_in, offset_in, has_part, owns_one, is_leaf, IsSettled}
+use Rattle.soundness.proofs.PartOffsets.Ranges.{leaf_end, leaf_part}
+use Rattle.soundness.specs.Seen.{IsNear, is_view_formal, Content, content, trunk, steps_in, owner_at, owner_word, seen, home}
+use Rattle.soundness.specs.Changes.{Alike as AlikeTypes, Checks, leaks_at}
+use Rattle.soundness.specs.Typed.{Matches, OwnsByShape, Spot}
 use Rattle.typed_laws.specs.Needed.{Leads}
-use Rattle.viewed_soundness.proofs.soundness.Contents.{bool_cases, word_yes, word_no, word_part, checks_made, all_checks}
-use Rattle.viewed_soundness.proofs.soundness.Joined.{trunk_trunk, below_cell}
-use Rattle.viewed_soundness.proofs.soundness.Walks.{both_true, way_along, Walked}
-use Rattle.viewed_soundness.proofs.Walks.{one_slot, type_is, slot_is, held_there, cell_spot, slot_at, owners_rooted}
-use Rattle.viewed_soundness.proofs.soundness.Frees.{freed_there, made_still, releases}
-use Rattle.viewed_soundness.proofs.soundness.Owners.{strip}
-use Rattle.viewed_soundness.proofs.soundness.Keeping.{cell_has}
-use Rattle.viewed_soundness.proofs.soundness.Steps.{alike}
-use Rattle.viewed_soundness.proofs.soundness.Scalars.{acts, acts_append, after_append, allows_both, number_along, named_along}
-use Rattle.viewed_soundness.proofs.soundness.Stays.{Quiet}
-use Rattle.viewed_soundness.proofs.soundness.Taking.{Takes}
-use Rattle.viewed_soundness.proofs.soundness.Numbers.{index_law}
-use Rattle.viewed_soundness.proofs.soundness.Lasting.{keeps, stored_kept, freed_kept}
-use Rattle.owned_ways.proofs.Unique.{one_way, one_location}
-use Rattle.owned_loans.specs.Views.{Around, Views, expand, ExcusedBy, IsAway, Viewed}
-use Rattle.owned_loans.proofs.Clear.{clear_same}
-use Rattle.owned_loans.proofs.Allowed.{loan_kept, free_open, free_whole}
-use Rattle.owned_loans.proofs.Others.{itself_away}
-use Rattle.owned_loans.proofs.Moves.{IsPlace, view_on, own_loan, lends_on, expand_under, reached, moved_parts}
-use Rattle.owned_loans.proofs.Freed as view
-use Rattle.viewed_soundness.specs.Holds.{IsNamed, PartsAreNamed, Holds, is_fixed, IsOwners, Seeing}
-use Rattle.viewed_soundness.proofs.Names.{is_place, changed_owners}
-use Rattle.viewed_soundness.proofs.ViewKinds.{free_sees, free_formal}
-use Rattle.viewed_soundness.proofs.Spared.{gone_off}
-use Rattle.viewed_soundness.proofs.Stays.{Goes, no_selectors, steps_taking, name_quiet}
-use Rattle.viewed_soundness.proofs.Stored.{holds_stored, no_view_place}
-use Rattle.viewed_soundness.proofs.Outcomes.{IsGood, Leads_on, raises, unturned, goes_to, goes_on, live}
+use Rattle.soundness.proofs.Contents.{bool_cases, word_yes, word_no, word_part, checks_made, all_checks}
+use Rattle.soundness.proofs.Joined.{trunk_trunk, below_cell}
+use Rattle.soundness.proofs.Walks.{both_true, way_along, Walked}
+use Rattle.soundness.proofs.ViewedSoundness.Walks.{one_slot, type_is, slot_is, held_there, cell_spot, slot_at, owners_rooted}
+use Rattle.soundness.proofs.Frees.{freed_there, made_still, releases}
+use Rattle.soundness.proofs.Owners.{strip}
+use Rattle.soundness.proofs.Keeping.{cell_has}
+use Rattle.soundness.proofs.Steps.{alike}
+use Rattle.soundness.proofs.Scalars.{acts, acts_append, after_append, allows_both, number_along, named_along}
+use Rattle.soundness.proofs.Stays.{Quiet}
+use Rattle.soundness.proofs.Taking.{Takes}
+use Rattle.soundness.proofs.Numbers.{index_law}
+use Rattle.soundness.proofs.Lasting.{keeps, stored_kept, freed_kept}
+use Rattle.soundness.proofs.OwnedWays.Unique.{one_way, one_location}
+use Rattle.soundness.specs.OwnedLoans.Views.{Around, Views, expand, ExcusedBy, IsAway, Viewed}
+use Rattle.soundness.proofs.OwnedLoans.Clear.{clear_same}
+use Rattle.soundness.proofs.OwnedLoans.Allowed.{loan_kept, free_open, free_whole}
+use Rattle.soundness.proofs.OwnedLoans.Others.{itself_away}
+use Rattle.soundness.proofs.OwnedLoans.Moves.{IsPlace, view_on, own_loan, lends_on, expand_under, reached, moved_parts}
+use Rattle.soundness.proofs.OwnedLoans.Freed as view
+use Rattle.soundness.specs.ViewedSoundness.Holds.{IsNamed, PartsAreNamed, Holds, is_fixed, IsOwners, Seeing}
+use Rattle.soundness.proofs.ViewedSoundness.Names.{is_place, changed_owners}
+use Rattle.soundness.proofs.ViewedSoundness.ViewKinds.{free_sees, free_formal}
+use Rattle.soundness.proofs.ViewedSoundness.Spared.{gone_off}
+use Rattle.soundness.proofs.ViewedSoundness.Stays.{Goes, no_selectors, steps_taking, name_quiet}
+use Rattle.soundness.proofs.ViewedSoundness.Stored.{holds_stored, no_view_place}
+use Rattle.soundness.proofs.ViewedSoundness.Outcomes.{IsGood, Leads_on, raises, unturned, goes_to, goes_on, live}
 use Rattle.viewed_steps.proofs.Views.{AreAccess}
 
 -- ---- facts at a release

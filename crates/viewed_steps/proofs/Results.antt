@@ -3,8 +3,8 @@
 use Rattle.viewed_steps.proofs.Traversed.{none_given, empty_given}
 use Rattle.flow_paths.specs.Views.{sub_acts}
 use Rattle.viewed_steps.specs.Traversals.{IsSourceIn}
-use Rattle.viewed_soundness.proofs.ViewKinds.{plain_named, true_false}
-use Rattle.viewed_soundness.specs.Taken.{GivesPlainly, types_taken, AreOfTypes}
+use Rattle.soundness.proofs.ViewedSoundness.ViewKinds.{plain_named, true_false}
+use Rattle.soundness.specs.ViewedSoundness.Taken.{GivesPlainly, types_taken, AreOfTypes}
 use Rattle.std.proofs.Common.{◌≡◌, refl, sym, ap, ◌∙◌, subst, ◌⊎◌, inl, inr, ℕ, suc, ◌+◌, ◌<◌, Bool, true, false, ◌||◌, ◌==◌, List, [], ◌∷◌, ◌++◌, drop, length, get_or, arith, append-nil, Option, Some, None, if◌then◌else◌, take}
 use Rattle.spark_base.specs.Lists.{Has}
 use Rattle.place_names.specs.declared.act.Act.{Act}
@@ -37,23 +37,23 @@ use Rattle.machine.specs.Step.{Turn, turn, start, successor, led}
 use Rattle.machine.specs.Step as steps
 use Rattle.machine.specs.Typed.{successors}
 use Rattle.machine.specs.Owners.{WellOwned, waiting_in}
-use Rattle.owned_ways.specs.Ways.{Step, OfVariable, OfRoot, Way, Held, after, AllowsAll, along, number_of}
-use Rattle.owned_ways.specs.Ways as ways
-use Rattle.viewed_soundness.specs.soundness.Seen.{IsNear, content, word_in, home, seen}
-use Rattle.viewed_soundness.specs.soundness.Typed.{Kept}
+use Rattle.soundness.specs.OwnedWays.Ways.{Step, OfVariable, OfRoot, Way, Held, after, AllowsAll, along, number_of}
+use Rattle.soundness.specs.OwnedWays.Ways as ways
+use Rattle.soundness.specs.Seen.{IsNear, content, word_in, home, seen}
+use Rattle.soundness.specs.Typed.{Kept}
 use Rattle.typed_laws.specs.Needed.{IsFine, Stays, Source}
-use Rattle.viewed_soundness.specs.soundness.Sound.{IsNoCall, Stage, facts_of, AreStages, IsRunnable, returns_value, InScope, IsNamedSub, IsAtPoint, view_of as view_here, is_temporary_object, has_returned}
-use Rattle.viewed_soundness.proofs.soundness.Scalars.{acts}
-use Rattle.viewed_soundness.proofs.soundness.Scoped.{Inside}
-use Rattle.viewed_soundness.proofs.soundness.Around.{IsFar}
-use Rattle.viewed_soundness.proofs.soundness.Waits.{drop_none, waits_of}
-use Rattle.viewed_soundness.proofs.soundness.Taking.{Takes, takes_as, nothing_more}
-use Rattle.viewed_soundness.proofs.soundness.Waited.{FillsNone}
-use Rattle.viewed_soundness.proofs.soundness.Eased.{eased, waits_same}
-use Rattle.viewed_soundness.proofs.soundness.Successors.{below_one}
-use Rattle.owned_loans.specs.Views.{Around, known_gone, Views, Viewed, ViewedAlone, IsShared, IsMovedBy}
-use Rattle.viewed_soundness.specs.Holds.{IsNamed, AllKeep, is_view, is_fixed, Holds, Seeing}
-use Rattle.viewed_soundness.proofs.Outcomes.{IsGood, Leads_on, unturned, scalar_taken}
+use Rattle.soundness.specs.Sound.{IsNoCall, Stage, facts_of, AreStages, IsRunnable, returns_value, InScope, IsNamedSub, IsAtPoint, view_of as view_here, is_temporary_object, has_returned}
+use Rattle.soundness.proofs.Scalars.{acts}
+use Rattle.soundness.proofs.Scoped.{Inside}
+use Rattle.soundness.proofs.Around.{IsFar}
+use Rattle.soundness.proofs.Waits.{drop_none, waits_of}
+use Rattle.soundness.proofs.Taking.{Takes, takes_as, nothing_more}
+use Rattle.soundness.proofs.Waited.{FillsNone}
+use Rattle.soundness.proofs.Eased.{eased, waits_same}
+use Rattle.soundness.proofs.Successors.{below_one}
+use Rattle.soundness.specs.OwnedLoans.Views.{Around, known_gone, Views, Viewed, ViewedAlone, IsShared, IsMovedBy}
+use Rattle.soundness.specs.ViewedSoundness.Holds.{IsNamed, AllKeep, is_view, is_fixed, Holds, Seeing}
+use Rattle.soundness.proofs.ViewedSoundness.Outcomes.{IsGood, Leads_on, unturned, scalar_taken}
 use Rattle.viewed_steps.specs.Awaited.{AreFor, AreValues, AreValuesBut, temporaries_of, lasting_of, awaited, AreAwaited, AreScalar, FillsTyped, TakesScalars, StoresNone, TakesAlone, TakesTogether}
 use Rattle.viewed_steps.proofs.Waited.{temporary_first, lasting_more, Shares}
 use Rattle.viewed_steps.specs.Sound.{IsWayOf, IsBeyond, HoldsAt, ArePlaced, NoneAbove, ViewStage, stages_of, GoneElsewhere, AreWaiting, IsStoredAt, returns_one, LeadsAlong, IsResting, HasTraversals, NoneGiven, IsGivenBelow, LentBy, KeptBy, withheld, loan_by}
@@ -73,15 +73,15 @@ use Rattle.std.specs.Prelude.{is_some, flat_map}
 use Rattle.type_definitions.specs.Entries.{boolean}
 use Rattle.typed_tree.specs.declared.node.ShortCircuit.{ShortCircuit}
 use Rattle.machine.specs.Run.{no_point}
-use Rattle.viewed_soundness.specs.soundness.Ready.{IsSupplied, Fills}
-use Rattle.viewed_soundness.proofs.soundness.Onward.{Gets, value_inside, source_inside}
-use Rattle.viewed_soundness.proofs.soundness.Operands.{handed_over, hold_is}
-use Rattle.viewed_soundness.proofs.soundness.Points.{path_there}
-use Rattle.viewed_soundness.proofs.soundness.Stays.{Quiet, One}
-use Rattle.viewed_soundness.proofs.soundness.Numbers.{index_law}
-use Rattle.viewed_soundness.proofs.soundness.Lasting.{keeps}
-use Rattle.viewed_soundness.proofs.soundness.Fixed.{plain_word}
-use Rattle.viewed_soundness.proofs.Evaluated.{Given}
+use Rattle.soundness.specs.Ready.{IsSupplied, Fills}
+use Rattle.soundness.proofs.Onward.{Gets, value_inside, source_inside}
+use Rattle.soundness.proofs.Operands.{handed_over, hold_is}
+use Rattle.soundness.proofs.Points.{path_there}
+use Rattle.soundness.proofs.Stays.{Quiet, One}
+use Rattle.soundness.proofs.Numbers.{index_law}
+use Rattle.soundness.proofs.Lasting.{keeps}
+use Rattle.soundness.proofs.Fixed.{plain_word}
+use Rattle.soundness.proofs.ViewedSoundness.Evaluated.{Given}
 use Rattle.viewed_steps.proofs.Declared.{source_given}
 use Rattle.viewed_steps.proofs.Operands.{left_operand_on, right_operand_on}
 use Rattle.viewed_steps.proofs.EachInstruction as each

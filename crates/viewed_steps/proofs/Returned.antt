@@ -20,24 +20,24 @@ use Rattle.machine.specs.Evaluate.{Now, AsView, Evaluated, Done, Raises, Traps, 
 use Rattle.machine.specs.States.{Waiting}
 use Rattle.machine.specs.Step.{Turn, typing, here, taken_by}
 use Rattle.machine.specs.Owners.{waiting_in}
-use Rattle.owned_ways.specs.Ways.{Way, OfRoot, OfCell, Inside, All, Reaches, Under, Named, Allows, after, AllowsAll}
-use Rattle.owned_ways.specs.Ways as ways
-use Rattle.owned_ways.proofs.Locations.{same_loc}
-use Rattle.part_offsets.specs.Parts.{IsSettled}
-use Rattle.viewed_soundness.specs.soundness.Seen.{IsNear, seen, home}
-use Rattle.viewed_soundness.specs.soundness.Typed.{OwnsByShape}
+use Rattle.soundness.specs.OwnedWays.Ways.{Way, OfRoot, OfCell, Inside, All, Reaches, Under, Named, Allows, after, AllowsAll}
+use Rattle.soundness.specs.OwnedWays.Ways as ways
+use Rattle.soundness.proofs.OwnedWays.Locations.{same_loc}
+use Rattle.soundness.specs.PartOffsets.Parts.{IsSettled}
+use Rattle.soundness.specs.Seen.{IsNear, seen, home}
+use Rattle.soundness.specs.Typed.{OwnsByShape}
 use Rattle.typed_laws.specs.Needed.{Leads, Gives, Matches, Source}
-use Rattle.viewed_soundness.proofs.soundness.Numbers.{index_law}
-use Rattle.viewed_soundness.proofs.soundness.Scalars.{acts, acts_append, after_append, allows_both}
-use Rattle.viewed_soundness.proofs.soundness.Stays.{Quiet}
-use Rattle.viewed_soundness.proofs.soundness.Taking.{Takes}
-use Rattle.owned_loans.specs.Views.{Go, Part, Down, on, expand, Around, Views}
-use Rattle.owned_loans.proofs.Allowed.{give_clears}
-use Rattle.viewed_soundness.specs.Holds.{PartsAreNamed, is_view, is_bundle, Seeing}
-use Rattle.viewed_soundness.proofs.Stays.{steps_taking}
-use Rattle.viewed_soundness.proofs.Sources.{Shows, source_on}
-use Rattle.viewed_soundness.proofs.Outcomes.{IsGood, live}
-use Rattle.viewed_soundness.proofs.Coming.{IsComing, goes_further}
+use Rattle.soundness.proofs.Numbers.{index_law}
+use Rattle.soundness.proofs.Scalars.{acts, acts_append, after_append, allows_both}
+use Rattle.soundness.proofs.Stays.{Quiet}
+use Rattle.soundness.proofs.Taking.{Takes}
+use Rattle.soundness.specs.OwnedLoans.Views.{Go, Part, Down, on, expand, Around, Views}
+use Rattle.soundness.proofs.OwnedLoans.Allowed.{give_clears}
+use Rattle.soundness.specs.ViewedSoundness.Holds.{PartsAreNamed, is_view, is_bundle, Seeing}
+use Rattle.soundness.proofs.ViewedSoundness.Stays.{steps_taking}
+use Rattle.soundness.proofs.ViewedSoundness.Sources.{Shows, source_on}
+use Rattle.soundness.proofs.ViewedSoundness.Outcomes.{IsGood, live}
+use Rattle.soundness.proofs.ViewedSoundness.Coming.{IsComing, goes_further}
 use Rattle.viewed_steps.specs.Traversals.{AreRooted}
 use Rattle.viewed_steps.proofs.Rooted.{goes_on_from}
 use Rattle.viewed_steps.proofs.Sources.{view_shape, view_scalar}

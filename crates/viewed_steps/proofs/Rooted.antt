@@ -6,12 +6,12 @@ use Rattle.typed_tree.specs.declared.object.ObjectKind.{ObjectKind}
 use Rattle.typed_tree.specs.declared.object.ObjectKind.TheVariants as object_kind
 use Rattle.flow_paths.specs.Objects.{Typing, object_at, is_formal_kind, is_variable, is_borrowing, is_observing, view_of}
 use Rattle.flow_paths.specs.Views.{Roots, itself, borrows, observes, IsOnlyRoot, holds_loans}
-use Rattle.owned_ways.specs.Ways.{Way, Under}
-use Rattle.owned_loans.specs.Views.{Views, expand}
-use Rattle.owned_loans.proofs.Ways.{under_on, on_under, lifted_way}
-use Rattle.viewed_soundness.specs.soundness.Seen.{is_view_formal}
-use Rattle.viewed_soundness.proofs.soundness.Contents.{bool_cases}
-use Rattle.viewed_soundness.specs.Holds.{is_view, is_bundle, GoesBy}
+use Rattle.soundness.specs.OwnedWays.Ways.{Way, Under}
+use Rattle.soundness.specs.OwnedLoans.Views.{Views, expand}
+use Rattle.soundness.proofs.OwnedLoans.Ways.{under_on, on_under, lifted_way}
+use Rattle.soundness.specs.Seen.{is_view_formal}
+use Rattle.soundness.proofs.Contents.{bool_cases}
+use Rattle.soundness.specs.ViewedSoundness.Holds.{is_view, is_bundle, GoesBy}
 use Rattle.viewed_steps.specs.Traversals.{IsSourceIn, IsRootedIn, AreRooted}
 
 -- what is no view holds no loans

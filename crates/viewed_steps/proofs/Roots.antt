@@ -6,11 +6,11 @@ use Rattle.place_names.specs.Names.{Name as PlaceName}
 use Rattle.place_names.specs.declared.fact.Fact.TheVariants.{Lent}
 use Rattle.place_names.specs.declared.rule.Loan.{Loan}
 use Rattle.place_names.specs.declared.rule.Loan.TheVariants.{Borrowed, Observed}
-use Rattle.owned_ways.specs.Ways.{Way, Object, Lost, Into, All, View, Under, Named, name_of}
-use Rattle.owned_loans.specs.Views.{on, Views, expand, IsThrough, HasLoan, AreShared, AreViews, IsView}
-use Rattle.owned_loans.proofs.Ways.{under_on, on_under, on_named, Lifted, lifted_root, lifted_way}
-use Rattle.owned_ways.proofs.Locations.{under_itself}
-use Rattle.owned_loans.proofs.Meeting.{plain_lifts}
+use Rattle.soundness.specs.OwnedWays.Ways.{Way, Object, Lost, Into, All, View, Under, Named, name_of}
+use Rattle.soundness.specs.OwnedLoans.Views.{on, Views, expand, IsThrough, HasLoan, AreShared, AreViews, IsView}
+use Rattle.soundness.proofs.OwnedLoans.Ways.{under_on, on_under, on_named, Lifted, lifted_root, lifted_way}
+use Rattle.soundness.proofs.OwnedWays.Locations.{under_itself}
+use Rattle.soundness.proofs.OwnedLoans.Meeting.{plain_lifts}
 
 named_front : (at_home : ℕ → ℕ) (k w : Way) → Under k w → Named at_home w → Named at_home k
 named_front at_home k (Object r) u named = subst (Named at_home) (sym u) named

@@ -17,30 +17,30 @@ use Rattle.machine.specs.States.{Waiting, Loop, Frame, State, Outcome, Goes}
 use Rattle.machine.specs.Step.{Turn, typing, here, start, waiting, behind, led, successor}
 use Rattle.machine.specs.Step as steps
 use Rattle.machine.specs.Owners.{waiting_in}
-use Rattle.owned_ways.specs.Ways.{OfVariable, Loc, OfRoot, Way, Reaches, after, AllowsAll}
-use Rattle.part_offsets.specs.Parts.{offset_in, IsSettled}
-use Rattle.viewed_soundness.specs.soundness.Seen.{IsNear, content, trunk, seen, home}
-use Rattle.viewed_soundness.specs.soundness.Typed.{OwnsByShape, Kept, Spot}
+use Rattle.soundness.specs.OwnedWays.Ways.{OfVariable, Loc, OfRoot, Way, Reaches, after, AllowsAll}
+use Rattle.soundness.specs.PartOffsets.Parts.{offset_in, IsSettled}
+use Rattle.soundness.specs.Seen.{IsNear, content, trunk, seen, home}
+use Rattle.soundness.specs.Typed.{OwnsByShape, Kept, Spot}
 use Rattle.typed_laws.specs.Needed.{Stays, Writes}
-use Rattle.viewed_soundness.proofs.soundness.Contents.{bool_cases}
-use Rattle.viewed_soundness.proofs.soundness.Memories.{put_other, removed_other}
-use Rattle.viewed_soundness.proofs.soundness.Steps.{plain_shape}
-use Rattle.viewed_soundness.proofs.soundness.Keeping.{cell_has}
-use Rattle.viewed_soundness.proofs.soundness.Scalars.{acts, acts_append, after_append, allows_both}
-use Rattle.viewed_soundness.proofs.soundness.Stays.{Quiet, Any, One, quiet_then, quiet_from}
-use Rattle.viewed_soundness.proofs.soundness.Numbers.{index_law}
-use Rattle.viewed_soundness.proofs.soundness.Lasting.{keeps, stored_kept, declared_kept, removed_kept}
-use Rattle.viewed_soundness.proofs.soundness.Loops.{scalar_same, value_plain}
-use Rattle.viewed_soundness.proofs.soundness.Taking.{Takes, takes_as, takes_both, takes_zero, nothing_more}
-use Rattle.viewed_soundness.proofs.soundness.Waits.{waits_of, led_waits}
-use Rattle.owned_loans.specs.Views.{Around, Views, Viewed}
-use Rattle.owned_loans.proofs.Moves.{same_viewed}
-use Rattle.viewed_soundness.proofs.Names.{parts_same}
-use Rattle.viewed_soundness.proofs.ViewKinds.{bundle_view}
-use Rattle.viewed_soundness.specs.Holds.{PartsAreNamed, Holds, IsOwners, is_view, Seeing}
-use Rattle.viewed_soundness.proofs.Stays.{taking}
-use Rattle.viewed_soundness.proofs.Evaluated.{scalar_given}
-use Rattle.viewed_soundness.proofs.Outcomes.{IsGood, Leads_on, raises, start_is, hands_behind, unturned, goes_to, live}
+use Rattle.soundness.proofs.Contents.{bool_cases}
+use Rattle.soundness.proofs.Memories.{put_other, removed_other}
+use Rattle.soundness.proofs.Steps.{plain_shape}
+use Rattle.soundness.proofs.Keeping.{cell_has}
+use Rattle.soundness.proofs.Scalars.{acts, acts_append, after_append, allows_both}
+use Rattle.soundness.proofs.Stays.{Quiet, Any, One, quiet_then, quiet_from}
+use Rattle.soundness.proofs.Numbers.{index_law}
+use Rattle.soundness.proofs.Lasting.{keeps, stored_kept, declared_kept, removed_kept}
+use Rattle.soundness.proofs.Loops.{scalar_same, value_plain}
+use Rattle.soundness.proofs.Taking.{Takes, takes_as, takes_both, takes_zero, nothing_more}
+use Rattle.soundness.proofs.Waits.{waits_of, led_waits}
+use Rattle.soundness.specs.OwnedLoans.Views.{Around, Views, Viewed}
+use Rattle.soundness.proofs.OwnedLoans.Moves.{same_viewed}
+use Rattle.soundness.proofs.ViewedSoundness.Names.{parts_same}
+use Rattle.soundness.proofs.ViewedSoundness.ViewKinds.{bundle_view}
+use Rattle.soundness.specs.ViewedSoundness.Holds.{PartsAreNamed, Holds, IsOwners, is_view, Seeing}
+use Rattle.soundness.proofs.ViewedSoundness.Stays.{taking}
+use Rattle.soundness.proofs.ViewedSoundness.Evaluated.{scalar_given}
+use Rattle.soundness.proofs.ViewedSoundness.Outcomes.{IsGood, Leads_on, raises, start_is, hands_behind, unturned, goes_to, live}
 use Rattle.viewed_steps.proofs.Declared.{same_root}
 use Rattle.viewed_steps.proofs.Views.{AreAccess, scalar_no_view}
 

@@ -3,12 +3,12 @@ use Rattle.std.specs.Prelude.{get_or, Bool}
 use Rattle.machine.specs.Run.{no_point}
 use Rattle.viewed_steps.proofs.Standing.{or_right}
 use Rattle.flow_paths.specs.Views.{sub_acts}
-use Rattle.viewed_soundness.proofs.ViewKinds.{given_view, access_bundle}
+use Rattle.soundness.proofs.ViewedSoundness.ViewKinds.{given_view, access_bundle}
 use Rattle.viewed_steps.proofs.Rooted.{rooted_on}
 use Rattle.viewed_steps.proofs.Low.{BeginsLow, given_still, reaches_low, undeclared_words}
 use Rattle.viewed_steps.proofs.Traversed.{none_given, named_given}
-use Rattle.viewed_soundness.specs.Holds.{is_view, is_bundle, Seeing}
-use Rattle.viewed_soundness.specs.soundness.Ready.{Fills, IsSupplied}
+use Rattle.soundness.specs.ViewedSoundness.Holds.{is_view, is_bundle, Seeing}
+use Rattle.soundness.specs.Ready.{Fills, IsSupplied}
 use Rattle.std.proofs.Common.{◌≡◌, refl, sym, ap, ◌∙◌, subst, ◌⊎◌, inl, inr, ℕ, zero, suc, ◌<◌, true, false, List, [], ◌∷◌, ◌++◌, map, drop, length, arith, Some, None}
 use Rattle.spark_base.specs.Lists.{Has}
 use Rattle.place_names.specs.declared.act.Act.{Act}
@@ -35,21 +35,21 @@ use Rattle.machine.specs.Step.{Turn, turn, successor}
 use Rattle.machine.specs.Step as steps
 use Rattle.machine.specs.Typed.{successors}
 use Rattle.machine.specs.Owners.{waiting_in}
-use Rattle.owned_ways.specs.Ways.{Step, OfVariable, OfRoot, Way, Held, after, AllowsAll}
-use Rattle.owned_ways.specs.Ways as ways
-use Rattle.viewed_soundness.specs.soundness.Seen.{IsNear, content, word_in, home, seen}
-use Rattle.viewed_soundness.specs.soundness.Typed.{Kept}
-use Rattle.viewed_soundness.specs.soundness.Sound.{IsNoCall, Stage, facts_of, AreStages, IsRunnable, returns_value, InScope, IsNamedSub, IsAtPoint, view_of as view_here, is_temporary_object, has_returned}
-use Rattle.viewed_soundness.proofs.soundness.Scoped.{Inside}
-use Rattle.viewed_soundness.proofs.soundness.Inherited.{Splits, allowed_beside}
-use Rattle.viewed_soundness.proofs.soundness.Around.{IsFar}
-use Rattle.viewed_soundness.proofs.soundness.Following.{Each}
-use Rattle.viewed_soundness.proofs.soundness.Onward.{GoesOn, end_scope_follows}
-use Rattle.viewed_soundness.proofs.soundness.Waited.{FillsNone}
-use Rattle.viewed_soundness.proofs.soundness.Waits.{drop_none}
-use Rattle.viewed_soundness.proofs.soundness.Successors.{below_one, successor_there}
-use Rattle.owned_loans.specs.Views.{Around, known_gone, Views, Viewed, ViewedAlone}
-use Rattle.viewed_soundness.proofs.Outcomes.{Is_left}
+use Rattle.soundness.specs.OwnedWays.Ways.{Step, OfVariable, OfRoot, Way, Held, after, AllowsAll}
+use Rattle.soundness.specs.OwnedWays.Ways as ways
+use Rattle.soundness.specs.Seen.{IsNear, content, word_in, home, seen}
+use Rattle.soundness.specs.Typed.{Kept}
+use Rattle.soundness.specs.Sound.{IsNoCall, Stage, facts_of, AreStages, IsRunnable, returns_value, InScope, IsNamedSub, IsAtPoint, view_of as view_here, is_temporary_object, has_returned}
+use Rattle.soundness.proofs.Scoped.{Inside}
+use Rattle.soundness.proofs.Inherited.{Splits, allowed_beside}
+use Rattle.soundness.proofs.Around.{IsFar}
+use Rattle.soundness.proofs.Following.{Each}
+use Rattle.soundness.proofs.Onward.{GoesOn, end_scope_follows}
+use Rattle.soundness.proofs.Waited.{FillsNone}
+use Rattle.soundness.proofs.Waits.{drop_none}
+use Rattle.soundness.proofs.Successors.{below_one, successor_there}
+use Rattle.soundness.specs.OwnedLoans.Views.{Around, known_gone, Views, Viewed, ViewedAlone}
+use Rattle.soundness.proofs.ViewedSoundness.Outcomes.{Is_left}
 use Rattle.viewed_steps.specs.Awaited.{AreValues, lasting_of, awaited, AreAwaited}
 use Rattle.viewed_steps.proofs.Waited.{plain_unheld, last_lasting, lasting_last}
 use Rattle.viewed_steps.specs.Sound.{IsBeyond, HoldsAt, ArePlaced, NoneAbove, ViewStage, stages_of, GoneElsewhere, AreWaiting, AreLeft, leaves_scope, LeadsAlong, IsResting, HasTraversals}

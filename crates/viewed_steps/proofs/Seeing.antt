@@ -15,32 +15,32 @@ use Rattle.machine.specs.Words as machine
 use Rattle.machine.specs.Memory.{Memory, fresh, no_slot, cell}
 use Rattle.machine.specs.Evaluate.{Here, Now, AsView, Evaluated, Done, Raises, Traps, evaluate, viewed}
 use Rattle.machine.specs.States.{Waiting, Leak}
-use Rattle.owned_ways.specs.Ways.{Step, Loc, OfCell, Way, All, Reaches, Under, Named, AllowsAll, number_of, base_of, along}
-use Rattle.owned_ways.specs.Ways as ways
-use Rattle.part_offsets.specs.Parts.{IsSettled, has_part, type_in, offset_in}
-use Rattle.viewed_soundness.specs.soundness.Seen.{IsNear, content, trunk, seen, home, is_view_formal}
-use Rattle.viewed_soundness.specs.soundness.Typed.{IsCell, OwnsByShape, Kept}
+use Rattle.soundness.specs.OwnedWays.Ways.{Step, Loc, OfCell, Way, All, Reaches, Under, Named, AllowsAll, number_of, base_of, along}
+use Rattle.soundness.specs.OwnedWays.Ways as ways
+use Rattle.soundness.specs.PartOffsets.Parts.{IsSettled, has_part, type_in, offset_in}
+use Rattle.soundness.specs.Seen.{IsNear, content, trunk, seen, home, is_view_formal}
+use Rattle.soundness.specs.Typed.{IsCell, OwnsByShape, Kept}
 use Rattle.typed_laws.specs.Needed.{IndexLaw, Matches}
-use Rattle.viewed_soundness.proofs.soundness.Scalars.{acts}
-use Rattle.viewed_soundness.proofs.soundness.Stays.{Quiet}
-use Rattle.viewed_soundness.proofs.soundness.Taking.{Takes, takes_zero}
-use Rattle.owned_loans.specs.Views.{Around, Views, expand, ExcusedBy, Viewed}
-use Rattle.owned_loans.proofs.Allowed.{Cleared}
-use Rattle.owned_loans.proofs.Ended.{stands_itself}
-use Rattle.owned_loans.specs.Views.{Go, on}
-use Rattle.owned_loans.proofs.Ways.{lifted_way, base_on, named_on, in_part_way, lifts}
-use Rattle.viewed_soundness.specs.Holds.{PartsAreNamed, is_view, IsOwners, Holds, IsAccess, is_given, is_bundle, GoesBy, Seeing}
-use Rattle.viewed_soundness.proofs.Given.{IsLow, lent_whole, seen_whole, part_whole}
-use Rattle.viewed_soundness.proofs.Names.{stands_owners, part_owners, seen_parts}
-use Rattle.viewed_soundness.proofs.ViewKinds.{true_false, neither, plain_sees, bundle_access}
-use Rattle.viewed_soundness.proofs.Sources.{Shows, source_on}
-use Rattle.viewed_soundness.proofs.Bundles.{ShowsParts, parts_on}
+use Rattle.soundness.proofs.Scalars.{acts}
+use Rattle.soundness.proofs.Stays.{Quiet}
+use Rattle.soundness.proofs.Taking.{Takes, takes_zero}
+use Rattle.soundness.specs.OwnedLoans.Views.{Around, Views, expand, ExcusedBy, Viewed}
+use Rattle.soundness.proofs.OwnedLoans.Allowed.{Cleared}
+use Rattle.soundness.proofs.OwnedLoans.Ended.{stands_itself}
+use Rattle.soundness.specs.OwnedLoans.Views.{Go, on}
+use Rattle.soundness.proofs.OwnedLoans.Ways.{lifted_way, base_on, named_on, in_part_way, lifts}
+use Rattle.soundness.specs.ViewedSoundness.Holds.{PartsAreNamed, is_view, IsOwners, Holds, IsAccess, is_given, is_bundle, GoesBy, Seeing}
+use Rattle.soundness.proofs.ViewedSoundness.Given.{IsLow, lent_whole, seen_whole, part_whole}
+use Rattle.soundness.proofs.ViewedSoundness.Names.{stands_owners, part_owners, seen_parts}
+use Rattle.soundness.proofs.ViewedSoundness.ViewKinds.{true_false, neither, plain_sees, bundle_access}
+use Rattle.soundness.proofs.ViewedSoundness.Sources.{Shows, source_on}
+use Rattle.soundness.proofs.ViewedSoundness.Bundles.{ShowsParts, parts_on}
 use Rattle.viewed_steps.specs.Ready.{IsSeen, IsAccessAs}
 use Rattle.viewed_steps.specs.Sound.{Lies}
-use Rattle.viewed_soundness.proofs.soundness.Steps.{matches_words, same_below}
-use Rattle.viewed_soundness.proofs.soundness.Keeping.{retyped_points}
-use Rattle.viewed_soundness.proofs.soundness.Passing.{plain_type}
-use Rattle.viewed_soundness.proofs.Lends.{matches_on}
+use Rattle.soundness.proofs.Steps.{matches_words, same_below}
+use Rattle.soundness.proofs.Keeping.{retyped_points}
+use Rattle.soundness.proofs.Passing.{plain_type}
+use Rattle.soundness.proofs.ViewedSoundness.Lends.{matches_on}
 use Rattle.viewed_steps.proofs.Entered.{IsTyped, IsFit}
 use Rattle.viewed_steps.proofs.Views.{AreLowFormals, bundle_owns}
 

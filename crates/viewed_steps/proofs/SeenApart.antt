@@ -5,18 +5,18 @@ use Rattle.place_names.specs.declared.fact.Fact.{Fact}
 use Rattle.place_names.specs.Names.{Name as PlaceName, overlaps}
 use Rattle.place_names.proofs.Names.{overlaps-sym}
 use Rattle.flow_paths.specs.Objects.{Typing}
-use Rattle.owned_ways.specs.Ways.{Step, Way, View, Under, Named, name_of, number_of}
-use Rattle.owned_ways.proofs.Named.{longer}
-use Rattle.owned_loans.specs.Views.{Around, Views, expand, HasLoan, Viewed}
-use Rattle.owned_loans.proofs.Clear.{overlaps_whole}
-use Rattle.owned_loans.proofs.Meeting.{off_seen, off_part}
-use Rattle.owned_loans.proofs.Safe.{Unlent, Unborrowed, unviewed, lent_fact, only_itself, apart_names}
-use Rattle.owned_loans.proofs.Ways.{Meet, flip, meets_on, meet_overlaps, lifted_way, in_part_way, on_under}
-use Rattle.viewed_soundness.specs.soundness.Seen.{home}
-use Rattle.viewed_soundness.proofs.soundness.Contents.{bool_cases}
-use Rattle.owned_ways.proofs.Dropped.{named_base}
+use Rattle.soundness.specs.OwnedWays.Ways.{Step, Way, View, Under, Named, name_of, number_of}
+use Rattle.soundness.proofs.OwnedWays.Named.{longer}
+use Rattle.soundness.specs.OwnedLoans.Views.{Around, Views, expand, HasLoan, Viewed}
+use Rattle.soundness.proofs.OwnedLoans.Clear.{overlaps_whole}
+use Rattle.soundness.proofs.OwnedLoans.Meeting.{off_seen, off_part}
+use Rattle.soundness.proofs.OwnedLoans.Safe.{Unlent, Unborrowed, unviewed, lent_fact, only_itself, apart_names}
+use Rattle.soundness.proofs.OwnedLoans.Ways.{Meet, flip, meets_on, meet_overlaps, lifted_way, in_part_way, on_under}
+use Rattle.soundness.specs.Seen.{home}
+use Rattle.soundness.proofs.Contents.{bool_cases}
+use Rattle.soundness.proofs.OwnedWays.Dropped.{named_base}
 use Rattle.viewed_steps.proofs.Views.{base_named}
-use Rattle.viewed_soundness.specs.Holds.{is_view, is_bundle, GoesBy}
+use Rattle.soundness.specs.ViewedSoundness.Holds.{is_view, is_bundle, GoesBy}
 
 -- what overlaps a name overlaps what begins it
 over_front : (t w : Way) → Under t w → (n : PlaceName) → overlaps n (name_of w) ≡ true → overlaps n (name_of t) ≡ true

@@ -10,9 +10,9 @@ use Rattle.typed_tree.specs.declared.object.ObjectKind.TheVariants as object_kin
 use Rattle.flow_paths.specs.Objects.{Typing, object_at, is_borrower, is_borrowing, is_observing, is_anonymous, is_variable, is_formal, is_formal_kind, view_of}
 use Rattle.flow_paths.specs.Laid.{FlowProgram, flow_typing}
 use Rattle.machine.specs.Owners.{is_in}
-use Rattle.viewed_soundness.specs.soundness.Seen.{is_view_formal}
-use Rattle.viewed_soundness.specs.Holds.{is_given, sees_only, Seeing}
-use Rattle.viewed_soundness.proofs.ViewKinds.{only_seeing}
+use Rattle.soundness.specs.Seen.{is_view_formal}
+use Rattle.soundness.specs.ViewedSoundness.Holds.{is_given, sees_only, Seeing}
+use Rattle.soundness.proofs.ViewedSoundness.ViewKinds.{only_seeing}
 use Rattle.viewed_steps.proofs.Views.{given_formal}
 use Rattle.viewed_steps.specs.Seeing.{borrows_from, sees_within, program_acts, sees_in}
 

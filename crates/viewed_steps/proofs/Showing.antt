@@ -13,7 +13,7 @@ use Rattle.flow_paths.specs.Laid.{FlowSub, FlowProgram, flow_typing}
 use Rattle.flow_paths.specs.Aliases as alias
 use Rattle.machine.specs.States.{sub_of}
 use Rattle.machine.specs.Run.{no_point}
-use Rattle.viewed_soundness.specs.Holds.{is_given}
+use Rattle.soundness.specs.ViewedSoundness.Holds.{is_given}
 use Rattle.viewed_steps.specs.Sound.{lent_to, shown_one, shown_by, shown_after}
 use Rattle.viewed_steps.proofs.Whole.{flat_has}
 

@@ -9,18 +9,18 @@ use Rattle.machine.specs.Memory.{Slot, Memory, Base, Place, HeapCell, fresh, cel
 use Rattle.machine.specs.Memory as memory
 use Rattle.machine.specs.Calls.{Passed, Value, From, To, with_formal}
 use Rattle.machine.specs.States.{Waiting, Leak}
-use Rattle.owned_ways.specs.Ways.{Step, OfVariable, OfHand, Loc, OfRoot, OfCell, Inside, IsSame}
-use Rattle.owned_ways.proofs.Locations.{same_loc}
-use Rattle.part_offsets.specs.Parts.{type_in, offset_in, is_leaf, IsSettled}
-use Rattle.viewed_soundness.specs.soundness.Seen.{content, trunk, steps_in, word_in, seen, is_view_formal}
-use Rattle.viewed_soundness.specs.soundness.Typed.{Matches, IsCell, Points, OwnsByShape, Kept}
-use Rattle.viewed_soundness.proofs.soundness.Contents.{word_dead, word_no}
-use Rattle.viewed_soundness.proofs.soundness.Keeping.{kept_with}
-use Rattle.viewed_soundness.proofs.soundness.Lasting.{declared_kept, keeps}
-use Rattle.viewed_soundness.proofs.soundness.Memories.{put_other, put_same, at_length}
-use Rattle.viewed_soundness.proofs.soundness.Steps.{plain_end}
-use Rattle.viewed_soundness.specs.Holds.{is_bundle, is_view, is_given, IsAccess}
-use Rattle.viewed_soundness.proofs.ViewKinds.{bundle_formal, given_view}
+use Rattle.soundness.specs.OwnedWays.Ways.{Step, OfVariable, OfHand, Loc, OfRoot, OfCell, Inside, IsSame}
+use Rattle.soundness.proofs.OwnedWays.Locations.{same_loc}
+use Rattle.soundness.specs.PartOffsets.Parts.{type_in, offset_in, is_leaf, IsSettled}
+use Rattle.soundness.specs.Seen.{content, trunk, steps_in, word_in, seen, is_view_formal}
+use Rattle.soundness.specs.Typed.{Matches, IsCell, Points, OwnsByShape, Kept}
+use Rattle.soundness.proofs.Contents.{word_dead, word_no}
+use Rattle.soundness.proofs.Keeping.{kept_with}
+use Rattle.soundness.proofs.Lasting.{declared_kept, keeps}
+use Rattle.soundness.proofs.Memories.{put_other, put_same, at_length}
+use Rattle.soundness.proofs.Steps.{plain_end}
+use Rattle.soundness.specs.ViewedSoundness.Holds.{is_bundle, is_view, is_given, IsAccess}
+use Rattle.soundness.proofs.ViewedSoundness.ViewKinds.{bundle_formal, given_view}
 use Rattle.viewed_steps.specs.Taken.{Lodge}
 use Rattle.viewed_steps.proofs.Alike.{IsLaidIn, with_one}
 use Rattle.viewed_steps.proofs.Entered.{IsKindOfCopy, IsPlainPassed, IsPlainOne, IsTyped, IsFit, HasWords}

@@ -10,16 +10,16 @@ use Rattle.flow_paths.specs.Acts.{declared_acts, assigned_to}
 use Rattle.machine.specs.Words as machine
 use Rattle.machine.specs.States.{Outcome}
 use Rattle.machine.specs.Step.{Turn, typing, taken_by, target_pos}
-use Rattle.owned_ways.specs.Ways.{Way, after, AllowsAll}
-use Rattle.part_offsets.specs.Parts.{IsSettled}
-use Rattle.viewed_soundness.specs.soundness.Seen.{IsNear, home}
-use Rattle.viewed_soundness.specs.soundness.Typed.{OwnsByShape}
-use Rattle.viewed_soundness.proofs.soundness.Scalars.{acts}
-use Rattle.owned_loans.specs.Views.{Around, Views, Unused}
-use Rattle.viewed_soundness.specs.Holds.{PartsAreNamed, is_given, Seeing}
-use Rattle.viewed_soundness.proofs.Outcomes.{IsGood, Leads_on}
-use Rattle.viewed_soundness.proofs.Lends.{Sees, Declares, Puts}
-use Rattle.viewed_soundness.proofs.Coming.{IsComing, borrower_given, observer_given, assign_observer_given, assign_borrower_given}
+use Rattle.soundness.specs.OwnedWays.Ways.{Way, after, AllowsAll}
+use Rattle.soundness.specs.PartOffsets.Parts.{IsSettled}
+use Rattle.soundness.specs.Seen.{IsNear, home}
+use Rattle.soundness.specs.Typed.{OwnsByShape}
+use Rattle.soundness.proofs.Scalars.{acts}
+use Rattle.soundness.specs.OwnedLoans.Views.{Around, Views, Unused}
+use Rattle.soundness.specs.ViewedSoundness.Holds.{PartsAreNamed, is_given, Seeing}
+use Rattle.soundness.proofs.ViewedSoundness.Outcomes.{IsGood, Leads_on}
+use Rattle.soundness.proofs.ViewedSoundness.Lends.{Sees, Declares, Puts}
+use Rattle.soundness.proofs.ViewedSoundness.Coming.{IsComing, borrower_given, observer_given, assign_observer_given, assign_borrower_given}
 use Rattle.viewed_steps.specs.Traversals.{TraversalCall, call_in, traversed_name}
 use Rattle.viewed_steps.proofs.Ended.{view_kinds}
 use Rattle.viewed_steps.proofs.Sources.{observer_only}

@@ -1,6 +1,6 @@
 -- Declarations of borrowers and observers and assignments to them, by what typing says of their
 -- sources.
-use Rattle.viewed_soundness.proofs.ViewKinds.{variable_given}
+use Rattle.soundness.proofs.ViewedSoundness.ViewKinds.{variable_given}
 use Rattle.std.proofs.Common.{◌≡◌, refl, sym, ap, ◌∙◌, subst, ◌⊎◌, inl, inr, ℕ, ◌<◌, Bool, true, false, not, ◌&&◌, List, [], ◌∷◌, length, Some}
 use Rattle.spark_base.specs.declared.position.Pos.{Pos}
 use Rattle.place_names.specs.declared.fact.Fact.{Fact}
@@ -17,17 +17,17 @@ use Rattle.flow_paths.specs.Acts.{declared_acts, assigned_to}
 use Rattle.machine.specs.Words as machine
 use Rattle.machine.specs.States.{Outcome}
 use Rattle.machine.specs.Step.{Turn, typing, taken_by, target_pos}
-use Rattle.owned_ways.specs.Ways.{Way, after, AllowsAll}
-use Rattle.part_offsets.specs.Parts.{IsSettled}
-use Rattle.viewed_soundness.specs.soundness.Seen.{IsNear, home}
-use Rattle.viewed_soundness.specs.soundness.Typed.{OwnsByShape}
+use Rattle.soundness.specs.OwnedWays.Ways.{Way, after, AllowsAll}
+use Rattle.soundness.specs.PartOffsets.Parts.{IsSettled}
+use Rattle.soundness.specs.Seen.{IsNear, home}
+use Rattle.soundness.specs.Typed.{OwnsByShape}
 use Rattle.typed_laws.specs.Needed.{Leads, Gives, Source}
-use Rattle.viewed_soundness.proofs.soundness.Scalars.{acts}
-use Rattle.viewed_soundness.proofs.soundness.Taking.{Takes}
-use Rattle.owned_loans.specs.Views.{Around, Views, Unused}
-use Rattle.viewed_soundness.specs.Holds.{IsNamed, PartsAreNamed, is_given, Seeing}
-use Rattle.viewed_soundness.proofs.Outcomes.{IsGood, Leads_on}
-use Rattle.viewed_soundness.proofs.Lends.{Observes, Declares, Puts, borrower_on, observer_on, observer_again_on, assign_borrower_on, assign_observer_on}
+use Rattle.soundness.proofs.Scalars.{acts}
+use Rattle.soundness.proofs.Taking.{Takes}
+use Rattle.soundness.specs.OwnedLoans.Views.{Around, Views, Unused}
+use Rattle.soundness.specs.ViewedSoundness.Holds.{IsNamed, PartsAreNamed, is_given, Seeing}
+use Rattle.soundness.proofs.ViewedSoundness.Outcomes.{IsGood, Leads_on}
+use Rattle.soundness.proofs.ViewedSoundness.Lends.{Observes, Declares, Puts, borrower_on, observer_on, observer_again_on, assign_borrower_on, assign_observer_on}
 use Rattle.viewed_steps.proofs.Ended.{view_kinds}
 use Rattle.viewed_steps.proofs.Views.{AreAccess}
 

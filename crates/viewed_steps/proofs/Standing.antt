@@ -25,20 +25,20 @@ use Rattle.machine.specs.States.{Waiting, Loop, Frame, State, sub_of, Goes}
 use Rattle.machine.specs.Step.{Turn, turn}
 use Rattle.machine.specs.Owners.{waiting_in}
 use Rattle.machine.specs.Run.{no_point, stepped, step}
-use Rattle.owned_ways.specs.Ways.{after, AllowsAll}
-use Rattle.viewed_soundness.specs.soundness.Seen.{home}
-use Rattle.viewed_soundness.specs.soundness.Typed.{Kept}
+use Rattle.soundness.specs.OwnedWays.Ways.{after, AllowsAll}
+use Rattle.soundness.specs.Seen.{home}
+use Rattle.soundness.specs.Typed.{Kept}
 use Rattle.typed_laws.specs.Needed.{IsFine}
-use Rattle.viewed_soundness.specs.soundness.Sound.{IsNoCall, Stage, facts_of, AreStages, InScope, IsNamedSub, IsAtPoint, view_of as view_here}
-use Rattle.viewed_soundness.specs.soundness.Ready.{IsSupplied}
-use Rattle.viewed_soundness.proofs.soundness.Passing.{signature_is}
-use Rattle.viewed_soundness.proofs.soundness.Typings.{Agree, flow_agrees, instruction_same}
-use Rattle.viewed_soundness.proofs.soundness.Scalars.{acts}
-use Rattle.viewed_soundness.proofs.soundness.Paths.{accepted_point, facts_next}
-use Rattle.viewed_soundness.proofs.soundness.Points.{flow_at, named_has, point_has, sub_there, sub_has, point_there, point_in, path_there, IsLaid, next_there, one_named, one_point}
-use Rattle.owned_loans.specs.Views.{known_gone, Views, ViewedAlone}
-use Rattle.viewed_soundness.specs.Holds.{is_bundle, is_view, AllKeep, is_fixed}
-use Rattle.viewed_soundness.proofs.ViewKinds.{bundle_sees as parts_see}
+use Rattle.soundness.specs.Sound.{IsNoCall, Stage, facts_of, AreStages, InScope, IsNamedSub, IsAtPoint, view_of as view_here}
+use Rattle.soundness.specs.Ready.{IsSupplied}
+use Rattle.soundness.proofs.Passing.{signature_is}
+use Rattle.soundness.proofs.Typings.{Agree, flow_agrees, instruction_same}
+use Rattle.soundness.proofs.Scalars.{acts}
+use Rattle.soundness.proofs.Paths.{accepted_point, facts_next}
+use Rattle.soundness.proofs.Points.{flow_at, named_has, point_has, sub_there, sub_has, point_there, point_in, path_there, IsLaid, next_there, one_named, one_point}
+use Rattle.soundness.specs.OwnedLoans.Views.{known_gone, Views, ViewedAlone}
+use Rattle.soundness.specs.ViewedSoundness.Holds.{is_bundle, is_view, AllKeep, is_fixed}
+use Rattle.soundness.proofs.ViewedSoundness.ViewKinds.{bundle_sees as parts_see}
 use Rattle.viewed_steps.specs.Awaited.{AreFor, AreValues, temporaries_of, lasting_of, WaitsAt, AreAwaited}
 use Rattle.viewed_steps.proofs.Waited.{leads_temporaries}
 use Rattle.viewed_steps.specs.Sound.{IsBeyond, HoldsAt, ArePlaced, NoneAbove, ViewStage, stages_of, GoneElsewhere, IsRunning, Follows, LeadsAlong, HasTraversals}

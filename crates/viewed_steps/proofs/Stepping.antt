@@ -15,11 +15,11 @@ use Rattle.machine.specs.States.{Frame, State, sub_of, Outcome, Goes, Ends}
 use Rattle.machine.specs.Step.{Turn, turn}
 use Rattle.machine.specs.Owners.{waiting_in}
 use Rattle.machine.specs.Run.{step}
-use Rattle.viewed_soundness.specs.soundness.Seen.{home}
-use Rattle.viewed_soundness.specs.soundness.Typed.{Kept}
-use Rattle.viewed_soundness.specs.soundness.Sound.{Stage, facts_of, AreStages, IsRunnable, returns_value, InScope, IsNamedSub, IsAtPoint, view_of as view_here, IsNoCall}
-use Rattle.viewed_soundness.proofs.soundness.Waited.{FillsNone}
-use Rattle.owned_loans.specs.Views.{known_gone, Views, ViewedAlone}
+use Rattle.soundness.specs.Seen.{home}
+use Rattle.soundness.specs.Typed.{Kept}
+use Rattle.soundness.specs.Sound.{Stage, facts_of, AreStages, IsRunnable, returns_value, InScope, IsNamedSub, IsAtPoint, view_of as view_here, IsNoCall}
+use Rattle.soundness.proofs.Waited.{FillsNone}
+use Rattle.soundness.specs.OwnedLoans.Views.{known_gone, Views, ViewedAlone}
 use Rattle.viewed_steps.specs.Awaited.{lasting_of, AreAwaited, IsTaken}
 use Rattle.viewed_steps.specs.Sound.{IsBeyond, HoldsAt, ArePlaced, NoneAbove, ViewStage, stages_of, GoneElsewhere, AreWaiting, IsRunning, LeadsAlong, StepsLeadAlong, LeadsOn, StepsLeadOn, IsResting, HasTraversals}
 use Rattle.viewed_steps.specs.Ready.{IsReady}

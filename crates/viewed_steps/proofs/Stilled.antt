@@ -4,9 +4,9 @@ use Rattle.std.proofs.Common.{◌≡◌, ap, ℕ, Bool, List}
 use Rattle.place_names.specs.declared.fact.Fact.{Fact}
 use Rattle.place_names.specs.declared.rule.Loan.{Loan}
 use Rattle.place_names.specs.Names.{Name}
-use Rattle.owned_ways.specs.Ways.{Word, Empty, Gone, Held, View, Way, Object, Lost, Into, All, Loc, OfCell, Reaches, Owned, Covered}
-use Rattle.owned_loans.specs.Views.{Around, Views, AreClear, AreViews, AreShared, IsLentToOthers, Viewed}
-use Rattle.owned_loans.proofs.Moves.{parts_on, view_on, reached}
+use Rattle.soundness.specs.OwnedWays.Ways.{Word, Empty, Gone, Held, View, Way, Object, Lost, Into, All, Loc, OfCell, Reaches, Owned, Covered}
+use Rattle.soundness.specs.OwnedLoans.Views.{Around, Views, AreClear, AreViews, AreShared, IsLentToOthers, Viewed}
+use Rattle.soundness.proofs.OwnedLoans.Moves.{parts_on, view_on, reached}
 
 abbrev pub still_word : Word → Word
 still_word Empty = Empty

@@ -6,8 +6,8 @@ use Rattle.viewed_steps.proofs.TakerActs.{taker_names}
 use Rattle.viewed_steps.specs.Ready.{IsReady}
 use Rattle.viewed_steps.specs.Sound.{ViewStage}
 use Rattle.viewed_steps.specs.Traversals.{IsViewTaker, TraversalCall, call_in, traversed_name}
-use Rattle.viewed_soundness.proofs.soundness.Points.{flow_at, path_there}
-use Rattle.viewed_soundness.specs.soundness.Sound.{IsNoCall, Stage, IsNamedSub, IsAtPoint}
+use Rattle.soundness.proofs.Points.{flow_at, path_there}
+use Rattle.soundness.specs.Sound.{IsNoCall, Stage, IsNamedSub, IsAtPoint}
 use Rattle.std.proofs.Common.{◌≡◌, refl, sym, ◌∙◌, subst, ◌⊎◌, inl, inr, ℕ, true, false, Option, List, ◌∷◌}
 use Rattle.spark_base.specs.Lists.{Has}
 use Rattle.place_names.specs.declared.act.Placed.{Placed}
@@ -24,9 +24,9 @@ use Rattle.flow_paths.specs.Paths.{ControlPath, goes_on, path_point, facts_befor
 use Rattle.flow_paths.specs.Paths.{PathPoint}
 use Rattle.flow_paths.specs.Points.{NamedPoint}
 use Rattle.machine.specs.States.{State, Frame, sub_of}
-use Rattle.owned_ways.specs.Ways.{Way, AllowsAll}
-use Rattle.owned_ways.specs.Ways as ways
-use Rattle.owned_loans.proofs.Allowed.{Cleared}
+use Rattle.soundness.specs.OwnedWays.Ways.{Way, AllowsAll}
+use Rattle.soundness.specs.OwnedWays.Ways as ways
+use Rattle.soundness.proofs.OwnedLoans.Allowed.{Cleared}
 
 -- what takes it isn't a call
 pub takes_no_call : (table : Table) (typed : TypedProgram) (n : ℕ) (c : TraversalCall) (result : Option ℕ) (i : Instruction)

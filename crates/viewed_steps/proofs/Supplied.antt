@@ -13,17 +13,17 @@ use Rattle.machine.specs.Memory.{Memory}
 use Rattle.machine.specs.States.{Waiting}
 use Rattle.machine.specs.Typed.{is_array, is_record}
 use Rattle.typed_laws.specs.Needed.{Gives, IsPlace, Matches}
-use Rattle.part_offsets.specs.Parts.{IsSettled}
-use Rattle.viewed_soundness.specs.soundness.Seen.{in_hand}
-use Rattle.viewed_soundness.specs.soundness.Typed.{Kept, OwnsByShape, Points}
-use Rattle.viewed_soundness.proofs.soundness.Fixed.{matches_scalar, plain_word}
-use Rattle.viewed_soundness.proofs.soundness.Keeping.{retyped_points, top_points}
-use Rattle.viewed_soundness.proofs.soundness.Lasting.{less_kept}
-use Rattle.viewed_soundness.proofs.soundness.Passing.{plain_type}
-use Rattle.viewed_soundness.proofs.soundness.Taking.{Takes}
-use Rattle.viewed_soundness.specs.Taken.{type_given, types_taken, AreScalarTypes, TakesFit, IsOfType, AreOfTypes}
-use Rattle.viewed_soundness.proofs.Fed.{split_values, takes_values, types_count}
-use Rattle.viewed_soundness.proofs.Hands.{first_words, first_both}
+use Rattle.soundness.specs.PartOffsets.Parts.{IsSettled}
+use Rattle.soundness.specs.Seen.{in_hand}
+use Rattle.soundness.specs.Typed.{Kept, OwnsByShape, Points}
+use Rattle.soundness.proofs.Fixed.{matches_scalar, plain_word}
+use Rattle.soundness.proofs.Keeping.{retyped_points, top_points}
+use Rattle.soundness.proofs.Lasting.{less_kept}
+use Rattle.soundness.proofs.Passing.{plain_type}
+use Rattle.soundness.proofs.Taking.{Takes}
+use Rattle.soundness.specs.ViewedSoundness.Taken.{type_given, types_taken, AreScalarTypes, TakesFit, IsOfType, AreOfTypes}
+use Rattle.soundness.proofs.ViewedSoundness.Fed.{split_values, takes_values, types_count}
+use Rattle.soundness.proofs.ViewedSoundness.Hands.{first_words, first_both}
 use Rattle.viewed_steps.specs.Awaited.{Fits, AreFor, AreFilled, AreScalar, AreOwnless}
 use Rattle.viewed_steps.specs.Ready.{IsSeen}
 use Rattle.viewed_steps.proofs.Entered.{IsFit}

@@ -1,8 +1,8 @@
 -- What takes the result of a traversal function borrows, observes or gives what the first actual names. So nothing
 -- of that is moved or borrowed there.
 use Rattle.viewed_steps.proofs.Sources.{observer_only}
-use Rattle.viewed_soundness.proofs.soundness.Contents.{bool_cases}
-use Rattle.viewed_soundness.proofs.soundness.Scalars.{acts}
+use Rattle.soundness.proofs.Contents.{bool_cases}
+use Rattle.soundness.proofs.Scalars.{acts}
 use Rattle.place_names.specs.declared.act.Act.{Act}
 use Rattle.place_names.specs.declared.act.Act.TheVariants as act
 use Rattle.place_names.specs.Names.{Name as PlaceName}
@@ -14,8 +14,8 @@ use Rattle.flow_paths.specs.Acts.{Frame, acts_of, acts_in, source_acts, index_ac
 use Rattle.flow_paths.specs.Names.{written, source}
 use Rattle.flow_paths.specs.Objects.{Typing, view_of, is_borrowing, is_observing, is_borrower, is_observer}
 use Rattle.place_names.specs.declared.fact.Fact.{Fact}
-use Rattle.owned_ways.specs.Ways.{Way, AllowsAll, Allows, name_of, number_of}
-use Rattle.owned_loans.proofs.Allowed.{Cleared, borrow_clears, observe_clears, reborrow_clears, give_clears}
+use Rattle.soundness.specs.OwnedWays.Ways.{Way, AllowsAll, Allows, name_of, number_of}
+use Rattle.soundness.proofs.OwnedLoans.Allowed.{Cleared, borrow_clears, observe_clears, reborrow_clears, give_clears}
 use Rattle.viewed_steps.specs.Traversals.{IsSeer, IsViewTaker, TraversalCall, call_in, traversed_name}
 
 module _ (s : Typing) (n : ℕ) (c : TraversalCall) where

@@ -12,7 +12,7 @@ use Rattle.flow_paths.specs.Acts.{Frame, placed, acts_of, acts_in, source_acts, 
 use Rattle.flow_paths.specs.Effects.{act_writes, act_reads}
 use Rattle.flow_paths.specs.Names.{written, source}
 use Rattle.flow_paths.specs.Objects.{Typing, is_borrower, is_observer, is_package_object}
-use Rattle.viewed_soundness.proofs.ViewKinds.{true_false}
+use Rattle.soundness.proofs.ViewedSoundness.ViewKinds.{true_false}
 use Rattle.viewed_steps.proofs.Sources.{observer_only}
 use Rattle.viewed_steps.proofs.Taker.{kind_of}
 use Rattle.viewed_steps.specs.Traversals.{IsSeer, IsViewTaker, TraversalCall, call_in, traversed_name}

@@ -3,10 +3,10 @@ use Rattle.viewed_steps.proofs.Traversed.{declared_source, assigned_source}
 use Rattle.flow_paths.specs.Views.{sub_acts}
 use Rattle.viewed_steps.specs.Traversals.{GivesView, IsSourceIn}
 use Rattle.viewed_steps.proofs.Sources.{leads_or}
-use Rattle.viewed_soundness.proofs.soundness.Following.{Each}
+use Rattle.soundness.proofs.Following.{Each}
 use Rattle.machine.specs.Calls.{checks_at}
 use Rattle.spark_base.specs.declared.position.Pos.{Pos}
-use Rattle.viewed_soundness.proofs.ViewKinds.{true_false}
+use Rattle.soundness.proofs.ViewedSoundness.ViewKinds.{true_false}
 use Rattle.std.proofs.Common.{◌≡◌, refl, sym, ap, ◌∙◌, subst, ◌⊎◌, inl, inr, ℕ, suc, ◌<◌, Bool, true, false, List, [], ◌∷◌, ◌++◌, drop, length, Some, None, map}
 use Rattle.spark_base.specs.Lists.{Has}
 use Rattle.place_names.specs.declared.act.Act.{Act}
@@ -33,19 +33,19 @@ use Rattle.machine.specs.States.{Waiting, Frame, State, Outcome, sub_of}
 use Rattle.machine.specs.Step.{Turn, turn, start, successor}
 use Rattle.machine.specs.Step as steps
 use Rattle.machine.specs.Owners.{waiting_in}
-use Rattle.owned_ways.specs.Ways.{Step, OfVariable, OfRoot, Way, Held, after, AllowsAll}
-use Rattle.viewed_soundness.specs.soundness.Seen.{IsNear, content, word_in, home, seen}
-use Rattle.viewed_soundness.specs.soundness.Typed.{Kept}
+use Rattle.soundness.specs.OwnedWays.Ways.{Step, OfVariable, OfRoot, Way, Held, after, AllowsAll}
+use Rattle.soundness.specs.Seen.{IsNear, content, word_in, home, seen}
+use Rattle.soundness.specs.Typed.{Kept}
 use Rattle.typed_laws.specs.Needed.{IsFine}
-use Rattle.viewed_soundness.specs.soundness.Sound.{IsNoCall, Stage, facts_of, AreStages, IsRunnable, returns_value, InScope, IsNamedSub, IsAtPoint, view_of as view_here}
-use Rattle.viewed_soundness.proofs.soundness.Scoped.{Inside}
-use Rattle.viewed_soundness.proofs.soundness.Around.{IsFar}
-use Rattle.viewed_soundness.proofs.soundness.Waited.{FillsNone}
-use Rattle.viewed_soundness.proofs.soundness.Eased.{eased}
-use Rattle.viewed_soundness.proofs.soundness.Successors.{below_one}
-use Rattle.owned_loans.specs.Views.{Around, known_gone, Views, Viewed, ViewedAlone}
-use Rattle.viewed_soundness.specs.Holds.{is_view, Seeing}
-use Rattle.viewed_soundness.proofs.Outcomes.{named_plain, Leads_on}
+use Rattle.soundness.specs.Sound.{IsNoCall, Stage, facts_of, AreStages, IsRunnable, returns_value, InScope, IsNamedSub, IsAtPoint, view_of as view_here}
+use Rattle.soundness.proofs.Scoped.{Inside}
+use Rattle.soundness.proofs.Around.{IsFar}
+use Rattle.soundness.proofs.Waited.{FillsNone}
+use Rattle.soundness.proofs.Eased.{eased}
+use Rattle.soundness.proofs.Successors.{below_one}
+use Rattle.soundness.specs.OwnedLoans.Views.{Around, known_gone, Views, Viewed, ViewedAlone}
+use Rattle.soundness.specs.ViewedSoundness.Holds.{is_view, Seeing}
+use Rattle.soundness.proofs.ViewedSoundness.Outcomes.{named_plain, Leads_on}
 use Rattle.viewed_steps.specs.Awaited.{AreValues, lasting_of, AreAwaited, TakesAlone}
 use Rattle.viewed_steps.proofs.Waited.{Shares}
 use Rattle.viewed_steps.specs.Sound.{IsBeyond, IsResting, HoldsAt, ArePlaced, NoneAbove, ViewStage, stages_of, GoneElsewhere, AreWaiting, IsStoredAt, LeadsAlong, HasTraversals}
@@ -59,20 +59,20 @@ use Rattle.viewed_steps.proofs.Standing as standing
 use Rattle.viewed_steps.proofs.Packages as packages
 use Rattle.viewed_steps.proofs.Innermost as innermost
 use Rattle.machine.specs.Step.{led}
-use Rattle.viewed_soundness.specs.soundness.Ready.{IsSupplied, Fills}
-use Rattle.viewed_soundness.proofs.soundness.Onward.{GoesOn, declare_follows, assign_follows}
+use Rattle.soundness.specs.Ready.{IsSupplied, Fills}
+use Rattle.soundness.proofs.Onward.{GoesOn, declare_follows, assign_follows}
 use Rattle.viewed_steps.proofs.EachInstruction as each
 use Rattle.viewed_steps.proofs.Turned as turned
 use Rattle.flow_paths.specs.Instructions.{Hold}
 use Rattle.flow_paths.specs.Scopes.{is_within}
 use Rattle.type_definitions.specs.Types.{shape_of}
-use Rattle.viewed_soundness.proofs.soundness.Lasting.{less_kept}
-use Rattle.owned_ways.specs.Ways as ways
-use Rattle.owned_loans.specs.Views.{on, expand}
-use Rattle.viewed_soundness.specs.Holds.{is_given}
-use Rattle.viewed_soundness.proofs.Outcomes.{IsGood}
-use Rattle.viewed_soundness.proofs.Lends.{Sees}
-use Rattle.viewed_soundness.proofs.Coming.{IsComing}
+use Rattle.soundness.proofs.Lasting.{less_kept}
+use Rattle.soundness.specs.OwnedWays.Ways as ways
+use Rattle.soundness.specs.OwnedLoans.Views.{on, expand}
+use Rattle.soundness.specs.ViewedSoundness.Holds.{is_given}
+use Rattle.soundness.proofs.ViewedSoundness.Outcomes.{IsGood}
+use Rattle.soundness.proofs.ViewedSoundness.Lends.{Sees}
+use Rattle.soundness.proofs.ViewedSoundness.Coming.{IsComing}
 use Rattle.viewed_steps.specs.Awaited.{IsTakenBy}
 use Rattle.viewed_steps.specs.Sound.{Lasts}
 use Rattle.viewed_steps.specs.Ready.{IsSource, IsNewSource}

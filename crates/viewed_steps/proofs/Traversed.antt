@@ -2,7 +2,7 @@
 -- step its first formal sees what it saw.
 use Rattle.flow_paths.specs.Views.{traversed_formal, traversed_of}
 use Rattle.viewed_steps.proofs.Ended.{view_kinds}
-use Rattle.viewed_soundness.proofs.soundness.Scalars.{acts, acts_append}
+use Rattle.soundness.proofs.Scalars.{acts, acts_append}
 use Rattle.place_names.specs.declared.act.Act.{Act}
 use Rattle.place_names.specs.Names.{Name as PlaceName}
 use Rattle.std.proofs.Common.{◌≡◌, refl, sym, ap, ◌∙◌, subst, ◌⊎◌, inl, inr, ℕ, zero, suc, ◌+◌, Bool, true, false, List, [], ◌∷◌, ◌++◌, drop, Some, None, if◌then◌else◌}
@@ -21,10 +21,10 @@ use Rattle.flow_paths.specs.Points.{NamedPoint}
 use Rattle.flow_paths.specs.Laid.{FlowSub, FlowProgram, flow_typing, flow_program}
 use Rattle.flow_paths.specs.Scopes.{taken, brought}
 use Rattle.machine.specs.States.{Waiting}
-use Rattle.owned_ways.specs.Ways.{View}
-use Rattle.viewed_soundness.specs.soundness.Sound.{IsNoCall, is_temporary_object}
-use Rattle.viewed_soundness.specs.soundness.Ready.{Fills}
-use Rattle.viewed_soundness.proofs.soundness.Waits.{drop_none, no_waits}
+use Rattle.soundness.specs.OwnedWays.Ways.{View}
+use Rattle.soundness.specs.Sound.{IsNoCall, is_temporary_object}
+use Rattle.soundness.specs.Ready.{Fills}
+use Rattle.soundness.proofs.Waits.{drop_none, no_waits}
 use Rattle.viewed_steps.specs.Awaited.{Fits, AreFor, temporaries_of, FillsTyped, IsTakenBy, TakesAlone}
 use Rattle.viewed_steps.specs.Traversals.{IsSourceName, IsSourceIn}
 use Rattle.viewed_steps.specs.Sound.{ViewStage, IsGivenIn, NoneGiven, IsGivenBelow, AreGivenIn}

@@ -14,16 +14,16 @@ use Rattle.machine.specs.Memory.{Memory}
 use Rattle.machine.specs.Calls.{Passed, passed, all_passed}
 use Rattle.machine.specs.Evaluate.{Here, Done, followed_by}
 use Rattle.machine.specs.States.{Waiting, Leak}
-use Rattle.owned_ways.specs.Ways.{Loc, Way, Reaches, AllowsAll, after}
-use Rattle.part_offsets.specs.Parts.{IsSettled}
-use Rattle.viewed_soundness.specs.soundness.Seen.{IsNear, content, trunk, seen, home}
-use Rattle.viewed_soundness.specs.soundness.Typed.{Kept, OwnsByShape}
+use Rattle.soundness.specs.OwnedWays.Ways.{Loc, Way, Reaches, AllowsAll, after}
+use Rattle.soundness.specs.PartOffsets.Parts.{IsSettled}
+use Rattle.soundness.specs.Seen.{IsNear, content, trunk, seen, home}
+use Rattle.soundness.specs.Typed.{Kept, OwnsByShape}
 use Rattle.typed_laws.specs.Needed.{Leads, IndexLaw}
-use Rattle.viewed_soundness.proofs.soundness.Passing.{AreReads, reads_keep}
-use Rattle.viewed_soundness.proofs.soundness.Scalars.{acts, acts_append, after_append, allows_both}
-use Rattle.viewed_soundness.proofs.soundness.Stays.{Quiet, quiet_then, quiet_from}
-use Rattle.owned_loans.specs.Views.{Around, Views, Viewed}
-use Rattle.viewed_soundness.specs.Holds.{PartsAreNamed, IsAccess, IsOwners, Holds, Seeing}
+use Rattle.soundness.proofs.Passing.{AreReads, reads_keep}
+use Rattle.soundness.proofs.Scalars.{acts, acts_append, after_append, allows_both}
+use Rattle.soundness.proofs.Stays.{Quiet, quiet_then, quiet_from}
+use Rattle.soundness.specs.OwnedLoans.Views.{Around, Views, Viewed}
+use Rattle.soundness.specs.ViewedSoundness.Holds.{PartsAreNamed, IsAccess, IsOwners, Holds, Seeing}
 use Rattle.viewed_steps.specs.Ready.{is_shown_type, IsSeen, AreActualsTo}
 use Rattle.viewed_steps.specs.Sound.{IsKindOfFormal}
 use Rattle.viewed_steps.specs.Traversals.{TraversalCall}

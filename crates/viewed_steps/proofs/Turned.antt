@@ -25,22 +25,22 @@ use Rattle.machine.specs.Step.{Turn, turn, start, successor}
 use Rattle.machine.specs.Step as steps
 use Rattle.machine.specs.Typed.{successors}
 use Rattle.machine.specs.Owners.{waiting_in}
-use Rattle.owned_ways.specs.Ways.{Step, OfVariable, OfRoot, Way, Held, after, AllowsAll, along, number_of, Named}
-use Rattle.owned_ways.specs.Ways as ways
-use Rattle.viewed_soundness.specs.soundness.Seen.{IsNear, content, word_in, home}
-use Rattle.viewed_soundness.specs.soundness.Typed.{Kept}
+use Rattle.soundness.specs.OwnedWays.Ways.{Step, OfVariable, OfRoot, Way, Held, after, AllowsAll, along, number_of, Named}
+use Rattle.soundness.specs.OwnedWays.Ways as ways
+use Rattle.soundness.specs.Seen.{IsNear, content, word_in, home}
+use Rattle.soundness.specs.Typed.{Kept}
 use Rattle.typed_laws.specs.Needed.{IsFine}
-use Rattle.viewed_soundness.specs.soundness.Sound.{IsNoCall, Stage, facts_of, AreStages, IsRunnable, returns_value, InScope, IsNamedSub, IsAtPoint, view_of as view_here}
-use Rattle.viewed_soundness.proofs.soundness.Scoped.{Inside}
-use Rattle.viewed_soundness.proofs.soundness.Around.{IsFar}
-use Rattle.viewed_soundness.proofs.soundness.Following.{Each}
-use Rattle.viewed_soundness.proofs.soundness.Waited.{FillsNone}
-use Rattle.viewed_soundness.proofs.soundness.Eased.{eased}
-use Rattle.viewed_soundness.proofs.soundness.Successors.{successor_there}
-use Rattle.owned_loans.specs.Views.{Around, known_gone, Views, ViewedAlone}
-use Rattle.viewed_soundness.specs.Holds.{AllKeep, is_view, is_bundle, is_fixed, is_given, Seeing}
-use Rattle.viewed_soundness.proofs.ViewKinds.{true_false, given_view, access_bundle}
-use Rattle.viewed_soundness.proofs.Outcomes.{Turned}
+use Rattle.soundness.specs.Sound.{IsNoCall, Stage, facts_of, AreStages, IsRunnable, returns_value, InScope, IsNamedSub, IsAtPoint, view_of as view_here}
+use Rattle.soundness.proofs.Scoped.{Inside}
+use Rattle.soundness.proofs.Around.{IsFar}
+use Rattle.soundness.proofs.Following.{Each}
+use Rattle.soundness.proofs.Waited.{FillsNone}
+use Rattle.soundness.proofs.Eased.{eased}
+use Rattle.soundness.proofs.Successors.{successor_there}
+use Rattle.soundness.specs.OwnedLoans.Views.{Around, known_gone, Views, ViewedAlone}
+use Rattle.soundness.specs.ViewedSoundness.Holds.{AllKeep, is_view, is_bundle, is_fixed, is_given, Seeing}
+use Rattle.soundness.proofs.ViewedSoundness.ViewKinds.{true_false, given_view, access_bundle}
+use Rattle.soundness.proofs.ViewedSoundness.Outcomes.{Turned}
 use Rattle.viewed_steps.specs.Awaited.{AreValues, temporaries_of, lasting_of, awaited, AreAwaited, AreScalar, TakesScalars}
 use Rattle.viewed_steps.specs.Sound.{IsBeyond, HoldsAt, ArePlaced, NoneAbove, ViewStage, stages_of, GoneElsewhere, AreWaiting, AreTurned, steps_on, LeadsAlong, IsResting, HasTraversals}
 use Rattle.viewed_steps.specs.Ready.{AreOrderly, IsReady}

@@ -23,10 +23,10 @@ use Rattle.flow_paths.specs.Objects.{Typing, is_package_object}
 use Rattle.flow_paths.specs.Points.{FlowPoint}
 use Rattle.flow_paths.specs.Laid.{FlowSub, FlowProgram, flow_typing}
 use Rattle.flow_paths.specs.Effects.{is_in, act_writes, writes_text, point_writes, is_global, own_writes, calls, sub_calls, flow_sub_at, ends, calls_on, AreEffects, read_by, written_by, global_act, globals_from, globals_of}
-use Rattle.owned_ways.specs.Ways.{AllowsAll}
-use Rattle.viewed_soundness.proofs.soundness.Inherited.{global_allowed}
-use Rattle.viewed_soundness.proofs.soundness.Used.{any_has, used_global, globals_are}
-use Rattle.owned_loans.proofs.Clear.{refused}
+use Rattle.soundness.specs.OwnedWays.Ways.{AllowsAll}
+use Rattle.soundness.proofs.Inherited.{global_allowed}
+use Rattle.soundness.proofs.Used.{any_has, used_global, globals_are}
+use Rattle.soundness.proofs.OwnedLoans.Clear.{refused}
 use Rattle.viewed_steps.specs.Sound.{Disturbs}
 
 or_second : (a b : Bool) → b ≡ true → a || b ≡ true

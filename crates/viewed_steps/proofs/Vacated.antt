@@ -8,20 +8,20 @@ use Rattle.machine.specs.Words as machine
 use Rattle.machine.specs.Memory.{Slot, Memory, Place, no_slot, slots_of, slots_at, gone_at, moved_out, fresh, declared}
 use Rattle.machine.specs.Calls.{checked_at}
 use Rattle.machine.specs.States.{Waiting, Leak}
-use Rattle.owned_ways.specs.Ways.{Empty, Step, Loc, Gone, Held, Below, OfVariable, OfHand, OfRoot, OfCell, Inside, IsSame, part}
-use Rattle.owned_ways.proofs.Locations.{same_loc}
-use Rattle.part_offsets.specs.Parts.{type_in, offset_in, is_leaf, IsSettled}
-use Rattle.part_offsets.proofs.Ranges.{leaf_outside}
-use Rattle.part_offsets.proofs.Leaves.{leaf_at}
-use Rattle.viewed_soundness.specs.soundness.Seen.{Content, content, trunk, steps_in, word_in, owner_at, owner_word, seen}
-use Rattle.viewed_soundness.specs.soundness.Changes.{Alike, Put, Checks, leaks_at}
-use Rattle.viewed_soundness.specs.soundness.Typed.{Kept, Spot, loc_of}
-use Rattle.viewed_soundness.proofs.soundness.Joined.{offset_join, leaf_join, trunk_trunk, below_from}
-use Rattle.viewed_soundness.proofs.soundness.Contents.{bool_cases, word_yes, word_no, shown, word_part, leaf_below, checks_made}
-use Rattle.viewed_soundness.proofs.soundness.Memories.{marked_gone, marked_length, put_same, put_other}
-use Rattle.viewed_soundness.proofs.soundness.Defaults.{blank_word, none_default}
-use Rattle.viewed_soundness.proofs.soundness.Steps.{content_slots}
-use Rattle.viewed_soundness.proofs.soundness.Steps.{put_at, put_off, put_count, put_freed, alike, matches_words, taken_slots, room}
+use Rattle.soundness.specs.OwnedWays.Ways.{Empty, Step, Loc, Gone, Held, Below, OfVariable, OfHand, OfRoot, OfCell, Inside, IsSame, part}
+use Rattle.soundness.proofs.OwnedWays.Locations.{same_loc}
+use Rattle.soundness.specs.PartOffsets.Parts.{type_in, offset_in, is_leaf, IsSettled}
+use Rattle.soundness.proofs.PartOffsets.Ranges.{leaf_outside}
+use Rattle.soundness.proofs.PartOffsets.Leaves.{leaf_at}
+use Rattle.soundness.specs.Seen.{Content, content, trunk, steps_in, word_in, owner_at, owner_word, seen}
+use Rattle.soundness.specs.Changes.{Alike, Put, Checks, leaks_at}
+use Rattle.soundness.specs.Typed.{Kept, Spot, loc_of}
+use Rattle.soundness.proofs.Joined.{offset_join, leaf_join, trunk_trunk, below_from}
+use Rattle.soundness.proofs.Contents.{bool_cases, word_yes, word_no, shown, word_part, leaf_below, checks_made}
+use Rattle.soundness.proofs.Memories.{marked_gone, marked_length, put_same, put_other}
+use Rattle.soundness.proofs.Defaults.{blank_word, none_default}
+use Rattle.soundness.proofs.Steps.{content_slots}
+use Rattle.soundness.proofs.Steps.{put_at, put_off, put_count, put_freed, alike, matches_words, taken_slots, room}
 use Rattle.viewed_steps.proofs.Emptied.{IsEmptied}
 
 module _ (s : Typing) (settled : IsSettled s.table) (m : Memory) (hands : List Waiting) (leaks : List Leak) (k : Place) (l : Loc)

@@ -1,5 +1,5 @@
 -- What is known of the objects of views, and of ways that belong to other frames.
-use Rattle.viewed_soundness.proofs.Given.{IsLow}
+use Rattle.soundness.proofs.ViewedSoundness.Given.{IsLow}
 use Rattle.std.proofs.Common.{None, ◌≡◌, refl, sym, ap, ◌∙◌, subst, ◌⊎◌, inl, inr, ℕ, ◌<◌, Bool, true, false, not, List, ◌&&◌, ◌||◌, get_or, Some}
 use Rattle.spark_base.specs.Lists.{Has}
 use Rattle.type_definitions.specs.declared.table.Shape.{Shape}
@@ -13,16 +13,16 @@ use Rattle.flow_paths.specs.Objects.{Typing, Place, object_at, is_anonymous, is_
 use Rattle.machine.specs.Words.{Cell}
 use Rattle.machine.specs.Memory.{Memory, variable_slots, no_slot}
 use Rattle.machine.specs.Owners.{is_in, is_in_formal}
-use Rattle.owned_ways.specs.Ways.{Step, OfVariable, OfHand, OfRoot, Way, Object, Lost, Into, All, Named, base_of}
-use Rattle.owned_ways.proofs.Dropped.{named_base}
-use Rattle.part_offsets.specs.Parts.{offset_in}
-use Rattle.viewed_soundness.specs.soundness.Seen.{home, is_view_formal}
-use Rattle.owned_loans.specs.Views.{Views, IsForeign}
-use Rattle.viewed_soundness.proofs.ViewKinds.{bundle_formal, true_false}
-use Rattle.viewed_soundness.proofs.Outcomes.{named_plain}
-use Rattle.viewed_soundness.specs.Holds.{PartsHold, is_access, is_bundle, is_view, IsOwners, IsAccess, Holds, is_given}
-use Rattle.viewed_soundness.specs.soundness.Typed.{OwnsByShape}
-use Rattle.viewed_soundness.proofs.soundness.Passing.{plain_type}
+use Rattle.soundness.specs.OwnedWays.Ways.{Step, OfVariable, OfHand, OfRoot, Way, Object, Lost, Into, All, Named, base_of}
+use Rattle.soundness.proofs.OwnedWays.Dropped.{named_base}
+use Rattle.soundness.specs.PartOffsets.Parts.{offset_in}
+use Rattle.soundness.specs.Seen.{home, is_view_formal}
+use Rattle.soundness.specs.OwnedLoans.Views.{Views, IsForeign}
+use Rattle.soundness.proofs.ViewedSoundness.ViewKinds.{bundle_formal, true_false}
+use Rattle.soundness.proofs.ViewedSoundness.Outcomes.{named_plain}
+use Rattle.soundness.specs.ViewedSoundness.Holds.{PartsHold, is_access, is_bundle, is_view, IsOwners, IsAccess, Holds, is_given}
+use Rattle.soundness.specs.Typed.{OwnsByShape}
+use Rattle.soundness.proofs.Passing.{plain_type}
 use Rattle.viewed_steps.specs.Sound.{Lies, ArePartsLow, IsKindOfFormal}
 use Rattle.viewed_steps.specs.Ready.{is_shown_type}
 

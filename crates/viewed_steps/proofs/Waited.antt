@@ -8,13 +8,13 @@ use Rattle.flow_paths.specs.Objects.{Typing, object_at, has_scope_end}
 use Rattle.flow_paths.specs.Laid.{FlowProgram, flow_typing}
 use Rattle.flow_paths.specs.Scopes.{Silent, Leads, brought, is_temporary, is_within, is_last}
 use Rattle.machine.specs.States.{Waiting, sub_of}
-use Rattle.part_offsets.specs.Parts.{IsSettled}
-use Rattle.viewed_soundness.specs.soundness.Sound.{IsPlainValue, is_temporary_object, temporaries_in}
-use Rattle.viewed_soundness.specs.soundness.Ready.{Fills}
-use Rattle.viewed_soundness.proofs.soundness.Contents.{bool_cases}
-use Rattle.viewed_soundness.proofs.soundness.Waits.{drop_none}
-use Rattle.viewed_soundness.proofs.soundness.Fixed.{plain_word}
-use Rattle.viewed_soundness.proofs.soundness.Waited.{FillsNone}
+use Rattle.soundness.specs.PartOffsets.Parts.{IsSettled}
+use Rattle.soundness.specs.Sound.{IsPlainValue, is_temporary_object, temporaries_in}
+use Rattle.soundness.specs.Ready.{Fills}
+use Rattle.soundness.proofs.Contents.{bool_cases}
+use Rattle.soundness.proofs.Waits.{drop_none}
+use Rattle.soundness.proofs.Fixed.{plain_word}
+use Rattle.soundness.proofs.Waited.{FillsNone}
 use Rattle.viewed_steps.specs.Awaited.{AreFor, AreValuesBut, FillsTyped, temporaries_of, is_held, lasting_of, AreScalar}
 
 pub split_list : {A : Type 0} (k : ℕ) (xs : List A) → take k xs ++ drop k xs ≡ xs

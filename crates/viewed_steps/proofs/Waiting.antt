@@ -1,6 +1,6 @@
 -- Frames that wait for a call to end, with views: what they keep concerns the innermost frame as ways
 -- of others, and they wait still after its steps.
-use Rattle.viewed_soundness.specs.Holds.{is_view}
+use Rattle.soundness.specs.ViewedSoundness.Holds.{is_view}
 use Rattle.std.proofs.Common.{◌≡◌, refl, sym, ap, ◌∙◌, subst, ◌⊎◌, inl, inr, ℕ, ◌<◌, ◌≤◌, Bool, true, false, ◌&&◌, nat_lt, ltb-true, lt-ltb, List, [], ◌∷◌, ◌++◌, length, arith, Some, None, if◌then◌else◌, append-nil}
 use Rattle.std.specs.Prelude.{flat_map}
 use Rattle.spark_base.specs.Lists.{Has}
@@ -17,18 +17,18 @@ use Rattle.flow_paths.specs.declared.report.Effects.{Effects}
 use Rattle.flow_paths.specs.Objects.{Typing, is_package_object}
 use Rattle.flow_paths.specs.Laid.{FlowProgram, flow_typing, flow_program}
 use Rattle.machine.specs.States.{Frame, Return, State, sub_of}
-use Rattle.owned_ways.specs.Ways.{Loc, IsSame, Step, OfVariable, OfRoot, OfCell, Way, Root, Object, Lost, Into, All, Held, View, Reaches, Under, Named, IsMoved, base_of, number_of, name_of, part, along}
-use Rattle.owned_ways.proofs.Locations.{under_itself, under_along}
-use Rattle.owned_ways.proofs.Named.{longer}
-use Rattle.owned_ways.proofs.Dropped.{named_base}
-use Rattle.viewed_soundness.specs.soundness.Seen.{IsNear, content, word_in, home}
-use Rattle.viewed_soundness.specs.soundness.Sound.{Stage, facts_of, AreStages, Uses, view_of as view_here}
-use Rattle.viewed_soundness.proofs.soundness.Around.{near_or_far, IsFar, near_package, package_named}
-use Rattle.viewed_soundness.proofs.soundness.Contents.{bool_cases, word_part, word_root}
-use Rattle.owned_loans.specs.Views.{on, Around, known_gone, Views, expand, IsThrough, IsForeign, Go, IsShared, AreShared, AreViews}
-use Rattle.owned_loans.proofs.Ways.{under_on, on_under, on_named, lifts, lifted_root, lifted_way, base_on, root_on, in_part_way}
-use Rattle.owned_loans.proofs.Meeting.{stands, plain_lifts}
-use Rattle.owned_loans.proofs.Moves.{reached}
+use Rattle.soundness.specs.OwnedWays.Ways.{Loc, IsSame, Step, OfVariable, OfRoot, OfCell, Way, Root, Object, Lost, Into, All, Held, View, Reaches, Under, Named, IsMoved, base_of, number_of, name_of, part, along}
+use Rattle.soundness.proofs.OwnedWays.Locations.{under_itself, under_along}
+use Rattle.soundness.proofs.OwnedWays.Named.{longer}
+use Rattle.soundness.proofs.OwnedWays.Dropped.{named_base}
+use Rattle.soundness.specs.Seen.{IsNear, content, word_in, home}
+use Rattle.soundness.specs.Sound.{Stage, facts_of, AreStages, Uses, view_of as view_here}
+use Rattle.soundness.proofs.Around.{near_or_far, IsFar, near_package, package_named}
+use Rattle.soundness.proofs.Contents.{bool_cases, word_part, word_root}
+use Rattle.soundness.specs.OwnedLoans.Views.{on, Around, known_gone, Views, expand, IsThrough, IsForeign, Go, IsShared, AreShared, AreViews}
+use Rattle.soundness.proofs.OwnedLoans.Ways.{under_on, on_under, on_named, lifts, lifted_root, lifted_way, base_on, root_on, in_part_way}
+use Rattle.soundness.proofs.OwnedLoans.Meeting.{stands, plain_lifts}
+use Rattle.soundness.proofs.OwnedLoans.Moves.{reached}
 use Rattle.viewed_steps.specs.Taken.{TakenBy, Lodge}
 use Rattle.viewed_steps.proofs.Between.{base_along as along_base, number_based, taken_from as words_taken, taken_base, near_base, begun_low}
 use Rattle.viewed_steps.proofs.Roots.{GoesOn, borrower_goes, view_goes}

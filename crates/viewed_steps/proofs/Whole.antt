@@ -25,9 +25,9 @@ use Rattle.flow_paths.specs.Points.{NamedPoint, FlowPoint}
 use Rattle.flow_paths.specs.Laid.{FlowSub, FlowProgram, NamedSub, distinct, frame_of, kept_roots, point_acts, sub_facts, flow_sub}
 use Rattle.flow_paths.specs.Paths.{facts_before}
 use Rattle.flow_paths.specs.Effects.{AreEffects, path_points}
-use Rattle.viewed_soundness.proofs.soundness.Contents.{bool_cases}
-use Rattle.viewed_soundness.proofs.soundness.Points.{flow_at}
-use Rattle.viewed_soundness.proofs.soundness.Used.{any_has, fact_added}
+use Rattle.soundness.proofs.Contents.{bool_cases}
+use Rattle.soundness.proofs.Points.{flow_at}
+use Rattle.soundness.proofs.Used.{any_has, fact_added}
 
 -- ---- the end of a call
 

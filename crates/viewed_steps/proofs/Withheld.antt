@@ -12,9 +12,9 @@ use Rattle.place_names.specs.Facts.{place}
 use Rattle.flow_paths.specs.declared.report.Effects.{Effects}
 use Rattle.flow_paths.specs.Effects.{written_by}
 use Rattle.flow_paths.specs.Laid.{FlowProgram}
-use Rattle.owned_ways.specs.Ways.{Way, number_of, Loc, OfRoot, OfVariable, OfHand, OfCell, Inside, base_of}
-use Rattle.viewed_soundness.proofs.soundness.Contents.{bool_cases}
-use Rattle.viewed_soundness.proofs.soundness.Used.{any_has}
+use Rattle.soundness.specs.OwnedWays.Ways.{Way, number_of, Loc, OfRoot, OfVariable, OfHand, OfCell, Inside, base_of}
+use Rattle.soundness.proofs.Contents.{bool_cases}
+use Rattle.soundness.proofs.Used.{any_has}
 use Rattle.viewed_steps.specs.Taken.{Lodge}
 use Rattle.viewed_steps.specs.Sound.{ViewStage, known_at, passed_roots, is_passed, withheld, shared_root}
 use Rattle.viewed_steps.proofs.Whole.{flat_has}

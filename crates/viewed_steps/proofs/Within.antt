@@ -1,12 +1,12 @@
 -- A value is made of what is taken, of any types: an object is declared with it, or it is assigned or returned.
 use Rattle.flow_paths.specs.Views.{sub_acts}
 use Rattle.place_names.specs.Facts.{effect}
-use Rattle.viewed_soundness.proofs.soundness.Fading.{FadesTo}
-use Rattle.viewed_soundness.proofs.Stored.{Assigns, then_placed}
+use Rattle.soundness.proofs.Fading.{FadesTo}
+use Rattle.soundness.proofs.ViewedSoundness.Stored.{Assigns, then_placed}
 use Rattle.viewed_steps.specs.Traversals.{IsSourceIn}
 use Rattle.machine.specs.Calls.{checks_at}
 use Rattle.spark_base.specs.declared.position.Pos.{Pos}
-use Rattle.viewed_soundness.proofs.ViewKinds.{plain_named, true_false}
+use Rattle.soundness.proofs.ViewedSoundness.ViewKinds.{plain_named, true_false}
 use Rattle.std.proofs.Common.{◌≡◌, refl, sym, ap, ◌∙◌, subst, ◌⊎◌, inl, inr, ℕ, suc, ◌<◌, true, false, List, [], ◌∷◌, ◌++◌, drop, length, None, if◌then◌else◌, take, map}
 use Rattle.spark_base.specs.Lists.{Has}
 use Rattle.place_names.specs.declared.act.Act.{Act}
@@ -37,20 +37,20 @@ use Rattle.machine.specs.States.{Waiting, Frame, State, Outcome, sub_of}
 use Rattle.machine.specs.Step.{Turn, turn, start, successor}
 use Rattle.machine.specs.Step as steps
 use Rattle.machine.specs.Owners.{waiting_in}
-use Rattle.owned_ways.specs.Ways.{Step, OfVariable, OfRoot, Way, Held, after, AllowsAll}
-use Rattle.viewed_soundness.specs.soundness.Seen.{IsNear, content, word_in, home, seen}
-use Rattle.viewed_soundness.specs.soundness.Typed.{Kept}
+use Rattle.soundness.specs.OwnedWays.Ways.{Step, OfVariable, OfRoot, Way, Held, after, AllowsAll}
+use Rattle.soundness.specs.Seen.{IsNear, content, word_in, home, seen}
+use Rattle.soundness.specs.Typed.{Kept}
 use Rattle.typed_laws.specs.Needed.{IsFine, Source, Leads}
-use Rattle.viewed_soundness.specs.soundness.Sound.{IsNoCall, Stage, facts_of, AreStages, IsRunnable, InScope, IsNamedSub, IsAtPoint, view_of as view_here}
-use Rattle.viewed_soundness.proofs.soundness.Scalars.{acts, acts_append, after_append}
-use Rattle.viewed_soundness.proofs.soundness.Scoped.{Inside}
-use Rattle.viewed_soundness.proofs.soundness.Around.{IsFar}
-use Rattle.viewed_soundness.proofs.soundness.Waits.{waits_of}
-use Rattle.viewed_soundness.proofs.soundness.Waited.{FillsNone}
-use Rattle.viewed_soundness.proofs.soundness.Eased.{eased, goes_same}
-use Rattle.owned_loans.specs.Views.{Around, known_gone, Views, Viewed, ViewedAlone}
-use Rattle.viewed_soundness.specs.Holds.{IsNamed, AllKeep, is_view, is_fixed, Seeing}
-use Rattle.viewed_soundness.proofs.Outcomes.{named_plain, Leads_on, stored_goes, not_views, assigned_acts}
+use Rattle.soundness.specs.Sound.{IsNoCall, Stage, facts_of, AreStages, IsRunnable, InScope, IsNamedSub, IsAtPoint, view_of as view_here}
+use Rattle.soundness.proofs.Scalars.{acts, acts_append, after_append}
+use Rattle.soundness.proofs.Scoped.{Inside}
+use Rattle.soundness.proofs.Around.{IsFar}
+use Rattle.soundness.proofs.Waits.{waits_of}
+use Rattle.soundness.proofs.Waited.{FillsNone}
+use Rattle.soundness.proofs.Eased.{eased, goes_same}
+use Rattle.soundness.specs.OwnedLoans.Views.{Around, known_gone, Views, Viewed, ViewedAlone}
+use Rattle.soundness.specs.ViewedSoundness.Holds.{IsNamed, AllKeep, is_view, is_fixed, Seeing}
+use Rattle.soundness.proofs.ViewedSoundness.Outcomes.{named_plain, Leads_on, stored_goes, not_views, assigned_acts}
 use Rattle.viewed_steps.specs.Awaited.{AreValues, temporaries_of, lasting_of, AreAwaited, types_for, TakesTogether}
 use Rattle.viewed_steps.proofs.Waited.{Shares, split_list}
 use Rattle.viewed_steps.specs.Sound.{IsBeyond, IsResting, HoldsAt, ArePlaced, NoneAbove, ViewStage, stages_of, GoneElsewhere, AreWaiting, IsStoredAt, LeadsAlong, HasTraversals}
@@ -60,28 +60,28 @@ use Rattle.viewed_steps.proofs.Placed.{MayBe}
 use Rattle.viewed_steps.proofs.Waiting.{StandsBetween, beside_them, handed, apart_elsewhere}
 use Rattle.viewed_steps.proofs.Standing.{or_right}
 use Rattle.viewed_steps.proofs.Standing as standing
-use Rattle.viewed_soundness.proofs.soundness.Following.{Each}
+use Rattle.soundness.proofs.Following.{Each}
 use Rattle.flow_paths.specs.Scopes.{brought}
-use Rattle.viewed_soundness.specs.soundness.Sound.{returns_value}
-use Rattle.viewed_soundness.proofs.soundness.Successors.{below_one}
+use Rattle.soundness.specs.Sound.{returns_value}
+use Rattle.soundness.proofs.Successors.{below_one}
 use Rattle.viewed_steps.proofs.Beside.{IsOther, others_keep}
-use Rattle.viewed_soundness.specs.soundness.Ready.{IsSupplied, Fills}
-use Rattle.viewed_soundness.proofs.soundness.Onward.{GoesOn, declare_follows, assign_follows}
+use Rattle.soundness.specs.Ready.{IsSupplied, Fills}
+use Rattle.soundness.proofs.Onward.{GoesOn, declare_follows, assign_follows}
 use Rattle.viewed_steps.proofs.Turned as turned
 use Rattle.std.proofs.Common.{append-nil, append_assoc}
-use Rattle.viewed_soundness.proofs.soundness.Scalars.{allows_both}
-use Rattle.viewed_soundness.specs.Taken.{types_taken, AreScalarTypes, AreOfTypes, AreScalarValues}
-use Rattle.viewed_soundness.proofs.Fed.{split_values, scalar_values, takes_values, types_count, fed_alone}
-use Rattle.viewed_soundness.proofs.Hands.{first_words, words_first}
-use Rattle.viewed_soundness.proofs.soundness.Taking.{Takes}
+use Rattle.soundness.proofs.Scalars.{allows_both}
+use Rattle.soundness.specs.ViewedSoundness.Taken.{types_taken, AreScalarTypes, AreOfTypes, AreScalarValues}
+use Rattle.soundness.proofs.ViewedSoundness.Fed.{split_values, scalar_values, takes_values, types_count, fed_alone}
+use Rattle.soundness.proofs.ViewedSoundness.Hands.{first_words, words_first}
+use Rattle.soundness.proofs.Taking.{Takes}
 use Rattle.viewed_steps.proofs.Packages as packages
 use Rattle.viewed_steps.proofs.Innermost as innermost
 use Rattle.std.specs.Prelude.{flat_map, Bool}
 use Rattle.machine.specs.Step.{led}
 use Rattle.machine.specs.Evaluate.{Raises, Traps}
-use Rattle.viewed_soundness.proofs.soundness.Numbers.{index_law}
-use Rattle.viewed_soundness.proofs.soundness.Lasting.{keeps}
-use Rattle.viewed_soundness.proofs.Evaluated.{Given, GivenOn, Ready, checked_on, keep_both}
+use Rattle.soundness.proofs.Numbers.{index_law}
+use Rattle.soundness.proofs.Lasting.{keeps}
+use Rattle.soundness.proofs.ViewedSoundness.Evaluated.{Given, GivenOn, Ready, checked_on, keep_both}
 use Rattle.viewed_steps.proofs.Declared.{declared_goes, first_fades}
 use Rattle.viewed_steps.proofs.EachInstruction as each
 use Rattle.viewed_steps.proofs.Supplied.{of_types}

@@ -17,9 +17,9 @@ use Rattle.flow_paths.specs.Views.{is_function, is_outer, in_function, changes, 
 use Rattle.flow_paths.specs.Points.{FlowPoint}
 use Rattle.flow_paths.specs.Laid.{FlowSub, FlowProgram, NamedSub, flow_sub, typing_of, flow_typing, flow_program, flow_named}
 use Rattle.flow_paths.specs.Reports.{AreReports, on_views}
-use Rattle.viewed_soundness.proofs.soundness.Contents.{any_from}
-use Rattle.viewed_soundness.proofs.soundness.Points.{sub_has, sub_there, sub_at_number, sub_in_range}
-use Rattle.viewed_soundness.specs.soundness.Sound.{IsNamedSub}
+use Rattle.soundness.proofs.Contents.{any_from}
+use Rattle.soundness.proofs.Points.{sub_has, sub_there, sub_at_number, sub_in_range}
+use Rattle.soundness.specs.Sound.{IsNamedSub}
 use Rattle.machine.specs.States.{sub_of}
 use Rattle.type_definitions.specs.Types.{Table}
 use Rattle.typed_tree.specs.Trees.{TypedTree}

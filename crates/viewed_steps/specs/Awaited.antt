@@ -13,8 +13,8 @@ use Rattle.flow_paths.specs.Points.{NamedPoint}
 use Rattle.flow_paths.specs.Laid.{FlowSub, FlowProgram, NamedSub, flow_typing, flow_program, flow_named}
 use Rattle.flow_paths.specs.Scopes.{taken}
 use Rattle.machine.specs.States.{Waiting, sub_of}
-use Rattle.viewed_soundness.specs.soundness.Sound.{is_temporary_object, has_returned, IsNamedSub, IsAtPoint, IsNoCall, Stage}
-use Rattle.viewed_soundness.specs.Taken.{GivesPlainly, types_taken, AreScalarTypes, TakesFit}
+use Rattle.soundness.specs.Sound.{is_temporary_object, has_returned, IsNamedSub, IsAtPoint, IsNoCall, Stage}
+use Rattle.soundness.specs.ViewedSoundness.Taken.{GivesPlainly, types_taken, AreScalarTypes, TakesFit}
 
 -- ---- values
 

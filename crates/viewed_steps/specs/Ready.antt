@@ -24,12 +24,12 @@ use Rattle.flow_paths.specs.Scopes.{taken, is_within}
 use Rattle.flow_paths.specs.Views.{encloses, scope_of, traversed_formal, sub_acts, IsOnlyRoot}
 use Rattle.machine.specs.States.{sub_of}
 use Rattle.machine.specs.Owners.{is_in}
-use Rattle.viewed_soundness.specs.soundness.Typed.{OwnsByShape}
-use Rattle.viewed_soundness.specs.soundness.Sound.{Accepted, IsNamedSub, IsAtPoint, IsProcedure, IsRunnable, is_temporary_object, has_returned, IsEntered, goes_through_none}
-use Rattle.viewed_soundness.specs.soundness.Ready.{root_of, stored_at, AreScoped, AreNew, AreElaborated, AreReturning}
+use Rattle.soundness.specs.Typed.{OwnsByShape}
+use Rattle.soundness.specs.Sound.{Accepted, IsNamedSub, IsAtPoint, IsProcedure, IsRunnable, is_temporary_object, has_returned, IsEntered, goes_through_none}
+use Rattle.soundness.specs.Ready.{root_of, stored_at, AreScoped, AreNew, AreElaborated, AreReturning}
 use Rattle.typed_laws.specs.Needed.{Matches, Leads, Stays, Gives, IsPlace}
-use Rattle.viewed_soundness.specs.soundness.Seen.{is_view_formal}
-use Rattle.viewed_soundness.specs.Holds.{is_fixed, AllKeep, IsNamed, IsAccess, is_given, is_bundle}
+use Rattle.soundness.specs.Seen.{is_view_formal}
+use Rattle.soundness.specs.ViewedSoundness.Holds.{is_fixed, AllKeep, IsNamed, IsAccess, is_given, is_bundle}
 use Rattle.viewed_steps.specs.Awaited.{is_held, IsTakenAt, FillsTyped, TakesAlone}
 use Rattle.viewed_steps.specs.Traversals.{IsSourceName, TraversalCall, IsViewTaker}
 use Rattle.type_definitions.specs.declared.table.Shape.TheVariants as shape

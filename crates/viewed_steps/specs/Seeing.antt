@@ -6,7 +6,7 @@ use Rattle.place_names.specs.declared.act.Act.TheVariants.{Borrow}
 use Rattle.flow_paths.specs.Objects.{Typing, is_borrower}
 use Rattle.flow_paths.specs.Laid.{FlowProgram, flow_typing}
 use Rattle.flow_paths.specs.Views.{sub_acts}
-use Rattle.viewed_soundness.specs.Holds.{sees_only}
+use Rattle.soundness.specs.ViewedSoundness.Holds.{sees_only}
 
 -- An object is declared as a borrower of what is as asked.
 abbrev pub borrows_from : (ℕ → Bool) → ℕ → Act → Bool

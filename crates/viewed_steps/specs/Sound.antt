@@ -32,13 +32,13 @@ use Rattle.machine.specs.Memory.{Memory, variable_slots, no_slot}
 use Rattle.machine.specs.States.{Return, Waiting, Frame, State, Outcome, Goes, Ends, sub_of}
 use Rattle.machine.specs.Owners.{WellOwned, waiting_in}
 use Rattle.machine.specs.Run.{step, no_point}
-use Rattle.owned_ways.specs.Ways.{Object, Step, OfVariable, OfRoot, Held, Way, Named, Under, Past, name_of, number_of, OfCell, Reaches, Loc, along, View, base_of}
-use Rattle.viewed_soundness.specs.soundness.Seen.{content, word_in, home, is_view_formal}
-use Rattle.viewed_soundness.specs.soundness.Typed.{Kept}
-use Rattle.viewed_soundness.specs.soundness.Sound.{IsNamedSub, IsAtPoint, IsRunnable, Stage, facts_of, AreStages, Uses, IsPlain, InScope, IsTrap, has_returned}
-use Rattle.viewed_soundness.specs.soundness.Sound as owners
-use Rattle.owned_loans.specs.Views.{known_gone, Views, IsMovedBy, AreClear, IsForeign, AreShared, AreViews, IsOuter, ViewedAlone, expand}
-use Rattle.viewed_soundness.specs.Holds.{IsNamed, IsAccess, PartsAreNamed, is_view, IsOwners, is_given, is_exclusive, PartsHold, is_bundle}
+use Rattle.soundness.specs.OwnedWays.Ways.{Object, Step, OfVariable, OfRoot, Held, Way, Named, Under, Past, name_of, number_of, OfCell, Reaches, Loc, along, View, base_of}
+use Rattle.soundness.specs.Seen.{content, word_in, home, is_view_formal}
+use Rattle.soundness.specs.Typed.{Kept}
+use Rattle.soundness.specs.Sound.{IsNamedSub, IsAtPoint, IsRunnable, Stage, facts_of, AreStages, Uses, IsPlain, InScope, IsTrap, has_returned}
+use Rattle.soundness.specs.Sound as owners
+use Rattle.soundness.specs.OwnedLoans.Views.{known_gone, Views, IsMovedBy, AreClear, IsForeign, AreShared, AreViews, IsOuter, ViewedAlone, expand}
+use Rattle.soundness.specs.ViewedSoundness.Holds.{IsNamed, IsAccess, PartsAreNamed, is_view, IsOwners, is_given, is_exclusive, PartsHold, is_bundle}
 use Rattle.viewed_steps.specs.Awaited.{is_held, lasting_of, AreAwaited}
 use Rattle.viewed_steps.specs.Taken.{TakenBy, Lodge, AreTaken, AreCarried}
 use Rattle.viewed_steps.specs.Seeing.{sees_in}

@@ -13,12 +13,12 @@ use Rattle.flow_paths.specs.Scopes.{is_within}
 use Rattle.machine.specs.Memory.{Memory, Place}
 use Rattle.machine.specs.Memory as memory
 use Rattle.machine.specs.States.{Return}
-use Rattle.owned_ways.specs.Ways.{Step, Loc, OfVariable, OfRoot, OfCell, Way, Object, Lost, Into, All, Held, Gone, Under, Named, along, base_of, name_of, number_of, object_of}
-use Rattle.part_offsets.specs.Parts.{type_in, offset_in, has_part}
-use Rattle.viewed_soundness.specs.soundness.Seen.{content, word_in, home, is_view_formal}
-use Rattle.viewed_soundness.specs.soundness.Typed.{Matches, IsFixed}
-use Rattle.owned_loans.specs.Views.{Views, expand}
-use Rattle.viewed_soundness.specs.Holds.{IsNamed, is_bundle}
+use Rattle.soundness.specs.OwnedWays.Ways.{Step, Loc, OfVariable, OfRoot, OfCell, Way, Object, Lost, Into, All, Held, Gone, Under, Named, along, base_of, name_of, number_of, object_of}
+use Rattle.soundness.specs.PartOffsets.Parts.{type_in, offset_in, has_part}
+use Rattle.soundness.specs.Seen.{content, word_in, home, is_view_formal}
+use Rattle.soundness.specs.Typed.{Matches, IsFixed}
+use Rattle.soundness.specs.OwnedLoans.Views.{Views, expand}
+use Rattle.soundness.specs.ViewedSoundness.Holds.{IsNamed, is_bundle}
 
 -- A way is one of these, or goes on from it to a part.
 abbrev pub TakenBy : List Way → Way → Type 0

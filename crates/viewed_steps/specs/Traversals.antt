@@ -17,12 +17,12 @@ use Rattle.flow_paths.specs.Names.{name_of}
 use Rattle.flow_paths.specs.Views.{Roots}
 use Rattle.machine.specs.Words as machine
 use Rattle.machine.specs.States.{Waiting}
-use Rattle.owned_ways.specs.Ways.{OfCell, Way, All, View, Reaches, Under, Named}
-use Rattle.owned_ways.specs.Ways as ways
-use Rattle.owned_loans.specs.Views.{Go, on, Views, expand}
-use Rattle.viewed_soundness.specs.soundness.Seen.{home}
+use Rattle.soundness.specs.OwnedWays.Ways.{OfCell, Way, All, View, Reaches, Under, Named}
+use Rattle.soundness.specs.OwnedWays.Ways as ways
+use Rattle.soundness.specs.OwnedLoans.Views.{Go, on, Views, expand}
+use Rattle.soundness.specs.Seen.{home}
 use Rattle.typed_laws.specs.Needed.{Matches}
-use Rattle.viewed_soundness.specs.Holds.{GoesBy}
+use Rattle.soundness.specs.ViewedSoundness.Holds.{GoesBy}
 use Rattle.viewed_steps.specs.Awaited.{IsTakenBy}
 
 -- ---- sources

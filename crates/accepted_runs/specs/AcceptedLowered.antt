@@ -1,0 +1,2 @@
+-- what a run rests on
+pub mod Runs

@@ -1,0 +1,2 @@
+-- what is said of runs
+pub mod Runs

@@ -1,3 +1,0 @@
-pub mod Main
--- libraries that the crates above name through this one
-pub use Rattle.typed_texts.proofs as typed_texts

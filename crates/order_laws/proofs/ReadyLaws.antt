@@ -1,0 +1,5 @@
+pub mod Elaborated
+pub mod Subs
+pub mod Returned
+pub mod Actuals
+pub mod Ready

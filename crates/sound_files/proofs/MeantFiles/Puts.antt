@@ -1,0 +1,218 @@
+-- What is known to be a subprogram is declared as one.
+use Rattle.std.proofs.Common.{◌≡◌, inl, inr, ℕ, zero, suc, ◌+◌, ◌-◌, Bool, true, false, List, [], ◌∷◌, ◌++◌, flat_map, get_or, replicate, refl, subst, Some, if◌then◌else◌}
+use Rattle.spark_base.specs.Lists.{Has}
+use Rattle.spark_base.proofs.Lists.{Has-append_left, Has-append_right}
+use Rattle.resolved_tree.specs.Trees.{More, Code, Anonymous, Enumeration, Incomplete, Private, TypeDecl, Subtype, ConstrainedSubtype, Objects, Numbers, Instance, Formals, Front, SubDecl, SubBody, Package, PackageBody, If, Branch, Case, When, Loop, While, For, Block, Program}
+use Rattle.type_definitions.specs.declared.table.InitialValue.{InitialValue}
+use Rattle.type_definitions.specs.declared.table.Known.{Known}
+use Rattle.type_definitions.specs.declared.table.Kind.TheVariants as kind
+use Rattle.type_definitions.specs.declared.table.Profile.{Profile}
+use Rattle.type_definitions.specs.declared.table.Entry.{Entry}
+use Rattle.type_definitions.specs.declared.table.Entry.TheVariants as entry
+use Rattle.type_definitions.specs.Entries.{entry_of}
+use Rattle.type_definitions.specs.Expressions.{profile_of}
+use Rattle.type_definitions.specs.Names.{Context}
+use Rattle.type_definitions.specs.Gathered.{gather, each, with_entry, with_type, with_indication, full_info, with_literals, with_definition, with_object, object_info, constant_value, indicated, with_number, number_info, initial_value, with_formal, with_formal_group, with_formals, with_result, with_front, with_body_front, profile, is_subprogram, front_number, plain_object, parameter_type, in_subprogram, in_visible, in_hidden, instance_type, declared_number}
+use Rattle.type_definitions.specs.Whole.{predefined_entries, at_first, outside, gather_units, known_from, known_of}
+use Rattle.sound_files.proofs.MeantFiles.Lists.{entry_put}
+
+-- The numbers of the subprograms that code declares.
+abbrev pub sub_numbers : Code → List ℕ
+sub_numbers (SubDecl front) = front_number front ∷ []
+sub_numbers (SubBody front items stmts end) = front_number front ∷ (sub_numbers items ++ sub_numbers stmts)
+sub_numbers (Package d visible hidden) = sub_numbers visible ++ sub_numbers hidden
+sub_numbers (PackageBody d parts) = sub_numbers parts
+sub_numbers (If p branches otherwise) = sub_numbers branches ++ sub_numbers otherwise
+sub_numbers (Branch p e stmts) = sub_numbers stmts
+sub_numbers (Case p e whens) = sub_numbers whens
+sub_numbers (When choices stmts) = sub_numbers stmts
+sub_numbers (Loop p stmts) = sub_numbers stmts
+sub_numbers (While p e stmts) = sub_numbers stmts
+sub_numbers (For p d reversed range stmts) = sub_numbers stmts
+sub_numbers (Block p items stmts end) = sub_numbers items ++ sub_numbers stmts
+sub_numbers (More a rest) = sub_numbers a ++ sub_numbers rest
+sub_numbers _ = []
+
+-- ---- entries
+
+module _ (sub : ℕ → Type 0) where
+  abbrev SaidOf : ℕ → Entry → Type 0
+  SaidOf d (entry.Subprogram p) = sub d
+  SaidOf d e = Unit {0}
+
+  abbrev AreSaid : Context → Type 0
+  AreSaid c = (d : ℕ) → SaidOf d (entry_of c.known d)
+
+  -- All of these numbers are such.
+  abbrev All : List ℕ → Type 0
+  All ns = (n : ℕ) → Has ns n → sub n
+
+  all_left : (ns ms : List ℕ) → All (ns ++ ms) → All ns
+  all_left ns ms all n has = all n (Has-append_left ns ms n has)
+
+  all_right : (ns ms : List ℕ) → All (ns ++ ms) → All ms
+  all_right ns ms all n has = all n (Has-append_right ns ms n has)
+
+  put : (d : ℕ) (e : Entry) (c : Context) → SaidOf d e → AreSaid c → AreSaid (with_entry d e c)
+  put d e c new are = λ t. entry_put SaidOf c.known.entries d t e entry.Nothing new (are t)
+
+  literals_said : (t n : ℕ) (ids : Code) (c : Context) → AreSaid c → AreSaid (with_literals t n ids c)
+  literals_said t n (More d rest) c are =
+      literals_said t (n + 1) rest (with_entry (declared_number d) (entry.Literal t n) c) (put (declared_number d) (entry.Literal t n) c tt are)
+  literals_said t n ids c are = are
+
+  definition_said : (t : ℕ) (def : Code) (c : Context) → AreSaid c → AreSaid (with_definition t def c)
+  definition_said t (Enumeration literals) c are = literals_said t 0 literals c are
+  definition_said t def c are = are
+
+  indication_said : (d : ℕ) (i : Code) (c : Context) → AreSaid c → AreSaid (with_indication d i c)
+  indication_said d (Anonymous p constant m) c are = are
+  indication_said d i c are = are
+
+  objects_said : (constant : Bool) (i : Code) (v : InitialValue) (ids : Code) (c : Context) → AreSaid c → AreSaid (each (with_object constant i v) ids c)
+  objects_said constant i v (More d rest) c are =
+      objects_said constant i v rest (with_object constant i v d c)
+      (put (declared_number d) (entry.Object (object_info c constant (indicated c.known (declared_number d) i) v)) (with_indication (declared_number d) i c) tt
+      (indication_said (declared_number d) i c are))
+  objects_said constant i v ids c are = are
+
+  numbers_said : (v : InitialValue) (ids : Code) (c : Context) → AreSaid c → AreSaid (each (with_number v) ids c)
+  numbers_said v (More d rest) c are =
+      numbers_said v rest (with_number v d c) (put (declared_number d) (entry.Object (number_info c v)) c tt are)
+  numbers_said v ids c are = are
+
+  names_said : (of ids : Code) (c : Context) → AreSaid c → AreSaid (each (with_formal of) ids c)
+  names_said of (More d rest) c are =
+      names_said of rest (with_formal of d c)
+      (put (declared_number d) (entry.Object (plain_object (indicated c.known (declared_number d) of) kind.Formal)) (with_indication (declared_number d) of c) tt
+      (indication_said (declared_number d) of c are))
+  names_said of ids c are = are
+
+  group_said : (group : Code) (c : Context) → AreSaid c → AreSaid (with_formal_group group c)
+  group_said (Formals names m of) c are = names_said of names c are
+  group_said group c are = are
+
+  groups_said : (formals : Code) (c : Context) → AreSaid c → AreSaid (each with_formal_group formals c)
+  groups_said (More group rest) c are = groups_said rest (with_formal_group group c) (group_said group c are)
+  groups_said formals c are = are
+
+  result_said : (d : ℕ) (result : Code) (c : Context) → AreSaid c → AreSaid (with_result d result c)
+  result_said d (More i rest) c are = indication_said d i c are
+  result_said d result c are = are
+
+  front_said : (front : Code) (c : Context) → sub (front_number front) → AreSaid c → AreSaid (with_front front c)
+  front_said (Front d formals result) c is are =
+      let n : ℕ = declared_number d in
+      let inner : Context = each with_formal_group formals (with_result n result c) in
+      put n (entry.Subprogram (profile inner.known (Front d formals result))) inner is
+      (groups_said formals (with_result n result c) (result_said n result c are))
+  front_said front c is are = are
+
+  formals_said : (front : Code) (c : Context) → AreSaid c → AreSaid (with_formals front c)
+  formals_said (Front d formals result) c are = groups_said formals c are
+  formals_said front c are = are
+
+  body_said : (front : Code) (c : Context) → sub (front_number front) → AreSaid c → AreSaid (with_body_front front c)
+  body_said front c is are = by (is_subprogram (entry_of c.known (front_number front)))
+    where
+      by : (b : Bool) → AreSaid (if b then with_formals front c else with_front front c)
+      by true = formals_said front c are
+      by false = front_said front c is are
+
+  two_said : (x y : Code) (c : Context) → All (sub_numbers x ++ sub_numbers y) → (All (sub_numbers x) → AreSaid (gather x c))
+      → ((d : Context) → All (sub_numbers y) → AreSaid d → AreSaid (gather y d)) → AreSaid (gather y (gather x c))
+  two_said x y c ss first second =
+      second (gather x c) (all_right (sub_numbers x) (sub_numbers y) ss) (first (all_left (sub_numbers x) (sub_numbers y) ss))
+
+  all_said : (code : Code) (c : Context) → All (sub_numbers code) → AreSaid c → AreSaid (gather code c)
+  unfolding gather
+  all_said (Incomplete d) c ss are = put (declared_number d) entry.Type c tt are
+  all_said (Private d) c ss are = put (declared_number d) entry.Type c tt are
+  all_said (TypeDecl d def end) c ss are =
+      let n : ℕ = declared_number d in
+      definition_said n def (with_type n (full_info c n def end) c) (put n entry.Type c tt are)
+  all_said (Subtype d m) c ss are = put (declared_number d) entry.Type c tt are
+  all_said (ConstrainedSubtype d m low high) c ss are = put (declared_number d) entry.Type c tt are
+  all_said (Objects ids constant i v) c ss are = objects_said constant i (constant_value c constant v) ids c are
+  all_said (Numbers ids e) c ss are = numbers_said (initial_value c e) ids c are
+  all_said (Instance d m args) c ss are = put (declared_number d) (entry.Instance (instance_type args)) c tt are
+  all_said (SubDecl front) c ss are = front_said front c (ss (front_number front) (inl refl)) are
+  all_said (SubBody front items stmts end) c ss are =
+      let inner : Context = in_subprogram front (with_body_front front c) in
+      two_said items stmts inner (λ n has. ss n (inr has))
+      (λ fss. all_said items inner fss (body_said front c (ss (front_number front) (inl refl)) are)) (all_said stmts)
+  all_said (Package d visible hidden) c ss are =
+      let n : ℕ = declared_number d in
+      let start : Context = in_visible n (with_entry n entry.Package c) in
+      all_said hidden (in_hidden n (gather visible start)) (all_right (sub_numbers visible) (sub_numbers hidden) ss)
+      (all_said visible start (all_left (sub_numbers visible) (sub_numbers hidden) ss) (put n entry.Package c tt are))
+  all_said (PackageBody d parts) c ss are = all_said parts (in_hidden (declared_number d) c) ss are
+  all_said (If at x y) c ss are = two_said x y c ss (λ ss. all_said x c ss are) (all_said y)
+  all_said (Branch at e x) c ss are = all_said x c ss are
+  all_said (Case at e x) c ss are = all_said x c ss are
+  all_said (When choices x) c ss are = all_said x c ss are
+  all_said (Loop at x) c ss are = all_said x c ss are
+  all_said (While at e x) c ss are = all_said x c ss are
+  all_said (For at d reversed range x) c ss are =
+      all_said x (with_entry (declared_number d) (entry.Object (plain_object (parameter_type c range) kind.Parameter)) c) ss
+      (put (declared_number d) (entry.Object (plain_object (parameter_type c range) kind.Parameter)) c tt are)
+  all_said (Block at x y end) c ss are = two_said x y c ss (λ ss. all_said x c ss are) (all_said y)
+  all_said (More x y) c ss are = two_said x y c ss (λ ss. all_said x c ss are) (all_said y)
+  all_said code c ss are = are
+
+  units_said : (units : List Code) (c : Context) → All (flat_map sub_numbers units) → AreSaid c → AreSaid (gather_units units c)
+  units_said [] c ss are = are
+  units_said (u ∷ rest) c ss are =
+      units_said rest (gather u c) (all_right (sub_numbers u) (flat_map sub_numbers rest) ss)
+      (all_said u c (all_left (sub_numbers u) (flat_map sub_numbers rest) ss) are)
+
+  nothing_said : (n d e : ℕ) → SaidOf e (get_or (replicate n entry.Nothing) d entry.Nothing)
+  nothing_said zero d e = tt
+  nothing_said (suc n) zero e = tt
+  nothing_said (suc n) (suc d) e = nothing_said n d e
+
+  abbrev AreBare : List Entry → Type 0
+  AreBare [] = Unit {0}
+  AreBare (x ∷ xs) = ((e : ℕ) → SaidOf e x) × AreBare xs
+
+  rows_said : (xs : List Entry) (n d e : ℕ) → AreBare xs → SaidOf e (get_or (xs ++ replicate n entry.Nothing) d entry.Nothing)
+  rows_said [] n d e all = nothing_said n d e
+  rows_said (x ∷ xs) n zero e all = all.0 e
+  rows_said (x ∷ xs) n (suc d) e all = rows_said xs n d e all.1
+
+  none_at : (e : ℕ) → Unit {0}
+  none_at e = tt
+
+  first_said : AreBare predefined_entries
+  first_said = (none_at, (none_at, (none_at, (none_at, (none_at, (none_at, (none_at, (none_at, (none_at, (none_at, (none_at, (none_at, (none_at, (none_at, (none_at, tt)))))))))))))))
+
+  known_said : (p : Program) → All (flat_map sub_numbers p.units) → (d : ℕ) → SaidOf d (entry_of (known_of p) d)
+  unfolding known_of
+  known_said p ss =
+      let first : Known = known_from p (at_first false p.count).table in
+      units_said p.units (outside (record (at_first false p.count) { table = first.table })) ss (λ d. rows_said predefined_entries (p.count - 15) d d first_said)
+
+-- ---- of programs
+
+module _ (p : Program) where
+  abbrev IsSub : ℕ → Type 0
+  IsSub = Has (flat_map sub_numbers p.units)
+
+  said : (d : ℕ) → SaidOf IsSub d (entry_of (known_of p) d)
+  said = known_said IsSub p (λ n has. has)
+
+  pub subprogram_declared : (d : ℕ) (profile : Profile) → entry_of (known_of p) d ≡ entry.Subprogram profile → Has (flat_map sub_numbers p.units) d
+  subprogram_declared d profile is = subst (SaidOf IsSub d) is (said d)
+
+  pub function_declared : (d t : ℕ) → (profile_of (entry_of (known_of p) d)).result ≡ Some t → Has (flat_map sub_numbers p.units) d
+  function_declared d t is = by (entry_of (known_of p) d) is (said d)
+    where
+      by : (e : Entry) → (profile_of e).result ≡ Some t → SaidOf IsSub d e → IsSub d
+      by (entry.Subprogram p) is said = said
+      by entry.Nothing is said = cc
+      by entry.Package is said = cc
+      by entry.Type is said = cc
+      by (entry.Object o) is said = cc
+      by (entry.Literal t n) is said = cc
+      by (entry.Instance t) is said = cc
+      by (entry.Predefined w) is said = cc

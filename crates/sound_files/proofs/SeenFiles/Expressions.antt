@@ -1,0 +1,349 @@
+-- What expressions mention in the text is what their trees name.
+use Rattle.std.proofs.Common.{◌≡◌, ℕ, suc, Bool, true, false, ◌&&◌, List, [], ◌∷◌, ◌++◌, drop, length, refl, sym, ap, subst, true≢false, zero}
+use Rattle.std.specs.List.{flat_map}
+use Rattle.spark_base.specs.declared.position.Pos.{Pos}
+use Rattle.ada_tree.specs.declared.expression.Aggregate.{Aggregate, Row_of-Arg, end_of-Arg, more_of-Arg, Row_of-NextArg, end_of-NextArg, more_of-NextArg, Row_of-Expr, end_of-Expr, more_of-Expr}
+use Rattle.ada_tree.specs.declared.expression.Aggregate.TheVariants as aggregate
+use Rattle.ada_tree.specs.declared.expression.Arg.{Arg}
+use Rattle.ada_tree.specs.declared.expression.Arg.TheVariants as arg
+use Rattle.ada_tree.specs.declared.expression.NextArg.{NextArg}
+use Rattle.ada_tree.specs.declared.expression.NextArg.TheVariants as next_arg
+use Rattle.ada_tree.specs.declared.expression.Expr.{Expr, Row_of-Rel, end_of-Rel, more_of-Rel, Row_of-Operand, end_of-Operand, more_of-Operand, Row_of-ShortOperand, end_of-ShortOperand, more_of-ShortOperand}
+use Rattle.ada_tree.specs.declared.expression.Expr.TheVariants as expr
+use Rattle.ada_tree.specs.declared.expression.Operand.{Operand}
+use Rattle.ada_tree.specs.declared.expression.Operand.TheVariants as operand
+use Rattle.ada_tree.specs.declared.expression.ShortOperand.{ShortOperand}
+use Rattle.ada_tree.specs.declared.expression.ShortOperand.TheVariants as short_operand
+use Rattle.ada_tree.specs.declared.expression.Rel.{Rel, Row_of-Sum, end_of-Sum, more_of-Sum}
+use Rattle.ada_tree.specs.declared.expression.Rel.TheVariants as rel
+use Rattle.ada_tree.specs.declared.expression.Sum.{Sum, Row_of-NextTerm, end_of-NextTerm, more_of-NextTerm}
+use Rattle.ada_tree.specs.declared.expression.Sum.TheVariants as sum
+use Rattle.ada_tree.specs.declared.expression.NextTerm.{NextTerm}
+use Rattle.ada_tree.specs.declared.expression.NextTerm.TheVariants as next_term
+use Rattle.ada_tree.specs.declared.expression.Term.{Term, Row_of-NextFactor, end_of-NextFactor, more_of-NextFactor}
+use Rattle.ada_tree.specs.declared.expression.Term.TheVariants as term
+use Rattle.ada_tree.specs.declared.expression.NextFactor.{NextFactor}
+use Rattle.ada_tree.specs.declared.expression.NextFactor.TheVariants as next_factor
+use Rattle.ada_tree.specs.declared.expression.Factor.{Factor}
+use Rattle.ada_tree.specs.declared.expression.Factor.TheVariants as factor
+use Rattle.ada_tree.specs.declared.expression.Primary.{Primary, Row_of-Name, end_of-Name, more_of-Name, Row_of-Aggregate, end_of-Aggregate, more_of-Aggregate}
+use Rattle.ada_tree.specs.declared.expression.Primary.TheVariants as primary
+use Rattle.ada_tree.specs.declared.expression.Name.{Name, Row_of-Suffix, end_of-Suffix, more_of-Suffix}
+use Rattle.ada_tree.specs.declared.expression.Name.TheVariants as name
+use Rattle.ada_tree.specs.declared.expression.Suffix.{Suffix}
+use Rattle.ada_tree.specs.declared.expression.Suffix.TheVariants as suffix
+use Rattle.ada_tree.specs.declared.range.Range.{Range}
+use Rattle.ada_tree.specs.declared.range.Range.TheVariants as range
+use Rattle.ada_tree.specs.declared.range.Choice.{Choice}
+use Rattle.ada_tree.specs.declared.range.Choice.TheVariants as choice
+use Rattle.ada_tree.specs.declared.range.NextChoice.{NextChoice}
+use Rattle.ada_tree.specs.declared.range.NextChoice.TheVariants as next_choice
+use Rattle.name_events.specs.declared.event.Event.{Event}
+use Rattle.name_events.specs.declared.event.Event.TheVariants as e
+use Rattle.name_events.specs.Laws.{is_mention}
+use Rattle.name_events.specs.Identified.{number_at}
+use Rattle.name_events.specs.ExpressionOutline.{selector, selectors, name_events, suffixes_events, suffix_events, arg_box_events, next_args_events, next_arg_events, arg_events, expr_box_events, expr_events, operands_events, operand_events, short_operands_events, short_operand_events, rel_box_events, rel_events, sum_box_events, sum_events, next_terms_events, next_term_events, term_events, next_factors_events, next_factor_events, factor_events, primary_events, name_box_events, aggregate_box_events, aggregate_events, range_events, choice_events, next_choice_events}
+use Rattle.name_events.specs.ExpressionOutline as outline
+use Rattle.resolved_tree.specs.declared.operator.Operator.{Operator}
+use Rattle.resolved_tree.specs.declared.operator.Operator.TheVariants as op
+use Rattle.resolved_tree.specs.Trees.{Tree, list_of}
+use Rattle.resolved_tree.specs.Trees as t
+use Rattle.expression_lowering.specs.LoweredExpressions.{Numbers, number_of, before_others, last_of, sign_operator, chained, selected_number, selected_numbers, lowered_name, lowered_suffixes, lowered_suffix, box_before, args_row, next_arg_before, arg_before, lowered_expr_box, lowered_expr, operands_row, lowered_operand, short_operands_row, lowered_short_operand, lowered_rel_box, lowered_rel, lowered_sum_box, lowered_sum, terms_row, lowered_next_term, lowered_term, factors_row, lowered_next_factor, lowered_factor, lowered_primary, lowered_name_box, lowered_aggregate_box, lowered_aggregate, lowered_range}
+use Rattle.sound_files.specs.SeenFiles.Uses.{Uses, numbers_along, AreAllowed}
+use Rattle.sound_files.specs.SeenFiles.Fits.{RangeFits, IsKept}
+
+pub both_so : (a b : Bool) → a && b ≡ true → (a ≡ true) × (b ≡ true)
+both_so true b e = (refl, e)
+both_so false b e = absurd (true≢false (sym e))
+
+pub and_so : (a b : Bool) → a ≡ true → b ≡ true → a && b ≡ true
+and_so true b e f = f
+and_so false b e f = absurd (true≢false (sym e))
+
+-- These events mention names, and do nothing else.
+abbrev pub all_mention : List Event → Bool
+all_mention [] = true
+all_mention (event ∷ rest) = is_mention event && all_mention rest
+
+mention_both : (xs ys : List Event) → all_mention xs ≡ true → all_mention ys ≡ true → all_mention (xs ++ ys) ≡ true
+mention_both [] ys a b = b
+mention_both (x ∷ rest) ys a b =
+    let s = both_so (is_mention x) (all_mention rest) a in
+    and_so (is_mention x) (all_mention (rest ++ ys)) s.0 (mention_both rest ys s.1 b)
+
+module _ (numbers : Numbers) (asked : ℕ → Type 0) where
+  allowed_split : (xs ys : List Event) → AreAllowed numbers asked (xs ++ ys) → AreAllowed numbers asked xs × AreAllowed numbers asked ys
+  unfolding AreAllowed
+  allowed_split [] ys a = (tt, a)
+  allowed_split (e.Mentions c name ∷ rest) ys a = let r = allowed_split rest ys a.1 in ((a.0, r.0), r.1)
+  allowed_split (event ∷ rest) ys a = allowed_split rest ys a
+
+  -- These events mention names alone, and if these are as asked, this holds.
+  abbrev pub Speaks : List Event → Type 0 → Type 0
+  Speaks xs known = (all_mention xs ≡ true) × (AreAllowed numbers asked xs → known)
+
+  pub says_so : (xs : List Event) (one two : Type 0) → (one → two) → Speaks xs one → Speaks xs two
+  says_so xs one two f s = (s.0, λ a. f (s.1 a))
+
+  pub nothing : (one : Type 0) → one → Speaks [] one
+  nothing one is = (refl, λ a. is)
+
+  pub speaks_both : (xs ys : List Event) (one two : Type 0) → Speaks xs one → Speaks ys two → Speaks (xs ++ ys) (one × two)
+  speaks_both xs ys one two s u =
+      (mention_both xs ys s.0 u.0, λ a. let r = allowed_split xs ys a in (s.1 r.0, u.1 r.1))
+
+  abbrev Use : Tree → Type 0
+  Use tree = Uses asked tree
+
+  -- ---- lists of trees
+
+  abbrev AllUse : List Tree → Type 0
+  AllUse [] = Unit {0}
+  AllUse (a ∷ rest) = Use a × AllUse rest
+
+  dropped : (n : ℕ) (trees : List Tree) → AllUse trees → AllUse (drop n trees)
+  dropped zero trees all = all
+  dropped (suc n) [] all = tt
+  dropped (suc n) (a ∷ rest) all = dropped n rest all.1
+
+  listed : (trees : List Tree) → AllUse trees → Use (list_of trees)
+  unfolding Uses
+  listed [] all = tt
+  listed (a ∷ rest) all = (all.0, listed rest all.1)
+
+  abbrev AllNext : List (Operator × Tree) → Type 0
+  AllNext [] = Unit {0}
+  AllNext (next ∷ rest) = Use next.1 × AllNext rest
+
+  chain : (pos : Pos) (left : Tree) (rest : List (Operator × Tree)) → Use left → AllNext rest → Use (chained pos left rest)
+  unfolding Uses
+  chain pos left [] is all = is
+  chain pos left (next ∷ rest) is all = chain pos (t.Binary pos next.0 left next.1) rest (is, all.0) all.1
+
+  along : {n : _} (row : Row_of-Suffix n) → numbers_along numbers (selectors row) ≡ selected_numbers numbers row
+  unfolding selectors selected_numbers selector selected_number
+  along end_of-Suffix = refl
+  along (more_of-Suffix part rest) = by part (along rest)
+    where
+      by : (part : Suffix) → numbers_along numbers (selectors rest) ≡ selected_numbers numbers rest
+          → numbers_along numbers (outline.before_others (selector part) (selectors rest)) ≡ before_others (selected_number numbers part) (selected_numbers numbers rest)
+      by (suffix.Selected pos id) same = ap (λ ns. before_others (number_at numbers id.pos) ns) same
+      by (suffix.Dereferenced pos all) same = refl
+      by (suffix.Applied' pos _ first _ rest right_paren) same = refl
+      by (suffix.Attribute pos id) same = refl
+      by (suffix.RangeAttribute pos range) same = refl
+
+  two_args : (xs ys : List Event) (one two : Type 0) → Speaks xs (one → two) → Speaks ys one → Speaks (xs ++ ys) two
+  two_args xs ys one two s u = says_so (xs ++ ys) ((one → two) × one) two (λ p. p.0 p.1) (speaks_both xs ys (one → two) one s u)
+
+  chained_three : (pos : Pos) (by : Operator) (xs ys zs : List Event) (a b : Tree) (rest : List (Operator × Tree)) → Speaks xs (Use a) → Speaks ys (Use b)
+      → Speaks zs (AllNext rest) → Speaks (xs ++ (ys ++ zs)) (Use (chained pos (t.Binary pos by a b) rest))
+  unfolding Uses
+  chained_three pos by xs ys zs a b rest s u v =
+      says_so (xs ++ (ys ++ zs)) (Use a × (Use b × AllNext rest)) (Use (chained pos (t.Binary pos by a b) rest))
+      (λ p. chain pos (t.Binary pos by a b) rest (p.0, p.1.0) p.1.1)
+      (speaks_both xs (ys ++ zs) (Use a) (Use b × AllNext rest) s (speaks_both ys zs (Use b) (AllNext rest) u v))
+
+  chained_one : (pos : Pos) (xs zs : List Event) (a : Tree) (rest : List (Operator × Tree)) → Speaks xs (Use a)
+      → Speaks zs (AllNext rest) → Speaks (xs ++ zs) (Use (chained pos a rest))
+  chained_one pos xs zs a rest s v =
+      says_so (xs ++ zs) (Use a × AllNext rest) (Use (chained pos a rest)) (λ p. chain pos a rest p.0 p.1)
+      (speaks_both xs zs (Use a) (AllNext rest) s v)
+
+  mutual
+    unfolding name_events suffixes_events suffix_events arg_box_events next_args_events next_arg_events arg_events expr_box_events expr_events operands_events operand_events short_operands_events short_operand_events rel_box_events rel_events sum_box_events sum_events next_terms_events next_term_events term_events next_factors_events next_factor_events factor_events primary_events name_box_events aggregate_box_events aggregate_events lowered_name lowered_suffixes lowered_suffix box_before args_row next_arg_before arg_before lowered_expr_box lowered_expr operands_row lowered_operand short_operands_row lowered_short_operand lowered_rel_box lowered_rel lowered_sum_box lowered_sum terms_row lowered_next_term lowered_term factors_row lowered_next_factor lowered_factor lowered_primary lowered_name_box lowered_aggregate_box lowered_aggregate Uses AreAllowed
+
+    pub name_speaks : (n : Name) → Speaks (name_events n) (Use (lowered_name numbers n))
+    name_speaks (name.Prefixed' pos first _ rest) =
+        let s = suffixes_speak rest in (
+          s.0,
+          λ a. (
+            subst (λ ns. asked (last_of (number_of numbers first) ns)) (along rest) a.0,
+            listed (drop (length (selected_numbers numbers rest)) (lowered_suffixes numbers rest))
+                (dropped (length (selected_numbers numbers rest)) (lowered_suffixes numbers rest) (s.1 a.1)),
+          ),
+        )
+
+    suffixes_speak : {n : _} (row : Row_of-Suffix n) → Speaks (suffixes_events row) (AllUse (lowered_suffixes numbers row))
+    suffixes_speak end_of-Suffix = nothing (Unit {0}) tt
+    suffixes_speak (more_of-Suffix part rest) =
+        speaks_both (suffix_events part) (suffixes_events rest) (Use (lowered_suffix numbers part)) (AllUse (lowered_suffixes numbers rest))
+        (suffix_speaks part) (suffixes_speak rest)
+
+    suffix_speaks : (s : Suffix) → Speaks (suffix_events s) (Use (lowered_suffix numbers s))
+    suffix_speaks (suffix.Applied' pos _ first _ rest right_paren) =
+        let others : Tree = args_row numbers rest in
+        two_args (arg_box_events first) (next_args_events rest) (Use others) (Use (box_before numbers others first)) (arg_box_speaks others first)
+        (next_args_speak rest)
+    suffix_speaks (suffix.Selected pos id) = nothing (Unit {0}) tt
+    suffix_speaks (suffix.Dereferenced pos all) = nothing (Unit {0}) tt
+    suffix_speaks (suffix.Attribute pos id) = nothing (Unit {0}) tt
+    suffix_speaks (suffix.RangeAttribute pos range) = nothing (Unit {0}) tt
+
+    arg_box_speaks : {n : _} (others : Tree) (row : Row_of-Arg n) → Speaks (arg_box_events row) (Use others → Use (box_before numbers others row))
+    arg_box_speaks others end_of-Arg = nothing (Use others → Use others) (λ u. u)
+    arg_box_speaks others (more_of-Arg part rest) = arg_speaks others part
+
+    next_args_speak : {n : _} (row : Row_of-NextArg n) → Speaks (next_args_events row) (Use (args_row numbers row))
+    next_args_speak end_of-NextArg = nothing (Unit {0}) tt
+    next_args_speak (more_of-NextArg part rest) =
+        let others : Tree = args_row numbers rest in
+        two_args (next_arg_events part) (next_args_events rest) (Use others) (Use (next_arg_before numbers others part)) (next_arg_speaks others part)
+        (next_args_speak rest)
+
+    pub next_arg_speaks : (others : Tree) (a : NextArg) → Speaks (next_arg_events a) (Use others → Use (next_arg_before numbers others a))
+    next_arg_speaks others (next_arg.FurtherArg' pos _ part) = arg_box_speaks others part
+
+    pub arg_speaks : (others : Tree) (a : Arg) → Speaks (arg_events a) (Use others → Use (arg_before numbers others a))
+    arg_speaks others (arg.Positional' pos _ value) = let s = expr_box_speaks value in (s.0, λ a u. (s.1 a, u))
+    arg_speaks others (arg.Association' pos id arrow _ value) = let s = expr_box_speaks value in (s.0, λ a u. (s.1 a, u))
+
+    expr_box_speaks : {n : _} (row : Row_of-Expr n) → Speaks (expr_box_events row) (Use (lowered_expr_box numbers row))
+    expr_box_speaks end_of-Expr = nothing (Unit {0}) tt
+    expr_box_speaks (more_of-Expr part rest) = expr_speaks part
+
+    pub expr_speaks : (x : Expr) → Speaks (expr_events x) (Use (lowered_expr numbers x))
+    expr_speaks (expr.LoneRelation' pos _ relation) = rel_box_speaks relation
+    expr_speaks (expr.And' pos _ first and _ second _ rest) =
+        chained_three pos op.And (rel_box_events first) (rel_box_events second) (operands_events rest) (lowered_rel_box numbers first)
+        (lowered_rel_box numbers second) (operands_row numbers op.And rest) (rel_box_speaks first) (rel_box_speaks second) (operands_speak op.And rest)
+    expr_speaks (expr.Or' pos _ first or _ second _ rest) =
+        chained_three pos op.Or (rel_box_events first) (rel_box_events second) (operands_events rest) (lowered_rel_box numbers first)
+        (lowered_rel_box numbers second) (operands_row numbers op.Or rest) (rel_box_speaks first) (rel_box_speaks second) (operands_speak op.Or rest)
+    expr_speaks (expr.Xor' pos _ first xor _ second _ rest) =
+        chained_three pos op.Xor (rel_box_events first) (rel_box_events second) (operands_events rest) (lowered_rel_box numbers first)
+        (lowered_rel_box numbers second) (operands_row numbers op.Xor rest) (rel_box_speaks first) (rel_box_speaks second) (operands_speak op.Xor rest)
+    expr_speaks (expr.AndThen' pos _ first and then_word _ second _ rest) =
+        chained_three pos op.AndThen (rel_box_events first) (rel_box_events second) (short_operands_events rest) (lowered_rel_box numbers first)
+        (lowered_rel_box numbers second) (short_operands_row numbers op.AndThen rest) (rel_box_speaks first) (rel_box_speaks second)
+        (short_operands_speak op.AndThen rest)
+    expr_speaks (expr.OrElse' pos _ first or otherwise _ second _ rest) =
+        chained_three pos op.OrElse (rel_box_events first) (rel_box_events second) (short_operands_events rest) (lowered_rel_box numbers first)
+        (lowered_rel_box numbers second) (short_operands_row numbers op.OrElse rest) (rel_box_speaks first) (rel_box_speaks second)
+        (short_operands_speak op.OrElse rest)
+
+    operands_speak : {n : _} (by : Operator) (row : Row_of-Operand n) → Speaks (operands_events row) (AllNext (operands_row numbers by row))
+    operands_speak by end_of-Operand = nothing (Unit {0}) tt
+    operands_speak by (more_of-Operand part rest) =
+        speaks_both (operand_events part) (operands_events rest) (Use (lowered_operand numbers by part).1) (AllNext (operands_row numbers by rest))
+        (operand_speaks by part) (operands_speak by rest)
+
+    operand_speaks : (by : Operator) (o : Operand) → Speaks (operand_events o) (Use (lowered_operand numbers by o).1)
+    operand_speaks by (operand.FurtherOperand' pos _ relation) = rel_box_speaks relation
+
+    short_operands_speak : {n : _} (by : Operator) (row : Row_of-ShortOperand n) → Speaks (short_operands_events row) (AllNext (short_operands_row numbers by row))
+    short_operands_speak by end_of-ShortOperand = nothing (Unit {0}) tt
+    short_operands_speak by (more_of-ShortOperand part rest) =
+        speaks_both (short_operand_events part) (short_operands_events rest) (Use (lowered_short_operand numbers by part).1)
+        (AllNext (short_operands_row numbers by rest)) (short_operand_speaks by part) (short_operands_speak by rest)
+
+    short_operand_speaks : (by : Operator) (o : ShortOperand) → Speaks (short_operand_events o) (Use (lowered_short_operand numbers by o).1)
+    short_operand_speaks by (short_operand.FurtherShortOperand' pos second_word _ relation) = rel_box_speaks relation
+
+    rel_box_speaks : {n : _} (row : Row_of-Rel n) → Speaks (rel_box_events row) (Use (lowered_rel_box numbers row))
+    rel_box_speaks end_of-Rel = nothing (Unit {0}) tt
+    rel_box_speaks (more_of-Rel part rest) = rel_speaks part
+
+    rel_speaks : (r : Rel) → Speaks (rel_events r) (Use (lowered_rel numbers r))
+    rel_speaks (rel.LoneSum pos operand) = sum_speaks operand
+    rel_speaks (rel.Compared' pos _ left operator operator_pos _ right) =
+        speaks_both (sum_box_events left) (sum_box_events right) (Use (lowered_sum_box numbers left)) (Use (lowered_sum_box numbers right))
+        (sum_box_speaks left) (sum_box_speaks right)
+
+    sum_box_speaks : {n : _} (row : Row_of-Sum n) → Speaks (sum_box_events row) (Use (lowered_sum_box numbers row))
+    sum_box_speaks end_of-Sum = nothing (Unit {0}) tt
+    sum_box_speaks (more_of-Sum part rest) = sum_speaks part
+
+    sum_speaks : (s : Sum) → Speaks (sum_events s) (Use (lowered_sum numbers s))
+    sum_speaks (sum.Unsigned' pos first _ rest) =
+        chained_one pos (term_events first) (next_terms_events rest) (lowered_term numbers first) (terms_row numbers rest) (term_speaks first)
+        (next_terms_speak rest)
+    sum_speaks (sum.Signed' pos sign first _ rest) =
+        chained_one pos (term_events first) (next_terms_events rest) (t.Unary pos (sign_operator sign) (lowered_term numbers first)) (terms_row numbers rest) (term_speaks first)
+        (next_terms_speak rest)
+
+    next_terms_speak : {n : _} (row : Row_of-NextTerm n) → Speaks (next_terms_events row) (AllNext (terms_row numbers row))
+    next_terms_speak end_of-NextTerm = nothing (Unit {0}) tt
+    next_terms_speak (more_of-NextTerm part rest) =
+        speaks_both (next_term_events part) (next_terms_events rest) (Use (lowered_next_term numbers part).1) (AllNext (terms_row numbers rest))
+        (next_term_speaks part) (next_terms_speak rest)
+
+    next_term_speaks : (n : NextTerm) → Speaks (next_term_events n) (Use (lowered_next_term numbers n).1)
+    next_term_speaks (next_term.FurtherTerm pos operator part) = term_speaks part
+
+    term_speaks : (x : Term) → Speaks (term_events x) (Use (lowered_term numbers x))
+    term_speaks (term.Product' pos first _ rest) =
+        chained_one pos (factor_events first) (next_factors_events rest) (lowered_factor numbers first) (factors_row numbers rest) (factor_speaks first)
+        (next_factors_speak rest)
+
+    next_factors_speak : {n : _} (row : Row_of-NextFactor n) → Speaks (next_factors_events row) (AllNext (factors_row numbers row))
+    next_factors_speak end_of-NextFactor = nothing (Unit {0}) tt
+    next_factors_speak (more_of-NextFactor part rest) =
+        speaks_both (next_factor_events part) (next_factors_events rest) (Use (lowered_next_factor numbers part).1) (AllNext (factors_row numbers rest))
+        (next_factor_speaks part) (next_factors_speak rest)
+
+    next_factor_speaks : (n : NextFactor) → Speaks (next_factor_events n) (Use (lowered_next_factor numbers n).1)
+    next_factor_speaks (next_factor.FurtherFactor pos operator part) = factor_speaks part
+
+    factor_speaks : (f : Factor) → Speaks (factor_events f) (Use (lowered_factor numbers f))
+    factor_speaks (factor.LonePrimary pos operand) = primary_speaks operand
+    factor_speaks (factor.Abs pos operand) = primary_speaks operand
+    factor_speaks (factor.Not pos operand) = primary_speaks operand
+
+    primary_speaks : (p : Primary) → Speaks (primary_events p) (Use (lowered_primary numbers p))
+    primary_speaks (primary.Named' pos _ part) = name_box_speaks part
+    primary_speaks (primary.Parenthesized' pos _ part right_paren) = expr_box_speaks part
+    primary_speaks (primary.Aggregated' pos _ part) = aggregate_box_speaks part
+    primary_speaks (primary.Allocated pos mark) = (refl, λ a. tt)
+    primary_speaks (primary.AllocatedAggregate' pos mark apostrophe _ part) = let s = aggregate_box_speaks part in (s.0, λ a. (s.1 a.1, tt))
+    primary_speaks (primary.AllocatedValue' pos mark apostrophe left_paren _ value right_paren) =
+        let s = expr_box_speaks value in (s.0, λ a. (s.1 a.1, tt))
+    primary_speaks _ = nothing (Unit {0}) tt
+
+    name_box_speaks : {n : _} (row : Row_of-Name n) → Speaks (name_box_events row) (Use (lowered_name_box numbers row))
+    name_box_speaks end_of-Name = nothing (Unit {0}) tt
+    name_box_speaks (more_of-Name part rest) = name_speaks part
+
+    aggregate_box_speaks : {n : _} (row : Row_of-Aggregate n) → Speaks (aggregate_box_events row) (Use (lowered_aggregate_box numbers row))
+    aggregate_box_speaks end_of-Aggregate = nothing (Unit {0}) tt
+    aggregate_box_speaks (more_of-Aggregate part rest) = aggregate_speaks part
+
+    aggregate_speaks : (a : Aggregate) → Speaks (aggregate_events a) (Use (lowered_aggregate numbers a))
+    aggregate_speaks (aggregate.Several' pos _ first comma _ second _ rest right_paren) =
+        let last : Tree = args_row numbers rest in
+        let others : Tree = box_before numbers last second in
+        two_args (arg_box_events first) (arg_box_events second ++ next_args_events rest) (Use others) (Use (box_before numbers others first))
+        (arg_box_speaks others first)
+        (two_args (arg_box_events second) (next_args_events rest) (Use last) (Use others) (arg_box_speaks last second) (next_args_speak rest))
+    aggregate_speaks (aggregate.Single' pos id arrow _ value right_paren) = let s = expr_box_speaks value in (s.0, λ a. (s.1 a, tt))
+    aggregate_speaks (aggregate.Others' pos others arrow _ value right_paren) = expr_box_speaks value
+
+  -- ---- choices, of which nothing is asked
+
+  pub choice_speaks : (c : Choice) → Speaks (choice_events c) (Unit {0})
+  unfolding choice_events
+  choice_speaks (choice.Value pos value) = ((expr_speaks value).0, λ a. tt)
+  choice_speaks (choice.Interval pos low dots high) =
+      (mention_both (expr_events low) (expr_events high) (expr_speaks low).0 (expr_speaks high).0, λ a. tt)
+  choice_speaks (choice.Others pos) = (refl, λ a. tt)
+
+  pub next_choices_speak : (rest : List NextChoice) → Speaks (flat_map next_choice_events rest) (Unit {0})
+  unfolding next_choice_events
+  next_choices_speak [] = (refl, λ a. tt)
+  next_choices_speak (next_choice.Bar pos part ∷ rest) =
+      (mention_both (choice_events part) (flat_map next_choice_events rest) (choice_speaks part).0 (next_choices_speak rest).0, λ a. tt)
+
+pub range_speaks : (numbers : Numbers) (object : ℕ → Type 0) (scope : List ℕ) (r : Range)
+    → Speaks numbers (IsKept object scope) (range_events r) (RangeFits object scope (lowered_range numbers r))
+unfolding range_events lowered_range AreAllowed
+range_speaks numbers object scope (range.Bounds pos low dots high) =
+    let asked : ℕ → Type 0 = IsKept object scope in
+    speaks_both numbers asked (expr_events low) (expr_events high) (Uses asked (lowered_expr numbers low)) (Uses asked (lowered_expr numbers high))
+    (expr_speaks numbers asked low) (expr_speaks numbers asked high)
+range_speaks numbers object scope (range.Marked pos mark) = (refl, λ a. tt)
+range_speaks numbers object scope (range.Constrained pos mark of_range low dots high) =
+    let asked : ℕ → Type 0 = IsKept object scope in
+    let s = speaks_both numbers asked (expr_events low) (expr_events high) (Uses asked (lowered_expr numbers low)) (Uses asked (lowered_expr numbers high))
+    (expr_speaks numbers asked low) (expr_speaks numbers asked high) in
+    (s.0, λ a. s.1 a.1)
+range_speaks numbers object scope (range.RangeOf pos prefix apostrophe of_range) = name_speaks numbers (IsKept object scope) prefix

@@ -1,0 +1,2 @@
+-- calls in typed code, and what resolved code declares
+pub mod Called

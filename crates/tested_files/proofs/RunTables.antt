@@ -1,0 +1,4 @@
+pub mod Programs
+pub mod Frames
+pub mod Entered
+pub mod Runs

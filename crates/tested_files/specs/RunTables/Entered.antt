@@ -1,0 +1,21 @@
+-- What frames that enter ask of a typed program.
+use Rattle.std.specs.Prelude.{◌≡◌, ◌<◌, ℕ, suc, false, List, ◌∷◌, length, Some}
+use Rattle.spark_base.specs.Lists.{Has}
+use Rattle.type_definitions.specs.Types.{Table}
+use Rattle.typed_tree.specs.Programs.{TypedSub, TypedProgram}
+use Rattle.flow_paths.specs.Objects.{is_package_object}
+use Rattle.flow_paths.specs.Laid.{typing_of}
+use Rattle.scope_laws.specs.Code.{Once}
+use Rattle.order_laws.specs.ReadyLaws.InOrder.{IsSub}
+
+-- The formals of each subprogram are different objects, none of packages, and the main procedure has a body.
+pub record CanEnter (table : Table) (program : TypedProgram) : Type 0 where
+  -- the first subprogram declares the package objects
+  pub first : TypedSub
+  pub rest : List TypedSub
+  pub subs : program.subs ≡ first ∷ rest
+  pub packages : Once first.formals
+  pub once : (sub : TypedSub) → Has rest sub → Once sub.formals
+  pub within : (sub : TypedSub) → Has rest sub → (x : ℕ) → Has sub.formals x → x < length program.objects
+  pub own : (sub : TypedSub) → Has rest sub → (x : ℕ) → Has sub.formals x → is_package_object (typing_of table program) x ≡ false
+  pub main : (n : ℕ) → program.main ≡ Some n → (k : ℕ) × (sub : TypedSub) × (n ≡ suc k) × IsSub rest k sub
