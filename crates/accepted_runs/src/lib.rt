@@ -29,4 +29,5 @@
 //! (`AcceptedLowered`). So what such a run gives is what the machine's run gives, or memory is out
 //! (`specs/AcceptedRecycled/Runs.antt`, `proofs/AcceptedRecycled/Main.antt`). Nothing here runs.
 #![tactic(auto)]
+
 pub use tested_files::lower_ready;

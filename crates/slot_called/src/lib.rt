@@ -11,6 +11,6 @@ mod entering;
 mod passes;
 mod passing;
 
-pub use slot_held::hold;
 pub use calls::call;
 pub use passing::Passing;
+pub use slot_held::hold;

@@ -11,10 +11,10 @@ ghost use Rattle.accepted_runs.specs.Headline.{IsSoundRun};
 ghost use Rattle.slot_execute.specs.Executes.{IsReady};
 
 use crate::starts::{fits, is_declaring};
+use accepted_runs::lower_ready;
 use code_rows::Codes;
 use laid_program::Laid;
 use path_check::AcceptedProgram;
-use accepted_runs::lower_ready;
 use run_results::{ExecFault, Ran};
 use slot_executor::{run_started, run_unfit};
 use slot_heap::Store;

@@ -11,5 +11,5 @@ mod formals;
 mod moves;
 mod out_checks;
 
-pub use slot_calls::{Pass, pass_actuals};
 pub use calls::begin_frame;
+pub use slot_calls::{Pass, pass_actuals};

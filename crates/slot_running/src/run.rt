@@ -7,10 +7,9 @@ ghost use Rattle.slot_running.specs.Runs.{IsAtStart, RunStands, running_setting,
 use crate::turns::{ended, turn};
 use code_rows::Codes;
 use run_results::{Ending, Leak};
-use slot_steps::Passing;
 use slot_heap::Store;
-use slot_steps::{Parts, begin};
 use slot_runs::{Stepping, Turn};
+use slot_steps::{Parts, Passing, begin};
 use slot_turns::Over;
 use std::alloc::{AllocError, Global};
 use std::marker::Model;

@@ -9,10 +9,8 @@ ghost use Rattle.slot_running.specs.Points.{IsPointTurn};
 
 use code_rows::{Codes, Point};
 use run_results::Ending;
-use slot_steps::Passing;
 use slot_heap::Store;
-use slot_steps::Parts;
-use slot_steps::step_point;
+use slot_steps::{Parts, Passing, step_point};
 use slot_turns::{Over, point_at, stopped, take};
 use std::alloc::{AllocError, Global};
 use type_table::TypeTable;

@@ -4,8 +4,8 @@ ghost use Rattle.slot_tells.specs.slot_parts.Stages.{IsAt};
 ghost use Rattle.slot_tells.specs.slot_parts.Steps.{Leads};
 
 use code_rows::{Codes, Does, Point};
-use slot_heap::Store;
 use slot_called::hold;
+use slot_heap::Store;
 use slot_tells::Parts;
 use slot_turns::Halt;
 use type_table::TypeTable;

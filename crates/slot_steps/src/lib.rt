@@ -10,6 +10,6 @@ mod changes;
 mod holds;
 mod points;
 
-pub use slot_tells::{Parts, begin};
-pub use slot_called::Passing;
 pub use points::step_point;
+pub use slot_called::Passing;
+pub use slot_tells::{Parts, begin};
