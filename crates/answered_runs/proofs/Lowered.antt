@@ -37,7 +37,7 @@ found_runnable names found finding checks laid e =
 -- ---- what `run` answers
 
 abbrev RunsIf : List (List ℕ × List ℕ) → List ℕ → Option Command → Answer → Type 0
-RunsIf stored input (Some (Run names budget stats)) answer = RunsOn stored input names budget answer
+RunsIf stored input (Some (Run names budget stats)) answer = RunsOn stored input names budget stats answer
 RunsIf stored input (Some (Check names)) answer = Unit {0}
 RunsIf stored input (Some (Leaks names)) answer = Unit {0}
 RunsIf stored input (Some (Make n)) answer = Unit {0}
@@ -56,7 +56,7 @@ answers_on stored input _ _ (selftest n finding checks) = tt
 -- What `run` answers rests on what is found of the files: a program of which nothing is reported can be run.
 pub run_runnable : (stored : List (List ℕ × List ℕ)) (input : List ℕ) (words names : List (List ℕ)) (budget : ℕ) (stats : Bool) (answer : Answer)
     → command_of words ≡ Some (Run names budget stats) → Product stored input words answer
-    → (on : RunsOn stored input names budget answer) × ((laid : Laid) → on.finding ≡ Found (program_of laid) → IsRunnable laid)
+    → (on : RunsOn stored input names budget stats answer) × ((laid : Laid) → on.finding ≡ Found (program_of laid) → IsRunnable laid)
 run_runnable stored input words names budget stats answer command product =
-    let on : RunsOn stored input names budget answer = subst (λ (c : Option Command). RunsIf stored input c answer) command (answers_on stored input (command_of words) answer product) in
+    let on : RunsOn stored input names budget stats answer = subst (λ (c : Option Command). RunsIf stored input c answer) command (answers_on stored input (command_of words) answer product) in
     (on, found_runnable names (sources stored 0 SOURCE_BYTES names) on.finding on.checks)

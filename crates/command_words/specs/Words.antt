@@ -1,6 +1,6 @@
 -- The commands and their words (docs/TOOL.md, "Words").
-use Rattle.std.specs.Prelude.{◌≡◌, ◌≤◌, ℕ, Bool, false, not, ◌&&◌, ◌==◌, nat_le, nat_lt, if◌then◌else◌, List, [], ◌∷◌, length, map, filter, take, drop, Option, None, Some, option_and_then, codes, string_bytes, Result, Ok, Err}
-use Rattle.std.specs.List.{list_all}
+use Rattle.std.specs.Prelude.{◌≡◌, ◌≤◌, ℕ, Bool, not, ◌&&◌, ◌==◌, nat_le, nat_lt, if◌then◌else◌, List, [], ◌∷◌, length, map, filter, take, drop, Option, None, Some, option_and_then, codes, string_bytes, Result, Ok, Err}
+use Rattle.std.specs.List.{list_all, list_any}
 use Rattle.std.specs.Option.{option_map}
 use Rattle.std.specs.Char.{is_ascii_digit}
 use Rattle.std.specs.Str.{bytes_eq}
@@ -15,7 +15,7 @@ use Rattle.command_words.specs.declared.command.WordFault.TheVariants as fault
 -- A command with names as bytes.
 pub data Command : Type 0 where
   Check : List (List ℕ) → Command
-  -- the files, the budget of steps, and whether counts of the store are asked for
+  -- the files, the budget of steps, and whether the counts of the run are asked for
   Run : List (List ℕ) → ℕ → Bool → Command
   Leaks : List (List ℕ) → Command
   Make : ℕ → Command
@@ -51,20 +51,25 @@ most_steps = 4294967296
 abbrev pub steps_of : List ℕ → Option ℕ
 steps_of word = if bytes_eq (take 8 word) (codes "--steps=") then number_of 10 0 most_steps (drop 8 word) else None
 
--- The budget that the options of a run give.
+-- The option that asks for the counts of a run.
+abbrev pub is_stats : List ℕ → Bool
+is_stats word = bytes_eq word (codes "--stats")
+
+-- The budget that the options of a run give. Each option stands once at most.
 abbrev pub budget_of : List (List ℕ) → Option ℕ
 budget_of [] = Some most_steps
-budget_of (word ∷ []) = steps_of word
+budget_of (word ∷ []) = if is_stats word then Some most_steps else steps_of word
+budget_of (word ∷ other ∷ []) = if is_stats word then steps_of other else if is_stats other then steps_of word else None
 budget_of _ = None
 
 -- Files and no option.
 abbrev pub plain_files : List (List ℕ) → List (List ℕ) → Option (List (List ℕ))
 plain_files options operands = if length options == 0 && are_file_names operands then Some operands else None
 
--- Files, and a budget.
-abbrev pub run_of : Option ℕ → List (List ℕ) → Option Command
-run_of None files = None
-run_of (Some steps) files = if are_file_names files then Some (Run files steps false) else None
+-- Files, a budget, and whether counts are asked for.
+abbrev pub run_of : Option ℕ → Bool → List (List ℕ) → Option Command
+run_of None stats files = None
+run_of (Some steps) stats files = if are_file_names files then Some (Run files steps stats) else None
 
 -- One number from 1 to 10000, and no option.
 abbrev pub count_of : List (List ℕ) → List (List ℕ) → Option ℕ
@@ -75,7 +80,7 @@ count_of _ _ = None
 abbrev pub asked : List ℕ → List (List ℕ) → List (List ℕ) → Option Command
 asked word options operands =
     if bytes_eq word (codes "check") then option_map Check (plain_files options operands)
-    else if bytes_eq word (codes "run") then run_of (budget_of options) operands
+    else if bytes_eq word (codes "run") then run_of (budget_of options) (list_any is_stats options) operands
     else if bytes_eq word (codes "leaks") then option_map Leaks (plain_files options operands)
     else if bytes_eq word (codes "make") then option_map Make (count_of options operands)
     else if bytes_eq word (codes "selftest") then option_map Selftest (count_of options operands)

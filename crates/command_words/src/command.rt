@@ -7,13 +7,13 @@ use std::alloc::AllocError;
 pub enum Command {
     /// `check FILE..`: the names of the files.
     Check(Vec<String>),
-    /// `run FILE..`, with `--steps=N` or without.
+    /// `run FILE..`, with `--steps=N` and `--stats` or without.
     Run {
         /// The names of the files.
         files: Vec<String>,
         /// How many steps the program may take: 4,294,967,296 where no option says it.
         steps: u64,
-        /// Whether the counts of the store are asked for. No option does that yet.
+        /// Whether the counts of the run are asked for, by `--stats`.
         stats: bool,
     },
     /// `leaks FILE..`: the names of the files.

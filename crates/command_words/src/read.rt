@@ -1,6 +1,6 @@
 //! From words to commands.
-ghost use Rattle.std.specs.Prelude.{◌≡◌, ◌≤◌, length, None, Some, map, string_bytes, IfSome, IfOk, IsTrue};
-ghost use Rattle.std.specs.List.{list_all};
+ghost use Rattle.std.specs.Prelude.{◌≡◌, ◌≤◌, [], ◌∷◌, length, None, Some, map, string_bytes, IfSome, IfOk, IsTrue};
+ghost use Rattle.std.specs.List.{list_all, list_any};
 ghost use Rattle.std.specs.Option.{option_map};
 ghost use Rattle.command_words.specs.Words as spec;
 ghost use Rattle.command_words.specs.Words.{are_file_names, asked, budget_of, count_of, plain_files, run_of, steps_of, Fits, IsReadAs};
@@ -46,15 +46,66 @@ fn steps(word: &String) -> Option<u64>
     number(digits, 10, 0, MOST_STEPS)
 }
 
+/// Whether an option asks for the counts of a run.
+fn is_stats(word: &String) -> bool
+    ensures { result ≡ spec.is_stats (string_bytes word.now) }
+{
+    word.as_str() == "--stats"
+}
+
+/// Whether some option does.
+fn ask_for_counts(options: &[String]) -> bool
+    ensures { result ≡ list_any (λ word. spec.is_stats (string_bytes word)) options.now }
+{
+    options.iter().any(|option| is_stats(option))
+}
+
+/// The same, of the options as texts.
+fn stats(options: &[String]) -> bool
+    ensures { result ≡ list_any spec.is_stats (map string_bytes options.now) }
+{
+    ask_for_counts(options)
+}
+
+/// The budget that one option leaves.
+fn budget_of_one(word: &String) -> Option<u64>
+    ensures budget { result ≡ budget_of (string_bytes word.now ∷ []) }
+    ensures within { IfSome result (λ steps. steps ≤ spec.most_steps) }
+{
+    if is_stats(word) {
+        Some(MOST_STEPS)
+    } else {
+        steps(word)
+    }
+}
+
+/// The budget that two options give, of which one asks for the counts.
+fn budget_of_two(word: &String, other: &String) -> Option<u64>
+    ensures budget { result ≡ budget_of (string_bytes word.now ∷ string_bytes other.now ∷ []) }
+    ensures within { IfSome result (λ steps. steps ≤ spec.most_steps) }
+{
+    if is_stats(word) {
+        steps(other)
+    } else if is_stats(other) {
+        steps(word)
+    } else {
+        None
+    }
+}
+
 /// The budget that the options of a run give.
+#[tactic(auto, using(crate::proofs::Texts::no_budget))]
 fn budget(options: &[String]) -> Option<u64>
     ensures budget { result ≡ budget_of (map string_bytes options.now) }
     ensures within { IfSome result (λ steps. steps ≤ spec.most_steps) }
 {
+    if options.len() > 2 {
+        return None;
+    }
     match options.len() {
         0 => Some(MOST_STEPS),
-        1 => steps(&options[0]),
-        _ => None,
+        1 => budget_of_one(&options[0]),
+        _ => budget_of_two(&options[0], &options[1]),
     }
 }
 
@@ -72,9 +123,9 @@ fn plain_files(options: &[String], operands: Vec<String>) -> Option<Vec<String>>
     }
 }
 
-/// Files, and a budget.
+/// Files, a budget, and whether counts are asked for.
 fn run(options: &[String], operands: Vec<String>) -> Option<Command>
-    ensures command { option_map spec.command_in result ≡ run_of (budget_of (map string_bytes options.now)) (map string_bytes operands.items) }
+    ensures command { option_map spec.command_in result ≡ run_of (budget_of (map string_bytes options.now)) (list_any spec.is_stats (map string_bytes options.now)) (map string_bytes operands.items) }
     ensures fits { IfSome result (λ command. Fits (map string_bytes operands.items) (spec.command_in command)) }
 {
     let steps = budget(options)?;
@@ -84,7 +135,7 @@ fn run(options: &[String], operands: Vec<String>) -> Option<Command>
     Some(Command::Run {
         files: operands,
         steps,
-        stats: false,
+        stats: stats(options),
     })
 }
 

@@ -1,6 +1,6 @@
 //! Lines and statuses of how runs end.
 use code_rows::Exception;
-use run_command::{Ending, Ran, ending_line, ending_status};
+use run_command::{Ending, Ran, counts_line, ending_line, ending_status};
 use spark_base::Pos;
 use std::test::Fail;
 
@@ -53,6 +53,44 @@ fn lines_and_statuses(rt: HostRuntime) -> Result<(), Fail> {
         };
         assert!(rt; line.as_slice() == text.as_bytes(), "{text}");
         assert!(rt; ending_status(&ran) == status, "{status}");
+    }
+    Ok(())
+}
+
+/// Each row: the counts of a run, how many slots it needs, and the line.
+const COUNTS: [(u64, u64, u64, u64, u64, &str); 2] = [
+    (
+        0,
+        0,
+        0,
+        0,
+        0,
+        "steps 0, made 0, freed 0, leaked 0, slots 0\n",
+    ),
+    (
+        4_294_967_296,
+        12,
+        10,
+        1,
+        7,
+        "steps 4294967296, made 12, freed 10, leaked 1, slots 7\n",
+    ),
+];
+
+#[test]
+fn lines_of_counts(rt: HostRuntime) -> Result<(), Fail> {
+    let alloc = rt.alloc();
+    for row in &COUNTS {
+        let (steps, made, freed, leaked, slots, text) = *row;
+        let ran = Ran {
+            ending: Ending::Normal,
+            steps,
+            made,
+            freed,
+            leaked,
+        };
+        let line = counts_line(alloc, &ran, slots)?;
+        assert!(rt; line.as_slice() == text.as_bytes(), "{text}");
     }
     Ok(())
 }

@@ -4,13 +4,16 @@ ghost use Rattle.std.specs.Io.KnownBytes.{Appends, IsAtEnd, Keeps};
 ghost use Rattle.spark_base.specs.Outside.{Rose, AppendsPrefix};
 ghost use Rattle.laid_program.specs.Programs.{program_of};
 ghost use Rattle.machine.specs.Run.{run};
-ghost use Rattle.slot_heap.specs.Heaps.{no_heap};
+ghost use Rattle.slot_heap.specs.Heaps.{Knows, no_heap};
+ghost use Rattle.slot_executor.specs.Executes.{HasSlots};
 ghost use Rattle.run_command.specs.Answers.{Grows, Tells, TellsFront};
 ghost use Rattle.run_command.specs.Runs.{IsEnded, run_answer, told, too_large_line};
+ghost use Rattle.run_command.specs.Stores.{IsLeftBy, run_made};
 
-use crate::ending::{ending_line, ending_status};
+use crate::ending::ending_status;
 use crate::fault::RunFault;
 use crate::input::read_input;
+use crate::stats::last_lines;
 use path_check::AcceptedProgram;
 use run_results::write_all;
 use slot_execute::execute;
@@ -18,12 +21,13 @@ use slot_heap::Store;
 use spark_base::{INPUT_BYTES, STEPS, Sink, Source};
 use std::alloc::Global;
 
-/// Runs a program on these bytes, and writes the line of its ending.
+/// Runs a program on these bytes, and writes the lines that come last.
 fn run_on<R: Store, K: Sink>(
     alloc: Global,
     program: &AcceptedProgram,
     input: &[u8],
     steps: u64,
+    stats: bool,
     store: &mut R,
     out: &mut K,
     err: &mut K,
@@ -33,19 +37,22 @@ fn run_on<R: Store, K: Sink>(
     requires steps { steps ≤ STEPS }
     requires store { R.Means store.old no_heap }
     ensures told { IfOk result (λ status.
-        Tells (told (map string_bytes program.now.laid.names.items) steps (run (program_of program.now.laid) input.now steps))
+        Tells (told (map string_bytes program.now.laid.names.items) steps stats (run (program_of program.now.laid) input.now steps))
         (K.written out.old) (K.written out.new) (K.written err.old) (K.written err.new) status) }
     ensures front { OnErr result
-        (TellsFront (told (map string_bytes program.now.laid.names.items) steps (run (program_of program.now.laid) input.now steps))
+        (TellsFront (told (map string_bytes program.now.laid.names.items) steps stats (run (program_of program.now.laid) input.now steps))
         (K.written out.old) (K.written out.new) (K.written err.old) (K.written err.new)) }
     ensures ended { IfOk result IsEnded }
+    ensures slots { IfOk result (λ status. Knows R.Means store.new (λ m. HasSlots (run (program_of program.now.laid) input.now steps) m.slots)) }
     ensures write { result ≡ Err RunFault.Write → Rose (K.faults out.old) (K.faults out.new) ⊎ Rose (K.faults err.old) (K.faults err.new) }
     ensures no_read { result ≢ Err RunFault.Read }
     ensures no_fault { result ≢ Err RunFault.Write → (K.faults out.new ≡ K.faults out.old) × (K.faults err.new ≡ K.faults err.old) }
 {
     let ran = execute(alloc, program, store, input, steps, out, err)?;
-    let line = ending_line(alloc, program.laid().names.as_slice(), steps, ran.ending)?;
-    write_all(&line, err)?;
+    let slots = store.slots();
+    let names = program.laid().names.as_slice();
+    let text = last_lines(alloc, names, steps, stats, &ran, slots)?;
+    write_all(&text, err)?;
     Ok(ending_status(&ran))
 }
 
@@ -69,6 +76,7 @@ pub fn run_program<S: Source, R: Store, K: Sink>(
     alloc: Global,
     program: &AcceptedProgram,
     steps: u64,
+    stats: bool,
     input: &mut S,
     store: &mut R,
     out: &mut K,
@@ -80,16 +88,18 @@ pub fn run_program<S: Source, R: Store, K: Sink>(
 
     // What is defined, where the input tells its bytes.
     ensures answer { IfOk result (λ status. (bytes : List ℕ) → S.left input.old ≡ Some bytes
-        → Tells (run_answer (map string_bytes program.now.laid.names.items) (program_of program.now.laid) bytes steps)
+        → Tells (run_answer (map string_bytes program.now.laid.names.items) (program_of program.now.laid) bytes steps stats)
         (K.written out.old) (K.written out.new) (K.written err.old) (K.written err.new) status) }
 
     // Where none is given, each output has a front of its bytes.
     ensures front { OnErr result ((bytes : List ℕ) → S.left input.old ≡ Some bytes
-        → TellsFront (run_answer (map string_bytes program.now.laid.names.items) (program_of program.now.laid) bytes steps)
+        → TellsFront (run_answer (map string_bytes program.now.laid.names.items) (program_of program.now.laid) bytes steps stats)
         (K.written out.old) (K.written out.new) (K.written err.old) (K.written err.new)) }
     ensures grows { Grows (K.written out.old) (K.written out.new) × Grows (K.written err.old) (K.written err.new) }
 
-    // Where nothing is run, the store stays as it was.
+    // The store has what the run leaves in it. Where nothing is run, it stays as it was.
+    ensures left { IfOk result (λ status. (bytes : List ℕ) → S.left input.old ≡ Some bytes
+        → Knows R.Means store.new (IsLeftBy (run_made (program_of program.now.laid) bytes steps))) }
     ensures refused_store { IfOk result (λ status. status ≡ 10 → store.new ≡ store.old) }
     ensures unrun_store { result ≡ Err RunFault.Read → store.new ≡ store.old }
 
@@ -108,7 +118,7 @@ pub fn run_program<S: Source, R: Store, K: Sink>(
     ensures no_write_fault { result ≢ Err RunFault.Write → (K.faults out.new ≡ K.faults out.old) × (K.faults err.new ≡ K.faults err.old) }
 {
     match read_input(alloc, input)? {
-        Some(text) => Ok(run_on(alloc, program, &text, steps, store, out, err)?),
+        Some(text) => Ok(run_on(alloc, program, &text, steps, stats, store, out, err)?),
         None => Ok(refuse_input(err)?),
     }
 }

@@ -8,6 +8,7 @@ use Rattle.run_codes.specs.Codes.{Sub, Actual}
 use Rattle.run_codes.specs.Points.{Passed}
 use Rattle.code_rows.specs.declared.stop.Stop.{Stop}
 use Rattle.code_rows.specs.declared.stop.Stop.TheVariants as stop
+use Rattle.slot_memory.specs.Answers.{LentOn}
 use Rattle.slot_memory.specs.Memory.{Kept, Elsewhere, ghosts_of, elsewhere}
 use Rattle.slot_frames.specs.declared.rows.Return.{Return}
 use Rattle.slot_frames.specs.Stacks.{Stacked}
@@ -116,4 +117,19 @@ module _ {R : Type 0} (Means : R → Heap → Type 0) (m : Kept R) (table : Tabl
       call_done (Err x) now stacked k next entered runs memory =
           call_memory (Err x) now frames stacked k next found all (ap (λ y. Err y) (error_is x stop.Memory memory))
 
-pub ruleset call_rules = (call_stops, call_memory)
+-- ---- the store is lent by the same reference
+
+module _ {R V : Type 0} (m : Kept R) (r : Result V Stop) where
+  pub stop_lent : (x : Stop) (n : Kept R) → r ≡ Err x → elsewhere n ≡ elsewhere m → LentOn r m n
+  stop_lent x n err same = subst (λ q. LentOn q m n) (sym err) (λ other. ap (λ (e : Elsewhere). e.lent) same)
+
+  pub memory_lent : (n : Kept R) → r ≡ Err stop.Memory → LentOn r m n
+  memory_lent n err = subst (λ q. LentOn q m n) (sym err) (λ other. absurd (other refl))
+
+pub call_lent : {R V : Type 0} (m n q now : Kept R) (pushed : Stacked) (k base : ℕ) (r : Result V Stop) → elsewhere n ≡ elsewhere m → elsewhere q ≡ elsewhere n
+    → OnOk r (now ≡ entered_kept pushed k base q) → OnErr r (IsErrOf r stop.Memory) → LentOn r m now
+call_lent m n q now pushed k base (Ok v) first second entered memory =
+    ap (λ (x : Kept _). x.heap.lent) entered ∙ ap (λ (e : Elsewhere). e.lent) second ∙ ap (λ (e : Elsewhere). e.lent) first
+call_lent m n q now pushed k base (Err x) first second entered memory = λ other. absurd (other (error_is x stop.Memory memory))
+
+pub ruleset call_rules = (call_stops, call_memory, stop_lent, memory_lent)

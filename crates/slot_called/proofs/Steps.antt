@@ -172,7 +172,7 @@ module _ {R : Type 0} (Means : R → Heap → Type 0) (c : Setting) (p : Point) 
     -- ---- it stops
 
     pub call_halts : (h : Halt) (new : Between R) → h.stop ≢ stop.Memory → h.made ≡ new.kept.heap.made → new.output ≡ old.output → new.leaks ≡ old.leaks
-        → (is : IsStopped Means (PassesTested c.table row words actuals (slots old.kept g)) h.stop new.kept) → Halts (here g) (May g) h old new
+        → (is : IsStopped Means (PassesTested c.table row words actuals (slots old.kept g)) h.stop new.kept) → Halts Means (here g) (May g) h old new
     call_halts h new other made output leaks is = record {
       memory = is.after;
       comes = may_call g (halted (here g) (stop_of h.stop) is.after) (stops_with (here g) sub n actuals words (count g) (stop_of h.stop) is.after
@@ -180,6 +180,9 @@ module _ {R : Type 0} (Means : R → Heap → Type 0) (c : Setting) (p : Point) 
       made = sym (ap (λ (x : Slots). x.made) is.shows.1) ∙ sym made;
       output = output;
       leaks = leaks;
+      ghosts = ghosts_of is.after;
+      stands = is.shows.0;
+      slots = refl;
     }
 
   -- ---- the step
@@ -191,9 +194,10 @@ module _ {R : Type 0} (Means : R → Heap → Type 0) (c : Setting) (p : Point) 
   can_call can = record { ghosts = can.ghosts; stands = can.stands.memory; can = call_at can.ghosts can.stands can.fine }
 
   pub call_on : {U : Type 0} (u : U) (next : ℕ) → n ≡ Some next → (found : List Leak) (new : Between R) → CallsTo (Ok u) next found new
-      → new.output ≡ old.output → new.leaks ≡ old.leaks ++ found → Steps Means c p (Ok true) old new
-  call_on u next goes found new is output leaks = record {
+      → new.kept.heap.lent ≡ old.kept.heap.lent → new.output ≡ old.output → new.leaks ≡ old.leaks ++ found → Steps Means c p (Ok true) old new
+  call_on u next goes found new is lent output leaks = record {
     steps = λ g stands fine. call_goes g stands fine next goes found new (is.calls g stands.memory (call_at g stands fine)) output leaks;
+    lent = lent;
   }
 
   -- What is kept then.
@@ -206,7 +210,8 @@ module _ {R : Type 0} (Means : R → Heap → Type 0) (c : Setting) (p : Point) 
       )
 
   pub call_off : {U : Type 0} (h : Halt) (next : ℕ) (found : List Leak) (new : Between R) → CallsTo {U = U} (Err h.stop) next found new → h.made ≡ new.kept.heap.made
-      → new.output ≡ old.output → new.leaks ≡ old.leaks → Steps Means c p (Err h) old new
-  call_off h next found new is made output leaks = record {
+      → (h.stop ≢ stop.Memory → new.kept.heap.lent ≡ old.kept.heap.lent) → new.output ≡ old.output → new.leaks ≡ old.leaks → Steps Means c p (Err h) old new
+  call_off h next found new is made lent output leaks = record {
     steps = λ g stands fine other. call_halts g stands fine h new other made output leaks (is.calls g stands.memory (call_at g stands fine) other);
+    lent = lent;
   }

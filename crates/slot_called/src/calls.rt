@@ -3,6 +3,7 @@ ghost use Rattle.std.specs.Prelude.{◌≡◌, ◌≤◌, length, OnOk, IsTrue, 
 ghost use Rattle.code_rows.specs.Points.{actuals_of, is_range, next_of, program_of, IsWhole};
 ghost use Rattle.run_codes.specs.Points as points;
 ghost use Rattle.run_results.specs.Results.{leaks_of};
+ghost use Rattle.slot_memory.specs.Answers.{LentOn};
 ghost use Rattle.slot_frames.specs.Frames.{word_at};
 ghost use Rattle.slot_entries.specs.Entries.{stacked_words};
 ghost use Rattle.slot_called.specs.Calls.{Callable, Calling};
@@ -45,6 +46,7 @@ pub fn call<R: Store>(
     requires below { word_at frames.old.waits k (length memory.old.waits) ≤ length memory.old.waits }
     requires can { Callable R.Means memory.old table.now (points.sub_at (program_of codes.now) sub) words.old (actuals_of codes.now.rows actuals) }
     ensures called { Calling R.Means memory.old table.now (points.sub_at (program_of codes.now) sub) words.old (actuals_of codes.now.rows actuals) result frames.old k next (leaks_of found.old.items) (leaks_of found.new.items) memory.new frames.new }
+    ensures lent { LentOn result memory.old memory.new }
     ensures next { OnOk result (next_of next ≡ Some next) }
     ensures words { OnOk result (words.new ≡ stacked_words frames.new) }
 {

@@ -1,25 +1,41 @@
 -- Where the runs of a program start.
-use Rattle.std.proofs.Common.{◌≡◌, ℕ, List, Bool, true, false, Option, Some, sym, ap, ◌∙◌}
+use Rattle.std.proofs.Common.{◌≡◌, ℕ, List, Bool, true, false, Option, Some, None, sym, ap, subst, ◌∙◌}
 use Rattle.flow_paths.specs.Laid.{flow_typing}
-use Rattle.machine.specs.Run.{main_of}
+use Rattle.machine.specs.Run.{Run, main_of}
 use Rattle.laid_program.specs.declared.laid.Laid.{Laid}
 use Rattle.laid_program.specs.Programs as laid_programs
 use Rattle.run_codes.specs.Points.{is_declaring}
 use Rattle.code_rows.specs.declared.codes.Codes.{Codes}
 use Rattle.code_rows.specs.Points.{program_of}
-use Rattle.slot_heap.specs.Heaps.{Heap}
+use Rattle.slot_heap.specs.Heaps.{Heap, Knows}
 use Rattle.handled_steps.specs.Runs.{state_at_start}
-use Rattle.slot_executor.specs.Executes.{IsStarted, IsUnfit, fits, setting_of}
-use Rattle.slot_runs.specs.Turns.{Setting}
+use Rattle.slot_executor.specs.Executes.{HasSlots, IsLeft, IsStarted, IsUnfit, fits, setting_of}
+use Rattle.slot_runs.specs.Turns.{Setting, Inside}
+use Rattle.slot_turns.specs.declared.overs.Over.{Over}
+use Rattle.slot_turns.specs.Runs.{StandsWith}
 use Rattle.slot_running.specs.Runs.{Running, IsAtStart, RunStands, running_setting, running_untold}
 use Rattle.slot_execute.specs.Executes.{IsReady}
 
+-- The store of a run means the heap of what it stands for.
+left_means : {R : Type 0} (Means : R → Heap → Type 0) (r : Running R) (x : Inside) → RunStands Means r x → Means r.between.kept.heap.store x.memory.heap
+left_means {R} Means r x = by r.over
+  where
+    by : (over : Option Over) → StandsWith Means over r.input r.between x → Means r.between.kept.heap.store x.memory.heap
+    by None is = subst (λ (y : Inside). Means r.between.kept.heap.store y.memory.heap) (sym is.is) is.stands.memory.cells.means
+    by (Some over) is = is.means
+
+-- So it has the slots that are left.
+pub left_slots : {R : Type 0} (Means : R → Heap → Type 0) (x : Run) (r : Running R) (store : R) → store ≡ r.between.kept.heap.store → IsLeft x (RunStands Means r)
+    → Knows Means store (λ m. HasSlots x m.slots)
+left_slots Means x r store same is =
+    subst (λ s. Knows Means s (λ m. HasSlots x m.slots)) (sym same) (is.inside.memory.heap, (left_means Means r is.inside is.left, is.slots))
+
 module _ (laid : Laid) (codes : Codes) (ready : IsReady laid codes) where
   -- The first frames fit, and a run is made.
-  pub started : {R : Type 0} (Means : R → Heap → Type 0) (input : List ℕ) (declares : Bool) (r : Running R) → fits (program_of codes) (main_of laid.main) ≡ true
-      → declares ≡ is_declaring (laid_programs.program_of laid) → IsAtStart Means laid.table (program_of codes) input declares r
+  pub started : {R : Type 0} (Means : R → Heap → Type 0) (lent : ℕ) (input : List ℕ) (declares : Bool) (r : Running R) → fits (program_of codes) (main_of laid.main) ≡ true
+      → declares ≡ is_declaring (laid_programs.program_of laid) → IsAtStart Means laid.table (program_of codes) lent input declares r
       → IsStarted laid (running_setting r) (running_untold r) (RunStands Means r)
-  started Means input declares r fit first is = record {
+  started Means lent input declares r fit first is = record {
     points = program_of codes;
     lowered = ready.lowered;
     main = ready.main;

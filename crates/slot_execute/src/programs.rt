@@ -4,9 +4,9 @@ ghost use Rattle.spark_base.specs.Outside.{Rose};
 ghost use Rattle.machine.specs.Run.{run, main_of};
 ghost use Rattle.laid_program.specs.Programs.{program_of};
 ghost use Rattle.code_rows.specs.Points.{program_of as rows_program};
-ghost use Rattle.slot_heap.specs.Heaps.{no_heap};
+ghost use Rattle.slot_heap.specs.Heaps.{no_heap, Knows};
 ghost use Rattle.slot_runs.specs.Tellings.{HaveFronts};
-ghost use Rattle.slot_executor.specs.Executes.{IsExecuted, AreSame, fits as fits_first};
+ghost use Rattle.slot_executor.specs.Executes.{IsExecuted, AreSame, HasSlots, fits as fits_first};
 ghost use Rattle.accepted_runs.specs.Headline.{IsSoundRun};
 ghost use Rattle.slot_execute.specs.Executes.{IsReady};
 
@@ -15,6 +15,10 @@ use accepted_runs::lower_ready;
 use code_rows::Codes;
 use laid_program::Laid;
 use path_check::AcceptedProgram;
+<<<<<<< HEAD
+use accepted_runs::lower_ready;
+=======
+>>>>>>> 599e11edbf776cd017b0b3af5972eb7b22d77ae7
 use run_results::{ExecFault, Ran};
 use slot_executor::{run_started, run_unfit};
 use slot_heap::Store;
@@ -39,6 +43,7 @@ fn run_fitting<R: Store, K: Sink>(
     requires store { R.Means store.old no_heap }
     ensures executed { IfOk result (λ ran. IsExecuted (map string_bytes laid.now.names.items) (run (program_of laid.now) input.now steps) ran
         (record { output = K.written out.old; lines = K.written err.old }) (record { output = K.written out.new; lines = K.written err.new })) }
+    ensures slots { IfOk result (λ ran. Knows R.Means store.new (λ m. HasSlots (run (program_of laid.now) input.now steps) m.slots)) }
     ensures fronts { OnErr result (HaveFronts (map string_bytes laid.now.names.items)
         (record { output = K.written out.old; lines = K.written err.old }) (record { output = K.written out.new; lines = K.written err.new })
         (run (program_of laid.now) input.now steps).output (run (program_of laid.now) input.now steps).leaks) }
@@ -53,7 +58,9 @@ fn run_fitting<R: Store, K: Sink>(
     let Ok(mut run) = Run::new(alloc, codes, &laid.table, store, input, declares) else {
         return Err(ExecFault::Memory);
     };
-    run_started(alloc, laid, &mut run, steps, out, err)
+    let ran = run_started(alloc, laid, &mut run, steps, out, err);
+    let _ = run.into_store();
+    ran
 }
 
 /// Runs a program in rows.
@@ -74,6 +81,7 @@ fn run_codes<R: Store, K: Sink>(
     requires store { R.Means store.old no_heap }
     ensures executed { IfOk result (λ ran. IsExecuted (map string_bytes laid.now.names.items) (run (program_of laid.now) input.now steps) ran
         (record { output = K.written out.old; lines = K.written err.old }) (record { output = K.written out.new; lines = K.written err.new })) }
+    ensures slots { IfOk result (λ ran. Knows R.Means store.new (λ m. HasSlots (run (program_of laid.now) input.now steps) m.slots)) }
     ensures fronts { OnErr result (HaveFronts (map string_bytes laid.now.names.items)
         (record { output = K.written out.old; lines = K.written err.old }) (record { output = K.written out.new; lines = K.written err.new })
         (run (program_of laid.now) input.now steps).output (run (program_of laid.now) input.now steps).leaks) }
@@ -93,7 +101,8 @@ fn run_codes<R: Store, K: Sink>(
 /// Runs an accepted program with a main procedure on an input, in so many steps at most. Its output
 /// goes to `out`, and its leak lines go to `err`. Where a write fails, nothing more is written; then,
 /// and out of memory, each sink has a front of its bytes. The run is sound. The store has neither a
-/// live handle nor a slot before it.
+/// live handle nor a slot before it; after it there are as many slots of each size as cells of this
+/// size were live at once.
 pub fn execute<R: Store, K: Sink>(
     alloc: Global,
     program: &AcceptedProgram,
@@ -110,6 +119,7 @@ pub fn execute<R: Store, K: Sink>(
     ensures sound { ∥ IsSoundRun (program_of program.now.laid) input.now ∥₁ }
     ensures executed { IfOk result (λ ran. IsExecuted (map string_bytes program.now.laid.names.items) (run (program_of program.now.laid) input.now steps) ran
         (record { output = K.written out.old; lines = K.written err.old }) (record { output = K.written out.new; lines = K.written err.new })) }
+    ensures slots { IfOk result (λ ran. Knows R.Means store.new (λ m. HasSlots (run (program_of program.now.laid) input.now steps) m.slots)) }
     ensures fronts { OnErr result (HaveFronts (map string_bytes program.now.laid.names.items)
         (record { output = K.written out.old; lines = K.written err.old }) (record { output = K.written out.new; lines = K.written err.new })
         (run (program_of program.now.laid) input.now steps).output (run (program_of program.now.laid) input.now steps).leaks) }

@@ -11,7 +11,7 @@ use Rattle.type_definitions.specs.Types.{Table}
 use Rattle.spark_base.specs.declared.position.Pos.{Pos}
 use Rattle.run_codes.specs.Programs.{Program, lowered_program}
 use Rattle.run_codes.specs.Points.{Frame, Ran, ran_of, is_declaring}
-use Rattle.handled_steps.specs.States.{State, Outcome, Ends}
+use Rattle.handled_steps.specs.States.{State, Outcome, Goes, Ends, Wants, Fails}
 use Rattle.handled_steps.specs.Steps.{Within}
 use Rattle.handled_steps.specs.Runs.{RunsWithin, ran_with, state_at_start}
 use Rattle.run_results.specs.declared.ran.Ran.{Ran as RanRow}
@@ -19,10 +19,10 @@ use Rattle.run_results.specs.Results.{ending_of, IsRun}
 use Rattle.run_results.specs.Lines.{leak_lines}
 use Rattle.slot_runs.specs.Turns.{Setting, Untold, Inside, state_of, IsRunning, SomeSteps, NeverFails}
 use Rattle.slot_runs.specs.Tellings.{Sinks, HaveFronts}
-use Rattle.slot_runs.specs.Answers.{IsWritten, IsCut, CanRun, CanStart, Writes, Cuts}
+use Rattle.slot_runs.specs.Answers.{EndsWith, IsWritten, IsCut, CanRun, CanStart, Writes, Cuts}
 use Rattle.slot_runs.proofs.Owed.{had_more}
 use Rattle.longer_runs.proofs.Runs.{run_begins}
-use Rattle.slot_executor.specs.Executes.{IsExecuted, IsSame, AreSame, fits, setting_of, start_of, IsUnfit, IsStarted}
+use Rattle.slot_executor.specs.Executes.{HasSlots, IsExecuted, IsLeft, IsSame, AreSame, fits, setting_of, start_of, IsUnfit, IsStarted}
 
 -- ---- the state at the start
 
@@ -31,6 +31,7 @@ record StartsWith (s : State) : Type 0 where
   steps : s.steps ≡ 0
   output : s.output ≡ []
   leaks : s.leaks ≡ []
+  slots : s.memory.heap.slots ≡ []
   made : s.memory.made ≡ 0
   freed : s.memory.freed ≡ 0
 
@@ -47,12 +48,12 @@ has_frame table p false = by p.main
     by (Some n) = (_, _, refl)
 
 starts : (table : Table) (p : Program) (declares : Bool) → StartsWith (state_at_start table p declares)
-starts table p true = record { steps = refl; output = refl; leaks = refl; made = refl; freed = refl }
+starts table p true = record { steps = refl; output = refl; leaks = refl; slots = refl; made = refl; freed = refl }
 starts table p false = by p.main
   where
     by : (main : Option ℕ) → StartsWith (state_at_start table (record p { main = main }) false)
-    by None = record { steps = refl; output = refl; leaks = refl; made = refl; freed = refl }
-    by (Some n) = record { steps = refl; output = refl; leaks = refl; made = refl; freed = refl }
+    by None = record { steps = refl; output = refl; leaks = refl; slots = refl; made = refl; freed = refl }
+    by (Some n) = record { steps = refl; output = refl; leaks = refl; slots = refl; made = refl; freed = refl }
 
 -- ---- runs within a stack
 
@@ -64,6 +65,14 @@ none_fits : (fit : Bool) (table : Table) (p : Program) (declares : Bool) (at : P
     → RunsWithin fit table p declares at input n (Ends (Raised StorageError at) (state_at_start table p declares))
 none_fits fit table p declares at input n is =
     subst (λ b. RunsWithin b table p declares at input n (Ends (Raised StorageError at) (state_at_start table p declares))) (sym is) refl
+
+-- ---- the slots at the end
+
+slots_at : (x : Run) (r : Outcome) (slots : List ℕ) → IsSame x r → EndsWith slots r → HasSlots x slots
+slots_at x (Ends e s) slots same ends = subst (HasSlots x) ends same.slots
+slots_at x (Goes s) slots same ends = absurd ends
+slots_at x Wants slots same ends = absurd ends
+slots_at x Fails slots same ends = absurd ends
 
 -- ---- first frames that fit
 
@@ -81,14 +90,24 @@ module _ (program : FlowProgram) (input : List ℕ) (same : AreSame program inpu
   steps_there r comes = (is_same n r comes).there
 
   -- What is written is the run of the machine.
-  run_executed : (files : List (List ℕ)) (ran : RanRow) (old new : Sinks) → IsWritten files (Moments n) ran old new → IsExecuted files (run program input n) ran old new
-  run_executed files ran old new is =
+  run_executed : (files : List (List ℕ)) (ran : RanRow) (old new : Sinks) (Left : Inside → Type 0) → IsWritten files (Moments n) Left ran old new
+      → IsExecuted files (run program input n) ran old new
+  run_executed files ran old new Left is =
       let one : is.run ≡ ran_of (run program input n) = (is_same n is.outcome is.comes).gives is.run is.gives in
       record {
         is = subst (λ r. IsRun r ran) one is.is;
         output = subst (λ (r : Ran). Appends old.output new.output r.output) one is.output;
         lines = subst (λ (r : Ran). Appends old.lines new.lines (leak_lines files r.leaks)) one is.lines;
       }
+
+  -- What is left has the slots that the machine's run needs.
+  run_left : (files : List (List ℕ)) (ran : RanRow) (old new : Sinks) (Left : Inside → Type 0) → IsWritten files (Moments n) Left ran old new
+      → IsLeft (run program input n) Left
+  run_left files ran old new Left is = record {
+    inside = is.inside;
+    left = is.left;
+    slots = slots_at (run program input n) is.outcome is.inside.memory.heap.slots (is_same n is.outcome is.comes) is.slots;
+  }
 
   -- A run that is cut off has fronts of what the machine's has.
   run_cut : (files : List (List ℕ)) (old new : Sinks) → IsCut files Moments n old new → HaveFronts files old new (run program input n).output (run program input n).leaks
@@ -123,12 +142,21 @@ module _ (laid : Laid) (c : Setting) (u : Untold) (Stands : Inside → Type 0) (
   pub can_start : CanStart n c u Stands
   can_start = (is.inside, can_run)
 
-  pub writes_executed : (files : List (List ℕ)) (ran : RanRow) (old new : Sinks) → Writes files n c u Stands ran old new
+  written : (files : List (List ℕ)) (ran : RanRow) (old new : Sinks) (Left : Inside → Type 0) → Writes files n c u Stands Left ran old new
+      → IsWritten files (SomeSteps n (setting_of program is.points c.input) (start_of program is.points)) Left ran old new
+  written files ran old new Left writes =
+      subst (λ s. IsWritten files (SomeSteps n (setting_of program is.points c.input) s) Left ran old new) is.start
+      (subst (λ d. IsWritten files (SomeSteps n d (state_of u is.inside)) Left ran old new) is.setting (writes is.inside can_run))
+
+  pub writes_executed : (files : List (List ℕ)) (ran : RanRow) (old new : Sinks) (Left : Inside → Type 0) → Writes files n c u Stands Left ran old new
       → IsExecuted files (run program c.input n) ran old new
-  writes_executed files ran old new writes =
-      run_executed program c.input same is.points is.lowered is.main is.has is.fit n files ran old new
-      (subst (λ s. IsWritten files (SomeSteps n (setting_of program is.points c.input) s) ran old new) is.start
-      (subst (λ d. IsWritten files (SomeSteps n d (state_of u is.inside)) ran old new) is.setting (writes is.inside can_run)))
+  writes_executed files ran old new Left writes =
+      run_executed program c.input same is.points is.lowered is.main is.has is.fit n files ran old new Left (written files ran old new Left writes)
+
+  pub writes_left : (files : List (List ℕ)) (ran : RanRow) (old new : Sinks) (Left : Inside → Type 0) → Writes files n c u Stands Left ran old new
+      → IsLeft (run program c.input n) Left
+  writes_left files ran old new Left writes =
+      run_left program c.input same is.points is.lowered is.main is.has is.fit n files ran old new Left (written files ran old new Left writes)
 
   pub cuts_fronts : (files : List (List ℕ)) (old new : Sinks) → Cuts files n c u Stands old new
       → HaveFronts files old new (run program c.input n).output (run program c.input n).leaks
@@ -149,11 +177,16 @@ module _ (laid : Laid) (main : ℕ) (is : IsUnfit laid main) (input : List ℕ) 
   abbrev raised : Ran
   raised = ran_with (Raised StorageError (sub_of (program_of laid) main).pos) begun
 
+  ends_same : IsSame (run (program_of laid) input n) (Ends (Raised StorageError (sub_of (program_of laid) main).pos) begun)
+  ends_same =
+      same is.points is.lowered main is.has n (Ends (Raised StorageError (sub_of (program_of laid) main).pos) begun)
+      (none_fits (fits is.points main) (flow_typing (program_of laid)).table is.points (is_declaring (program_of laid)) (sub_of (program_of laid) main).pos input n is.unfit)
+
   no_run : raised ≡ ran_of (run (program_of laid) input n)
-  no_run =
-      let end : Outcome = Ends (Raised StorageError (sub_of (program_of laid) main).pos) begun in
-      (same is.points is.lowered main is.has n end
-      (none_fits (fits is.points main) (flow_typing (program_of laid)).table is.points (is_declaring (program_of laid)) (sub_of (program_of laid) main).pos input n is.unfit)).gives raised refl
+  no_run = ends_same.gives raised refl
+
+  pub unfit_slots : HasSlots (run (program_of laid) input n) []
+  unfit_slots = subst (HasSlots (run (program_of laid) input n)) begins.slots ends_same.slots
 
   pub unfit_ran : (ran : RanRow) → ending_of ran.ending ≡ Raised StorageError (sub_of (program_of laid) main).pos → ran.steps ≡ 0 → ran.made ≡ 0 → ran.freed ≡ 0 → ran.leaked ≡ 0
       → IsRun (ran_of (run (program_of laid) input n)) ran

@@ -9,7 +9,9 @@ use Rattle.laid_program.specs.Programs.{program_of}
 use Rattle.run_codes.specs.Programs.{Program, lowered_program}
 use Rattle.run_codes.specs.Points.{sub_at, is_declaring, ran_of}
 use Rattle.run_codes.specs.Points as points
-use Rattle.handled_steps.specs.States.{State, Outcome}
+use Rattle.numbered_cells.specs.Peaks.{peak_of}
+use Rattle.slot_heap.specs.Heaps.{slot_count}
+use Rattle.handled_steps.specs.States.{State, Outcome, Ends}
 use Rattle.handled_steps.specs.Runs.{RunOf, given, state_at_start}
 use Rattle.run_results.specs.declared.ran.Ran.{Ran}
 use Rattle.run_results.specs.Results.{IsRun}
@@ -25,10 +27,20 @@ pub record IsExecuted (files : List (List ℕ)) (run : Run) (ran : Ran) (old new
 
 -- ---- what may come of a run
 
--- It doesn't fail, and what it gives is what a run of the machine gives. Where memory is wanted, it gives nothing.
+-- There are as many slots of each size as cells of this size were live at once.
+abbrev pub HasSlots : Run → List ℕ → Type 0
+HasSlots x slots = (size : ℕ) → slot_count size slots ≡ peak_of size x.peaks
+
+abbrev pub EndsWithSlots : Run → Outcome → Type 0
+EndsWithSlots x (Ends e s) = HasSlots x s.memory.heap.slots
+EndsWithSlots x _ = Unit {0}
+
+-- It doesn't fail, and what it gives is what a run of the machine gives. Where memory is wanted, it gives nothing. Its
+-- heap has the slots that the machine's run needs.
 pub record IsSame (x : Run) (r : Outcome) : Type 0 where
   pub there : is_failing r ≡ false
   pub gives : (ran : points.Ran) → given r ≡ Some ran → ran ≡ ran_of x
+  pub slots : EndsWithSlots x r
 
 -- So does whatever may come of the runs of a program on an input, as it is lowered.
 abbrev pub AreSame : FlowProgram → List ℕ → Type 0
@@ -68,3 +80,11 @@ pub record IsStarted (laid : Laid) (c : Setting) (u : Untold) (Stands : Inside �
   pub inside : Inside
   pub stands : Stands inside
   pub start : state_of u inside ≡ start_of (program_of laid) points
+
+-- ---- what is left
+
+-- It stands for an inside whose heap has the slots that the machine's run needs.
+pub record IsLeft (x : Run) (Left : Inside → Type 0) : Type 0 where
+  pub inside : Inside
+  pub left : Left inside
+  pub slots : HasSlots x inside.memory.heap.slots

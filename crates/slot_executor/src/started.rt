@@ -1,10 +1,10 @@
 //! Runs that stand at the start of a program.
-ghost use Rattle.std.specs.Prelude.{◌≡◌, ◌≢◌, ◌≤◌, ◌⊎◌, Err, IfOk, OnErr, map, string_bytes};
+ghost use Rattle.std.specs.Prelude.{◌≡◌, ◌≢◌, ◌≤◌, ◌⊎◌, Err, IfOk, OnOk, OnErr, map, string_bytes};
 ghost use Rattle.spark_base.specs.Outside.{Rose};
 ghost use Rattle.machine.specs.Run.{run as run_of};
 ghost use Rattle.laid_program.specs.Programs.{program_of};
 ghost use Rattle.slot_runs.specs.Tellings.{HaveFronts};
-ghost use Rattle.slot_executor.specs.Executes.{IsExecuted, IsStarted, AreSame};
+ghost use Rattle.slot_executor.specs.Executes.{IsExecuted, IsLeft, IsStarted, AreSame};
 
 use laid_program::Laid;
 use run_results::{ExecFault, Ran};
@@ -27,6 +27,8 @@ pub fn run_started<S: Stepping, K: Sink>(
     requires same { AreSame (program_of laid.now) (S.setting run.old).input }
     ensures executed { IfOk result (λ ran. IsExecuted (map string_bytes laid.now.names.items) (run_of (program_of laid.now) (S.setting run.old).input steps) ran
         (record { output = K.written out.old; lines = K.written err.old }) (record { output = K.written out.new; lines = K.written err.new })) }
+    ensures left { IfOk result (λ ran. IsLeft (run_of (program_of laid.now) (S.setting run.old).input steps) (S.Stands run.new)) }
+    ensures lent { OnOk result (S.lent run.new ≡ S.lent run.old) }
     ensures fronts { OnErr result (HaveFronts (map string_bytes laid.now.names.items)
         (record { output = K.written out.old; lines = K.written err.old }) (record { output = K.written out.new; lines = K.written err.new })
         (run_of (program_of laid.now) (S.setting run.old).input steps).output (run_of (program_of laid.now) (S.setting run.old).input steps).leaks) }

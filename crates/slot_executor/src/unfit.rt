@@ -5,7 +5,7 @@ ghost use Rattle.machine.specs.Run.{run};
 ghost use Rattle.laid_program.specs.Programs.{program_of};
 ghost use Rattle.run_codes.specs.Points.{ran_of};
 ghost use Rattle.run_results.specs.Results.{IsRun};
-ghost use Rattle.slot_executor.specs.Executes.{IsUnfit, AreSame};
+ghost use Rattle.slot_executor.specs.Executes.{HasSlots, IsUnfit, AreSame};
 
 use code_rows::Exception;
 use laid_program::Laid;
@@ -29,6 +29,7 @@ pub fn run_unfit(laid: &Laid, input: &[u8], steps: u64, main: u32) -> Result<Ran
     ensures ran { IfOk result (λ ran. IsRun (ran_of (run (program_of laid.now) input.now steps)) ran) }
     ensures output { (run (program_of laid.now) input.now steps).output ≡ [] }
     ensures leaks { (run (program_of laid.now) input.now steps).leaks ≡ [] }
+    ensures slots { HasSlots (run (program_of laid.now) input.now steps) [] }
     ensures memory { result ≢ Err ExecFault.WriteFault }
 {
     let Some(pos) = position(laid, main) else {

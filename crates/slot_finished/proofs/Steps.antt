@@ -7,6 +7,7 @@ use Rattle.slot_heap.specs.Heaps.{Heap, words_at}
 use Rattle.run_codes.specs.Codes.{Point, Does, Finish}
 use Rattle.run_codes.specs.Flat.{Got, Given, Stops, Broken, Spot, InStack, InCell, and_then, constraint, kinds, have_kinds, spliced}
 use Rattle.run_codes.specs.Points.{Return, fits}
+use Rattle.code_rows.specs.declared.stop.Stop.TheVariants as stop
 use Rattle.code_rows.specs.Stops.{stop_of}
 use Rattle.handled_runs.specs.Fits.{are_slot_words}
 use Rattle.handled_runs.specs.Slots.{Slots, held}
@@ -213,17 +214,21 @@ module _ {R : Type 0} (Means : R → Heap → Type 0) (c : Setting) (p : Point) 
             leaks = sym leaks;
             made = sym (ap (λ (m : Kept R). m.heap.made) is.left.memory);
             freed = sym (ap (λ (m : Kept R). m.heap.freed) is.left.memory);
+            slots = refl;
           }
 
     -- It stops.
     finish_halts : (h : Halt) (new : Between R) → h.made ≡ new.kept.heap.made → new.output ≡ old.output → new.leaks ≡ old.leaks
-        → ComesTo Means (parts g) (Stopped (stop_of h.stop)) new.kept → Halts (here g) (May g) h old new
+        → ComesTo Means (parts g) (Stopped (stop_of h.stop)) new.kept → Halts Means (here g) (May g) h old new
     finish_halts h new made output leaks is = record {
       memory = is.after;
       comes = may_finish g (halted (here g) (stop_of h.stop) is.after) (copying g stands (ends g) ∙ ap (λ x. on_copying (here g) x (ends g)) is.is);
       made = sym (ap (λ (x : Slots). x.made) is.shows.1) ∙ sym made;
       output = output;
       leaks = leaks;
+      ghosts = ghosts_of is.after;
+      stands = is.shows.0;
+      slots = refl;
     }
 
   -- ---- the step
@@ -232,9 +237,9 @@ module _ {R : Type 0} (Means : R → Heap → Type 0) (c : Setting) (p : Point) 
   can_finish can = record { ghosts = can.ghosts; stands = can.stands.memory; whole = finish_whole can.ghosts can.stands can.fine }
 
   pub finish_on : (others : Bool) (new : Between R) → IsFinished Means old.kept c.table returns others old.stacked new.kept new.stacked
-      → new.output ≡ old.output → new.leaks ≡ old.leaks → Steps Means c p (Ok others) old new
-  finish_on true new is output leaks = record { steps = λ g stands fine. finish_goes g stands fine true new is refl output leaks }
-  finish_on false new is output leaks = record { steps = λ g stands fine. finish_ends g stands fine false new is never_true output leaks }
+      → new.kept.heap.lent ≡ old.kept.heap.lent → new.output ≡ old.output → new.leaks ≡ old.leaks → Steps Means c p (Ok others) old new
+  finish_on true new is lent output leaks = record { steps = λ g stands fine. finish_goes g stands fine true new is refl output leaks; lent = lent }
+  finish_on false new is lent output leaks = record { steps = λ g stands fine. finish_ends g stands fine false new is never_true output leaks; lent = lent }
 
   -- What is kept then.
   pub finish_left : CanDo Means c p old → (others : Bool) (new : Between R) → IsFinished Means old.kept c.table returns others old.stacked new.kept new.stacked
@@ -245,7 +250,8 @@ module _ {R : Type 0} (Means : R → Heap → Type 0) (c : Setting) (p : Point) 
   )
 
   pub finish_off : (h : Halt) (new : Between R) → CopiesAll {U = Unit {0}} Means old.kept c.table returns (Err h.stop) new.kept → h.made ≡ new.kept.heap.made
-      → new.output ≡ old.output → new.leaks ≡ old.leaks → Steps Means c p (Err h) old new
-  finish_off h new is made output leaks = record {
+      → (h.stop ≢ stop.Memory → new.kept.heap.lent ≡ old.kept.heap.lent) → new.output ≡ old.output → new.leaks ≡ old.leaks → Steps Means c p (Err h) old new
+  finish_off h new is made lent output leaks = record {
     steps = λ g stands fine other. finish_halts g stands fine h new made output leaks (is.comes g stands.memory (finish_whole g stands fine) other);
+    lent = lent;
   }

@@ -1,5 +1,6 @@
 //! The ends of calls.
 ghost use Rattle.std.specs.Prelude.{◌≡◌, OnOk};
+ghost use Rattle.slot_memory.specs.Answers.{LentOn};
 ghost use Rattle.slot_memory.specs.Memory.{elsewhere};
 ghost use Rattle.slot_frames.specs.Frames.{IsStacked};
 ghost use Rattle.slot_frames.specs.Parts.{own_returns};
@@ -46,6 +47,7 @@ pub fn finish<R: Store>(
     requires words { words.old ≡ stacked_words frames.old }
     requires can { CanCopy R.Means memory.old table.now (own_returns frames.old) }
     ensures finished { Finishes R.Means memory.old table.now (own_returns frames.old) result frames.old memory.new frames.new }
+    ensures lent { LentOn result memory.old memory.new }
     ensures words { words.new ≡ stacked_words frames.new }
 {
     copy_own(table, memory, hand, frames)?;

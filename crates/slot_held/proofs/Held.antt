@@ -8,6 +8,7 @@ use Rattle.run_codes.specs.Flat.{is_broken}
 use Rattle.code_rows.specs.declared.stop.Stop.{Stop}
 use Rattle.code_rows.specs.declared.stop.Stop.TheVariants as stop
 use Rattle.handled_runs.specs.Changes.{settled}
+use Rattle.slot_memory.specs.Answers.{LentOn}
 use Rattle.slot_memory.specs.Memory.{Kept, Knows, Changes, Elsewhere, ghosts_of, elsewhere}
 use Rattle.slot_frames.specs.Stacks.{Stacked}
 use Rattle.slot_frames.specs.Frames.{word_at}
@@ -62,4 +63,14 @@ module _ {R : Type 0} (Means : R → Heap → Type 0) (m : Kept R) (table : Tabl
   held_done u (Err x) old now n o p frames stacked k of next none filled first changes second waits memory =
       record { holds = λ g stands fills settles other. absurd (other (error_is x stop.Memory memory)) }
 
-pub ruleset hold_rules = (held_fills, held_stops, held_settles, held_room, held_done)
+  -- the store is lent by the same reference
+  pub stopped_lent : {V : Type 0} (x : Stop) (n : Kept R) → elsewhere n ≡ elsewhere m → LentOn {U = V} (Err x) m n
+  stopped_lent x n same = λ other. ap (λ (e : Elsewhere). e.lent) same
+
+  pub held_lent : {V : Type 0} (r : Result V Stop) (now : List ℤ) (n o p : Kept R) (frames stacked : Stacked) (k of next : ℕ) → elsewhere n ≡ elsewhere m → elsewhere o ≡ elsewhere n
+      → OnOk r (Waits o frames k of now next p stacked) → OnErr r (IsErrOf r stop.Memory) → LentOn r m p
+  held_lent (Ok w) now n o p frames stacked k of next first second waits memory =
+      ap (λ (q : Kept R). q.heap.lent) waits.kept_is ∙ ap (λ (e : Elsewhere). e.lent) second ∙ ap (λ (e : Elsewhere). e.lent) first
+  held_lent (Err x) now n o p frames stacked k of next first second waits memory = λ other. absurd (other (error_is x stop.Memory memory))
+
+pub ruleset hold_rules = (held_fills, held_stops, held_settles, held_room, held_done, stopped_lent, held_lent)

@@ -2,6 +2,7 @@
 ghost use Rattle.std.specs.Prelude.{◌≡◌, ◌≤◌, length, IsTrue, OnOk, OnErr, IsErrOf};
 ghost use Rattle.code_rows.specs.Points.{is_value};
 ghost use Rattle.code_rows.specs.Values.{fill_at, are_within};
+ghost use Rattle.slot_memory.specs.Answers.{LentOn};
 ghost use Rattle.slot_frames.specs.Frames.{word_at};
 ghost use Rattle.slot_held.specs.Holds.{Waits, Holdable, Holding};
 
@@ -60,6 +61,7 @@ pub fn hold<R: Store>(
     requires there { IsTrue (is_value rows.now value) }
     requires waits { word_at frames.old.waits k (length memory.old.waits) ≤ length memory.old.waits }
     requires whole { Holdable R.Means memory.old table.now (fill_at rows.now.nodes rows.now.fills value) }
+    ensures lent { LentOn result memory.old memory.new }
     ensures held { Holding R.Means memory.old table.now (fill_at rows.now.nodes rows.now.fills value) result frames.old k of next memory.new frames.new }
 {
     hand.clear();

@@ -4,9 +4,6 @@ use Rattle.type_definitions.specs.Types.{Table}
 use Rattle.run_codes.specs.Codes.{Sub}
 use Rattle.run_codes.specs.Programs.{Program}
 use Rattle.run_codes.specs.Points.{sub_at, template}
-use Rattle.code_rows.specs.declared.point.Sub.{Sub as SubRow}
-use Rattle.code_rows.specs.declared.codes.Codes.{Codes}
-use Rattle.code_rows.specs.Points.{program_of, sub_of}
 use Rattle.slot_heap.specs.Heaps.{Heap, no_heap}
 use Rattle.handled_runs.specs.Slots.{Slots}
 use Rattle.handled_steps.specs.Runs.{no_memory}
@@ -20,13 +17,13 @@ use Rattle.slot_stages.proofs.Starts.{first_stage, first_frame, first_is, first_
 use Rattle.slot_entries.specs.Entries.{stacked_words}
 use Rattle.slot_turns.specs.Betweens.{stage_of, IsBetween}
 use Rattle.slot_leads.specs.Begins.{MainBegins}
-use Rattle.slot_leads.specs.Starts.{only_frame, no_cells, IsFirst, HasPackages, silent, IsStarted}
+use Rattle.slot_leads.specs.Starts.{only_frame, no_cells, HasPackages, silent, IsStarted}
 
 abbrev no_ghosts : Ghosts
 no_ghosts = record { heap = no_heap; numbers = λ h. 0; moves = []; peaks = []; sizes = [] }
 
-keep_none : {R : Type 0} (Means : R → Heap → Type 0) (store : R) → Means store no_heap → Keep Means (no_cells store) no_heap (λ h. 0)
-keep_none Means store means = record {
+keep_none : {R : Type 0} (Means : R → Heap → Type 0) (store : R) (lent : ℕ) → Means store no_heap → Keep Means (no_cells store lent) no_heap (λ h. 0)
+keep_none Means store lent means = record {
   means = means;
   once = tt;
   sized = λ h n is. absurd (cc);
@@ -43,14 +40,14 @@ no_read n bytes none = omega (arith, none)
 abbrev words_kept : {R : Type 0} → R → List ℤ → Slots
 words_kept store stack = record no_memory { stack = stack }
 
-words_alone : {R : Type 0} (m : Kept R) (store : R) (stack : List ℤ) → m.stack ≡ stack → m.heap ≡ no_cells store → plain_memory (slots m no_ghosts) ≡ plain_memory (words_kept store stack)
-words_alone m store stack words cells =
+words_alone : {R : Type 0} (m : Kept R) (store : R) (lent : ℕ) (stack : List ℤ) → m.stack ≡ stack → m.heap ≡ no_cells store lent → plain_memory (slots m no_ghosts) ≡ plain_memory (words_kept store stack)
+words_alone m store lent stack words cells =
     ap (λ ws. record (plain_memory (slots m no_ghosts)) { stack = ws }) words
     ∙ ap (λ (c : Cells _). record (plain_memory (words_kept store stack)) { live = c.live; made = c.made; freed = c.freed }) cells
 
-stands_none : {R : Type 0} (Means : R → Heap → Type 0) (store : R) (m : Kept R) → Means store no_heap → m.heap ≡ no_cells store → m.moves ≡ [] → Stands Means m no_ghosts
-stands_none Means store m means cells moves = record {
-  cells = subst (λ c. Keep Means c no_heap (λ h. 0)) (sym cells) (keep_none Means store means);
+stands_none : {R : Type 0} (Means : R → Heap → Type 0) (store : R) (lent : ℕ) (m : Kept R) → Means store no_heap → m.heap ≡ no_cells store lent → m.moves ≡ [] → Stands Means m no_ghosts
+stands_none Means store lent m means cells moves = record {
+  cells = subst (λ c. Keep Means c no_heap (λ h. 0)) (sym cells) (keep_none Means store lent means);
   moves = moves;
 }
 
@@ -58,32 +55,16 @@ one_frame : (n : ℕ) → n ≡ n + 0
 one_frame n = omega arith
 
 -- Only the frame of the package objects counts.
-pub packages_words : {R : Type 0} (table : Table) (program : Program) (store : R) (bytes : List ℕ) (m : Kept R) (s : Stacked) (words : ℕ)
-    → HasPackages table program store bytes m s words → words ≡ stacked_words s
-packages_words table program store bytes m s words has = has.words ∙ one_frame (sub_at program 0).words ∙ ap stacked_words (sym has.frames)
+pub packages_words : {R : Type 0} (table : Table) (program : Program) (store : R) (lent : ℕ) (bytes : List ℕ) (m : Kept R) (s : Stacked) (words : ℕ)
+    → HasPackages table program store lent bytes m s words → words ≡ stacked_words s
+packages_words table program store lent bytes m s words has = has.words ∙ one_frame (sub_at program 0).words ∙ ap stacked_words (sym has.frames)
 
--- Their words are pushed.
-pub packages_pushed : {R : Type 0} (codes : Codes) (table : Table) (store : R) (bytes : List ℕ) (sub : SubRow) (m q : Kept R) (s t : Stacked) (words all : ℕ)
-    → IsFirst store sub bytes m s words → sub_of codes sub ≡ sub_at (program_of codes) 0 → q ≡ record m { stack = m.stack ++ template table (sub_of codes sub) } → t ≡ s → all ≡ words
-    → HasPackages table (program_of codes) store bytes q t all
-packages_pushed {R} codes table store bytes sub m q s t words all is same memory frames count = record {
-  stack = ap (λ (x : Kept R). x.stack) memory ∙ ap (λ (ws : List ℤ). ws ++ template table (sub_of codes sub)) is.stack ∙ ap (λ (x : Sub). template table x) same;
-  base = ap (λ (x : Kept R). x.base) memory ∙ is.base;
-  waits = ap (λ (x : Kept R). x.waits) memory ∙ is.waits;
-  heap = ap (λ (x : Kept R). x.heap) memory ∙ is.heap;
-  moves = ap (λ (x : Kept R). x.moves) memory ∙ is.moves;
-  input = ap (λ (x : Kept R). x.input) memory ∙ is.input;
-  read = ap (λ (x : Kept R). x.read) memory ∙ is.read;
-  frames = frames ∙ is.frames ∙ ap (λ (x : Sub). only_frame x.first x.words) same;
-  words = count ∙ is.words ∙ ap (λ (x : Sub). x.words) same;
-}
-
-module _ {R : Type 0} (Means : R → Heap → Type 0) (table : Table) (program : Program) (store : R) (bytes : List ℕ) (m : Kept R) (s : Stacked) (words : ℕ)
-    (means : Means store no_heap) (has : HasPackages table program store bytes m s words) where
+module _ {R : Type 0} (Means : R → Heap → Type 0) (table : Table) (program : Program) (store : R) (lent : ℕ) (bytes : List ℕ) (m : Kept R) (s : Stacked) (words : ℕ)
+    (means : Means store no_heap) (has : HasPackages table program store lent bytes m s words) where
   abbrev packages : Sub
   packages = sub_at program 0
 
-  pub packages_started : IsStarted Means table program bytes true m s words
+  pub packages_started : IsStarted Means table program lent bytes true m s words
   packages_started =
       let t : Stacked = only_frame packages.first packages.words in
       let is : IsStage (first_stage m no_ghosts (first_frame 0 packages) []) = first_is m no_ghosts 0 packages (ap length has.waits) has.base refl in
@@ -91,11 +72,12 @@ module _ {R : Type 0} (Means : R → Heap → Type 0) (table : Table) (program :
       record {
         ghosts = no_ghosts;
         between = subst P (sym has.frames) (record { stacked = is.stacked; base = has.base; read = no_read m.read m.input has.read });
-        stands = record { memory = stands_none Means store m means has.heap has.moves; settled = refl };
+        stands = record { memory = stands_none Means store lent m means has.heap has.moves; settled = refl };
         input = has.input;
-        words = packages_words table program store bytes m s words has;
+        lent = ap (λ (c : Cells R). c.lent) has.heap;
+        words = packages_words table program store lent bytes m s words has;
         state = ap (λ (x : Stacked). state_of (stage_of (silent m x) no_ghosts)) has.frames
-            ∙ starts_packages table program m no_ghosts has.read (words_alone m store (template table packages) has.stack has.heap);
+            ∙ starts_packages table program m no_ghosts has.read (words_alone m store lent (template table packages) has.stack has.heap);
       }
 
   module _ (q : Kept R) (t : Stacked) (all : ℕ) (begins : MainBegins table program m s q t) (counted : all ≡ stacked_words t) where
@@ -111,11 +93,11 @@ module _ {R : Type 0} (Means : R → Heap → Type 0) (table : Table) (program :
         ∙ ap (λ x. with_main main x (length m.stack)) has.frames
         ∙ ap (λ (ws : List ℤ). with_main main (only_frame packages.first packages.words) (length ws)) has.stack
 
-    pub main_started : IsStarted Means table program bytes false q t all
+    pub main_started : IsStarted Means table program lent bytes false q t all
     main_started =
         let read : q.read ≡ 0 = ap (λ (x : Kept R). x.read) begins.memory ∙ has.read in
         let base : q.base ≡ length (template table packages) = ap (λ (x : Kept R). x.base) begins.memory ∙ ap length has.stack in
-        let heap : q.heap ≡ no_cells store = ap (λ (x : Kept R). x.heap) begins.memory ∙ has.heap in
+        let heap : q.heap ≡ no_cells store lent = ap (λ (x : Kept R). x.heap) begins.memory ∙ has.heap in
         let moves : q.moves ≡ [] = ap (λ (x : Kept R). x.moves) begins.memory ∙ has.moves in
         let stack : q.stack ≡ template table packages ++ template table main =
         ap (λ (x : Kept R). x.stack) begins.memory ∙ ap (λ (ws : List ℤ). ws ++ template table main) has.stack in
@@ -125,9 +107,10 @@ module _ {R : Type 0} (Means : R → Heap → Type 0) (table : Table) (program :
         record {
           ghosts = no_ghosts;
           between = subst P (sym main_frames) (record { stacked = is.stacked; base = base; read = no_read q.read q.input read });
-          stands = record { memory = stands_none Means store q means heap moves; settled = refl };
+          stands = record { memory = stands_none Means store lent q means heap moves; settled = refl };
           input = ap (λ (x : Kept R). x.input) begins.memory ∙ has.input;
+          lent = ap (λ (c : Cells R). c.lent) heap;
           words = counted;
           state = ap (λ (x : Stacked). state_of (stage_of (silent q x) no_ghosts)) main_frames
-              ∙ starts_main table program begins.main q no_ghosts begins.has read (words_alone q store (template table packages ++ template table main) stack heap);
+              ∙ starts_main table program begins.main q no_ghosts begins.has read (words_alone q store lent (template table packages ++ template table main) stack heap);
         }

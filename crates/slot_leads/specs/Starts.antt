@@ -17,15 +17,15 @@ use Rattle.slot_turns.specs.Betweens.{Between, stage_of, IsBetween, StandAt}
 abbrev pub only_frame : ℕ → ℕ → Stacked
 only_frame first words = record { frame = record { base = 0; next = first; words = words; waits = 0; returns = 0 }; outer = []; waits = []; returns = [] }
 
--- There are no cells.
-abbrev pub no_cells : {R : Type 0} → R → Cells R
-no_cells r = record { store = r; lengths = []; numbers = []; made = 0; freed = 0; live = 0 }
+-- There are no cells. The store was lent by a reference.
+abbrev pub no_cells : {R : Type 0} → R → ℕ → Cells R
+no_cells r lent = record { store = r; lent = lent; lengths = []; numbers = []; made = 0; freed = 0; live = 0 }
 
-pub record IsFirst {R : Type 0} (store : R) (sub : Sub) (bytes : List ℕ) (m : Kept R) (s : Stacked) (all : ℕ) : Type 0 where
+pub record IsFirst {R : Type 0} (store : R) (lent : ℕ) (sub : Sub) (bytes : List ℕ) (m : Kept R) (s : Stacked) (all : ℕ) : Type 0 where
   pub stack : m.stack ≡ []
   pub base : m.base ≡ 0
   pub waits : m.waits ≡ []
-  pub heap : m.heap ≡ no_cells store
+  pub heap : m.heap ≡ no_cells store lent
   pub moves : m.moves ≡ []
   pub input : m.input ≡ bytes
   pub read : m.read ≡ 0
@@ -33,11 +33,11 @@ pub record IsFirst {R : Type 0} (store : R) (sub : Sub) (bytes : List ℕ) (m : 
   pub words : all ≡ sub.words
 
 -- The frame of the package objects is the only one.
-pub record HasPackages {R : Type 0} (table : Table) (program : Program) (store : R) (bytes : List ℕ) (m : Kept R) (s : Stacked) (all : ℕ) : Type 0 where
+pub record HasPackages {R : Type 0} (table : Table) (program : Program) (store : R) (lent : ℕ) (bytes : List ℕ) (m : Kept R) (s : Stacked) (all : ℕ) : Type 0 where
   pub stack : m.stack ≡ template table (sub_at program 0)
   pub base : m.base ≡ 0
   pub waits : m.waits ≡ []
-  pub heap : m.heap ≡ no_cells store
+  pub heap : m.heap ≡ no_cells store lent
   pub moves : m.moves ≡ []
   pub input : m.input ≡ bytes
   pub read : m.read ≡ 0
@@ -50,10 +50,11 @@ silent m s = record { kept = m; stacked = s; output = []; leaks = [] }
 
 -- What is kept is that of the state at the start.
 pub record IsStarted {R : Type 0}
-    (Means : R → Heap → Type 0) (table : Table) (program : Program) (bytes : List ℕ) (declares : Bool) (m : Kept R) (s : Stacked) (all : ℕ) : Type 0 where
+    (Means : R → Heap → Type 0) (table : Table) (program : Program) (reference : ℕ) (bytes : List ℕ) (declares : Bool) (m : Kept R) (s : Stacked) (all : ℕ) : Type 0 where
   pub ghosts : Ghosts
   pub between : IsBetween (silent m s)
   pub stands : StandAt Means (silent m s) ghosts
   pub input : m.input ≡ bytes
+  pub lent : m.heap.lent ≡ reference
   pub words : all ≡ stacked_words s
   pub state : state_of (stage_of (silent m s) ghosts) ≡ state_at_start table program declares

@@ -156,9 +156,9 @@ keep_freed Means c n m numbers h ws live means lengths row made freed keep = rec
 
 -- ---- no cells
 
-pub keep_none : {R : Type 0} (Means : R → Heap → Type 0) (store : R) → Means store no_heap
-    → Keep Means (record { store = store; lengths = []; numbers = []; made = 0; freed = 0; live = 0 }) no_heap (λ h. 0)
-keep_none Means store means = record {
+pub keep_none : {R : Type 0} (Means : R → Heap → Type 0) (store : R) (lent : ℕ) → Means store no_heap
+    → Keep Means (record { store = store; lent = lent; lengths = []; numbers = []; made = 0; freed = 0; live = 0 }) no_heap (λ h. 0)
+keep_none Means store lent means = record {
   means = means;
   once = tt;
   sized = λ j k is. cc;

@@ -59,3 +59,8 @@ Allocates Means s vs (Err x) m = x ≢ stop.Memory → IsRefused Means s vs x m
 -- A live cell is freed.
 abbrev pub Frees : {R : Type 0} → (R → Heap → Type 0) → Slots → ℕ → Kept R → Type 0
 Frees Means s h m = (ws : List Value) → words_at s.heap.cells h ≡ Some ws → Shows Means m (without_cell s h (length ws))
+
+-- The store is the one that was lent by the same reference, but where there is too little memory.
+abbrev pub LentOn : {R U : Type 0} → Result U Stop → Kept R → Kept R → Type 0
+LentOn (Ok u) old new = new.heap.lent ≡ old.heap.lent
+LentOn (Err x) old new = x ≢ stop.Memory → new.heap.lent ≡ old.heap.lent

@@ -8,10 +8,11 @@ use Rattle.slot_heap.specs.Heaps.{Cell, Heap, words_at, allocated, released}
 use Rattle.slot_heap.specs.Runs.{IsOnce}
 use Rattle.handled_runs.specs.Changes.{row_with}
 
--- A store; how many words the cell of each handle has, and its number from 1; how many cells were made and freed;
--- and how many words the others have.
+-- A store, and the reference by which it was lent; how many words the cell of each handle has, and its number from 1;
+-- how many cells were made and freed; and how many words the others have.
 pub record Cells (R : Type 0) : Type 0 where
   pub store : R
+  pub lent : ℕ
   pub lengths : List ℕ
   pub numbers : List ℕ
   pub made : ℕ

@@ -88,6 +88,7 @@ Changes Means before change now = (g : Ghosts) → Stands Means before g → (t 
 
 -- What a point doesn't change while it is evaluated.
 pub record Elsewhere : Type 0 where
+  pub lent : ℕ
   pub base : ℕ
   pub waits : List ℤ
   pub taken : ℕ
@@ -95,4 +96,4 @@ pub record Elsewhere : Type 0 where
   pub read : ℕ
 
 abbrev pub elsewhere : {R : Type 0} → Kept R → Elsewhere
-elsewhere m = record { base = m.base; waits = m.waits; taken = m.taken; input = m.input; read = m.read }
+elsewhere m = record { lent = m.heap.lent; base = m.base; waits = m.waits; taken = m.taken; input = m.input; read = m.read }

@@ -36,6 +36,7 @@ impl<'s, R> Model for Heap<'s, R> {
 
     ghost view = { λ h. record {
       store = h.store.now;
+      lent = h.store.ghost_name;
       lengths = h.lengths.items;
       numbers = h.numbers.items;
       made = h.made;
@@ -58,9 +59,25 @@ impl<R> Drop for Heap<'_, R> {
 }
 
 impl<'s, R: Store> Heap<'s, R> {
+    /// The store is given back.
+    pub fn into_store(self) -> &'s mut R
+        ensures lent { result.ghost_name ≡ self.entry.lent }
+        ensures store { result.now ≡ self.entry.store }
+    {
+        let Self {
+            store,
+            lengths: _,
+            numbers: _,
+            made: _,
+            freed: _,
+            live: _,
+        } = self;
+        store
+    }
+
     /// No cells.
     pub fn new(alloc: Global, store: &'s mut R) -> Heap<'s, R>
-        ensures { result ≡ record { store = store.old; lengths = []; numbers = []; made = 0; freed = 0; live = 0 } }
+        ensures { result ≡ record { store = store.entry.now; lent = store.entry.ghost_name; lengths = []; numbers = []; made = 0; freed = 0; live = 0 } }
     {
         Heap {
             store,
@@ -149,7 +166,8 @@ impl<'s, R: Store> Heap<'s, R> {
         requires words { self.old.live + length values.now ≤ heap_words }
         requires cells { self.old.made < most_cells }
         requires known { KnowsCells R.Means self.old (λ m. m ≡ m) }
-        ensures { IfOk result (λ h. IsMadeAs R.Means self.old h values.now self.new) }
+        ensures made { IfOk result (λ h. IsMadeAs R.Means self.old h values.now self.new) }
+        ensures lent { self.new.lent ≡ self.old.lent }
     {
         let handle = self.store.allocate(values)?;
         let index = handle.number() as usize;
@@ -164,7 +182,8 @@ impl<'s, R: Store> Heap<'s, R> {
     /// Frees a live cell.
     pub fn free(&mut self, cell: Handle)
         requires { KnowsCells R.Means self.old (λ m. heaps.IsLive m cell) }
-        ensures { IsFreed R.Means self.old cell self.new }
+        ensures freed { IsFreed R.Means self.old cell self.new }
+        ensures lent { self.new.lent ≡ self.old.lent }
     {
         let words = self.lengths[cell.number() as usize];
         self.store.free(cell, words);

@@ -68,12 +68,30 @@ impl<R> Drop for Memory<'_, R> {
 }
 
 impl<'s, R: Store> Memory<'s, R> {
+    /// The store is given back.
+    pub fn into_store(self) -> &'s mut R
+        ensures lent { result.ghost_name ≡ self.entry.heap.lent }
+        ensures store { result.now ≡ self.entry.heap.store }
+    {
+        let Self {
+            stack: _,
+            base: _,
+            waits: _,
+            taken: _,
+            heap,
+            moves: _,
+            input: _,
+            read: _,
+        } = self;
+        heap.into_store()
+    }
+
     /// No words.
     pub fn new(alloc: Global, store: &'s mut R, input: &'s [u8]) -> Memory<'s, R>
         ensures stack { result.stack ≡ [] }
         ensures base { result.base ≡ 0 }
         ensures waits { result.waits ≡ [] }
-        ensures heap { result.heap ≡ record { store = store.old; lengths = []; numbers = []; made = 0; freed = 0; live = 0 } }
+        ensures heap { result.heap ≡ record { store = store.entry.now; lent = store.entry.ghost_name; lengths = []; numbers = []; made = 0; freed = 0; live = 0 } }
         ensures moves { result.moves ≡ [] }
         ensures input { result.input ≡ input.now }
         ensures read { result.read ≡ 0 }

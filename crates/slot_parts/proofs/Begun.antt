@@ -12,13 +12,14 @@ use Rattle.slot_parts.specs.Stages.{between_of}
 use Rattle.slot_parts.specs.Begins.{AreSilent, IsBegun}
 
 -- Nothing was told yet.
-pub begun : {R : Type 0} (Means : R → Heap → Type 0) (table : Table) (program : Program) (bytes : List ℕ) (declares : Bool) (p : Parts R)
-    → IsStarted Means table program bytes declares p.memory p.frames p.words → AreSilent p → IsBegun Means table program bytes declares p
-begun Means table program bytes declares p is silent = record {
+pub begun : {R : Type 0} (Means : R → Heap → Type 0) (table : Table) (program : Program) (lent : ℕ) (bytes : List ℕ) (declares : Bool) (p : Parts R)
+    → IsStarted Means table program lent bytes declares p.memory p.frames p.words → AreSilent p → IsBegun Means table program lent bytes declares p
+begun Means table program lent bytes declares p is silent = record {
   ghosts = is.ghosts;
   between = record { stacked = is.between.stacked; base = is.between.base; read = is.between.read };
   stands = record { memory = is.stands.memory; settled = is.stands.settled };
   input = is.input;
+  lent = is.lent;
   words = is.words;
   state =
       let s = stage_of (between_of p) is.ghosts in

@@ -1,5 +1,5 @@
 -- What a step comes to, by what its point may come to from each of the slots that the memory stands for.
-use Rattle.std.proofs.Common.{◌≡◌, ◌≢◌, ℕ, true, List, [], ◌++◌, sym, ap, subst, ◌∙◌, Option, Result, Ok, Err}
+use Rattle.std.proofs.Common.{◌≡◌, ◌≢◌, ℕ, true, List, [], ◌++◌, refl, sym, ap, subst, ◌∙◌, Option, Some, None, Result, Ok, Err}
 use Rattle.std.specs.Prelude.{OnOk, IfErr}
 use Rattle.type_definitions.specs.Types.{Table}
 use Rattle.machine.specs.States.{Leak}
@@ -13,8 +13,10 @@ use Rattle.run_codes.specs.Codes.{Point}
 use Rattle.run_results.specs.Results.{leaks_of}
 use Rattle.handled_runs.specs.Slots.{Slots}
 use Rattle.handled_steps.specs.States.{Outcome, Turn, goes, leaking_goes}
-use Rattle.slot_memory.specs.Memory.{Kept, Ghosts, Shows, slots, ghosts_of, elsewhere}
+use Rattle.slot_memory.specs.Memory.{Kept, Ghosts, Shows, Elsewhere, slots, ghosts_of, elsewhere}
 use Rattle.slot_runs.specs.Turns.{Setting, NeverFails}
+use Rattle.run_codes.specs.Programs.{Program}
+use Rattle.slot_frames.specs.Stacks.{Stacked}
 use Rattle.slot_stages.specs.Leads.{LeadsTo}
 use Rattle.slot_entries.specs.Entries.{stacked_words}
 use Rattle.slot_leads.proofs.Led.{led_bytes, led_between, led_goes, led_telling}
@@ -29,6 +31,11 @@ use Rattle.slot_parts.specs.Ways.{MayGo, MayTell, MayHalt}
 -- What the memory shows.
 shown_made : {R : Type 0} (Means : R → Heap → Type 0) (m : Kept R) (s : Slots) → Shows Means m s → s.made ≡ m.heap.made
 shown_made Means m s is = sym (ap (λ (x : Slots). x.made) is.1)
+
+-- Where the run goes on changes nothing of the store.
+pub led_lent : {R : Type 0} (table : Table) (program : Program) (k : ℕ) (next : Option ℕ) (m q : Kept R) (s t : Stacked) → LeadsTo table program k next m s q t → q.heap.lent ≡ m.heap.lent
+led_lent table program k (Some n) m q s t to = ap (λ (x : Kept _). x.heap.lent) to.0
+led_lent table program k None m q s t to = ap (λ (x : Kept _). x.heap.lent) to.memory
 
 module _ {R : Type 0} (Means : R → Heap → Type 0) (codes : Codes) (table : Table) (point : PointRow) (k : ℕ) (old : Parts R) (at : IsAt Means codes table point k old) where
   abbrev c : Setting
@@ -54,6 +61,9 @@ module _ {R : Type 0} (Means : R → Heap → Type 0) (codes : Codes) (table : T
       input = led_bytes Means c p k (between_of old) g at.between stands at.latest m (ghosts_of s) shows.0 settled same next (between_of new) to;
     }
 
+    lent_by : new.memory.heap.lent ≡ old.memory.heap.lent
+    lent_by = led_lent table (program_of codes) k next m new.memory old.frames new.frames to ∙ ap (λ (e : Elsewhere). e.lent) same
+
     pub goes_by : new.leaks.items ≡ old.leaks.items → ((g : Ghosts) → StandAt Means (between_of old) g → NeverFails (May g) → MayGo Means (here g) (May g) m next)
         → StepsOf Means codes table point (Ok true) old new
     goes_by leaks goes_on =
@@ -64,6 +74,7 @@ module _ {R : Type 0} (Means : R → Heap → Type 0) (codes : Codes) (table : T
                 let x = goes_on g stands fine in
                 led_goes Means c p k (between_of old) g at.between stands at.latest m (ghosts_of x.after) x.shows.0 x.settled same next (between_of new) to
                 output (ap leaks_of leaks) (subst (λ s. May g (goes (here g) s next)) (sym x.shows.1) x.comes);
+            lent = lent_by;
           };
           left = left_by at.can.ghosts at.can.stands first.after first.shows first.settled;
         }
@@ -79,27 +90,29 @@ module _ {R : Type 0} (Means : R → Heap → Type 0) (codes : Codes) (table : T
                 let x = goes_on g stands fine in
                 led_telling Means c p k (between_of old) g at.between stands at.latest m (ghosts_of x.after) x.shows.0 x.settled same next (between_of new) to
                 leaks output told (subst (λ s. May g (leaking_goes (here g) leaks s next)) (sym x.shows.1) x.comes);
+            lent = lent_by;
           };
           left = left_by at.can.ghosts at.can.stands first.after first.shows first.settled;
         }
 
   -- ---- it stops
 
-  pub halts_by : (h : Halt) (new : Parts R) → new.output.items ≡ old.output.items → new.leaks.items ≡ old.leaks.items
-      → (h.stop ≢ stop.Memory → (g : Ghosts) → StandAt Means (between_of old) g → NeverFails (May g) → MayHalt (here g) (May g) h)
+  pub halts_by : (h : Halt) (new : Parts R) → (h.stop ≢ stop.Memory → new.memory.heap.lent ≡ old.memory.heap.lent) → new.output.items ≡ old.output.items → new.leaks.items ≡ old.leaks.items
+      → (h.stop ≢ stop.Memory → (g : Ghosts) → StandAt Means (between_of old) g → NeverFails (May g) → MayHalt Means (here g) (May g) new.memory h)
       → StepsOf Means codes table point (Err h) old new
-  halts_by h new output leaks halts = record {
+  halts_by h new lent output leaks halts = record {
     steps = record {
       steps = λ g stands fine other.
           let x = halts other g stands fine in
-          record { memory = x.after; comes = x.comes; made = x.made; output = output; leaks = ap leaks_of leaks };
+          record { memory = x.after; comes = x.comes; made = x.made; output = output; leaks = ap leaks_of leaks; ghosts = ghosts_of x.after; stands = x.shows.0; slots = refl };
+      lent = lent;
     };
     left = tt;
   }
 
   -- Nothing is told where there is too little memory.
   pub memory_by : (h : Halt) (new : Parts R) → h.stop ≡ stop.Memory → StepsOf Means codes table point (Err h) old new
-  memory_by h new memory = record { steps = record { steps = λ g stands fine other. absurd (other memory) }; left = tt }
+  memory_by h new memory = record { steps = record { steps = λ g stands fine other. absurd (other memory); lent = λ other. absurd (other memory) }; left = tt }
 
   -- By what is known where it goes on.
   pub leads_by : {U : Type 0} (r : Result U Halt) (new : Parts R) (Led : Type 0) → OnOk r Led → IfErr r (λ h. h.stop ≡ stop.Memory)

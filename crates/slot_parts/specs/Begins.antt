@@ -17,10 +17,11 @@ pub record AreSilent {R : Type 0} (p : Parts R) : Type 0 where
   pub leaks : p.leaks.items ≡ []
 
 -- What is kept is that of the state at the start.
-pub record IsBegun {R : Type 0} (Means : R → Heap → Type 0) (table : Table) (program : Program) (bytes : List ℕ) (declares : Bool) (p : Parts R) : Type 0 where
+pub record IsBegun {R : Type 0} (Means : R → Heap → Type 0) (table : Table) (program : Program) (reference : ℕ) (bytes : List ℕ) (declares : Bool) (p : Parts R) : Type 0 where
   pub ghosts : Ghosts
   pub between : IsBetween (between_of p)
   pub stands : StandAt Means (between_of p) ghosts
   pub input : p.memory.input ≡ bytes
+  pub lent : p.memory.heap.lent ≡ reference
   pub words : p.words ≡ stacked_words p.frames
   pub state : state_of (stage_of (between_of p) ghosts) ≡ state_at_start table program declares

@@ -22,8 +22,9 @@ pub record MayTell {R : Type 0} (Means : R → Heap → Type 0) (t : Turn) (May 
   pub settled : after.moves ≡ []
   pub comes : May (leaking_goes t leaks after next)
 
--- The point may stop, with so many cells made.
-pub record MayHalt (t : Turn) (May : Outcome → Type 0) (h : Halt) : Type 0 where
+-- The point may stop, with so many cells made and slots that the memory stands for.
+pub record MayHalt {R : Type 0} (Means : R → Heap → Type 0) (t : Turn) (May : Outcome → Type 0) (m : Kept R) (h : Halt) : Type 0 where
   pub after : Slots
   pub comes : May (halted t (stop_of h.stop) after)
   pub made : after.made ≡ h.made
+  pub shows : Shows Means m after

@@ -21,7 +21,7 @@ use type_table::TypeTable;
 
 /// The only frame is the one of a subprogram, which has no words yet.
 fn first<'r, R: Store>(alloc: Global, store: &'r mut R, input: &'r [u8], sub: Sub) -> Parts<'r, R>
-    ensures first { IsFirst store.old sub input.now result.memory result.frames result.words }
+    ensures first { IsFirst store.old store.entry.ghost_name sub input.now result.memory result.frames result.words }
     ensures silent { AreSilent result }
 {
     Parts {
@@ -70,7 +70,7 @@ fn first_frame<'r, R: Store>(
     input: &'r [u8],
 ) -> Result<Parts<'r, R>, Stop>
     requires { IsWhole codes.now }
-    ensures packages { IfOk result (λ p. HasPackages table.now (program_of codes.now) store.old input.now p.memory p.frames p.words) }
+    ensures packages { IfOk result (λ p. HasPackages table.now (program_of codes.now) store.old store.entry.ghost_name input.now p.memory p.frames p.words) }
     ensures silent { IfOk result (λ p. AreSilent p) }
 {
     let sub = sub_at(codes, 0);
@@ -110,7 +110,7 @@ pub fn begin<'r, R: Store>(
 ) -> Result<Parts<'r, R>, AllocError>
     requires whole { IsWhole codes.now }
     requires store { R.Means store.old no_heap }
-    ensures { IfOk result (λ p. IsBegun R.Means table.now (program_of codes.now) input.now declares p) }
+    ensures { IfOk result (λ p. IsBegun R.Means table.now (program_of codes.now) store.entry.ghost_name input.now declares p) }
 {
     let Ok(mut parts) = first_frame(alloc, codes, table, store, input) else {
         return Err(AllocError);

@@ -13,7 +13,7 @@ use Rattle.slot_turns.specs.declared.halt.Halt.{Halt}
 use Rattle.slot_turns.specs.declared.overs.Over.{Over}
 use Rattle.slot_turns.specs.Steps.{DoneAt}
 use Rattle.slot_turns.specs.Overs.{IsCounted}
-use Rattle.slot_turns.proofs.Ended.{ended_over, halts_over, counted_freed}
+use Rattle.slot_turns.proofs.Ended.{ended_over, halts_over, counted_freed, not_memory}
 use Rattle.slot_steps.specs.slot_parts.declared.parts.Parts.{Parts}
 use Rattle.slot_steps.specs.slot_parts.Stages.{between_of, setting_of, IsAt}
 use Rattle.slot_steps.specs.slot_parts.Steps.{StepsOf}
@@ -33,7 +33,7 @@ module _ {R : Type 0} (Means : R → Heap → Type 0) (codes : Codes) (table : T
   pub on_turn : StepsOf Means codes table point (Ok true) old new → IsPointTurn Means codes table point None old new
   on_turn is =
       let x = is.steps.steps at.can.ghosts at.can.stands at.can.fine in
-      record { turns = is.steps.steps; kept = (is.left, (x.ghosts, x.stands.memory)) }
+      record { turns = is.steps.steps; kept = (is.left, (x.ghosts, x.stands.memory)); lent = is.steps.lent }
 
   -- It is over after the end of the main procedure.
   pub end_known : StepsOf Means codes table point (Ok false) old new → IsKnown Means new.memory
@@ -45,6 +45,7 @@ module _ {R : Type 0} (Means : R → Heap → Type 0) (codes : Codes) (table : T
   end_turn over is normal made freed = record {
     turns = λ g stands fine. ended_over Means (DoneAt c p (between_of old) g) (between_of new) over (is.steps.steps g stands fine) normal made freed;
     kept = tt;
+    lent = is.steps.lent;
   }
 
   -- It is over where the point raises.
@@ -53,7 +54,8 @@ module _ {R : Type 0} (Means : R → Heap → Type 0) (codes : Codes) (table : T
       → IsPointTurn Means codes table point (Some over) old new
   halt_turn h made freed over is made_is freed_is counted = record {
     turns = λ g stands fine.
-        halts_over c p point.pos (between_of old) (between_of new) g h made freed over refl (is.steps.steps g stands fine) made_is
+        halts_over Means c p point.pos (between_of old) (between_of new) g h made freed over refl (is.steps.steps g stands fine) made_is
         (counted_freed old.memory.heap.freed old.memory.heap.made made freed made_is freed_is) counted;
     kept = tt;
+    lent = is.steps.lent (not_memory h.stop point.pos over.ending counted.ending);
   }

@@ -21,22 +21,23 @@ use Rattle.slot_turns.proofs.Turned.{over_rests}
 use Rattle.slot_steps.specs.slot_parts.declared.parts.Parts.{Parts}
 use Rattle.slot_steps.specs.slot_parts.Stages.{between_of, setting_of}
 use Rattle.slot_steps.specs.slot_parts.Begins.{IsBegun}
-use Rattle.slot_running.specs.Runs.{Running, running_setting, running_untold, RunStands, AreKept, IsAtStart, CanTurn, IsTurn}
+use Rattle.slot_running.specs.Runs.{Running, running_lent, running_setting, running_untold, RunStands, AreKept, IsAtStart, CanTurn, IsTurn}
 
 -- ---- the start
 
-pub starts : {R : Type 0} (Means : R → Heap → Type 0) (codes : Codes) (table : Table) (input : List ℕ) (declares : Bool) (p : Parts R) → IsBegun Means table (program_of codes) input declares p
-    → IsAtStart Means table (program_of codes) input declares (record { codes = codes; table = table; input = input; between = between_of p; over = None })
-starts Means codes table input declares p is = record {
+pub starts : {R : Type 0} (Means : R → Heap → Type 0) (codes : Codes) (table : Table) (lent : ℕ) (input : List ℕ) (declares : Bool) (p : Parts R) → IsBegun Means table (program_of codes) lent input declares p
+    → IsAtStart Means table (program_of codes) lent input declares (record { codes = codes; table = table; input = input; between = between_of p; over = None })
+starts Means codes table lent input declares p is = record {
   setting = refl;
   inside = inside_of (stage_of (between_of p) is.ghosts);
   stands = record { ghosts = is.ghosts; between = is.between; stands = is.stands; bytes = is.input; is = refl };
   start = is.state;
+  lent = is.lent;
 }
 
-pub starts_kept : {R : Type 0} (Means : R → Heap → Type 0) (table : Table) (program : Program) (input : List ℕ) (declares : Bool) (p : Parts R) → IsBegun Means table program input declares p
+pub starts_kept : {R : Type 0} (Means : R → Heap → Type 0) (table : Table) (program : Program) (lent : ℕ) (input : List ℕ) (declares : Bool) (p : Parts R) → IsBegun Means table program lent input declares p
     → AreKept Means None p
-starts_kept Means table program input declares p is = ((is.ghosts, is.stands.memory), is.words)
+starts_kept Means table program lent input declares p is = ((is.ghosts, is.stands.memory), is.words)
 
 -- ---- steps
 
@@ -47,13 +48,13 @@ module _ {R : Type 0} (Means : R → Heap → Type 0) (codes : Codes) (table : T
 
   pub kept_words : (over : Option Over) → CanRun over → AreKept Means over old → old.words ≡ stacked_words old.frames
   kept_words None can kept = kept.1
-  kept_words (Some over) can kept = absurd (over_rests over can.inside can.stands can.running)
+  kept_words (Some over) can kept = absurd (over_rests Means over (between_of old) can.inside can.stands can.running)
 
   pub can_turn : (over : Option Over) → CanRun over → CanTurn Means codes table old
   can_turn None can =
       let P : List ℕ → Type 0 = λ i. CanStep (setting_of codes table i) (untold_of (between_of old)) (IsInside Means (between_of old) i) in
       subst P (sym can.stands.bytes) can
-  can_turn (Some over) can = absurd (over_rests over can.inside can.stands can.running)
+  can_turn (Some over) can = absurd (over_rests Means over (between_of old) can.inside can.stands can.running)
 
   module _ (new : Parts R) where
     turned_here : (bytes : old.memory.input ≡ input) (next : Option Over) → IsTurn Means codes table next old new
@@ -70,7 +71,7 @@ module _ {R : Type 0} (Means : R → Heap → Type 0) (codes : Codes) (table : T
         → Turns (setting_of codes table input) (untold_of (between_of old)) (StandsWith Means over input (between_of old))
         (turned None) (untold_of (between_of new)) (StandsWith Means over input (between_of new))
     run_on None can is = turned_here can.stands.bytes None is
-    run_on (Some over) can is = absurd (over_rests over can.inside can.stands can.running)
+    run_on (Some over) can is = absurd (over_rests Means over (between_of old) can.inside can.stands can.running)
 
     pub run_kept : (over : Option Over) → CanRun over → IsTurn Means codes table None old new → AreKept Means over new
     run_kept None can is = is.kept
@@ -81,7 +82,7 @@ module _ {R : Type 0} (Means : R → Heap → Type 0) (codes : Codes) (table : T
         → Turns (setting_of codes table input) (untold_of (between_of old)) (StandsWith Means over input (between_of old))
         (turned (Some last)) (untold_of (between_of new)) (StandsWith Means (Some last) input (between_of new))
     run_over None last can is = turned_here can.stands.bytes (Some last) is
-    run_over (Some over) last can is = absurd (over_rests over can.inside can.stands can.running)
+    run_over (Some over) last can is = absurd (over_rests Means over (between_of old) can.inside can.stands can.running)
 
 -- ---- a run with its view
 
@@ -120,6 +121,10 @@ module _ {R : Type 0} (Means : R → Heap → Type 0) (r : Running R) (codes : C
         (running_untold (view codes table input new (Some last))) (RunStands Means (view codes table input new (Some last))) in
         subst P is (run_over Means codes table input p new over last can_here turned_is)
 
+  -- The store is the one that was lent by the same reference.
+  pub step_lent : (next : Option Over) (new : Parts R) → IsTurn Means codes table next p new → new.memory.heap.lent ≡ running_lent r
+  step_lent next new turned_is = turned_is.lent ∙ ap (λ (x : Running R). running_lent x) is
+
 -- ---- what was told
 
 inside_still : {R : Type 0} (Means : R → Heap → Type 0) (b : Between R) (output : List ℕ) (leaks : List Leak) (input : List ℕ)
@@ -135,7 +140,7 @@ inside_still Means b output leaks input x at = record {
 pub still : {R : Type 0} (Means : R → Heap → Type 0) (over : Option Over) (b : Between R) (output : List ℕ) (leaks : List Leak) (input : List ℕ)
     → Still (StandsWith Means over input b) (StandsWith Means over input (record b { output = output; leaks = leaks }))
 still Means None b output leaks input x at = inside_still Means b output leaks input x at
-still Means (Some over) b output leaks input x at = at
+still Means (Some over) b output leaks input x at = record { frames = at.frames; made = at.made; freed = at.freed; means = at.means }
 
 pub still_kept : {R : Type 0} (Means : R → Heap → Type 0) (over : Option Over) (old new : Parts R) → new.memory ≡ old.memory → new.words ≡ old.words → new.frames ≡ old.frames
     → AreKept Means over old → AreKept Means over new

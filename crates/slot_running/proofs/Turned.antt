@@ -33,21 +33,21 @@ use Rattle.slot_running.specs.Points.{IsPointTurn}
 module _ {R : Type 0} (Means : R → Heap → Type 0) (c : Setting) (p : Point) (k : ℕ) (old : Between R)
     (there : slice_get c.program.points old.stacked.frame.next ≡ Some p) (latest : AreLatest old.stacked p.takes k) where
   pub turns_over : (over : Over) (new : Between R)
-      → ((g : Ghosts) → StandAt Means (taking old k) g → NeverFails (DoneAt c p (taking old k) g) → IsOver (DoneAt c p (taking old k) g) over new)
-      → Turns c (untold_of old) (IsInside Means old c.input) (turned (Some over)) (untold_of new) (IsCountedAs over)
+      → ((g : Ghosts) → StandAt Means (taking old k) g → NeverFails (DoneAt c p (taking old k) g) → IsOver Means (DoneAt c p (taking old k) g) over new)
+      → Turns c (untold_of old) (IsInside Means old c.input) (turned (Some over)) (untold_of new) (IsCountedAs Means over new)
   turns_over over new comes x at runs_on fine =
       let r = stage_of old at.ghosts in
-      let P : Inside → Type 0 = λ y. runs.IsTurned (OneStep c (runs.state_of (untold_of old) y)) (turned (Some over)) (untold_of new) (IsCountedAs over) in
+      let P : Inside → Type 0 = λ y. runs.IsTurned (OneStep c (runs.state_of (untold_of old) y)) (turned (Some over)) (untold_of new) (IsCountedAs Means over new) in
       let here : NeverFails (OneStep c (state_of r)) = subst (λ y. NeverFails (OneStep c (runs.state_of (untold_of old) y))) at.is fine in
       let done : NeverFails (DoneAt c p (taking old k) at.ghosts) = done_fine c r p k there at.bytes latest here in
       let is = comes at.ghosts (taking_stands Means old k at.ghosts at.stands) done in
-      let m = record (slots old.kept at.ghosts) { made = over.made; freed = over.freed } in
+      let m = record (slots old.kept at.ghosts) { heap = is.heap; made = over.made; freed = over.freed } in
       subst P (sym at.is) (record {
         state = is.state;
         comes = step_is c r p k (Ends (ending_of over.ending) is.state) there at.bytes latest is.comes;
         inside = record { memory = m; frames = []; at = 0 };
-        stands = record { frames = refl; made = refl; freed = refl };
-        seen = record { output = is.output; leaks = is.leaks; made = is.made; freed = is.freed };
+        stands = record { frames = refl; made = refl; freed = refl; means = is.means };
+        seen = record { output = is.output; leaks = is.leaks; made = is.made; freed = is.freed; slots = is.slots };
       })
 
 -- ---- the next point
@@ -89,8 +89,13 @@ module _ {R : Type 0} (Means : R → Heap → Type 0) (codes : Codes) (table : T
       turn_here new None is = record {
         turns = turns_to Means c (point_of codes point) k (between_of old) there latest None (between_of new) is.kept.0.between is.kept.0.input is.turns;
         kept = (is.kept.1, is.kept.0.words);
+        lent = is.lent;
       }
-      turn_here new (Some over) is = record { turns = turns_over Means c (point_of codes point) k (between_of old) there latest over (between_of new) is.turns; kept = tt }
+      turn_here new (Some over) is = record {
+        turns = turns_over Means c (point_of codes point) k (between_of old) there latest over (between_of new) is.turns;
+        kept = tt;
+        lent = is.lent;
+      }
 
       turn_is : (m : Kept R) (new : Parts R) (over : Option Over) → m ≡ taken → IsPointTurn Means codes table point over (record old { memory = m }) new
           → IsTurn Means codes table over old new

@@ -1,5 +1,5 @@
 -- What the step of a point comes to as a turn.
-use Rattle.std.specs.Prelude.{Option, Some, None}
+use Rattle.std.specs.Prelude.{◌≡◌, Option, Some, None}
 use Rattle.type_definitions.specs.Types.{Table}
 use Rattle.slot_heap.specs.Heaps.{Heap}
 use Rattle.code_rows.specs.declared.point.Point.{Point}
@@ -27,3 +27,4 @@ pub record IsPointTurn {R : Type 0} (Means : R → Heap → Type 0) (codes : Cod
       → NeverFails (DoneAt (setting_of codes table old.memory.input) (point_of codes point) (between_of old) g)
       → TurnsTo Means (DoneAt (setting_of codes table old.memory.input) (point_of codes point) (between_of old) g) over (between_of new)
   pub kept : KeptBy Means over old new
+  pub lent : new.memory.heap.lent ≡ old.memory.heap.lent

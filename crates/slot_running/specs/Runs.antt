@@ -28,6 +28,10 @@ running_setting r = setting_of r.codes r.table r.input
 abbrev pub running_untold : {R : Type 0} → Running R → Untold
 running_untold r = untold_of r.between
 
+-- The reference by which its store was lent.
+abbrev pub running_lent : {R : Type 0} → Running R → ℕ
+running_lent r = r.between.kept.heap.lent
+
 -- What the run stands for.
 abbrev pub RunStands : {R : Type 0} → (R → Heap → Type 0) → Running R → Inside → Type 0
 RunStands Means r x = StandsWith Means r.over r.input r.between x
@@ -38,11 +42,12 @@ AreKept Means None p = IsKnown Means p.memory × (p.words ≡ stacked_words p.fr
 AreKept Means (Some over) p = Unit
 
 -- The run stands before the first step of a program.
-pub record IsAtStart {R : Type 0} (Means : R → Heap → Type 0) (table : Table) (program : Program) (input : List ℕ) (declares : Bool) (r : Running R) : Type 0 where
+pub record IsAtStart {R : Type 0} (Means : R → Heap → Type 0) (table : Table) (program : Program) (reference : ℕ) (input : List ℕ) (declares : Bool) (r : Running R) : Type 0 where
   pub setting : running_setting r ≡ record { table = table; program = program; input = input }
   pub inside : Inside
   pub stands : RunStands Means r inside
   pub start : state_of (running_untold r) inside ≡ state_at_start table program declares
+  pub lent : running_lent r ≡ reference
 
 -- ---- turns
 
@@ -57,3 +62,4 @@ pub record IsTurn {R : Type 0} (Means : R → Heap → Type 0) (codes : Codes) (
       Turns (setting_of codes table old.memory.input) (untold_of (between_of old)) (IsInside Means (between_of old) old.memory.input)
       (turned over) (untold_of (between_of new)) (StandsWith Means over old.memory.input (between_of new))
   pub kept : AreKept Means over new
+  pub lent : new.memory.heap.lent ≡ old.memory.heap.lent

@@ -2,7 +2,7 @@
 ghost use Rattle.std.specs.Prelude.{◌≡◌, IfOk};
 ghost use Rattle.code_rows.specs.Points.{program_of, IsWhole};
 ghost use Rattle.slot_heap.specs.Heaps.{no_heap};
-ghost use Rattle.slot_running.specs.Runs.{IsAtStart, RunStands, running_setting, running_untold};
+ghost use Rattle.slot_running.specs.Runs.{IsAtStart, RunStands, running_lent, running_setting, running_untold};
 
 use crate::turns::{ended, turn};
 use code_rows::Codes;
@@ -67,7 +67,7 @@ impl<'r, R: Store> Run<'r, R> {
     ) -> Result<Run<'r, R>, AllocError>
         requires whole { IsWhole codes }
         requires store { R.Means store.old no_heap }
-        ensures { IfOk result (λ run. IsAtStart R.Means table.now (program_of codes) input.now declares run) }
+        ensures { IfOk result (λ run. IsAtStart R.Means table.now (program_of codes) store.entry.ghost_name input.now declares run) }
     {
         let parts = begin(alloc, &codes, table, store, input, declares)?;
         Ok(Run {
@@ -79,6 +79,23 @@ impl<'r, R: Store> Run<'r, R> {
             passing: Passing::new(alloc),
             over: None,
         })
+    }
+
+    /// The store is given back.
+    pub fn into_store(self) -> &'r mut R
+        ensures lent { result.ghost_name ≡ running_lent self.entry }
+        ensures store { result.now ≡ self.entry.between.kept.heap.store }
+    {
+        let Self {
+            alloc: _,
+            codes: _,
+            table: _,
+            input: _,
+            parts,
+            passing: _,
+            over: _,
+        } = self;
+        parts.into_store()
     }
 }
 
@@ -95,6 +112,8 @@ impl<'r, R: Store> Stepping for Run<'r, R> {
     ghost setting = { running_setting };
 
     ghost untold = { running_untold };
+
+    ghost lent = { running_lent };
 
     ghost Stands = { RunStands R.Means };
 

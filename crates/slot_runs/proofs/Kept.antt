@@ -127,6 +127,7 @@ ends files c start now lines leaked first n steps u v S T e is end =
       inside = end.inside;
       stands = end.stands;
       gives = ap (λ s. Some (ran_with (ending_of e) s)) w.2 ∙ ap Some (seen_same (ending_of e) q end.state (state_of v end.inside) end.seen);
+      slots = ap (λ (s : State). s.memory.heap.slots) w.2 ∙ end.seen.slots;
     }
 
 -- No step is left.
@@ -141,6 +142,7 @@ spent files c start now lines leaked first steps u S is = record {
   inside = is.inside;
   stands = is.stands;
   gives = ap (λ s. Some (ran_with Spent s)) is.same;
+  slots = ap (λ (s : State). s.memory.heap.slots) is.same;
 }
 
 -- ---- tellings
@@ -195,7 +197,7 @@ pub answered : (files : List (List ℕ)) (c : Setting) (start old new : Sinks) (
     → v ≡ record u { leaks = [] } → all ≡ lines ++ leak_lines files u.leaks → count ≡ leaked + length u.leaks
     → Appends old.output new.output v.output → Appends old.lines new.lines all
     → ((x : Inside) → T x → made ≡ x.memory.made) → ((x : Inside) → T x → freed ≡ x.memory.freed)
-    → IsWritten files (SomeSteps most c first) (record { ending = e; steps = steps; made = made; freed = freed; leaked = count }) start new
+    → IsWritten files (SomeSteps most c first) T (record { ending = e; steps = steps; made = made; freed = freed; leaked = count }) start new
 answered files c start old new lines all leaked count first most e steps made freed u v S T is still none more counted output written cells gone =
     let p : Past = is.past in
     let stands : T is.inside = still is.inside is.stands in
@@ -217,6 +219,9 @@ answered files c start old new lines all leaked count first most e steps made fr
       };
       output = owed_all start.output new.output (p.output ++ u.output) (owed_written start.output old.output new.output u.output (p.output ++ u.output) (owed_more start.output old.output [] p.output u.output is.told.output) put);
       lines = owed_all start.lines new.lines (leak_lines files (p.leaks ++ u.leaks)) (owed_written start.lines old.lines new.lines all (leak_lines files (p.leaks ++ u.leaks)) (subst (λ l. Owes start.lines old.lines l (leak_lines files (p.leaks ++ u.leaks))) (sym more) told) written);
+      inside = is.inside;
+      left = stands;
+      slots = is.slots;
     }
 
 -- ---- numbers of steps

@@ -3,7 +3,7 @@ use Rattle.std.specs.Prelude.{◌≡◌, ◌≤◌, ℕ, List, Some}
 use Rattle.std.specs.Io.KnownBytes.{Appends}
 use Rattle.machine.specs.States.{Ending}
 use Rattle.run_codes.specs.Points as points
-use Rattle.handled_steps.specs.States.{State, Outcome}
+use Rattle.handled_steps.specs.States.{State, Outcome, Ends}
 use Rattle.handled_steps.specs.Runs.{given, ran_with}
 use Rattle.run_results.specs.declared.ran.Ran.{Ran}
 use Rattle.run_results.specs.Results.{IsRun}
@@ -11,6 +11,11 @@ use Rattle.run_results.specs.Lines.{leak_lines}
 use Rattle.slot_runs.specs.Pasts.{Past, since}
 use Rattle.slot_runs.specs.Turns.{Setting, Untold, Inside, state_of, IsRunning, SomeSteps, NeverFails}
 use Rattle.slot_runs.specs.Tellings.{Sinks, IsTold, HaveFronts}
+
+-- The run ends, and its heap has these slots then.
+abbrev pub EndsWith : List ℕ → Outcome → Type 0
+EndsWith slots (Ends e s) = s.memory.heap.slots ≡ slots
+EndsWith slots _ = ⊥
 
 -- Within so many steps from a first state an outcome may come that is this ending after so many steps, with a state of
 -- which some was told.
@@ -25,9 +30,11 @@ pub record IsOver
   pub inside : Inside
   pub stands : Stands inside
   pub gives : given outcome ≡ Some (ran_with e (since past (state_of u inside)))
+  pub slots : EndsWith inside.memory.heap.slots outcome
 
--- An outcome may come that is this run; one sink got its output, and the other one its leak lines.
-pub record IsWritten (files : List (List ℕ)) (Whole : Outcome → Type 0) (ran : Ran) (old new : Sinks) : Type 0 where
+-- An outcome may come that is this run; one sink got its output, and the other one its leak lines. What is left of it
+-- stands for an inside with the slots of the outcome.
+pub record IsWritten (files : List (List ℕ)) (Whole : Outcome → Type 0) (Left : Inside → Type 0) (ran : Ran) (old new : Sinks) : Type 0 where
   pub outcome : Outcome
   pub comes : Whole outcome
   pub run : points.Ran
@@ -35,6 +42,9 @@ pub record IsWritten (files : List (List ℕ)) (Whole : Outcome → Type 0) (ran
   pub is : IsRun run ran
   pub output : Appends old.output new.output run.output
   pub lines : Appends old.lines new.lines (leak_lines files run.leaks)
+  pub inside : Inside
+  pub left : Left inside
+  pub slots : EndsWith inside.memory.heap.slots outcome
 
 -- No answer is given. The sinks have fronts of the output and of the leak lines that the run may have within some
 -- budget up to the limit.
@@ -60,8 +70,8 @@ abbrev pub CanStart : (limit : ℕ) (c : Setting) (u : Untold) (Stands : Inside 
 CanStart limit c u Stands = (x : Inside) × CanRun limit c u Stands x
 
 -- The run was written that may come from each state from which it can be made.
-abbrev pub Writes : (files : List (List ℕ)) (limit : ℕ) (c : Setting) (u : Untold) (Stands : Inside → Type 0) (ran : Ran) (old new : Sinks) → Type 0
-Writes files limit c u Stands ran old new = (x : Inside) → CanRun limit c u Stands x → IsWritten files (SomeSteps limit c (state_of u x)) ran old new
+abbrev pub Writes : (files : List (List ℕ)) (limit : ℕ) (c : Setting) (u : Untold) (Stands Left : Inside → Type 0) (ran : Ran) (old new : Sinks) → Type 0
+Writes files limit c u Stands Left ran old new = (x : Inside) → CanRun limit c u Stands x → IsWritten files (SomeSteps limit c (state_of u x)) Left ran old new
 
 -- A front of it was.
 abbrev pub Cuts : (files : List (List ℕ)) (limit : ℕ) (c : Setting) (u : Untold) (Stands : Inside → Type 0) (old new : Sinks) → Type 0

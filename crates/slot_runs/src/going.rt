@@ -1,5 +1,5 @@
 //! Steps of which nothing is told.
-ghost use Rattle.std.specs.Prelude.{◌≡◌, ◌≤◌, ◌<◌, IfOk};
+ghost use Rattle.std.specs.Prelude.{◌≡◌, ◌≤◌, ◌<◌, IfOk, OnOk};
 ghost use Rattle.slot_runs.specs.Goings.{IsGoing, LeadsOn};
 
 use crate::stepping::{Stepping, Turn};
@@ -20,6 +20,7 @@ pub(crate) fn go<S: Stepping>(run: &mut S, limit: u64) -> Result<(u64, Turn), Al
     requires some { 0 < limit }
     requires going { IsGoing (S.setting run.old) limit (S.untold run.old) (S.Stands run.old) }
     ensures setting { S.setting run.new ≡ S.setting run.old }
+    ensures lent { OnOk result (S.lent run.new ≡ S.lent run.old) }
     ensures some { IfOk result (λ made. 0 < made.0) }
     ensures few { IfOk result (λ made. made.0 ≤ limit) }
     ensures led { IfOk result (λ made. LeadsOn (S.setting run.old) limit (S.untold run.old) (S.Stands run.old) made.0 made.1 (S.untold run.new) (S.Stands run.new)) }

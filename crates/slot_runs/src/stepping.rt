@@ -1,5 +1,5 @@
 //! What a run asks of its steps.
-ghost use Rattle.std.specs.Prelude.{◌≡◌, [], IfOk};
+ghost use Rattle.std.specs.Prelude.{◌≡◌, [], ℕ, IfOk, OnOk};
 ghost use Rattle.run_results.specs.Results.{leaks_of};
 ghost use Rattle.slot_runs.specs.Turns.{Setting, Untold, Inside, Still, CanStep, Turns};
 
@@ -23,6 +23,9 @@ pub trait Stepping {
     /// The output and the leaks that weren't taken yet.
     ghost untold: { Self → Untold };
 
+    /// The reference by which its store was lent.
+    ghost lent: { Self → ℕ };
+
     /// It stands for a state with these parts, and without steps. Which handles the heap gives its
     /// cells isn't said, so there may be more than one.
     ghost Stands: { Self → Inside → Type 0 };
@@ -31,6 +34,7 @@ pub trait Stepping {
     fn step(&mut self) -> Result<Turn, AllocError>
         requires known { CanStep (setting self.old) (untold self.old) (Stands self.old) }
         ensures setting { setting self.new ≡ setting self.old }
+        ensures lent { OnOk result (lent self.new ≡ lent self.old) }
         ensures turned { IfOk result (λ turn. Turns (setting self.old) (untold self.old) (Stands self.old) turn (untold self.new) (Stands self.new)) };
 
     /// The output that wasn't taken yet.
@@ -40,6 +44,7 @@ pub trait Stepping {
     /// It is taken.
     fn clear_output(&mut self)
         ensures setting { setting self.new ≡ setting self.old }
+        ensures lent { lent self.new ≡ lent self.old }
         ensures stands { Still (Stands self.old) (Stands self.new) }
         ensures untold { untold self.new ≡ record (untold self.old) { output = [] } };
 
@@ -50,6 +55,7 @@ pub trait Stepping {
     /// They are taken.
     fn clear_leaks(&mut self)
         ensures setting { setting self.new ≡ setting self.old }
+        ensures lent { lent self.new ≡ lent self.old }
         ensures stands { Still (Stands self.old) (Stands self.new) }
         ensures untold { untold self.new ≡ record (untold self.old) { leaks = [] } };
 

@@ -28,6 +28,7 @@ impl Drop for Told {
 /// The output is written, if it is long. Where that fails, some front of it may be written.
 fn tell_output<S: Stepping, K: Sink>(run: &mut S, out: &mut K) -> Result<(), ExecFault>
     ensures setting { S.setting run.new ≡ S.setting run.old }
+    ensures lent { S.lent run.new ≡ S.lent run.old }
     ensures stands { Still (S.Stands run.old) (S.Stands run.new) }
     ensures untold { S.untold run.new ≡ record (S.untold run.old) { output = (S.untold run.new).output } }
     ensures flushed { OnOk result (Flushes (K.written out.old) (K.written out.new) (S.untold run.old).output (S.untold run.new).output) }
@@ -51,6 +52,7 @@ pub(crate) fn tell_leaks<S: Stepping>(
     told: &mut Told,
 ) -> Result<(), ExecFault>
     ensures setting { S.setting run.new ≡ S.setting run.old }
+    ensures lent { S.lent run.new ≡ S.lent run.old }
     ensures stands { Still (S.Stands run.old) (S.Stands run.new) }
     ensures untold { OnOk result (S.untold run.new ≡ record (S.untold run.old) { leaks = [] }) }
     ensures lines { OnOk result (told.new.lines.items ≡ told.old.lines.items ++ leak_lines (map string_bytes files.now) (S.untold run.old).leaks) }
@@ -95,6 +97,7 @@ pub(crate) fn tell<S: Stepping, K: Sink>(
     err: &mut K,
 ) -> Result<(), ExecFault>
     ensures setting { S.setting run.new ≡ S.setting run.old }
+    ensures lent { S.lent run.new ≡ S.lent run.old }
     ensures stands { Still (S.Stands run.old) (S.Stands run.new) }
     ensures told { OnOk result (TellsOn (map string_bytes files.now)
         (record { output = K.written out.old; lines = K.written err.old }) (record { output = K.written out.new; lines = K.written err.new })

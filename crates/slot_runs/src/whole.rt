@@ -1,5 +1,5 @@
 //! Whole runs.
-ghost use Rattle.std.specs.Prelude.{◌≡◌, ◌≢◌, ◌≤◌, ◌⊎◌, ℕ, Err, OnErr, IfOk, map, string_bytes};
+ghost use Rattle.std.specs.Prelude.{◌≡◌, ◌≢◌, ◌≤◌, ◌⊎◌, ℕ, Err, OnOk, OnErr, IfOk, map, string_bytes};
 ghost use Rattle.spark_base.specs.Outside.{Rose};
 ghost use Rattle.handled_steps.specs.States.{State};
 ghost use Rattle.run_results.specs.Results.{ending_of};
@@ -27,7 +27,8 @@ fn answer<S: Stepping, K: Sink>(
 ) -> Result<Ran, ExecFault>
     ensures written { IfOk result (λ ran. (c : Setting) (first : State) (most : ℕ) (start : Sinks)
         → IsOver (map string_bytes files.now) c start (record { output = K.written out.old; lines = K.written err.old }) told.old.lines.items told.old.leaked first most (ending_of ending) steps (S.untold run.old) (S.Stands run.old)
-        → IsWritten (map string_bytes files.now) (SomeSteps most c first) ran start (record { output = K.written out.new; lines = K.written err.new })) }
+        → IsWritten (map string_bytes files.now) (SomeSteps most c first) (S.Stands run.new) ran start (record { output = K.written out.new; lines = K.written err.new })) }
+    ensures lent { OnOk result (S.lent run.new ≡ S.lent run.old) }
     ensures front { OnErr result (TellsFronts (map string_bytes files.now)
         (record { output = K.written out.old; lines = K.written err.old }) (record { output = K.written out.new; lines = K.written err.new })
         told.old.lines.items told.old.leaked (S.untold run.old)) }
@@ -62,8 +63,9 @@ pub fn run_whole<S: Stepping, K: Sink>(
     err: &mut K,
 ) -> Result<Ran, ExecFault>
     requires known { CanStart limit (S.setting run.old) (S.untold run.old) (S.Stands run.old) }
-    ensures written { IfOk result (λ ran. Writes (map string_bytes files.now) limit (S.setting run.old) (S.untold run.old) (S.Stands run.old) ran
+    ensures written { IfOk result (λ ran. Writes (map string_bytes files.now) limit (S.setting run.old) (S.untold run.old) (S.Stands run.old) (S.Stands run.new) ran
         (record { output = K.written out.old; lines = K.written err.old }) (record { output = K.written out.new; lines = K.written err.new })) }
+    ensures lent { OnOk result (S.lent run.new ≡ S.lent run.old) }
     ensures cut { OnErr result (Cuts (map string_bytes files.now) limit (S.setting run.old) (S.untold run.old) (S.Stands run.old)
         (record { output = K.written out.old; lines = K.written err.old }) (record { output = K.written out.new; lines = K.written err.new })) }
     ensures later_out { K.faults out.old ≤ K.faults out.new }

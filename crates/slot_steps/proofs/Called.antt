@@ -1,5 +1,5 @@
 -- The step of a call: what is asked for, and what it comes to.
-use Rattle.std.proofs.Common.{◌≡◌, ◌++◌, ℕ, List, [], sym, ap, subst, ◌∙◌, Some, Result, Ok, Err}
+use Rattle.std.proofs.Common.{◌≡◌, ◌≢◌, ◌++◌, ℕ, List, [], sym, ap, subst, ◌∙◌, Some, Result, Ok, Err}
 use Rattle.std.specs.Prelude.{IsTrue, OnOk, IfErr}
 use Rattle.type_definitions.specs.Types.{Table}
 use Rattle.machine.specs.States.{Leak}
@@ -57,10 +57,10 @@ module _ {R : Type 0} (Means : R → Heap → Type 0) (codes : Codes) (table : T
 
   -- The leaks that the call found are told, and the run goes on.
   pub call_goes : {U V : Type 0} (u : U) (r : Result V Halt) (mid told : Parts R) (found : List Leak) → found ≡ [] → CallsTo (Ok u) found (leaks_of mid.found.items) mid
-      → next_of next ≡ Some next → mid.words ≡ stacked_words mid.frames → mid.output.items ≡ old.output.items → mid.leaks.items ≡ old.leaks.items
+      → next_of next ≡ Some next → mid.words ≡ stacked_words mid.frames → mid.memory.heap.lent ≡ old.memory.heap.lent → mid.output.items ≡ old.output.items → mid.leaks.items ≡ old.leaks.items
       → OnOk r (leaks_of told.leaks.items ≡ leaks_of mid.leaks.items ++ leaks_of mid.found.items) → told ≡ record mid { leaks = told.leaks } → IfErr r (λ h. h.stop ≡ stop.Memory)
       → StepsOf Means codes table point (as_going r) old told
-  call_goes {U} u r mid told found none is goes words output leaks tells rest memory =
+  call_goes {U} u r mid told found none is goes words lent output leaks tells rest memory =
       leads_by Means codes table point k old at r told (leaks_of told.leaks.items ≡ leaks_of mid.leaks.items ++ leaks_of mid.found.items) tells memory
       (λ tells.
       let P : Parts R → Type 0 = λ q. CallsTo {U = U} (Ok u) [] (leaks_of mid.found.items) q in
@@ -72,15 +72,15 @@ module _ {R : Type 0} (Means : R → Heap → Type 0) (codes : Codes) (table : T
       (between_of told) here in
       record {
         steps = call_on Means c p k (between_of old) sub all (next_of next) calls at.between at.latest at.taken old.words at.words u next goes (leaks_of mid.found.items)
-            (between_of told) here same more;
+            (between_of told) here (ap (λ (q : Parts R). q.memory.heap.lent) rest ∙ lent) same more;
         left = record { between = left.0; words = subst W (sym rest) words; input = left.1 };
       })
 
   -- It stops.
   pub call_halts : {U : Type 0} (h : Halt) (new : Parts R) (found all_found : List Leak) → found ≡ [] → CallsTo {U = U} (Err h.stop) found all_found new → h.made ≡ new.memory.heap.made
-      → new.output.items ≡ old.output.items → new.leaks.items ≡ old.leaks.items → StepsOf Means codes table point (Err h) old new
-  call_halts {U} h new found all_found none is made output leaks = record {
+      → (h.stop ≢ stop.Memory → new.memory.heap.lent ≡ old.memory.heap.lent) → new.output.items ≡ old.output.items → new.leaks.items ≡ old.leaks.items → StepsOf Means codes table point (Err h) old new
+  call_halts {U} h new found all_found none is made lent output leaks = record {
     steps = call_off Means c p k (between_of old) sub all (next_of next) calls at.between at.latest at.taken old.words at.words h next all_found (between_of new)
-        (subst (λ f. CallsTo {U = U} (Err h.stop) f all_found new) none is) made output (ap leaks_of leaks);
+        (subst (λ f. CallsTo {U = U} (Err h.stop) f all_found new) none is) made lent output (ap leaks_of leaks);
     left = tt;
   }

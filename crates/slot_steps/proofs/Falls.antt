@@ -1,5 +1,5 @@
 -- The step at the end of a function that has no result.
-use Rattle.std.proofs.Common.{◌≡◌, ℕ, sym, ap, subst}
+use Rattle.std.proofs.Common.{◌≡◌, ℕ, refl, sym, ap, subst}
 use Rattle.type_definitions.specs.Types.{Table}
 use Rattle.machine.specs.Evaluate.{ProgramError}
 use Rattle.slot_heap.specs.Heaps.{Heap}
@@ -39,5 +39,5 @@ module _ {R : Type 0} (Means : R → Heap → Type 0) (codes : Codes) (table : T
       (ap (halted t (Raises ProgramError)) (sym (start_now Means codes table point k old at g stands)))
 
   pub fall_halts : (made : ℕ) → made ≡ old.memory.heap.made
-      → MayHalt t (DoneAt c p (between_of old) g) (record { stop = stop.Raises exception.ProgramError; made = made })
-  fall_halts made counted = record { after = slots old.memory g; comes = comes; made = sym counted }
+      → MayHalt Means t (DoneAt c p (between_of old) g) old.memory (record { stop = stop.Raises exception.ProgramError; made = made })
+  fall_halts made counted = record { after = slots old.memory g; comes = comes; made = sym counted; shows = (stands.memory, refl) }

@@ -1,10 +1,11 @@
 -- The step at the end of a call: what is asked for, and what it comes to.
-use Rattle.std.proofs.Common.{◌≡◌, ℕ, Bool, true, false, ap, Ok, Err}
+use Rattle.std.proofs.Common.{◌≡◌, ◌≢◌, ℕ, Bool, true, false, ap, Ok, Err}
 use Rattle.type_definitions.specs.Types.{Table}
 use Rattle.slot_heap.specs.Heaps.{Heap}
 use Rattle.code_rows.specs.declared.point.Point.{Point as PointRow}
 use Rattle.code_rows.specs.declared.point.Does.TheVariants as row
 use Rattle.code_rows.specs.declared.codes.Codes.{Codes}
+use Rattle.code_rows.specs.declared.stop.Stop.TheVariants as stop
 use Rattle.code_rows.specs.Points.{point_of, does_of}
 use Rattle.run_codes.specs.Codes.{Point, Finish}
 use Rattle.run_results.specs.Results.{leaks_of}
@@ -39,18 +40,18 @@ module _ {R : Type 0} (Means : R → Heap → Type 0) (codes : Codes) (table : T
 
   -- A frame that waited runs, or the main procedure ends.
   pub finish_goes : (others : Bool) (new : Parts R) → IsFinished Means old.memory table (own_returns old.frames) others old.frames new.memory new.frames → new.words ≡ stacked_words new.frames
-      → new.output.items ≡ old.output.items → new.leaks.items ≡ old.leaks.items → StepsOf Means codes table point (Ok others) old new
-  finish_goes others new is words output leaks =
+      → new.memory.heap.lent ≡ old.memory.heap.lent → new.output.items ≡ old.output.items → new.leaks.items ≡ old.leaks.items → StepsOf Means codes table point (Ok others) old new
+  finish_goes others new is words lent output leaks =
       let left = finish_left Means c p k (between_of old) ends at.between at.latest at.taken at.can others (between_of new) is in
       record {
-        steps = finish_on Means c p k (between_of old) ends at.between at.latest at.taken others (between_of new) is output (ap leaks_of leaks);
+        steps = finish_on Means c p k (between_of old) ends at.between at.latest at.taken others (between_of new) is lent output (ap leaks_of leaks);
         left = left_by others new (record { between = left.0; words = words; input = left.1 });
       }
 
   -- It stops.
   pub finish_halts : (h : Halt) (new : Parts R) → CopiesAll {U = Unit {0}} Means old.memory table (own_returns old.frames) (Err h.stop) new.memory → h.made ≡ new.memory.heap.made
-      → new.output.items ≡ old.output.items → new.leaks.items ≡ old.leaks.items → StepsOf Means codes table point (Err h) old new
-  finish_halts h new is made output leaks = record {
-    steps = finish_off Means c p k (between_of old) ends at.between at.latest at.taken h (between_of new) is made output (ap leaks_of leaks);
+      → (h.stop ≢ stop.Memory → new.memory.heap.lent ≡ old.memory.heap.lent) → new.output.items ≡ old.output.items → new.leaks.items ≡ old.leaks.items → StepsOf Means codes table point (Err h) old new
+  finish_halts h new is made lent output leaks = record {
+    steps = finish_off Means c p k (between_of old) ends at.between at.latest at.taken h (between_of new) is made lent output (ap leaks_of leaks);
     left = tt;
   }

@@ -108,9 +108,9 @@ module _ {R : Type 0} (Means : R → Heap → Type 0) (codes : Codes) (table : T
       }
 
   -- It goes on.
-  pub hold_goes : {U : Type 0} (u : U) (new : Parts R) → Holding Means old.memory table v (Ok u) old.frames k of next new.memory new.frames → new.words ≡ old.words
+  pub hold_goes : {U : Type 0} (u : U) (new : Parts R) → Holding Means old.memory table v (Ok u) old.frames k of next new.memory new.frames → new.words ≡ old.words → new.memory.heap.lent ≡ old.memory.heap.lent
       → new.output.items ≡ old.output.items → new.leaks.items ≡ old.leaks.items → StepsOf Means codes table point (Ok true) old new
-  hold_goes u new holds words output leaks = record {
+  hold_goes u new holds words lent output leaks = record {
     steps = record {
       steps = λ g stands fine.
           let x = goes_at u new holds g stands fine in
@@ -123,17 +123,18 @@ module _ {R : Type 0} (Means : R → Heap → Type 0) (codes : Codes) (table : T
                 x.3 ∙ ap (λ os. state_of (held.stage new.memory x.1 new.frames os (leaks_of old.leaks.items))) (sym output)
                 ∙ ap (λ ls. state_of (held.stage new.memory x.1 new.frames new.output.items ls)) (sym (ap leaks_of leaks));
           };
+      lent = lent;
     };
     left = left_by u new holds words;
   }
 
   -- It stops, with so many cells made.
-  pub hold_halts : {U : Type 0} (h : Halt) (new : Parts R) → Holding {U = U} Means old.memory table v (Err h.stop) old.frames k of next new.memory new.frames → new.output.items ≡ old.output.items
+  pub hold_halts : {U : Type 0} (h : Halt) (new : Parts R) → Holding {U = U} Means old.memory table v (Err h.stop) old.frames k of next new.memory new.frames → (h.stop ≢ stop.Memory → new.memory.heap.lent ≡ old.memory.heap.lent) → new.output.items ≡ old.output.items
       → new.leaks.items ≡ old.leaks.items → h.made ≡ new.memory.heap.made → StepsOf Means codes table point (Err h) old new
-  hold_halts {U} h new holds output leaks made =
-      halts_by Means codes table point k old at h new output leaks
+  hold_halts {U} h new holds lent output leaks made =
+      halts_by Means codes table point k old at h new lent output leaks
       (λ other g stands fine.
       let x = held.held_halts Means table (program_of codes) p (stage g) k of next v (stage_at Means codes table point k old at g stands) at.latest (stands_at g stands)
       (fine_at g fine) h.stop new.memory new.frames other
       (subst (λ m. Holding {U = U} Means m table v (Err h.stop) old.frames k of next new.memory new.frames) (sym (same_memory g)) holds) in
-      record { after = x.0; comes = may g (halted (here g) (stop_of h.stop) x.0) x.1; made = shown_made Means new.memory x.0 x.2 ∙ sym made })
+      record { after = x.0; comes = may g (halted (here g) (stop_of h.stop) x.0) x.1; made = shown_made Means new.memory x.0 x.2 ∙ sym made; shows = x.2 })

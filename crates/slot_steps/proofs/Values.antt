@@ -78,10 +78,10 @@ module _ {R : Type 0} (Means : R → Heap → Type 0) (codes : Codes) (table : T
         }
 
     pub values_halt : NeverFails May → (x : Stop) (made : ℕ) (leaks : List Leak) (m : Kept R) → Changing Means old.memory Comes (Err x) leaks m → made ≡ m.heap.made
-        → x ≢ stop.Memory → MayHalt t May (record { stop = x; made = made })
+        → x ≢ stop.Memory → MayHalt Means t May m (record { stop = x; made = made })
     values_halt fine x made leaks m changing counted other =
         let d = changing.changes g stands.memory (fine_at fine) other in
-        record { after = d.after; comes = comes (Halts (stop_of x) d.after) d.comes; made = shown_made Means m d.after d.shows ∙ sym counted }
+        record { after = d.after; comes = comes (Halts (stop_of x) d.after) d.comes; made = shown_made Means m d.after d.shows ∙ sym counted; shows = d.shows }
 
   -- What it asks for.
   pub values_can : CanChange Means old.memory Comes

@@ -11,7 +11,7 @@ use Rattle.run_codes.specs.Codes.{Point}
 use Rattle.run_codes.specs.Flat.{Got, Given, Stops, Broken, is_broken}
 use Rattle.handled_runs.specs.Slots.{Slots}
 use Rattle.handled_steps.specs.States.{Outcome, Turn, on_got}
-use Rattle.slot_memory.specs.Memory.{Kept, Ghosts, slots}
+use Rattle.slot_memory.specs.Memory.{Kept, Ghosts, Shows, slots}
 use Rattle.slot_runs.specs.Turns.{Setting, NeverFails, is_failing}
 use Rattle.slot_turns.specs.Betweens.{StandAt}
 use Rattle.slot_turns.specs.Steps.{turn_at, DoneAt}
@@ -70,13 +70,14 @@ module _ {R : Type 0} (Means : R → Heap → Type 0) (codes : Codes) (table : T
         }
 
     pub words_halt : NeverFails May → (x : Stop) (made : ℕ) (m : Kept R) → Done {A = ℕ} Means old.memory changed (Err x) m → made ≡ m.heap.made → x ≢ stop.Memory
-        → MayHalt t May (record { stop = x; made = made })
+        → MayHalt Means t May m (record { stop = x; made = made })
     words_halt fine x made m done counted other =
         let d = done.done g stands.memory (fine_at fine) other in
         record {
           after = slots old.memory g;
           comes = subst (λ x. May (on_got t (slots old.memory g) x (led_on t))) d.stops comes;
           made = ap (λ (q : Kept R). q.heap.made) (sym d.same) ∙ sym counted;
+          shows = subst (λ q. Shows Means q (slots old.memory g)) (sym d.same) (stands.memory, refl);
         }
 
   -- What it asks for.

@@ -19,7 +19,7 @@ use Rattle.handled_runs.specs.Slots.{Slots}
 use Rattle.handled_steps.specs.States.{State, Outcome, Goes, Turn, waiting, after, halted, on_got}
 use Rattle.handled_steps.specs.Steps as defined
 use Rattle.handled_steps.specs.Steps.{reading, input}
-use Rattle.slot_memory.specs.Memory.{Kept, Ghosts, Elsewhere, slots, ghosts_of, elsewhere}
+use Rattle.slot_memory.specs.Memory.{Kept, Ghosts, Stands, Elsewhere, slots, ghosts_of, elsewhere}
 use Rattle.slot_frames.specs.Stacks.{Stacked}
 use Rattle.slot_runs.specs.Turns.{Setting, NeverFails}
 use Rattle.slot_stages.specs.Stages.{Stage, state_of}
@@ -37,6 +37,7 @@ use Rattle.slot_parts.specs.Stages.{between_of, setting_of, IsAt}
 use Rattle.slot_parts.specs.Steps.{AreLeft, StepsOf}
 use Rattle.slot_parts.specs.Goes.{IsLed}
 use Rattle.slot_parts.proofs.Sights.{does_at, stage_at, start_now}
+use Rattle.slot_parts.proofs.Leads.{led_lent}
 use Rattle.slot_tells.proofs.Told.{got_fine}
 
 -- Where a run goes on doesn't depend on how far the input is read.
@@ -178,25 +179,33 @@ module _ {R : Type 0} (Means : R → Heap → Type 0) (codes : Codes) (table : T
 
       pub input_goes : StepsOf Means codes table point (Ok true) old new
       input_goes = record {
-        steps = record { steps = goes_on };
+        steps = record {
+          steps = goes_on;
+          lent = led_lent table (program_of codes) k (next_of n) (record m { read = end }) new.memory old.frames new.frames to ∙ ap (λ (e : Elsewhere). e.lent) same;
+        };
         left = left at.can.ghosts at.can.stands at.can.fine;
       }
 
   -- It stops.
   pub input_halts : (x : Stop) (made : ℕ) (m : Kept R) (new : Parts R) → Done Means old.memory (item_read at_place old.memory.input old.memory.read low high) (Err x) m
-      → made ≡ old.memory.heap.made → new.output.items ≡ old.output.items → new.leaks.items ≡ old.leaks.items → StepsOf Means codes table point (Err (record { stop = x; made = made })) old new
-  input_halts x made m new done counted output leaks = record {
+      → made ≡ old.memory.heap.made → new.memory ≡ m → new.output.items ≡ old.output.items → new.leaks.items ≡ old.leaks.items → StepsOf Means codes table point (Err (record { stop = x; made = made })) old new
+  input_halts x made m new done counted memory output leaks = record {
     steps = record {
       steps = λ g stands fine other.
           let s : Slots = slots old.memory g in
-          let stops = (done.done g stands.memory (item_fine g stands fine) other).stops in
+          let d = done.done g stands.memory (item_fine g stands fine) other in
+          let stops = d.stops in
           record {
             memory = s;
             comes = may_come g stands (halted (here g) (stop_of x) s) (sym (ap (λ y. on_got (here g) s y (reads g)) stops));
             made = sym counted;
             output = output;
             leaks = ap leaks_of leaks;
+            ghosts = g;
+            stands = subst (λ m. Stands Means m g) (sym (memory ∙ d.same)) stands.memory;
+            slots = refl;
           };
+      lent = λ other. ap (λ (x : Kept R). x.heap.lent) (memory ∙ (done.done at.can.ghosts at.can.stands.memory (item_fine at.can.ghosts at.can.stands at.can.fine) other).same);
     };
     left = tt;
   }

@@ -16,7 +16,7 @@ use Rattle.run_results.specs.Results.{leaks_of}
 use Rattle.handled_runs.specs.Slots.{Slots}
 use Rattle.handled_steps.specs.States.{State, Outcome, Goes, Fails, Turn, waiting, after, halted, on_got}
 use Rattle.handled_steps.specs.Steps.{Done, writing, output}
-use Rattle.slot_memory.specs.Memory.{Ghosts, slots}
+use Rattle.slot_memory.specs.Memory.{Kept, Ghosts, Stands, slots}
 use Rattle.slot_runs.specs.Turns.{Setting, NeverFails, is_failing}
 use Rattle.slot_stages.specs.Stages.{Stage, state_of}
 use Rattle.slot_stages.specs.Leads.{LeadsTo}
@@ -32,6 +32,7 @@ use Rattle.slot_parts.specs.Stages.{between_of, setting_of, IsAt}
 use Rattle.slot_parts.specs.Steps.{StepsOf}
 use Rattle.slot_parts.specs.Goes.{IsLed}
 use Rattle.slot_parts.proofs.Sights.{does_at, stage_at, start_now}
+use Rattle.slot_parts.proofs.Leads.{led_lent}
 
 fails_never : {A : Type 0} → is_failing Fails ≡ false → A
 fails_never is = absurd (never is)
@@ -136,6 +137,7 @@ module _ {R : Type 0} (Means : R → Heap → Type 0) (codes : Codes) (table : T
                   ∙ ap (λ os. state_of (record r { output = os })) (found.2 ∙ sym led.output)
                   ∙ ap (λ ls. state_of (record r { output = new.output.items; leaks = ls })) (sym (ap leaks_of (led.leaks ∙ leaks)));
             };
+        lent = led_lent table (program_of codes) k (next_of n) old.memory new.memory old.frames new.frames to;
       };
       left =
           let g : Ghosts = at.can.ghosts in
@@ -148,8 +150,8 @@ module _ {R : Type 0} (Means : R → Heap → Type 0) (codes : Codes) (table : T
     }
 
   pub output_halts : {U : Type 0} (x : Stop) (made : ℕ) (new : Parts R) → Added {U = U} Means old.memory (written table pieces line) (Err x) old.output.items new.output.items
-      → made ≡ old.memory.heap.made → new.output.items ≡ old.output.items → new.leaks.items ≡ old.leaks.items → StepsOf Means codes table point (Err (record { stop = x; made = made })) old new
-  output_halts x made new added counted output leaks = record {
+      → made ≡ old.memory.heap.made → new.memory ≡ old.memory → new.output.items ≡ old.output.items → new.leaks.items ≡ old.leaks.items → StepsOf Means codes table point (Err (record { stop = x; made = made })) old new
+  output_halts x made new added counted same output leaks = record {
     steps = record {
       steps = λ g stands fine other.
           let s : Slots = slots old.memory g in
@@ -159,7 +161,11 @@ module _ {R : Type 0} (Means : R → Heap → Type 0) (codes : Codes) (table : T
             made = sym counted;
             output = output;
             leaks = ap leaks_of leaks;
+            ghosts = g;
+            stands = subst (λ m. Stands Means m g) (sym same) stands.memory;
+            slots = refl;
           };
+      lent = λ other. ap (λ (m : Kept R). m.heap.lent) same;
     };
     left = tt;
   }

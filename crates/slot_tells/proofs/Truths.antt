@@ -153,13 +153,14 @@ module _ {R : Type 0} (Means : R → Heap → Type 0) (codes : Codes) (table : T
                 let got = gives.gives g stands.memory (left_word g stands fine) in
                 truth_goes k truth n new to g stands (waiting (here g)) (waited_on g stands)
                 (left_may g stands (lefts g s truth) (sym (ap (λ x. on_got (here g) s x (lefts g s)) got)));
+            lent = ap (λ (m : Kept R). m.heap.lent) to.memory;
           };
           left = truth_left k truth n new to at.can.ghosts (waiting (here at.can.ghosts)) (waited_on at.can.ghosts at.can.stands);
         }
 
     pub left_halts : (x : Stop) (made : ℕ) (new : Parts R) → Gives Means old.memory left_code (Err x) → made ≡ old.memory.heap.made
-        → new.output.items ≡ old.output.items → new.leaks.items ≡ old.leaks.items → StepsOf Means codes table point (Err (record { stop = x; made = made })) old new
-    left_halts x made new gives counted output leaks = record {
+        → new.memory ≡ old.memory → new.output.items ≡ old.output.items → new.leaks.items ≡ old.leaks.items → StepsOf Means codes table point (Err (record { stop = x; made = made })) old new
+    left_halts x made new gives counted same output leaks = record {
       steps = record {
         steps = λ g stands fine other.
             let s : Slots = slots old.memory g in
@@ -170,7 +171,11 @@ module _ {R : Type 0} (Means : R → Heap → Type 0) (codes : Codes) (table : T
               made = sym counted;
               output = output;
               leaks = ap leaks_of leaks;
+              ghosts = g;
+              stands = subst (λ m. Stands Means m g) (sym same) stands.memory;
+              slots = refl;
             };
+        lent = λ other. ap (λ (m : Kept R). m.heap.lent) same;
       };
       left = tt;
     }
@@ -221,13 +226,14 @@ module _ {R : Type 0} (Means : R → Heap → Type 0) (codes : Codes) (table : T
                 let got = gives.gives g stands.memory (right_word g stands fine) in
                 truth_goes j truth next new to g stands (drop 1 (waiting (here g))) (waited_on g stands)
                 (right_may g stands (rights g s truth) (sym (ap (λ x. on_got (here g) s x (rights g s)) got)));
+            lent = ap (λ (m : Kept R). m.heap.lent) to.memory;
           };
           left = truth_left j truth next new to at.can.ghosts (drop 1 (waiting (here at.can.ghosts))) (waited_on at.can.ghosts at.can.stands);
         }
 
     pub right_halts : (x : Stop) (made : ℕ) (new : Parts R) → Gives Means old.memory right_code (Err x) → made ≡ old.memory.heap.made
-        → new.output.items ≡ old.output.items → new.leaks.items ≡ old.leaks.items → StepsOf Means codes table point (Err (record { stop = x; made = made })) old new
-    right_halts x made new gives counted output leaks = record {
+        → new.memory ≡ old.memory → new.output.items ≡ old.output.items → new.leaks.items ≡ old.leaks.items → StepsOf Means codes table point (Err (record { stop = x; made = made })) old new
+    right_halts x made new gives counted same output leaks = record {
       steps = record {
         steps = λ g stands fine other.
             let s : Slots = slots old.memory g in
@@ -238,7 +244,11 @@ module _ {R : Type 0} (Means : R → Heap → Type 0) (codes : Codes) (table : T
               made = sym counted;
               output = output;
               leaks = ap leaks_of leaks;
+              ghosts = g;
+              stands = subst (λ m. Stands Means m g) (sym same) stands.memory;
+              slots = refl;
             };
+        lent = λ other. ap (λ (m : Kept R). m.heap.lent) same;
       };
       left = tt;
     }

@@ -21,7 +21,7 @@ use Rattle.slot_turns.specs.Overs.{EndsBy, IsCounted, IsOver}
 
 -- The main procedure ends.
 pub ended_over : {R : Type 0} (Means : R → Heap → Type 0) (May : Outcome → Type 0) (new : Between R) (over : Over) → IsEnded Means May new
-    → over.ending ≡ ending.Normal → over.made ≡ new.kept.heap.made → over.freed ≡ new.kept.heap.freed → IsOver May over new
+    → over.ending ≡ ending.Normal → over.made ≡ new.kept.heap.made → over.freed ≡ new.kept.heap.freed → IsOver Means May over new
 ended_over Means May new over is normal made freed = record {
   state = is.state;
   comes = subst (λ (e : Ending). May (Ends (ending_of e) is.state)) (sym normal) is.comes;
@@ -29,13 +29,16 @@ ended_over Means May new over is normal made freed = record {
   leaks = is.leaks;
   made = is.made ∙ sym made;
   freed = is.freed ∙ sym freed;
+  heap = is.ghosts.heap;
+  means = is.stands.memory.cells.means;
+  slots = is.slots;
 }
 
 -- What is counted before a step.
 pub counted_freed : (freed made were with : ℕ) → were ≡ made → with ≡ freed + (made - were) → with ≡ freed
 counted_freed freed made were with same is = omega (arith, same, is)
 
-not_memory : (s : Stop) (p : Pos) (end : Ending) → EndsBy s p end → s ≢ stop.Memory
+pub not_memory : (s : Stop) (p : Pos) (end : Ending) → EndsBy s p end → s ≢ stop.Memory
 not_memory (stop.Raises e) p end is = λ same. absurd (cc)
 not_memory stop.Memory p end is = λ same. is
 
@@ -45,10 +48,10 @@ ends_by t (stop.Raises e) end m is = ap (λ (x : Ending). Ends (ending_of x) (co
 ends_by t _ end m is = absurd is
 
 -- The point raises.
-pub halts_over : {R : Type 0} (c : Setting) (p : Point) (pos : Pos) (old new : Between R) (g : Ghosts) (h : Halt) (made freed : ℕ) (over : Over) → pos ≡ p.pos
-    → (h.stop ≢ stop.Memory → Halts (turn_at c p old g) (DoneAt c p old g) h old new) → made ≡ old.kept.heap.made → freed ≡ old.kept.heap.freed → IsCounted h pos made freed over
-    → IsOver (DoneAt c p old g) over new
-halts_over c p pos old new g h made freed over at halts made_is freed_is counted_is =
+pub halts_over : {R : Type 0} (Means : R → Heap → Type 0) (c : Setting) (p : Point) (pos : Pos) (old new : Between R) (g : Ghosts) (h : Halt) (made freed : ℕ) (over : Over) → pos ≡ p.pos
+    → (h.stop ≢ stop.Memory → Halts Means (turn_at c p old g) (DoneAt c p old g) h old new) → made ≡ old.kept.heap.made → freed ≡ old.kept.heap.freed → IsCounted h pos made freed over
+    → IsOver Means (DoneAt c p old g) over new
+halts_over Means c p pos old new g h made freed over at halts made_is freed_is counted_is =
     let t : Turn = turn_at c p old g in
     let is = halts (not_memory h.stop pos over.ending counted_is.ending) in
     let end : EndsBy h.stop p.pos over.ending = subst (λ x. EndsBy h.stop x over.ending) at counted_is.ending in
@@ -60,4 +63,7 @@ halts_over c p pos old new g h made freed over at halts made_is freed_is counted
       leaks = sym is.leaks;
       made = is.made ∙ sym counted_is.made;
       freed = ap (λ n. old.kept.heap.freed + n) more ∙ ap (λ n. n + (h.made - made)) (sym freed_is) ∙ sym counted_is.freed;
+      heap = is.ghosts.heap;
+      means = is.stands.cells.means;
+      slots = is.slots;
     }

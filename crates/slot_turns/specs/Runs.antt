@@ -17,15 +17,16 @@ pub record IsInside {R : Type 0} (Means : R → Heap → Type 0) (b : Between R)
   pub bytes : b.kept.input ≡ input
   pub is : x ≡ inside_of (stage_of b ghosts)
 
--- Where a run is over, its counts are left.
-pub record IsCountedAs (over : Over) (x : Inside) : Type 0 where
+-- Where a run is over, its counts and its heap are left.
+pub record IsCountedAs {R : Type 0} (Means : R → Heap → Type 0) (over : Over) (b : Between R) (x : Inside) : Type 0 where
   pub frames : x.frames ≡ []
   pub made : x.memory.made ≡ over.made
   pub freed : x.memory.freed ≡ over.freed
+  pub means : Means b.kept.heap.store x.memory.heap
 
 abbrev pub StandsWith : {R : Type 0} → (R → Heap → Type 0) → Option Over → List ℕ → Between R → Inside → Type 0
 StandsWith Means None input b x = IsInside Means b input x
-StandsWith Means (Some over) input b x = IsCountedAs over x
+StandsWith Means (Some over) input b x = IsCountedAs Means over b x
 
 -- What a run is told as.
 abbrev pub turned : Option Over → Turn

@@ -8,7 +8,7 @@ use Rattle.code_rows.specs.Stops.{stop_of}
 use Rattle.handled_runs.specs.Slots.{Slots}
 use Rattle.handled_steps.specs.States.{State, Outcome, Goes, Ends, Turn, halted}
 use Rattle.handled_steps.specs.Steps.{Done}
-use Rattle.slot_memory.specs.Memory.{Ghosts}
+use Rattle.slot_memory.specs.Memory.{Ghosts, Stands}
 use Rattle.slot_runs.specs.Turns.{Setting, NeverFails, bare}
 use Rattle.slot_stages.specs.Stages.{state_of, turn_of}
 use Rattle.slot_turns.specs.declared.halt.Halt.{Halt}
@@ -39,24 +39,35 @@ pub record IsEnded {R : Type 0} (Means : R → Heap → Type 0) (May : Outcome �
   pub leaks : state.leaks ≡ new.leaks
   pub made : state.memory.made ≡ new.kept.heap.made
   pub freed : state.memory.freed ≡ new.kept.heap.freed
+  pub slots : state.memory.heap.slots ≡ ghosts.heap.slots
 
--- It may stop, with so many cells made. What wasn't told before stays.
-pub record Halts {R : Type 0} (t : Turn) (May : Outcome → Type 0) (h : Halt) (old new : Between R) : Type 0 where
+-- It may stop, with so many cells made. What wasn't told before stays, and the memory stands for some slots of the same
+-- sizes.
+pub record Halts {R : Type 0} (Means : R → Heap → Type 0) (t : Turn) (May : Outcome → Type 0) (h : Halt) (old new : Between R) : Type 0 where
   pub memory : Slots
   pub comes : May (halted t (stop_of h.stop) memory)
   pub made : memory.made ≡ h.made
   pub output : new.output ≡ old.output
   pub leaks : new.leaks ≡ old.leaks
+  pub ghosts : Ghosts
+  pub stands : Stands Means new.kept ghosts
+  pub slots : memory.heap.slots ≡ ghosts.heap.slots
 
 -- The run goes on, or ends. Nothing is said where there is too little memory.
 abbrev pub ComesTo : {R : Type 0} → (R → Heap → Type 0) → Turn → (Outcome → Type 0) → Result Bool Halt → Between R → Between R → Type 0
 ComesTo Means t May (Ok true) old new = GoesOn Means May new
 ComesTo Means t May (Ok false) old new = IsEnded Means May new
-ComesTo Means t May (Err h) old new = h.stop ≢ stop.Memory → Halts t May h old new
+ComesTo Means t May (Err h) old new = h.stop ≢ stop.Memory → Halts Means t May h old new
+
+-- The store is the one that was lent by the same reference, but where there is too little memory.
+abbrev pub LentBy : {R : Type 0} → Result Bool Halt → Between R → Between R → Type 0
+LentBy (Ok on) old new = new.kept.heap.lent ≡ old.kept.heap.lent
+LentBy (Err h) old new = h.stop ≢ stop.Memory → new.kept.heap.lent ≡ old.kept.heap.lent
 
 -- So it comes to from whatever slots the memory stood for, if no outcome fails.
 pub record Steps {R : Type 0} (Means : R → Heap → Type 0) (c : Setting) (p : Point) (r : Result Bool Halt) (old new : Between R) : Type 0 where
   pub steps : (g : Ghosts) → StandAt Means old g → NeverFails (DoneAt c p old g) → ComesTo Means (turn_at c p old g) (DoneAt c p old g) r old new
+  pub lent : LentBy r old new
 
 -- From some slots no outcome fails.
 pub record CanDo {R : Type 0} (Means : R → Heap → Type 0) (c : Setting) (p : Point) (b : Between R) : Type 0 where

@@ -1,6 +1,6 @@
 -- What a command gives to the store, and what it does.
-use Rattle.std.proofs.Common.{◌≡◌, ◌⊎◌, ◌∙◌, inl, inr, ℕ, Bool, ap, subst, sym, List, All, Option, None, Some, Result, Ok, Err, IfSome, IfOk, IsSomeAnd}
-use Rattle.spark_base.specs.declared.limits.TheConstants.{SOURCE_BYTES}
+use Rattle.std.proofs.Common.{◌≡◌, ◌⊎◌, ◌∙◌, inl, inr, refl, ℕ, Bool, false, ap, subst, sym, List, [], All, Option, None, Some, Result, Ok, Err, IfSome, IfOk, IsSomeAnd}
+use Rattle.spark_base.specs.declared.limits.TheConstants.{SOURCE_BYTES, STEPS}
 use Rattle.spark_base.specs.Lists.{Has}
 use Rattle.spark_base.proofs.Lists.{All-has_itself}
 use Rattle.flow_paths.specs.declared.report.Effects.{Effects}
@@ -11,13 +11,19 @@ use Rattle.program_check.specs.Sources.{printed_in}
 use Rattle.rule_reports.specs.Lines.{leak_plan_lines}
 use Rattle.command_words.specs.Words.{Command, Check, Run, Leaks, Make, Selftest, Fits}
 use Rattle.answered_runs.specs.run_command.Answers.{Answer}
+use Rattle.answered_runs.specs.run_command.Stores.{Running}
 use Rattle.spark_tool.specs.declared.finding.Outcome.{Outcome}
+use Rattle.spark_tool.specs.declared.finding.Outcome.TheVariants as outcome
 use Rattle.spark_tool.specs.declared.stop.Stop.{Stop}
-use Rattle.spark_tool.specs.Answers.{answer_for}
+use Rattle.spark_tool.specs.Answers.{answer_for, run_for}
 use Rattle.answered_runs.specs.tool_answers.Product.{Finding, Ends, Passes, Lists, ends, planned, listed, Answers, usage, check, check_answer, leaks, run, run_answer_of, make, made, Checks, missing, misused, unread, fixed_answer, selftest, made_names, made_source, test_answer}
 use Rattle.answered_runs.specs.tool_answers.Reading.{Sources, Missing, sources}
+use Rattle.answered_runs.specs.tool_answers.Commands.{runs, uses_store}
+use Rattle.answered_runs.specs.tool_answers.Runs as runs_made
+use Rattle.answered_runs.specs.tool_answers.Runs.{Makes, run_found}
 use Rattle.answered_runs.proofs.Headline.{found_untrapped}
-use Rattle.spark_tool.specs.Refusals.{Gives, IsFor}
+use Rattle.spark_tool.specs.Refusals.{Gives, IsFor, MakesFor}
+use Rattle.spark_tool.proofs.Uses.{run_uses, not_used}
 
 -- each file of a command is an operand, and may be opened
 pub may_be_opened : (operands names : List (List ℕ)) → names ≡ operands → All (Has operands) names
@@ -49,13 +55,13 @@ check_gives None names finding done checks is = tt
 check_gives (Some files) names finding done checks is =
     λ input. subst (λ (a : Answer). Answers files input (Some (Check names)) a) (sym (is input)) (check names finding checks)
 
-pub run_gives : (stored : Option (List (List ℕ × List ℕ))) (names : List (List ℕ)) (budget : ℕ) (finding : Finding) (done : Outcome)
+pub run_gives : (stored : Option (List (List ℕ × List ℕ))) (names : List (List ℕ)) (budget : ℕ) (stats : Bool) (finding : Finding) (done : Outcome)
     → IfSome stored (λ files. Checks names (sources files 0 SOURCE_BYTES names) finding)
-    → ((input : List ℕ) → answer_for input done ≡ run_answer_of names budget input finding)
-    → IfSome stored (λ files. (stats : Bool) → Gives files (Some (Run names budget stats)) done)
-run_gives None names budget finding done checks is = tt
-run_gives (Some files) names budget finding done checks is =
-    λ stats input. subst (λ (a : Answer). Answers files input (Some (Run names budget stats)) a) (sym (is input))
+    → ((input : List ℕ) → answer_for input done ≡ run_answer_of names budget stats input finding)
+    → IfSome stored (λ files. Gives files (Some (Run names budget stats)) done)
+run_gives None names budget stats finding done checks is = tt
+run_gives (Some files) names budget stats finding done checks is =
+    λ input. subst (λ (a : Answer). Answers files input (Some (Run names budget stats)) a) (sym (is input))
     (run names budget stats finding checks (found_untrapped names (sources files 0 SOURCE_BYTES names) budget input finding checks))
 
 pub list_gives : (stored : Option (List (List ℕ × List ℕ))) (names : List (List ℕ)) (finding : Finding) (done : Outcome)
@@ -77,18 +83,10 @@ pub gives_as : (stored : Option (List (List ℕ × List ℕ))) (command other : 
 gives_as stored command other result same gives =
     subst (λ (c : Option Command). IfOk result (λ done. IfSome stored (λ files. Gives files c done))) (sym same) gives
 
-pub run_gives_as : (stored : Option (List (List ℕ × List ℕ))) (command : Option Command) (names : List (List ℕ)) (budget : ℕ) (stats : Bool)
-    (result : Result Outcome Stop) → command ≡ Some (Run names budget stats)
-    → IfOk result (λ done. IfSome stored (λ files. (stats : Bool) → Gives files (Some (Run names budget stats)) done))
-    → IfOk result (λ done. IfSome stored (λ files. Gives files command done))
-run_gives_as stored command names budget stats (Err stop) same gives = tt
-run_gives_as None command names budget stats (Ok done) same gives = tt
-run_gives_as (Some files) command names budget stats (Ok done) same gives =
-    subst (λ (c : Option Command). Gives files c done) (sym same) (gives stats)
-
-pub only_as : (command : Option Command) (result : Result Outcome Stop) → IfOk result (λ done. (c : Option Command) → IsFor c done) → IfOk result (IsFor command)
-only_as command (Ok done) only = only command
-only_as command (Err stop) only = tt
+pub only_as : (command : Option Command) (result : Result Outcome Stop) → runs command ≡ false
+    → IfOk result (λ done. (c : Option Command) → runs c ≡ false → IsFor c done) → IfOk result (IsFor command)
+only_as command (Ok done) idle only = only command idle
+only_as command (Err stop) idle only = tt
 
 -- ---- where a named file isn't there
 
@@ -151,14 +149,19 @@ made_fixed command n answer asked is = subst (λ (c : Option Command). IfSome (f
 
 -- ---- the program that is made, as the one source
 
+-- what is found of it, what is answered to that, and what is run
+abbrev pub IsTested : ℕ → Outcome → Type 0
+IsTested n done =
+    (finding : Finding) × (Checks made_names (made_source n) finding × ((input : List ℕ) → answer_for input done ≡ test_answer n finding)
+    × ((input : List ℕ) → run_for input done ≡ run_found STEPS [] finding))
+
 pub test_gives : (stored : Option (List (List ℕ × List ℕ))) (command : Option Command) (n : ℕ) (result : Result Outcome Stop) → command ≡ Some (Selftest n)
-    → IfOk result (λ done. (finding : Finding) × (Checks made_names (made_source n) finding × ((input : List ℕ) → answer_for input done ≡ test_answer n finding)))
-    → IfOk result (λ done. IfSome stored (λ files. Gives files command done))
+    → IfOk result (IsTested n) → IfOk result (λ done. IfSome stored (λ files. Gives files command done))
 test_gives stored command n (Err stop) asked is = tt
 test_gives None command n (Ok done) asked is = tt
 test_gives (Some files) command n (Ok done) asked is =
     λ input. subst (λ (c : Option Command). Answers files input c (answer_for input done)) (sym asked)
-    (subst (λ (a : Answer). Answers files input (Some (Selftest n)) a) (sym (is.1.1 input)) (selftest n is.0 is.1.0))
+    (subst (λ (a : Answer). Answers files input (Some (Selftest n)) a) (sym (is.1.1.0 input)) (selftest n is.0 is.1.0))
 
 -- where the names of the files and what was read are those of it
 pub test_checks : (names : List (List ℕ)) (n : ℕ) (found : Sources) (finding : Finding) → names ≡ made_names → found ≡ made_source n
@@ -166,11 +169,50 @@ pub test_checks : (names : List (List ℕ)) (n : ℕ) (found : Sources) (finding
 test_checks names n found finding named is checks =
     subst (λ (s : Sources). Checks made_names s finding) is (subst (λ (ns : List (List ℕ)). Checks ns found finding) named checks)
 
--- what was found of it, and what is answered to that
+-- what was found of it, what is answered to that, and what is run
 pub test_found : (n : ℕ) (names : List (List ℕ)) (found : Sources) (finding : Finding) (result : Result Outcome Stop) → names ≡ made_names
     → found ≡ made_source n → Checks names found finding
     → IfOk result (λ made. (input : List ℕ) → answer_for input made ≡ test_answer n finding)
-    → IfOk result (λ made. (x : Finding) × (Checks made_names (made_source n) x × ((input : List ℕ) → answer_for input made ≡ test_answer n x)))
-test_found n names found finding (Err stop) named is checks answers = tt
-test_found n names found finding (Ok done) named is checks answers =
-    (finding, (test_checks names n found finding named is checks, answers))
+    → IfOk result (λ made. (input : List ℕ) → run_for input made ≡ run_found STEPS [] finding) → IfOk result (IsTested n)
+test_found n names found finding (Err stop) named is checks answers runs = tt
+test_found n names found finding (Ok done) named is checks answers runs =
+    (finding, (test_checks names n found finding named is checks, (answers, runs)))
+
+-- ---- the run that is made
+
+pub run_makes : (stored : Option (List (List ℕ × List ℕ))) (names : List (List ℕ)) (budget : ℕ) (stats : Bool) (finding : Finding) (done : Outcome)
+    → IfSome stored (λ files. Checks names (sources files 0 SOURCE_BYTES names) finding)
+    → ((input : List ℕ) → run_for input done ≡ run_found budget input finding) → IfSome stored (λ files. MakesFor files (Some (Run names budget stats)) done)
+run_makes None names budget stats finding done checks is = tt
+run_makes (Some files) names budget stats finding done checks is =
+    λ input. subst (λ (r : Option Running). Makes files input (Some (Run names budget stats)) r) (sym (is input)) (runs_made.run names budget stats finding checks)
+
+pub test_makes : (stored : Option (List (List ℕ × List ℕ))) (command : Option Command) (n : ℕ) (result : Result Outcome Stop) → command ≡ Some (Selftest n)
+    → IfOk result (IsTested n) → IfOk result (λ done. IfSome stored (λ files. MakesFor files command done))
+test_makes stored command n (Err stop) asked is = tt
+test_makes None command n (Ok done) asked is = tt
+test_makes (Some files) command n (Ok done) asked is =
+    λ input. subst (λ (c : Option Command). Makes files input c (run_for input done)) (sym asked)
+    (subst (λ (r : Option Running). Makes files input (Some (Selftest n)) r) (sym (is.1.1.1 input)) (runs_made.selftest n is.0 is.1.0))
+
+-- none is made for another command
+no_run : (command : Option Command) (done : Outcome) → uses_store command ≡ false → IsFor command done → (input : List ℕ) → run_for input done ≡ None
+no_run command (outcome.Answers answer) idle is input = refl
+no_run command (outcome.Runs program budget stats) idle is input = absurd (not_used command (run_uses command is) idle)
+no_run command (outcome.Tests program n) idle is input = absurd (not_used command is.1 idle)
+
+pub none_makes : (stored : Option (List (List ℕ × List ℕ))) (command : Option Command) (done : Outcome) → uses_store command ≡ false
+    → ((input : List ℕ) → run_for input done ≡ None) → IfSome stored (λ files. MakesFor files command done)
+none_makes None command done idle is = tt
+none_makes (Some files) command done idle is = λ input. subst (λ (r : Option Running). Makes files input command r) (sym (is input)) (runs_made.none command idle)
+
+pub idle_makes : (stored : Option (List (List ℕ × List ℕ))) (command : Option Command) (result : Result Outcome Stop) → uses_store command ≡ false
+    → IfOk result (IsFor command) → IfOk result (λ done. IfSome stored (λ files. MakesFor files command done))
+idle_makes stored command (Err stop) idle is = tt
+idle_makes stored command (Ok done) idle is = none_makes stored command done idle (no_run command done idle is)
+
+-- the same of a command that is this one
+pub makes_as : (stored : Option (List (List ℕ × List ℕ))) (command other : Option Command) (result : Result Outcome Stop) → command ≡ other
+    → IfOk result (λ done. IfSome stored (λ files. MakesFor files other done)) → IfOk result (λ done. IfSome stored (λ files. MakesFor files command done))
+makes_as stored command other result same makes =
+    subst (λ (c : Option Command). IfOk result (λ done. IfSome stored (λ files. MakesFor files c done))) (sym same) makes

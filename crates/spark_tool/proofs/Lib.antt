@@ -5,7 +5,9 @@ pub mod Parsed
 pub mod Read
 pub mod Resolved
 pub mod Judged
+pub mod Uses
 pub mod CommandWords
 pub mod OneAnswer
+pub mod OneRun
 pub mod Complete
 pub mod Outcomes

@@ -179,7 +179,7 @@ abbrev OfCut : List (List ℕ) → AllTokens → Finding → Type 0
 OfCut names (Ok cuts) answer = OfTokens names cuts answer
 OfCut names (Err fault) answer = (pos : Pos) × ((code : Code) × ((lexical_code fault ≡ Some (pos, code)) × (answer ≡ stops names pos code)))
 
-abbrev Says : List (List ℕ) → Sources → Finding → Type 0
+abbrev pub Says : List (List ℕ) → Sources → Finding → Type 0
 Says names Missing answer = answer ≡ Ends unread
 Says names (TooLarge file) answer = answer ≡ stops names (first_position file) S1
 Says names (Texts texts) answer = OfCut names (all_tokens 0 TOKENS texts) answer
@@ -204,7 +204,7 @@ of_types names texts cuts trees answer cut of named fine found =
     of_names names texts cuts trees answer cut of named
     (subst (λ (f : Option TypeFault). OfTypes names (flow_of trees) f answer) (sym fine) found)
 
-says : (names : List (List ℕ)) (found : Sources) (answer : Finding) → Checks names found answer → Says names found answer
+pub says : (names : List (List ℕ)) (found : Sources) (answer : Finding) → Checks names found answer → Says names found answer
 says names _ _ missing = refl
 says names _ _ (too_large file) = refl
 says names _ _ (lexical texts fault pos code cut coded) =
@@ -268,7 +268,7 @@ abbrev Told : List (List ℕ × List ℕ) → List ℕ → Option Command → An
 Told stored input None answer = answer ≡ misused
 Told stored input (Some (Check names)) answer = (found : Finding) × Says names (sources stored 0 SOURCE_BYTES names) found × (answer ≡ check_answer found)
 Told stored input (Some (Run names budget stats)) answer =
-    (found : Finding) × Says names (sources stored 0 SOURCE_BYTES names) found × (answer ≡ run_answer_of names budget input found)
+    (found : Finding) × Says names (sources stored 0 SOURCE_BYTES names) found × (answer ≡ run_answer_of names budget stats input found)
 Told stored input (Some (Leaks names)) answer = (found : Finding) × Says names (sources stored 0 SOURCE_BYTES names) found × Listed names found answer
 Told stored input (Some (Make n)) answer = answer ≡ made n
 Told stored input (Some (Selftest n)) answer = (found : Finding) × Says made_names (made_source n) found × (answer ≡ test_answer n found)
@@ -283,7 +283,7 @@ told stored input _ _ (leaks names found answer checks lists) =
 told stored input _ _ (make n) = refl
 told stored input _ _ (selftest n found checks) = (found, says made_names (made_source n) found checks, refl)
 
-found_once : {A : Type 0} (names : List (List ℕ)) (found : Sources) (f : Finding → A) (a b : A) → (x : Finding) × Says names found x × (a ≡ f x)
+pub found_once : {A : Type 0} (names : List (List ℕ)) (found : Sources) (f : Finding → A) (a b : A) → (x : Finding) × Says names found x × (a ≡ f x)
     → (x : Finding) × Says names found x × (b ≡ f x) → a ≡ b
 found_once names found f a b one two = one.2 ∙ ap f (says_once names found one.0 two.0 one.1 two.1) ∙ sym two.2
 
@@ -292,7 +292,7 @@ told_once : (stored : List (List ℕ × List ℕ)) (input : List ℕ) (command :
 told_once stored input None a b one two = one ∙ sym two
 told_once stored input (Some (Check names)) a b one two = found_once names (sources stored 0 SOURCE_BYTES names) check_answer a b one two
 told_once stored input (Some (Run names budget stats)) a b one two =
-    found_once names (sources stored 0 SOURCE_BYTES names) (run_answer_of names budget input) a b one two
+    found_once names (sources stored 0 SOURCE_BYTES names) (run_answer_of names budget stats input) a b one two
 told_once stored input (Some (Leaks names)) a b one two =
     listed_once names two.0 a b
     (subst (λ (f : Finding). Listed names f a) (says_once names (sources stored 0 SOURCE_BYTES names) one.0 two.0 one.1 two.1) one.2) two.2

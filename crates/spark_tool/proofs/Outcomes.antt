@@ -6,11 +6,15 @@ use Rattle.answered_runs.specs.run_command.Answers.{Answer, Tells}
 use Rattle.spark_tool.specs.declared.finding.Outcome.{Outcome}
 use Rattle.spark_tool.specs.declared.stop.Stop.{Stop}
 use Rattle.spark_tool.specs.declared.stop.Stop.TheVariants.{Read, Write, Memory}
-use Rattle.spark_tool.specs.Answers.{answer_for}
-use Rattle.answered_runs.specs.tool_answers.Commands.{reads_files, runs, uses_store}
+use Rattle.spark_tool.specs.Answers.{answer_for, run_for}
+use Rattle.slot_heap.specs.Heaps.{Heap}
+use Rattle.answered_runs.specs.run_command.Stores.{Running, IsLeftBy}
+use Rattle.answered_runs.specs.tool_answers.Commands.{command_of, reads_files, runs}
 use Rattle.answered_runs.specs.tool_answers.Product.{Answers, Product}
-use Rattle.spark_tool.specs.Promises.{IsUnrun, HasInput, Delivers}
-use Rattle.spark_tool.specs.Refusals.{Gives}
+use Rattle.answered_runs.specs.tool_answers.Runs.{Makes}
+use Rattle.spark_tool.specs.Promises.{IsUnrun, HasInput, Delivers, Leaves}
+use Rattle.spark_tool.specs.Refusals.{Gives, MakesFor}
+use Rattle.spark_tool.proofs.OneRun.{one_run}
 use Rattle.spark_tool.specs.Stops.{stop_status}
 use Rattle.spark_tool.proofs.Complete.{answer_delivers, run_delivers, fixed_tells}
 
@@ -85,20 +89,51 @@ run_reads (Some (Leaks names)) is = absurd (cc)
 run_reads (Some (Make n)) is = absurd (cc)
 run_reads (Some (Selftest n)) is = absurd (cc)
 
--- a store is used for it
-pub run_uses : (command : Option Command) → runs command ≡ true → uses_store command ≡ true
-run_uses None is = absurd (cc)
-run_uses (Some (Check names)) is = absurd (cc)
-run_uses (Some (Run names budget stats)) is = refl
-run_uses (Some (Leaks names)) is = absurd (cc)
-run_uses (Some (Make n)) is = absurd (cc)
-run_uses (Some (Selftest n)) is = absurd (cc)
+-- ---- what is left in the store
 
-pub not_run : (command : Option Command) → runs command ≡ true → runs command ≡ false → ⊥
-not_run command is other = cc
+leaves : (files : List (List ℕ × List ℕ)) (input : List ℕ) (words : List (List ℕ)) (ran : Option Running) (Means : Heap → Type 0)
+    → Makes files input (command_of words) ran → (m : Heap) × (Means m × IsLeftBy ran m) → Leaves files input words Means
+leaves files input words ran Means makes known = record {
+  ran = ran;
+  made = makes;
+  only = λ other other_makes. one_run files input words other ran other_makes makes;
+  heap = known.0;
+  means = known.1.0;
+  left = known.1.1;
+}
 
-pub not_used : (command : Option Command) → uses_store command ≡ true → uses_store command ≡ false → ⊥
-not_used command is other = cc
+-- by what is done for the command
+pub makes_this : (stored : Option (List (List ℕ × List ℕ))) (command : Option Command) (done this : Outcome) → done ≡ this
+    → IfSome stored (λ files. MakesFor files command done) → IfSome stored (λ files. (input : List ℕ) → Makes files input command (run_for input this))
+makes_this stored command done this same makes =
+    subst (λ (o : Outcome). IfSome stored (λ files. (input : List ℕ) → Makes files input command (run_for input o))) same makes
+
+pub ok_leaves : (result : Result ℕ Stop) (stored : Option (List (List ℕ × List ℕ))) (runs : Bool) (left : Option (List ℕ)) (words : List (List ℕ))
+    (ran : List ℕ → Option Running) (Means : Heap → Type 0) → IfSome stored (λ files. (input : List ℕ) → Makes files input (command_of words) (ran input))
+    → IfOk result (λ status. (input : List ℕ) → HasInput runs left input → (m : Heap) × (Means m × IsLeftBy (ran input) m))
+    → IfOk result (λ status. IfSome stored (λ files. (input : List ℕ) → HasInput runs left input → Leaves files input words Means))
+ok_leaves (Err stop) stored runs left words ran Means makes known = tt
+ok_leaves (Ok status) None runs left words ran Means makes known = tt
+ok_leaves (Ok status) (Some files) runs left words ran Means makes known =
+    λ input has. leaves files input words (ran input) Means (makes input) (known input has)
+
+-- of a program that was run on the input
+pub input_known : (result : Result ℕ Stop) (runs : Bool) (left : Option (List ℕ)) (P : List ℕ → Type 0) → runs ≡ true
+    → IfOk result (λ status. (input : List ℕ) → left ≡ Some input → P input) → IfOk result (λ status. (input : List ℕ) → HasInput runs left input → P input)
+input_known (Err stop) runs left P is known = tt
+input_known (Ok status) true left P is known = known
+input_known (Ok status) false left P is known = absurd (cc)
+
+-- whatever the input is
+pub any_known : (result : Result ℕ Stop) (runs : Bool) (left : Option (List ℕ)) (P : List ℕ → Type 0) → ((input : List ℕ) → P input)
+    → IfOk result (λ status. (input : List ℕ) → HasInput runs left input → P input)
+any_known (Err stop) runs left P known = tt
+any_known (Ok status) runs left P known = λ input has. known input
+
+pub ok_any_known : (result : Result ℕ Stop) (runs : Bool) (left : Option (List ℕ)) (P : List ℕ → Type 0) (Q : Type 0) → (Q → (input : List ℕ) → P input)
+    → IfOk result (λ status. Q) → IfOk result (λ status. (input : List ℕ) → HasInput runs left input → P input)
+ok_any_known (Err stop) runs left P Q from known = tt
+ok_any_known (Ok status) runs left P Q from known = λ input has. from known input
 
 -- ---- statuses of stops
 

@@ -1,9 +1,11 @@
 -- Answers, findings and outcomes that a program holds.
-use Rattle.std.specs.Prelude.{ℕ, List, [], map, string_bytes}
+use Rattle.std.specs.Prelude.{ℕ, List, [], Option, None, map, string_bytes}
 use Rattle.laid_program.specs.Programs as laid
 use Rattle.path_check.specs.declared.accepted.AcceptedProgram.{AcceptedProgram}
 use Rattle.answered_runs.specs.run_command.Answers.{Answer}
 use Rattle.answered_runs.specs.run_command.Runs.{run_answer}
+use Rattle.answered_runs.specs.run_command.Stores.{Running, run_made}
+use Rattle.spark_base.specs.declared.limits.TheConstants.{STEPS}
 use Rattle.spark_tool.specs.declared.answer.Stream.{Stream}
 use Rattle.spark_tool.specs.declared.answer.Stream.TheVariants as stream
 use Rattle.spark_tool.specs.declared.answer.Answer as held
@@ -33,5 +35,11 @@ names_of program = map string_bytes program.laid.names.items
 -- What it writes and answers for an input.
 abbrev pub answer_for : List ℕ → Outcome → Answer
 answer_for input (outcome.Answers answer) = answer_of answer
-answer_for input (outcome.Runs program budget) = run_answer (names_of program) (laid.program_of program.laid) input budget
+answer_for input (outcome.Runs program budget stats) = run_answer (names_of program) (laid.program_of program.laid) input budget stats
 answer_for input (outcome.Tests program n) = tested (test_line n (laid.program_of program.laid))
+
+-- The run that it makes then.
+abbrev pub run_for : List ℕ → Outcome → Option Running
+run_for input (outcome.Answers answer) = None
+run_for input (outcome.Runs program budget stats) = run_made (laid.program_of program.laid) input budget
+run_for input (outcome.Tests program n) = run_made (laid.program_of program.laid) [] STEPS

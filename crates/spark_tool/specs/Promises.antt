@@ -3,7 +3,11 @@ use Rattle.std.specs.Prelude.{◌≡◌, ℕ, List, Bool, true, false, Option, S
 use Rattle.spark_base.specs.Lists.{Has}
 use Rattle.answered_runs.specs.run_command.Answers.{Answer, Tells, TellsFront}
 use Rattle.answered_runs.specs.Headline.{IsRunSoundly}
+use Rattle.slot_heap.specs.Heaps.{Heap}
+use Rattle.answered_runs.specs.run_command.Stores.{Running, IsLeftBy}
+use Rattle.answered_runs.specs.tool_answers.Commands.{command_of}
 use Rattle.answered_runs.specs.tool_answers.Product.{Product}
+use Rattle.answered_runs.specs.tool_answers.Runs.{Makes}
 
 -- The statuses of an answer: done; rejected; refused; the ends of a run by an exception, by its
 -- budget and after a leak; misused; an input that is too large.
@@ -42,3 +46,12 @@ pub record DeliversFront (stored : List (List ℕ × List ℕ)) (input : List �
 -- Both streams got some front of the bytes of each answer that is defined.
 abbrev pub DeliversNoMore : (stored : List (List ℕ × List ℕ)) (input : List ℕ) (words : List (List ℕ)) (out new_out err new_err : Option (List ℕ)) → Type 0
 DeliversNoMore stored input words out new_out err new_err = (answer : Answer) → Product stored input words answer → TellsFront answer out new_out err new_err
+
+-- The store has the slots that the one run leaves that is defined; or none is, and it has neither cells nor slots.
+pub record Leaves (stored : List (List ℕ × List ℕ)) (input : List ℕ) (words : List (List ℕ)) (Means : Heap → Type 0) : Type 0 where
+  pub ran : Option Running
+  pub made : Makes stored input (command_of words) ran
+  pub only : (other : Option Running) → Makes stored input (command_of words) other → other ≡ ran
+  pub heap : Heap
+  pub means : Means heap
+  pub left : IsLeftBy ran heap

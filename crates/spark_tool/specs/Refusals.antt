@@ -35,7 +35,8 @@ use Rattle.spark_tool.specs.declared.finding.Finding as held
 use Rattle.spark_tool.specs.declared.finding.Finding.TheVariants as found
 use Rattle.spark_tool.specs.declared.finding.Outcome.{Outcome}
 use Rattle.spark_tool.specs.declared.finding.Outcome.TheVariants as outcome
-use Rattle.spark_tool.specs.Answers.{answer_of, answer_for, names_of}
+use Rattle.spark_tool.specs.Answers.{answer_of, answer_for, names_of, run_for}
+use Rattle.answered_runs.specs.tool_answers.Runs.{Makes}
 use Rattle.answered_runs.specs.tool_answers.Commands.{runs, uses_store}
 
 -- The refusal is that of the first of the files that isn't that of a source; out of memory has no
@@ -115,22 +116,26 @@ IsNamed names (found.Passes program) = names_of program ≡ names
 abbrev pub Gives : List (List ℕ × List ℕ) → Option Command → Outcome → Type 0
 Gives stored command made = (input : List ℕ) → product.Answers stored input command (answer_for input made)
 
+-- And this is the run that is made for it.
+abbrev pub MakesFor : List (List ℕ × List ℕ) → Option Command → Outcome → Type 0
+MakesFor stored command made = (input : List ℕ) → Makes stored input command (run_for input made)
+
 -- An answer is made without the input, and nothing goes to the first output but with status 0; or
 -- a program can be run.
 abbrev pub IsReady : Outcome → Type 0
 IsReady (outcome.Answers answer) = Has (0 ∷ 1 ∷ 2 ∷ 6 ∷ []) answer.status × (answer.status ≢ 0 → (answer_of answer).out ≡ [])
-IsReady (outcome.Runs program budget) = IsSome program.laid.main × (budget ≤ STEPS)
+IsReady (outcome.Runs program budget stats) = IsSome program.laid.main × (budget ≤ STEPS)
 IsReady (outcome.Tests program n) = IsSome program.laid.main
 
 -- This answer is made, and it needs no input.
 abbrev pub IsMade : Answer → Outcome → Type 0
 IsMade told (outcome.Answers answer) = answer_of answer ≡ told
-IsMade told (outcome.Runs program budget) = ⊥
+IsMade told (outcome.Runs program budget stats) = ⊥
 IsMade told (outcome.Tests program n) = ⊥
 
 -- The usage line is for words without a command. A program is run only for a command that runs one,
 -- which has no other end with status 0.
 abbrev pub IsFor : Option Command → Outcome → Type 0
 IsFor command (outcome.Answers answer) = (answer.status ≡ 6 → command ≡ None) × (runs command ≡ true → answer.status ≢ 0)
-IsFor command (outcome.Runs program budget) = runs command ≡ true
+IsFor command (outcome.Runs program budget stats) = runs command ≡ true
 IsFor command (outcome.Tests program n) = (runs command ≡ false) × (uses_store command ≡ true)

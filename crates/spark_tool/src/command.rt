@@ -1,13 +1,14 @@
 //! What a command does, before anything is written and before anything is run.
-ghost use Rattle.std.specs.Prelude.{◌≡◌, ◌≢◌, ◌≤◌, ◌⊎◌, ℕ, Bool, List, Option, Err, Some, true, false, IfOk, IfSome, IsSomeAnd, IsTrue, All, length, map, string_bytes};
+ghost use Rattle.std.specs.Prelude.{◌≡◌, ◌≢◌, ◌≤◌, ◌⊎◌, ℕ, List, Option, Err, None, Some, true, false, IfOk, IfSome, IsSomeAnd, IsTrue, All, length, map, string_bytes};
 ghost use Rattle.spark_base.specs.Lists.{Has};
 ghost use Rattle.spark_base.specs.Outside.{Rose};
 ghost use Rattle.spark_base.specs.Words.{operands};
 ghost use Rattle.command_words.specs.Words as grammar;
 ghost use Rattle.command_words.specs.Words.{Fits, command_in};
-ghost use Rattle.spark_tool.specs.Answers.{answer_for, finding_of, names_of};
+ghost use Rattle.spark_tool.specs.Answers.{answer_for, finding_of, names_of, run_for};
 ghost use Rattle.answered_runs.specs.tool_answers.Commands.{reads_files, runs, there};
 ghost use Rattle.answered_runs.specs.tool_answers.Product.{Answers, Checks, Lists, Passes, check_answer, fixed_answer, refused, rejected, run_answer_of, unread, with_main};
+ghost use Rattle.answered_runs.specs.tool_answers.Runs.{run_found};
 ghost use Rattle.ada_lexer.specs.Positions.{first_position};
 ghost use Rattle.flow_paths.specs.declared.report.Effects.{Effects};
 ghost use Rattle.flow_paths.specs.declared.report.LeakLine.{LeakLine};
@@ -16,7 +17,7 @@ ghost use Rattle.leak_checks.specs.Plan.{LeakPlan};
 ghost use Rattle.program_check.specs.Sources.{printed_in};
 ghost use Rattle.rule_reports.specs.Lines.{leak_plan_lines};
 ghost use Rattle.answered_runs.specs.tool_answers.Reading.{Missing, sources};
-ghost use Rattle.spark_tool.specs.Refusals.{Gives, IsChecked, IsFor, IsMade, IsNamed, IsReady};
+ghost use Rattle.spark_tool.specs.Refusals.{Gives, IsChecked, IsFor, IsMade, IsNamed, IsReady, MakesFor};
 
 use crate::answer::{
     accepted_answer, file_refusal_answer, listed_answer, made_answer, rejected_answer,
@@ -125,6 +126,7 @@ fn list_outcome(alloc: Global, names: &[String], finding: Finding) -> Result<Out
 pub(crate) fn refuse(alloc: Global, names: &[String]) -> Result<Outcome, AllocError>
     ensures answer { IfOk result (λ made. (input : List ℕ)
         → answer_for input made ≡ refused (map string_bytes names.now) (first_position 0) Code.N5) }
+    ensures run { IfOk result (λ made. (input : List ℕ) → run_for input made ≡ None) }
     ensures ready { IfOk result IsReady }
     ensures only { IfOk result (λ made. (command : Option grammar.Command) → runs command ≡ true → IsFor command made) }
     ensures other { IfOk result (λ made. (command : Option grammar.Command) → runs command ≡ false → IsFor command made) }
@@ -137,17 +139,19 @@ fn begin(
     alloc: Global,
     names: &[String],
     steps: u64,
+    stats: bool,
     program: AcceptedProgram,
 ) -> Result<Outcome, AllocError>
     requires named { names_of program ≡ map string_bytes names.now }
     requires steps { steps ≤ STEPS }
     ensures answer { IfOk result (λ made. (input : List ℕ)
-        → answer_for input made ≡ run_answer_of (map string_bytes names.now) steps input (Passes (program_of program.laid))) }
+        → answer_for input made ≡ run_answer_of (map string_bytes names.now) steps stats input (Passes (program_of program.laid))) }
+    ensures run { IfOk result (λ made. (input : List ℕ) → run_for input made ≡ run_found steps input (Passes (program_of program.laid))) }
     ensures ready { IfOk result IsReady }
     ensures only { IfOk result (λ made. (command : Option grammar.Command) → runs command ≡ true → IsFor command made) }
 {
     if program.laid().main.is_some() {
-        Ok(Outcome::Runs(program, steps))
+        Ok(Outcome::Runs(program, steps, stats))
     } else {
         refuse(alloc, names)
     }
@@ -162,6 +166,7 @@ pub(crate) fn reject(
 ) -> Result<Outcome, AllocError>
     ensures answer { IfOk result (λ made. (input : List ℕ)
         → answer_for input made ≡ with_main (map string_bytes names.now) has_main (rejected lines.items)) }
+    ensures run { IfOk result (λ made. (input : List ℕ) → run_for input made ≡ None) }
     ensures ready { IfOk result IsReady }
     ensures only { IfOk result (λ made. (command : Option grammar.Command) → runs command ≡ true → IsFor command made) }
     ensures other { IfOk result (λ made. (command : Option grammar.Command) → runs command ≡ false → IsFor command made) }
@@ -178,20 +183,22 @@ fn run_outcome(
     alloc: Global,
     names: &[String],
     steps: u64,
+    stats: bool,
     finding: Finding,
 ) -> Result<Outcome, AllocError>
     requires checked { IsChecked (finding_of finding) }
     requires named { IsNamed (map string_bytes names.now) finding }
     requires steps { steps ≤ STEPS }
     ensures answer { IfOk result (λ made. (input : List ℕ)
-        → answer_for input made ≡ run_answer_of (map string_bytes names.now) steps input (finding_of finding)) }
+        → answer_for input made ≡ run_answer_of (map string_bytes names.now) steps stats input (finding_of finding)) }
+    ensures run { IfOk result (λ made. (input : List ℕ) → run_for input made ≡ run_found steps input (finding_of finding)) }
     ensures ready { IfOk result IsReady }
     ensures only { IfOk result (λ made. (command : Option grammar.Command) → runs command ≡ true → IsFor command made) }
 {
     match finding {
         Finding::Ends(answer) => Ok(Outcome::Answers(answer)),
         Finding::Rejects(has_main, lines) => Ok(reject(alloc, names, has_main, lines)?),
-        Finding::Passes(program) => Ok(begin(alloc, names, steps, program)?),
+        Finding::Passes(program) => Ok(begin(alloc, names, steps, stats, program)?),
     }
 }
 
@@ -246,13 +253,16 @@ fn run_command<F: FileStore>(
     alloc: Global,
     names: &[String],
     steps: u64,
+    stats: bool,
     files: &mut F,
 ) -> Result<Outcome, Stop>
     requires operands { All (Has (operands (F.words files.old))) (map string_bytes names.now) }
     requires few { length names.now ≤ FILES }
     requires steps { steps ≤ STEPS }
     ensures gives { IfOk result (λ made. IfSome (F.stored files.old)
-        (λ stored. (stats : Bool) → Gives stored (Some (grammar.Run (map string_bytes names.now) steps stats)) made)) }
+        (λ stored. Gives stored (Some (grammar.Run (map string_bytes names.now) steps stats)) made)) }
+    ensures makes { IfOk result (λ made. IfSome (F.stored files.old)
+        (λ stored. MakesFor stored (Some (grammar.Run (map string_bytes names.now) steps stats)) made)) }
     ensures ready { IfOk result IsReady }
     ensures only { IfOk result (λ made. (command : Option grammar.Command) → runs command ≡ true → IsFor command made) }
     ensures fault { result ≡ Err Stop.Read → Rose (F.faults files.old) (F.faults files.new)
@@ -261,7 +271,7 @@ fn run_command<F: FileStore>(
     ensures nothing_written { result ≢ Err Stop.Write }
 {
     match check_files(alloc, names, files) {
-        Ok(finding) => Ok(run_outcome(alloc, names, steps, finding)?),
+        Ok(finding) => Ok(run_outcome(alloc, names, steps, stats, finding)?),
         Err(stop) => Err(stop),
     }
 }
@@ -274,6 +284,7 @@ pub(crate) fn command_outcome<F: FileStore>(
 ) -> Result<Outcome, Stop>
     requires { Fits (operands (F.words files.old)) (command_in command.now) }
     ensures gives { IfOk result (λ made. IfSome (F.stored files.old) (λ stored. Gives stored (there (command_in command.now)) made)) }
+    ensures makes { IfOk result (λ made. IfSome (F.stored files.old) (λ stored. MakesFor stored (there (command_in command.now)) made)) }
     ensures fixed { IfOk result (λ made. IfSome (fixed_answer (there (command_in command.now))) (λ told. IsMade told made)) }
     ensures ready { IfOk result IsReady }
     ensures only { IfOk result (IsFor (there (command_in command.now))) }
@@ -288,8 +299,8 @@ pub(crate) fn command_outcome<F: FileStore>(
         Command::Run {
             files: names,
             steps,
-            stats: _,
-        } => run_command(alloc, names, *steps, files),
+            stats,
+        } => run_command(alloc, names, *steps, *stats, files),
         Command::Leaks(names) => list_command(alloc, names, files),
         Command::Make(n) => Ok(Outcome::Answers(made_answer(alloc, *n)?)),
         Command::Selftest(n) => selftest(alloc, *n),

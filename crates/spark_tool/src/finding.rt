@@ -19,8 +19,8 @@ pub(crate) enum Finding {
 pub(crate) enum Outcome {
     /// It writes this answer.
     Answers(Answer),
-    /// It runs this program, in at most so many steps.
-    Runs(AcceptedProgram, u64),
+    /// It runs this program, in at most so many steps, and tells the counts where they are asked for.
+    Runs(AcceptedProgram, u64, bool),
     /// It runs this program, which is made for this number, to test what was built.
     Tests(AcceptedProgram, u32),
 }

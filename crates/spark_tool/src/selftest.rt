@@ -1,8 +1,10 @@
 //! What `selftest` does.
-ghost use Rattle.std.specs.Prelude.{◌≡◌, ◌≢◌, ℕ, List, Option, Err, false, true, IfOk, length, map, string_bytes};
+ghost use Rattle.std.specs.Prelude.{◌≡◌, ◌≢◌, [], ℕ, List, Option, Err, false, true, IfOk, length, map, string_bytes};
 ghost use Rattle.command_words.specs.Words as grammar;
 ghost use Rattle.laid_program.specs.Programs.{program_of};
-ghost use Rattle.spark_tool.specs.Answers.{answer_for, finding_of};
+ghost use Rattle.spark_tool.specs.Answers.{answer_for, finding_of, run_for};
+ghost use Rattle.spark_base.specs.declared.limits.TheConstants.{STEPS};
+ghost use Rattle.answered_runs.specs.tool_answers.Runs.{run_found};
 ghost use Rattle.answered_runs.specs.tool_answers.Commands.{runs, uses_store};
 ghost use Rattle.answered_runs.specs.tool_answers.Product.{Checks, Passes, made_names, made_source, test_answer};
 ghost use Rattle.answered_runs.specs.tool_answers.Product as product;
@@ -53,6 +55,7 @@ fn tested(
 ) -> Result<Outcome, AllocError>
     requires { map string_bytes names.now ≡ made_names }
     ensures answer { IfOk result (λ made. (input : List ℕ) → answer_for input made ≡ test_answer n (Passes (program_of program.laid))) }
+    ensures run { IfOk result (λ made. (input : List ℕ) → run_for input made ≡ run_found STEPS [] (Passes (program_of program.laid))) }
     ensures ready { IfOk result IsReady }
     ensures only { IfOk result (λ made. (command : Option grammar.Command) → runs command ≡ false → uses_store command ≡ true → IsFor command made) }
 {
@@ -73,6 +76,7 @@ fn test_outcome(
     requires checked { IsChecked (finding_of finding) }
     requires named { map string_bytes names.now ≡ made_names }
     ensures answer { IfOk result (λ made. (input : List ℕ) → answer_for input made ≡ test_answer n (finding_of finding)) }
+    ensures run { IfOk result (λ made. (input : List ℕ) → run_for input made ≡ run_found STEPS [] (finding_of finding)) }
     ensures ready { IfOk result IsReady }
     ensures only { IfOk result (λ made. (command : Option grammar.Command) → runs command ≡ false → uses_store command ≡ true → IsFor command made) }
 {
@@ -86,7 +90,8 @@ fn test_outcome(
 /// What `selftest` does: it checks the program that is made, and then runs it.
 pub(crate) fn selftest(alloc: Global, n: u32) -> Result<Outcome, Stop>
     ensures gives { IfOk result (λ made. (finding : product.Finding) × (Checks made_names (made_source n) finding
-        × ((input : List ℕ) → answer_for input made ≡ test_answer n finding))) }
+        × ((input : List ℕ) → answer_for input made ≡ test_answer n finding)
+        × ((input : List ℕ) → run_for input made ≡ run_found STEPS [] finding))) }
     ensures ready { IfOk result IsReady }
     ensures only { IfOk result (λ made. (command : Option grammar.Command) → runs command ≡ false → uses_store command ≡ true → IsFor command made) }
     ensures no_read { result ≢ Err Stop.Read }

@@ -7,8 +7,8 @@ ghost use Rattle.slot_heap.specs.Heaps.{no_heap};
 ghost use Rattle.answered_runs.specs.run_command.Answers.{Grows, Tells, TellsFront};
 ghost use Rattle.answered_runs.specs.tool_answers.Commands.{command_of, reads_files, runs, uses_store};
 ghost use Rattle.answered_runs.specs.tool_answers.Product.{Product, fixed_answer, unread};
-ghost use Rattle.spark_tool.specs.Promises.{IsStatus, IsRegular, IsUnrun, HasInput, Delivers, DeliversFront, DeliversNoMore};
-ghost use Rattle.spark_tool.specs.Refusals.{Gives, IsFor, IsMade, IsReady};
+ghost use Rattle.spark_tool.specs.Promises.{IsStatus, IsRegular, IsUnrun, HasInput, Delivers, DeliversFront, DeliversNoMore, Leaves};
+ghost use Rattle.spark_tool.specs.Refusals.{Gives, IsFor, IsMade, IsReady, MakesFor};
 
 use crate::answer::usage_answer;
 use crate::command::command_outcome;
@@ -30,6 +30,7 @@ fn words_outcome<F: FileStore>(
     requires { F.words files.old ≡ map string_bytes words.now }
     ensures gives { IfOk result (λ made. IfSome (F.stored files.old)
         (λ stored. Gives stored (command_of (map string_bytes words.now)) made)) }
+    ensures makes { IfOk result (λ made. IfSome (F.stored files.old) (λ stored. MakesFor stored (command_of (map string_bytes words.now)) made)) }
     ensures fixed { IfOk result (λ made. IfSome (fixed_answer (command_of (map string_bytes words.now))) (λ told. IsMade told made)) }
     ensures ready { IfOk result IsReady }
     ensures only { IfOk result (IsFor (command_of (map string_bytes words.now))) }
@@ -74,6 +75,9 @@ fn carry_out<F: FileStore, S: Source, R: Store, K: Sink>(
         → IfOk result (λ status. IsUnrun status ⊎ IfSome (S.left input.old) (λ bytes. IsAtEnd (S.left input.new))) }
     ensures input { runs (command_of (map string_bytes words.now)) ≡ false → input.new ≡ input.old }
     ensures early { IfOk result (λ status. Has (1 ∷ 2 ∷ 6 ∷ []) status → input.new ≡ input.old) }
+    ensures left { IfOk result (λ status. IfSome (F.stored files.old)
+        (λ stored. (bytes : List ℕ) → HasInput (runs (command_of (map string_bytes words.now))) (S.left input.old) bytes
+        → Leaves stored bytes (map string_bytes words.now) (R.Means store.new))) }
     ensures unrun_store { IfOk result (λ status. IsUnrun status → store.new ≡ store.old) }
     ensures unread_store { result ≡ Err Stop.Read → store.new ≡ store.old }
     ensures idle_store { uses_store (command_of (map string_bytes words.now)) ≡ false → store.new ≡ store.old }
@@ -100,7 +104,9 @@ fn carry_out<F: FileStore, S: Source, R: Store, K: Sink>(
 {
     match words_outcome(alloc, words, files)? {
         Outcome::Answers(answer) => write_answer(&answer, out, err),
-        Outcome::Runs(program, steps) => start(alloc, &program, steps, input, store, out, err),
+        Outcome::Runs(program, steps, stats) => {
+            start(alloc, &program, steps, stats, input, store, out, err)
+        }
         Outcome::Tests(program, number) => test(alloc, program, number, store, out, err),
     }
 }
@@ -189,7 +195,11 @@ pub fn run_tool<F: FileStore, S: Source, R: Store, K: Sink>(
     ensures input { runs (command_of (map string_bytes words.now)) ≡ false → input.new ≡ input.old }
     ensures early { Has (1 ∷ 2 ∷ 6 ∷ []) result → input.new ≡ input.old }
 
-    // Where nothing is run, the store stays as it was.
+    // The store has what the run leaves in it, where the input tells its bytes. Where nothing is run,
+    // it stays as it was.
+    ensures left { IsRegular result → IfSome (F.stored files.old)
+        (λ stored. (bytes : List ℕ) → HasInput (runs (command_of (map string_bytes words.now))) (S.left input.old) bytes
+        → Leaves stored bytes (map string_bytes words.now) (R.Means store.new)) }
     ensures unrun_store { IsUnrun result → store.new ≡ store.old }
     ensures idle_store { uses_store (command_of (map string_bytes words.now)) ≡ false → store.new ≡ store.old }
 

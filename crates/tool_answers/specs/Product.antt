@@ -178,10 +178,10 @@ abbrev pub with_main : List (List ℕ) → Bool → Answer → Answer
 with_main names main answer = if main then answer else refused names (first_position 0) N5
 
 -- What `run` answers.
-abbrev pub run_answer_of : List (List ℕ) → ℕ → List ℕ → Finding → Answer
-run_answer_of names budget input (Ends answer) = answer
-run_answer_of names budget input (Rejects main lines) = with_main names main (rejected lines)
-run_answer_of names budget input (Passes program) = with_main names (is_some program.main) (run_answer names program input budget)
+abbrev pub run_answer_of : List (List ℕ) → ℕ → Bool → List ℕ → Finding → Answer
+run_answer_of names budget stats input (Ends answer) = answer
+run_answer_of names budget stats input (Rejects main lines) = with_main names main (rejected lines)
+run_answer_of names budget stats input (Passes program) = with_main names (is_some program.main) (run_answer names program input budget stats)
 
 -- The run of the program that is found doesn't end in a trap.
 abbrev pub IsUntrapped : ℕ → List ℕ → Finding → Type 0
@@ -221,7 +221,7 @@ pub data Answers (stored : List (List ℕ × List ℕ)) (input : List ℕ) : Opt
       → Answers stored input (Some (Check names)) (check_answer finding)
   -- run FILE..
   run : (names : List (List ℕ)) (budget : ℕ) (stats : Bool) (finding : Finding) → Checks names (sources stored 0 SOURCE_BYTES names) finding
-      → IsUntrapped budget input finding → Answers stored input (Some (Run names budget stats)) (run_answer_of names budget input finding)
+      → IsUntrapped budget input finding → Answers stored input (Some (Run names budget stats)) (run_answer_of names budget stats input finding)
   -- leaks FILE..
   leaks : (names : List (List ℕ)) (finding : Finding) (answer : Answer) → Checks names (sources stored 0 SOURCE_BYTES names) finding
       → Lists names finding answer → Answers stored input (Some (Leaks names)) answer

@@ -81,22 +81,106 @@ X := X;
 end Main;
 ";
 
+/// It frees cells of two sizes, and makes others in their slots.
+const USES_AGAIN: &str = "X : List := new Cell'(5, null); I : Int_Ptr;
+begin
+Free (X); I := new Integer'(3); Drop (I); X := new Cell'(6, null);
+Put_Line (Integer'Image (X.Value)); Free (X);
+end Main;
+";
+
+/// It prints what a cell holds, and frees it.
+const PRINTS: &str = "X : Int_Ptr := new Integer'(7);
+begin
+Put_Line (Integer'Image (X.all));
+Drop (X);
+end Main;
+";
+
+/// It makes a cell in a step that raises: it counts as freed.
+const RAISES: &str =
+    "type Pair is record First : List; Second : Integer; end record; type Pair_Ptr is access Pair;
+P : Pair_Ptr; N : Integer;
+begin
+P := new Pair'(new Cell'(2, null), 1 / N);
+end Main;
+";
+
 /// Each row: the front of a source, the rest of it, how many numbers are its input, what is written
 /// to each output, the status, and how many slots are made.
-const ROWS: [(&str, &str, u32, &str, &str, u8, u64); 5] = [
-    (HEAD, SUMS, 1_000, " 500500\n", "", 0, 1_000),
-    (HEAD, ROUNDS, 0, "", "", 0, 1_000),
+const ROWS: [(&str, &str, u32, &str, &str, u8, u64); 8] = [
+    (
+        HEAD,
+        SUMS,
+        1_000,
+        " 500500\n",
+        "steps 10013, made 1000, freed 1000, leaked 0, slots 1000\n",
+        0,
+        1_000,
+    ),
+    (
+        HEAD,
+        ROUNDS,
+        0,
+        "",
+        "steps 600407, made 100000, freed 100000, leaked 0, slots 1000\n",
+        0,
+        1_000,
+    ),
     (
         "",
         TRAVERSES,
         0,
         " 9\n",
-        "f.adb:15:1: leak of cell 2\n",
+        "f.adb:15:1: leak of cell 2\nsteps 15, made 2, freed 0, leaked 1, slots 2\n",
         5,
         2,
     ),
-    (HEAD, TWO_TYPES, 0, " 0", "", 0, 1),
-    (HEAD, MOVES, 0, "", "f.adb:17:1: leak of cell 1\n", 5, 1),
+    (
+        HEAD,
+        TWO_TYPES,
+        0,
+        " 0",
+        "steps 9, made 2, freed 2, leaked 0, slots 1\n",
+        0,
+        1,
+    ),
+    (
+        HEAD,
+        MOVES,
+        0,
+        "",
+        "f.adb:17:1: leak of cell 1\nsteps 4, made 1, freed 0, leaked 1, slots 1\n",
+        5,
+        1,
+    ),
+    (
+        HEAD,
+        USES_AGAIN,
+        0,
+        " 6\n",
+        "steps 11, made 3, freed 3, leaked 0, slots 2\n",
+        0,
+        2,
+    ),
+    (
+        HEAD,
+        PRINTS,
+        0,
+        " 7\n",
+        "steps 5, made 1, freed 1, leaked 0, slots 1\n",
+        0,
+        1,
+    ),
+    (
+        HEAD,
+        RAISES,
+        0,
+        "",
+        "f.adb:17:1: raised Constraint_Error\nsteps 3, made 1, freed 1, leaked 0, slots 1\n",
+        3,
+        1,
+    ),
 ];
 
 /// The lines `1`, `2` and so on.
@@ -109,7 +193,7 @@ fn numbers(alloc: Global, count: u32) -> Result<Vec<u8>, AllocError> {
     Ok(text)
 }
 
-/// What `run f.adb` does over a store, with so many numbers as its input.
+/// What `run --stats f.adb` does over a store, with so many numbers as its input.
 fn response_over<R: Store>(
     alloc: Global,
     front: &str,
@@ -119,7 +203,7 @@ fn response_over<R: Store>(
 ) -> Result<Response, AllocError>
     requires { R.Means store.old no_heap }
 {
-    let words = words_of(alloc, "run f.adb")?;
+    let words = words_of(alloc, "run --stats f.adb")?;
     let text = repeated(alloc, front, rest, 1, "")?;
     let stored = vec![in alloc; (String::from_str(alloc, "f.adb")?, text)]?;
     let mut input = MemSource::new(numbers(alloc, count)?, Vec::new(alloc));
@@ -159,7 +243,8 @@ fn reads_of_cells(rt: HostRuntime) -> Result<(), Fail> {
     let alloc = rt.alloc();
     let mut store = Counting::new(ReuseStore::new(alloc));
     let response = response_over(alloc, HEAD, SUMS, 1_000, &mut store)?;
-    assert!(rt; response.is(" 500500\n", "", 0));
+    let counts = "steps 10013, made 1000, freed 1000, leaked 0, slots 1000\n";
+    assert!(rt; response.is(" 500500\n", counts, 0));
     assert!(rt; store.reads() >= 3_000);
     Ok(())
 }

@@ -5,7 +5,7 @@ use std::test::Fail;
 const USAGE: &str =
     "usage: spark check FILE... | run [--steps=N] [--stats] FILE... | leaks FILE... | make N | selftest N\n";
 
-const LINES: [&str; 44] = [
+const LINES: [&str; 50] = [
     "",
     "check",
     "check ",
@@ -14,6 +14,7 @@ const LINES: [&str; 44] = [
     "check f.adb -x",
     "check f.adb ",
     "check f.adb --steps=1",
+    "check f.adb --stats",
     "Check f.adb",
     " f.adb",
     "run",
@@ -27,18 +28,23 @@ const LINES: [&str; 44] = [
     "run --steps=00000000001 f.adb",
     "run --steps=1 f.adb --steps=1",
     "run -- f.adb",
-    "run --stats f.adb",
-    "run f.adb --stats --stats",
-    "run --steps=1 --stats f.adb",
+    "run --stats",
+    "run --stats=1 f.adb",
+    "run --stat f.adb",
+    "run --stats --stats f.adb",
+    "run --steps=1 --stats --stats f.adb",
+    "run --steps=1 --stats --steps=1 f.adb",
     "leaks",
     "leaks f.adb -x",
     "leaks f.adb --steps=1",
+    "leaks f.adb --stats",
     "selftest",
     "selftest 0",
     "selftest 10001",
     "selftest 000001",
     "selftest 1 1",
     "selftest 1 -x",
+    "selftest 1 --stats",
     "make",
     "make 0",
     "make 10001",
@@ -139,7 +145,7 @@ const SHARED: &str = "package P is end P;";
 
 /// Each row: words that are a command, what is written to the second output, and the status. The run
 /// takes two steps.
-const ORDERS: [(&str, &str, u8); 12] = [
+const ORDERS: [(&str, &str, u8); 16] = [
     ("run f.adb", "", 0),
     ("run --steps=2 f.adb", "", 0),
     ("run f.adb --steps=1", "steps spent: 1\n", 4),
@@ -151,6 +157,26 @@ const ORDERS: [(&str, &str, u8); 12] = [
     ("run f.adb --steps=0000000002", "", 0),
     ("run --steps=1234567890 f.adb", "", 0),
     ("run --steps=4294967296 f.adb", "", 0),
+    (
+        "run --stats f.adb",
+        "steps 2, made 0, freed 0, leaked 0, slots 0\n",
+        0,
+    ),
+    (
+        "run p.ads f.adb --stats --steps=2",
+        "steps 2, made 0, freed 0, leaked 0, slots 0\n",
+        0,
+    ),
+    (
+        "run --steps=1 p.ads --stats f.adb",
+        "steps spent: 1\nsteps 1, made 0, freed 0, leaked 0, slots 0\n",
+        4,
+    ),
+    (
+        "run --stats p.ads --steps=0 f.adb",
+        "steps spent: 0\nsteps 0, made 0, freed 0, leaked 0, slots 0\n",
+        4,
+    ),
     ("leaks p.ads f.adb", "", 0),
 ];
 

@@ -9,7 +9,7 @@ use Rattle.slot_formals.specs.Formals.{framed}
 use Rattle.slot_formals.specs.Leads.{Gives}
 use Rattle.slot_called.specs.Calls.{PassedTested}
 use Rattle.slot_called.proofs.Tested.{sound_rows}
-use Rattle.slot_called.proofs.Called.{taken_below, can_row, call_begins, call_done}
+use Rattle.slot_called.proofs.Called.{taken_below, can_row, call_begins, call_done, call_lent}
 use Rattle.slot_called.proofs.calls.call.Goals as goal
 
 pub pass_tested-requires-clause-sound : goal.pass_tested-requires-clause-sound
@@ -51,3 +51,8 @@ returns-clause-called g c =
     c.begin_frame.new.memory (leaks_of c.args.found.now.items) (leaks_of c.begin_frame.new.found.items) c.in_ok-base.ensures.begun c.pass_tested.ensures.elsewhere c.in_ok-base.ensures.elsewhere
     c.args.frames.now c.begin_frame.new.frames c.in_ok-base.ensures.returns c.in_ok-base.base c.returning-returned.result c.in_ok-base.ensures.base c.returning-returned.ensures
     c.enter.result c.enter.new.memory c.enter.new.frames c.args.k c.args.next c.enter.ensures.memory c.enter.ensures.frames c.enter.ensures.stop
+
+pub returns-clause-lent : goal.returns-clause-lent
+returns-clause-lent g c =
+    call_lent c.args.memory.now c.pass_tested.new.memory c.begin_frame.new.memory c.enter.new.memory c.begin_frame.new.frames c.args.k c.in_ok-base.base c.enter.result
+    c.pass_tested.ensures.elsewhere c.in_ok-base.ensures.elsewhere c.enter.ensures.memory c.enter.ensures.stop

@@ -3,7 +3,8 @@ use Rattle.std.specs.Prelude.{IfOk, OnErr}
 use Rattle.machine.specs.Run.{Run, run}
 use Rattle.laid_program.specs.declared.laid.Laid.{Laid}
 use Rattle.laid_program.specs.Programs.{program_of}
-use Rattle.slot_executor.specs.Executes.{AreSame, IsExecuted}
+use Rattle.slot_heap.specs.Heaps.{Knows}
+use Rattle.slot_executor.specs.Executes.{AreSame, HasSlots, IsExecuted}
 use Rattle.slot_runs.specs.Tellings.{Sinks, HaveFronts}
 use Rattle.slot_runs.proofs.Owed.{none_had}
 use Rattle.accepted_runs.proofs.Kept.{accepted_soundly}
@@ -43,3 +44,8 @@ returns-in-Ok-clause-fronts g c =
     let whole : Laid → Run = λ l. run (program_of l) c.args.input.now c.args.steps in
     subst (λ (l : Laid). OnErr c.run_codes.result (HaveFronts (map string_bytes l.names.items) old new (whole l).output (whole l).leaks))
     c.laid-laid.ensures.value c.run_codes.ensures.fronts
+
+pub returns-in-Ok-clause-slots : goal.returns-in-Ok-clause-slots
+returns-in-Ok-clause-slots g c =
+    subst (λ (l : Laid). IfOk c.run_codes.result (λ ran. Knows g.R.Store.Means c.run_codes.new.store (λ m. HasSlots (run (program_of l) c.args.input.now c.args.steps) m.slots)))
+    c.laid-laid.ensures.value c.run_codes.ensures.slots

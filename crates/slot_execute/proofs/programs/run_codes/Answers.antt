@@ -1,10 +1,11 @@
 use Rattle.std.proofs.Common.{sym, map, string_bytes}
 use Rattle.laid_program.specs.Programs.{program_of}
 use Rattle.machine.specs.Run.{Run, run}
+use Rattle.slot_heap.specs.Heaps.{Knows, no_heap}
 use Rattle.slot_runs.specs.Tellings.{Sinks}
 use Rattle.slot_runs.proofs.Kept.{if_ok, for_err}
 use Rattle.slot_runs.proofs.Owed.{none_had}
-use Rattle.slot_executor.specs.Executes.{IsExecuted}
+use Rattle.slot_executor.specs.Executes.{HasSlots, IsExecuted}
 use Rattle.slot_execute.proofs.Started.{unfit}
 use Rattle.slot_execute.proofs.NoSteps.{none_executed}
 use Rattle.slot_execute.proofs.programs.run_codes.Goals as goal
@@ -24,3 +25,10 @@ returns-then-not-fits-clause-executed g c =
 pub returns-then-not-fits-clause-fronts : goal.returns-then-not-fits-clause-fronts
 returns-then-not-fits-clause-fronts g c =
     for_err _ (none_had _ (record { output = g.K.Sink.written c.args.out.now; lines = g.K.Sink.written c.args.err.now }) _ _)
+
+pub returns-then-not-fits-clause-slots : goal.returns-then-not-fits-clause-slots
+returns-then-not-fits-clause-slots g c =
+    let whole : Run = run (program_of c.args.laid.now) c.args.input.now c.args.steps in
+    if_ok {Q = λ ran. Knows g.R.Store.Means c.args.store.now (λ m. HasSlots whole m.slots)} c.run_unfit.result
+    (λ ran is. (no_heap, (c.requires.store, c.run_unfit.ensures.slots)))
+    c.run_unfit.ensures.ran

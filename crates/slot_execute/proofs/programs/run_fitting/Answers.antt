@@ -11,7 +11,7 @@ use Rattle.slot_execute.proofs.programs.run_fitting.Goals as goal
 
 pub run_started-requires-clause-started : goal.run_started-requires-clause-started
 run_started-requires-clause-started g c =
-    started c.args.laid.now c.args.codes c.requires.ready g.R.Store.Means c.args.input.now c.is_declaring-declares.result c.in-Ok.run' c.requires.fits c.is_declaring-declares.ensures c.in-Ok.ensures
+    started c.args.laid.now c.args.codes c.requires.ready g.R.Store.Means c.args.store.ghost_name c.args.input.now c.is_declaring-declares.result c.in-Ok.run' c.requires.fits c.is_declaring-declares.ensures c.in-Ok.ensures
 
 pub run_started-requires-clause-same : goal.run_started-requires-clause-same
 run_started-requires-clause-same g c =

@@ -4,8 +4,8 @@ use Rattle.laid_program.specs.Programs.{program_of}
 use Rattle.machine.specs.Run.{Run, run}
 use Rattle.slot_runs.specs.Tellings.{Sinks, HaveFronts}
 use Rattle.slot_runs.proofs.Kept.{if_ok, on_err}
-use Rattle.slot_executor.specs.Executes.{IsExecuted}
-use Rattle.slot_executor.proofs.Runs.{can_start, writes_executed, cuts_fronts}
+use Rattle.slot_executor.specs.Executes.{IsExecuted, IsLeft}
+use Rattle.slot_executor.proofs.Runs.{can_start, writes_executed, writes_left, cuts_fronts}
 use Rattle.slot_executor.proofs.started.run_started.Goals as goal
 
 pub run_whole-requires : goal.run_whole-requires
@@ -21,7 +21,7 @@ returns-clause-executed g c =
     subst (λ names. IfOk c.run_whole.result (λ ran. IsExecuted (map string_bytes names) whole ran old new)) c.deref.ensures.value
     (if_ok {Q = λ ran. IsExecuted (map string_bytes c.deref.result.now) whole ran old new} c.run_whole.result
     (λ ran written. writes_executed c.args.laid.now (g.S.Stepping.setting c.args.run.now) (g.S.Stepping.untold c.args.run.now) (g.S.Stepping.Stands c.args.run.now) c.requires.started c.requires.same c.args.steps
-    (map string_bytes c.deref.result.now) ran old new written)
+    (map string_bytes c.deref.result.now) ran old new (g.S.Stepping.Stands c.run_whole.new.run) written)
     c.run_whole.ensures.written)
 
 pub returns-clause-fronts : goal.returns-clause-fronts
@@ -34,3 +34,13 @@ returns-clause-fronts g c =
     (λ cut. cuts_fronts c.args.laid.now (g.S.Stepping.setting c.args.run.now) (g.S.Stepping.untold c.args.run.now) (g.S.Stepping.Stands c.args.run.now) c.requires.started c.requires.same c.args.steps
     (map string_bytes c.deref.result.now) old new cut)
     c.run_whole.ensures.cut)
+
+pub returns-clause-left : goal.returns-clause-left
+returns-clause-left g c =
+    let old : Sinks = record { output = g.K.Sink.written c.args.out.now; lines = g.K.Sink.written c.args.err.now } in
+    let new : Sinks = record { output = g.K.Sink.written c.run_whole.new.out; lines = g.K.Sink.written c.run_whole.new.err } in
+    let whole : Run = run (program_of c.args.laid.now) (g.S.Stepping.setting c.args.run.now).input c.args.steps in
+    if_ok {Q = λ ran. IsLeft whole (g.S.Stepping.Stands c.run_whole.new.run)} c.run_whole.result
+    (λ ran written. writes_left c.args.laid.now (g.S.Stepping.setting c.args.run.now) (g.S.Stepping.untold c.args.run.now) (g.S.Stepping.Stands c.args.run.now) c.requires.started c.requires.same c.args.steps
+    (map string_bytes c.deref.result.now) ran old new (g.S.Stepping.Stands c.run_whole.new.run) written)
+    c.run_whole.ensures.written

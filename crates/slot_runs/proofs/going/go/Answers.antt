@@ -5,7 +5,7 @@ use Rattle.slot_runs.proofs.Gone.{stays, one_on, one_ends, can_step}
 use Rattle.slot_runs.proofs.going.go.Goals as goal
 
 pub steps-init : goal.steps-init
-steps-init g c = (stays (g.S.Stepping.setting c.args.run.now) c.args.limit (g.S.Stepping.untold c.args.run.now) (g.S.Stepping.Stands c.args.run.now), refl, omega arith)
+steps-init g c = (stays (g.S.Stepping.setting c.args.run.now) c.args.limit (g.S.Stepping.untold c.args.run.now) (g.S.Stepping.Stands c.args.run.now), refl, omega arith, refl)
 
 pub step-requires : goal.step-requires
 step-requires g c = record {
@@ -25,6 +25,7 @@ steps-preserved g c =
           (g.S.Stepping.Stands c.args.run.now) (g.S.Stepping.Stands c.steps.run) (g.S.Stepping.Stands c.step.new.self) below c.steps.invariant.0 on,
       c.step.ensures.setting ∙ c.steps.invariant.1,
       omega (arith, below),
+      c.in-Ok-On.ensures.lent ∙ c.steps.invariant.3,
     )
 
 pub returns-then-is_to_tell-clause-led : goal.returns-then-is_to_tell-clause-led

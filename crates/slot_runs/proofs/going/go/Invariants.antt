@@ -8,6 +8,7 @@ invariant-steps g l =
     LeadsOn (g.S.Stepping.setting l.initial.run) l.limit (g.S.Stepping.untold l.initial.run) (g.S.Stepping.Stands l.initial.run) l.made turn.On (g.S.Stepping.untold l.run) (g.S.Stepping.Stands l.run)
     × (g.S.Stepping.setting l.run ≡ g.S.Stepping.setting l.initial.run)
     × (l.made ≤ l.limit)
+    × (g.S.Stepping.lent l.run ≡ g.S.Stepping.lent l.initial.run)
 
 abbrev pub decreases-steps : goal.decreases-steps
 decreases-steps g l = l.limit - l.made

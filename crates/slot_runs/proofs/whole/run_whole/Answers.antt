@@ -32,6 +32,7 @@ steps-init g c =
       omega arith,
       refl,
       refl,
+      refl,
     )
 
 pub go-requires-clause-going : goal.go-requires-clause-going
@@ -61,7 +62,7 @@ returns-in-Ends-clause-written g c =
     let later : Sinks = record { output = g.K.Sink.written c.answer.new.out; lines = g.K.Sink.written c.answer.new.err } in
     let s = g.S.Stepping.setting c.args.run.now in
     let u = g.S.Stepping.untold c.args.run.now in
-    if_ok {Q = λ ran. Writes files c.args.limit s u (g.S.Stepping.Stands c.args.run.now) ran start later} c.answer.result
+    if_ok {Q = λ ran. Writes files c.args.limit s u (g.S.Stepping.Stands c.args.run.now) (g.S.Stepping.Stands c.answer.new.run) ran start later} c.answer.result
     (λ ran written. λ x can. written s (state_of u x) c.args.limit start
     (gone_ends files s start now c.steps.told.lines.items c.steps.told.leaked (state_of u x) c.args.limit c.steps.steps c.in_ok-made.made
     (g.S.Stepping.untold c.steps.run) (g.S.Stepping.untold c.go.new.run) (g.S.Stepping.Stands c.steps.run) (g.S.Stepping.Stands c.go.new.run) c.in-Ends.ending
@@ -91,6 +92,7 @@ steps-preserved g c =
       omega (arith, few, c.steps.invariant.2),
       c.in_ok-tell-in-On.ensures.no_fault_out (λ e. ok_apart _ _ e) ∙ c.steps.invariant.3,
       c.in_ok-tell-in-On.ensures.no_fault_err (λ e. ok_apart _ _ e) ∙ c.steps.invariant.4,
+      c.tell.ensures.lent ∙ c.in_ok-made.ensures.lent ∙ c.steps.invariant.5,
     )
 
 pub returns-clause-written : goal.returns-clause-written
@@ -102,7 +104,7 @@ returns-clause-written g c =
     let s = g.S.Stepping.setting c.args.run.now in
     let u = g.S.Stepping.untold c.args.run.now in
     let past = c.steps-test.false in
-    if_ok {Q = λ ran. Writes files c.args.limit s u (g.S.Stepping.Stands c.args.run.now) ran start later} c.answer-2.result
+    if_ok {Q = λ ran. Writes files c.args.limit s u (g.S.Stepping.Stands c.args.run.now) (g.S.Stepping.Stands c.answer-2.new.run) ran start later} c.answer-2.result
     (λ ran written. λ x can. written s (state_of u x) c.args.limit start
     (all_spent files s start now c.steps.told.lines.items c.steps.told.leaked (state_of u x) c.args.limit c.steps.steps (g.S.Stepping.untold c.steps.run) (g.S.Stepping.Stands c.steps.run)
     (same_there c.args.limit c.steps.steps (omega (arith, past)) c.steps.invariant.2) (c.steps.invariant.0 x can)))

@@ -14,6 +14,7 @@ invariant-steps g l =
     × (l.steps ≤ l.limit)
     × (g.K.Sink.faults l.out ≡ g.K.Sink.faults l.initial.out)
     × (g.K.Sink.faults l.err ≡ g.K.Sink.faults l.initial.err)
+    × (g.S.Stepping.lent l.run ≡ g.S.Stepping.lent l.initial.run)
 
 abbrev pub decreases-steps : goal.decreases-steps
 decreases-steps g l = l.limit - l.steps

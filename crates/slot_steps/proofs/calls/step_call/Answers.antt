@@ -19,11 +19,11 @@ pub returns-in-Ok : goal.returns-in-Ok
 returns-in-Ok g c =
     call_goes g.R.Store.Means c.args.codes.now c.args.table.now c.args.point c.args.k c.args.parts.now c.requires.at c.args.sub c.args.actuals c.args.next c.requires.does c.in-Ok.field-0 c.tell.result
     (record c.args.parts.now { memory = c.call.new.memory; frames = c.call.new.frames; hand = c.call.new.hand; found = c.call.new.found; words = c.call.new.words }) c.tell.new.parts
-    (leaks_of c.clear.new.self.items) (ap leaks_of c.clear.ensures.items) c.in-Ok.ensures.called c.in-Ok.ensures.next c.in-Ok.ensures.words refl refl c.tell.ensures.told c.tell.ensures.rest c.tell.ensures.memory
+    (leaks_of c.clear.new.self.items) (ap leaks_of c.clear.ensures.items) c.in-Ok.ensures.called c.in-Ok.ensures.next c.in-Ok.ensures.words c.in-Ok.ensures.lent refl refl c.tell.ensures.told c.tell.ensures.rest c.tell.ensures.memory
 
 pub returns-in-Err : goal.returns-in-Err
 returns-in-Err g c =
     call_halts g.R.Store.Means c.args.codes.now c.args.table.now c.args.point c.args.k c.args.parts.now c.requires.at c.args.sub c.args.actuals c.args.next c.requires.does
     (record { stop = c.in-Err.stop; made = c.made.result })
     (record c.args.parts.now { memory = c.call.new.memory; frames = c.call.new.frames; hand = c.call.new.hand; found = c.call.new.found; words = c.call.new.words })
-    (leaks_of c.clear.new.self.items) (leaks_of c.call.new.found.items) (ap leaks_of c.clear.ensures.items) c.in-Err.ensures.called c.made.ensures refl refl
+    (leaks_of c.clear.new.self.items) (leaks_of c.call.new.found.items) (ap leaks_of c.clear.ensures.items) c.in-Err.ensures.called c.made.ensures c.in-Err.ensures.lent refl refl

@@ -8,6 +8,6 @@ use Rattle.slot_steps.proofs.calls.step_fall.Goals as goal
 pub returns : goal.returns
 returns g c =
     halts_by g.R.Store.Means c.args.codes.now c.args.table.now c.args.point c.args.k c.args.parts.now c.requires.at
-    (record { stop = stop.Raises exception.ProgramError; made = c.made.result }) c.args.parts.now refl refl
+    (record { stop = stop.Raises exception.ProgramError; made = c.made.result }) c.args.parts.now (λ other. refl) refl refl
     (λ other h stands fine. fall_halts g.R.Store.Means c.args.codes.now c.args.table.now c.args.point c.args.k c.args.parts.now c.requires.at c.requires.does h stands
     c.made.result c.made.ensures)

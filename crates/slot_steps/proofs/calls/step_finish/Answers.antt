@@ -10,10 +10,10 @@ pub returns-in-Ok : goal.returns-in-Ok
 returns-in-Ok g c =
     finish_goes g.R.Store.Means c.args.codes.now c.args.table.now c.args.point c.args.k c.args.parts.now c.requires.at c.requires.does c.in-Ok.others
     (record c.args.parts.now { memory = c.finish.new.memory; frames = c.finish.new.frames; hand = c.finish.new.hand; words = c.finish.new.words }) c.in-Ok.ensures.finished c.in-Ok.ensures.words
-    refl refl
+    c.in-Ok.ensures.lent refl refl
 
 pub returns-in-Err : goal.returns-in-Err
 returns-in-Err g c =
     finish_halts g.R.Store.Means c.args.codes.now c.args.table.now c.args.point c.args.k c.args.parts.now c.requires.at c.requires.does
     (record { stop = c.in-Err.stop; made = c.made.result })
-    (record c.args.parts.now { memory = c.finish.new.memory; frames = c.finish.new.frames; hand = c.finish.new.hand; words = c.finish.new.words }) c.in-Err.ensures.finished c.made.ensures refl refl
+    (record c.args.parts.now { memory = c.finish.new.memory; frames = c.finish.new.frames; hand = c.finish.new.hand; words = c.finish.new.words }) c.in-Err.ensures.finished c.made.ensures c.in-Err.ensures.lent refl refl

@@ -1,4 +1,5 @@
-use Rattle.std.proofs.Common.{refl}
+use Rattle.std.proofs.Common.{ap, refl}
+use Rattle.slot_memory.specs.Memory.{Elsewhere}
 use Rattle.slot_tells.proofs.slot_parts.Sights.{sound_at, does_at}
 use Rattle.slot_tells.proofs.slot_parts.Leads.{halts_by}
 use Rattle.slot_steps.proofs.Values.{values_can, values_halt, values_steps, waits_told, words_told}
@@ -36,6 +37,7 @@ pub returns-in-Err : goal.returns-in-Err
 returns-in-Err g c =
     halts_by g.R.Store.Means c.args.codes.now c.args.table.now c.args.point c.args.k c.args.parts.now c.requires.at
     (record { stop = c.in-Err.stop; made = c.made.result })
-    (record c.args.parts.now { memory = c.change_values.new.memory; hand = c.change_values.new.hand; found = c.change_values.new.found }) refl refl
+    (record c.args.parts.now { memory = c.change_values.new.memory; hand = c.change_values.new.hand; found = c.change_values.new.found })
+    (λ other. ap (λ (e : Elsewhere). e.lent) c.in-Err.ensures.elsewhere) refl refl
     (λ other h stands fine. values_halt g.R.Store.Means c.args.codes.now c.args.table.now c.args.point c.args.k c.args.parts.now c.requires.at c.requires.group h stands fine
     c.in-Err.stop c.made.result _ c.change_values.new.memory c.in-Err.ensures.left c.made.ensures other)

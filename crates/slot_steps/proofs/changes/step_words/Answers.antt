@@ -1,4 +1,5 @@
-use Rattle.std.proofs.Common.{refl}
+use Rattle.std.proofs.Common.{ap, refl}
+use Rattle.slot_memory.specs.Memory.{Elsewhere}
 use Rattle.code_rows.specs.Points.{next_of, program_of}
 use Rattle.slot_tells.specs.slot_parts.Goes.{IsLed}
 use Rattle.slot_tells.proofs.slot_parts.Sights.{does_at, taken_below, below_by}
@@ -30,6 +31,6 @@ returns-in-Ok g c =
 pub returns-in-Err : goal.returns-in-Err
 returns-in-Err g c =
     halts_by g.R.Store.Means c.args.codes.now c.args.table.now c.args.point.now c.args.k c.args.parts.now c.requires.at
-    (record { stop = c.in-Err.stop; made = c.made.result }) (record c.args.parts.now { memory = c.change_words.new.memory }) refl refl
+    (record { stop = c.in-Err.stop; made = c.made.result }) (record c.args.parts.now { memory = c.change_words.new.memory }) (λ other. ap (λ (e : Elsewhere). e.lent) c.change_words.ensures.elsewhere) refl refl
     (λ other h stands fine. words_halt g.R.Store.Means c.args.codes.now c.args.table.now c.args.point.now c.args.k c.args.parts.now c.requires.at c.requires.group h stands fine
     c.in-Err.stop c.made.result c.change_words.new.memory c.in-Err.ensures.changed c.made.ensures other)

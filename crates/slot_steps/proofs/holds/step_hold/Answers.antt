@@ -20,10 +20,10 @@ hold-requires-clause-whole g c =
 pub returns-in-Ok : goal.returns-in-Ok
 returns-in-Ok g c =
     hold_goes g.R.Store.Means c.args.codes.now c.args.table.now c.args.point c.args.k c.args.parts.now c.requires.at c.args.value c.args.of c.args.next c.requires.does _
-    (record c.args.parts.now { memory = c.hold.new.memory; frames = c.hold.new.frames; hand = c.hold.new.hand }) c.in-Ok.ensures.held refl refl refl
+    (record c.args.parts.now { memory = c.hold.new.memory; frames = c.hold.new.frames; hand = c.hold.new.hand }) c.in-Ok.ensures.held refl c.in-Ok.ensures.lent refl refl
 
 pub returns-in-Err : goal.returns-in-Err
 returns-in-Err g c =
     hold_halts g.R.Store.Means c.args.codes.now c.args.table.now c.args.point c.args.k c.args.parts.now c.requires.at c.args.value c.args.of c.args.next c.requires.does
     (record { stop = c.in-Err.stop; made = c.made.result })
-    (record c.args.parts.now { memory = c.hold.new.memory; frames = c.hold.new.frames; hand = c.hold.new.hand }) c.in-Err.ensures.held refl refl c.made.ensures
+    (record c.args.parts.now { memory = c.hold.new.memory; frames = c.hold.new.frames; hand = c.hold.new.hand }) c.in-Err.ensures.held c.in-Err.ensures.lent refl refl c.made.ensures

@@ -48,4 +48,4 @@ pub returns-in-Err : goal.returns-in-Err
 returns-in-Err g c =
     let stored = rw (to_z-of_z w32 c.args.low c.ranges.low, to_z-of_z w32 c.args.high c.ranges.high) at c.in-Err.ensures.stored in
     input_halts g.R.Store.Means c.args.codes.now c.args.table.now c.args.point c.args.k c.args.parts.now c.requires.at c.args.place c.args.low c.args.high c.args.next c.requires.does
-    c.in-Err.stop c.made-made.result c.input.new.memory (record c.args.parts.now { memory = c.input.new.memory }) stored c.made-made.ensures refl refl
+    c.in-Err.stop c.made-made.result c.input.new.memory (record c.args.parts.now { memory = c.input.new.memory }) stored c.made-made.ensures refl refl refl

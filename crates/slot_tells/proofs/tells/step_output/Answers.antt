@@ -29,4 +29,4 @@ returns-in-Ok g c =
 pub returns-in-Err : goal.returns-in-Err
 returns-in-Err g c =
     output_halts g.R.Store.Means c.args.codes.now c.args.table.now c.args.point c.args.k c.args.parts.now c.requires.at c.args.texts c.args.line c.args.next c.requires.does c.in-Err.stop c.made-made.result
-    (record c.args.parts.now { output = c.output.new.out }) c.in-Err.ensures.written c.made-made.ensures c.in-Err.ensures.unchanged refl
+    (record c.args.parts.now { output = c.output.new.out }) c.in-Err.ensures.written c.made-made.ensures refl c.in-Err.ensures.unchanged refl

@@ -29,4 +29,4 @@ returns-in-Ok g c =
 pub returns-in-Err : goal.returns-in-Err
 returns-in-Err g c =
     left_halts g.R.Store.Means c.args.codes.now c.args.table.now c.args.point c.args.k c.args.parts.now c.requires.at c.args.operand c.args.or_else c.args.next c.args.other c.requires.does
-    c.in-Err.stop c.made-made.result c.args.parts.now c.in-Err.ensures c.made-made.ensures refl refl
+    c.in-Err.stop c.made-made.result c.args.parts.now c.in-Err.ensures c.made-made.ensures refl refl refl

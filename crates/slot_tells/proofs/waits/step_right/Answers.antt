@@ -30,4 +30,4 @@ returns-in-Ok g c =
 pub returns-in-Err : goal.returns-in-Err
 returns-in-Err g c =
     right_halts g.R.Store.Means c.args.codes.now c.args.table.now c.args.point c.args.k c.args.parts.now c.requires.at c.args.operand c.args.next c.requires.does
-    c.in-Err.stop c.made-made.result c.args.parts.now c.in-Err.ensures c.made-made.ensures refl refl
+    c.in-Err.stop c.made-made.result c.args.parts.now c.in-Err.ensures c.made-made.ensures refl refl refl

@@ -1,9 +1,9 @@
-use Rattle.std.proofs.Common.{◌∙◌, sym, ap, List, ℕ, map, string_bytes}
+use Rattle.std.proofs.Common.{◌∙◌, refl, sym, ap, List, ℕ, Some, map, string_bytes}
 use Rattle.spark_base.specs.Words.{operands}
 use Rattle.command_words.specs.Words.{Check, Run, Leaks, command_in}
 use Rattle.spark_tool.specs.Answers.{answer_of}
-use Rattle.answered_runs.specs.tool_answers.Commands.{there}
-use Rattle.spark_tool.proofs.CommandWords.{may_be_opened, fits_check, fits_run, fits_leaks, check_fault, run_fault, leaks_fault, made_gives, made_fixed, test_gives}
+use Rattle.answered_runs.specs.tool_answers.Commands.{runs, there, uses_store}
+use Rattle.spark_tool.proofs.CommandWords.{may_be_opened, fits_check, fits_run, fits_leaks, check_fault, run_fault, leaks_fault, made_gives, made_fixed, test_gives, idle_makes, none_makes, only_as, makes_as, test_makes}
 use Rattle.spark_tool.proofs.command.command_outcome.Goals as goal
 
 pub check_command-requires-clause-operands : goal.check_command-requires-clause-operands
@@ -60,4 +60,36 @@ returns-in_ok-made_answer-in-Make-clause-fixed g c =
 pub returns-in-Selftest-clause-gives : goal.returns-in-Selftest-clause-gives
 returns-in-Selftest-clause-gives g c =
     test_gives (g.F.FileStore.stored c.args.files.now) (there (command_in c.args.command.now)) c.in-Selftest.n c.selftest.result
+    (ap (λ command. there (command_in command)) c.in-Selftest.is) c.selftest.ensures.gives
+
+-- ---- the run that is made
+
+pub returns-in-Check-clause-makes : goal.returns-in-Check-clause-makes
+returns-in-Check-clause-makes g c =
+    let same = ap (λ command. there (command_in command)) c.in-Check.is in
+    idle_makes (g.F.FileStore.stored c.args.files.now) (there (command_in c.args.command.now)) c.check_command.result (ap uses_store same)
+    (only_as (there (command_in c.args.command.now)) c.check_command.result (ap runs same) c.check_command.ensures.only)
+
+pub returns-in-Leaks-clause-makes : goal.returns-in-Leaks-clause-makes
+returns-in-Leaks-clause-makes g c =
+    let same = ap (λ command. there (command_in command)) c.in-Leaks.is in
+    idle_makes (g.F.FileStore.stored c.args.files.now) (there (command_in c.args.command.now)) c.list_command.result (ap uses_store same)
+    (only_as (there (command_in c.args.command.now)) c.list_command.result (ap runs same) c.list_command.ensures.only)
+
+pub returns-in-Run-clause-makes : goal.returns-in-Run-clause-makes
+returns-in-Run-clause-makes g c =
+    makes_as (g.F.FileStore.stored c.args.files.now) (there (command_in c.args.command.now))
+    (Some (Run (map string_bytes c.deref-in-Run.result.now) c.in-Run.steps c.in-Run.stats)) c.run_command.result
+    (ap (λ command. there (command_in command)) c.in-Run.is
+    ∙ ap (λ items. there (Run (map string_bytes items) c.in-Run.steps c.in-Run.stats)) (sym c.deref-in-Run.ensures.value))
+    c.run_command.ensures.makes
+
+pub returns-in_ok-made_answer-in-Make-clause-makes : goal.returns-in_ok-made_answer-in-Make-clause-makes
+returns-in_ok-made_answer-in-Make-clause-makes g c =
+    none_makes (g.F.FileStore.stored c.args.files.now) (there (command_in c.args.command.now)) _ (ap (λ command. uses_store (there (command_in command))) c.in-Make.is)
+    (λ input. refl)
+
+pub returns-in-Selftest-clause-makes : goal.returns-in-Selftest-clause-makes
+returns-in-Selftest-clause-makes g c =
+    test_makes (g.F.FileStore.stored c.args.files.now) (there (command_in c.args.command.now)) c.in-Selftest.n c.selftest.result
     (ap (λ command. there (command_in command)) c.in-Selftest.is) c.selftest.ensures.gives

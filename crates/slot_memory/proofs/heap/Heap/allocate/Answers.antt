@@ -6,14 +6,15 @@ use Rattle.slot_memory.specs.Cells.{Cells}
 use Rattle.slot_memory.proofs.Keeps.{padded, made_as}
 use Rattle.slot_memory.proofs.heap.Heap.allocate.Goals as goal
 
-pub returns : goal.returns
-returns g c =
+pub returns-clause-made : goal.returns-clause-made
+returns-clause-made g c =
     let old : Cells g.row.R.Denot = c.args.self.now in
     let h : ℕ = c.in_ok-handle.handle in
     let i : ℕ = c.number-index.result in
     let long : ℕ = length c.args.values.now in
     let n : Cells g.row.R.Denot = record {
       store = c.self-2.inside.store.now;
+      lent = c.self-2.inside.store.ghost_name;
       lengths = set c.self-2.inside.lengths.items i long;
       numbers = set c.self-2.inside.numbers.items i (c.self-2.inside.made + 1);
       made = c.self-2.inside.made + 1;

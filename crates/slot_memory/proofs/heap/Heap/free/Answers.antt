@@ -20,10 +20,11 @@ overflow_add-self g c =
     let few : c.args.self.now.freed < most_cells = freed_few g.R.Store.Means c.args.self.now c.args.cell c.requires in
     omega (arith, few, ap (λ (h : Cells g.row.R.Denot). h.freed) c.self.view_is)
 
-pub returns : goal.returns
-returns g c =
+pub returns-clause-freed : goal.returns-clause-freed
+returns-clause-freed g c =
     let n : Cells g.row.R.Denot = record {
       store = c.free.new.self;
+      lent = c.self.inside.store.ghost_name;
       lengths = c.self.inside.lengths.items;
       numbers = c.self.inside.numbers.items;
       made = c.self.inside.made;

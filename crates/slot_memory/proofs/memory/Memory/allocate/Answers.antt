@@ -29,4 +29,4 @@ returns-clause-made g c =
     omega (arith, some, c.if-words-saturating_sub.false, c.live.ensures, c.saturating_sub.ensures) in
     let P : Kept g.row.R.Denot → Type 0 = λ m. Always g.R.Store.Means m (λ s. IsMade g.R.Store.Means s c.args.values.now c.word_of.result n) in
     rw (to_z-of_z w64 c.word_of.result fits)
-    (subst P c.self.view_is (makes g.R.Store.Means _ n c.in_ok-handle.handle c.args.values.now c.word_of.result c.in_ok-handle.ensures refl c.word_of.ensures few room))
+    (subst P c.self.view_is (makes g.R.Store.Means _ n c.in_ok-handle.handle c.args.values.now c.word_of.result c.in_ok-handle.ensures.made refl c.word_of.ensures few room))

@@ -18,4 +18,4 @@ returns-clause-freed g c =
       read = c.self.inside.read;
     } in
     let P : Kept g.row.R.Denot → Type 0 = λ m. Always g.R.Store.Means m (λ s. Frees g.R.Store.Means s c.args.cell n) in
-    subst P c.self.view_is (frees g.R.Store.Means _ n c.args.cell c.free.ensures refl)
+    subst P c.self.view_is (frees g.R.Store.Means _ n c.args.cell c.free.ensures.freed refl)
