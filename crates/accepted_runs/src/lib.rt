@@ -29,8 +29,5 @@
 //! (`AcceptedLowered`). So what such a run gives is what the machine's run gives, or memory is out
 //! (`specs/AcceptedRecycled/Runs.antt`, `proofs/AcceptedRecycled/Main.antt`). Nothing here runs.
 #![tactic(auto)]
-<<<<<<< HEAD
-=======
 
->>>>>>> 599e11edbf776cd017b0b3af5972eb7b22d77ae7
 pub use tested_files::lower_ready;

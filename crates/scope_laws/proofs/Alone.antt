@@ -1,12 +1,13 @@
 -- Code in which all functions are as asked, and expressions without calls.
 use Rattle.std.proofs.Common.{◌≡◌, refl, inl, ℕ, Bool, true, false, ◌||◌}
+use Rattle.std.proofs.lemmas.Bool.{true≢false}
 use Rattle.typed_tree.specs.Trees.{TypedTree, Name, Component, Designated, Element, Image, Parens, Unary, Binary, Short, IsNull, Aggregate, Alike, New, TypedCode, Declare, Assign, Output, Input, Release, If, Branch, Case, When, Loop, While, For, Exit, Return, Block}
 use Rattle.typed_tree.specs.Trees as typed
 use Rattle.flow_paths.specs.Names.{has_call}
 use Rattle.scope_laws.specs.Alone.{CallsFit, CallsOnly, SourceFits, CodeFits, BranchesFit, BranchFits, AlternativesFit, AlternativeFits}
 
 neither : (a b : Bool) → a || b ≡ false → (a ≡ false) × (b ≡ false)
-neither true b e = cc
+neither true b e = absurd (true≢false e)
 neither false b e = (refl, e)
 
 -- ---- where all functions are as asked
@@ -79,7 +80,7 @@ module _ (ask passed alone single : ℕ → Type 0) (handed : (n : ℕ) → ask 
 module _ (ask passed : ℕ → Type 0) where
   pub source_none : (kind : ℕ → Type 0) (e : TypedTree) → has_call e ≡ false → CallsFit ask passed kind e
   unfolding CallsFit has_call
-  source_none kind (typed.Call p sub actuals) none = cc
+  source_none kind (typed.Call p sub actuals) none = absurd (true≢false none)
   source_none kind (Element index low high rest) none = (let two = neither (has_call index) (has_call rest) none in (source_none ask index two.0, source_none ask rest two.1))
   source_none kind (Binary op a b) none = (let two = neither (has_call a) (has_call b) none in (source_none ask a two.0, source_none ask b two.1))
   source_none kind (Short op p a q b) none = (let two = neither (has_call a) (has_call b) none in (source_none ask a two.0, source_none ask b two.1))

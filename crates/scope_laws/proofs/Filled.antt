@@ -2,6 +2,7 @@
 use Rattle.std.proofs.Common.{◌≡◌, refl, sym, ap, ◌∙◌, subst, inl, inr, ℕ, zero, suc, ◌+◌, ◌<◌, ◌≤◌, Bool, true, false, not, ◌&&◌, ◌==◌, cond, List, [], ◌∷◌, ◌++◌, map, length, get_or, arith, if◌then◌else◌, append_assoc, length-append, eq-eqb}
 use Rattle.std.specs.Prelude.{Some, None, flat_map, drop, is_some}
 use Rattle.std.specs.List.{AllByRecursion, position_or_len}
+use Rattle.std.proofs.lemmas.Bool.{true≢false}
 use Rattle.spark_base.specs.declared.position.Pos.{Pos}
 use Rattle.spark_base.specs.Lists.{Has}
 use Rattle.spark_base.proofs.Lists.{Has-append_left, Has-append_right}
@@ -208,7 +209,7 @@ placed (t ∷ all) r has = by (same_place r.place t.place) refl (λ more. placed
     by false is on = elim has [
       | inl same ↦
           absurd (let f : same_place r.place r.place ≡ false = subst (λ (x : Temporary). same_place r.place x.place ≡ false) same is in let g = same_self r.place in
-          let no : true ≡ false = sym g ∙ f in cc)
+          true≢false (sym g ∙ f))
       | inr more ↦ (let less = on more in omega (arith, less))
     ]
 

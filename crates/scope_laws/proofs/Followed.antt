@@ -1,6 +1,7 @@
 -- Where what a function gives that isn't asked of all temporaries is taken alone, the call leads to the point that takes it.
 use Rattle.std.proofs.Common.{◌≡◌, refl, sym, ap, ◌∙◌, subst, ◌⊎◌, inl, inr, ℕ, suc, Bool, true, false, List, [], ◌∷◌, ◌++◌, drop, Some, None, if◌then◌else◌}
 use Rattle.std.specs.Prelude.{flat_map, is_some}
+use Rattle.std.proofs.lemmas.Bool.{false≢true}
 use Rattle.spark_base.specs.declared.position.Pos.{Pos}
 use Rattle.spark_base.specs.Lists.{Has}
 use Rattle.spark_base.proofs.Lists.{Has-append_left, Has-append_right, Has-append_cases}
@@ -26,6 +27,18 @@ abbrev pub AreFollowed : (ℕ → Type 0) → List NamedPoint → Type 0
 AreFollowed alone ps =
     (p : NamedPoint) → Has ps p → (n : ℕ) (a : TypedTree) (t : ℕ) → p.instr ≡ instruction.Call n a (Some t) → alone n ⊎ IsFollowed ps p n a
 
+abbrev fills : Instruction → Bool
+fills (instruction.Call n a (Some t)) = true
+fills i = false
+
+abbrev sub_in : Instruction → ℕ
+sub_in (instruction.Call n a t) = n
+sub_in i = 0
+
+abbrev actuals_in : Instruction → TypedTree
+actuals_in (instruction.Call n a t) = a
+actuals_in i = NoMore
+
 module _ (s : Setting) (ask passed alone single : ℕ → Type 0) (weaker : (n : ℕ) → ask n → alone n) (wider : (n : ℕ) → passed n → alone n) where
   -- all of them are as asked
   abbrev AreAsked : List NamedPoint → Type 0
@@ -43,10 +56,7 @@ module _ (s : Setting) (ask passed alone single : ℕ → Type 0) (weaker : (n :
 
   asked_call : (p : NamedPoint) (n : ℕ) (a : TypedTree) (t : ℕ) → p.instr ≡ instruction.Call n a (Some t) → alone n → AreAsked (p ∷ [])
   asked_call p n a t is asked q (inl same) k b u other =
-      subst alone (same_sub n k a b t u (sym is ∙ ap (λ (z : NamedPoint). z.instr) same ∙ other)) asked
-    where
-      same_sub : (n k : ℕ) (a b : TypedTree) (t u : ℕ) → instruction.Call n a (Some t) ≡ instruction.Call k b (Some u) → n ≡ k
-      same_sub n k a b t u e = cc
+      subst alone (ap sub_in (sym is ∙ ap (λ (z : NamedPoint). z.instr) same ∙ other)) asked
   asked_call p n a t is asked q (inr never) k b u other = absurd never
 
   asked_if : (c : Bool) (ps qs : List NamedPoint) → AreAsked ps → AreAsked qs → AreAsked (if c then ps else qs)
@@ -63,9 +73,9 @@ module _ (s : Setting) (ask passed alone single : ℕ → Type 0) (weaker : (n :
   kind_asked kind into (Short op p a q b) at scope k (first, second) =
       asked_if (has_call b) _ _
       (asked_both (prep s a (0 ∷ at) scope (row_at at 0 ∷ [])) _ (kind_asked ask weaker a (0 ∷ at) scope (row_at at 0 ∷ []) first)
-      (asked_both (_ ∷ []) _ (asked_one _ (λ n a t e. cc))
+      (asked_both (_ ∷ []) _ (asked_one _ (λ n a t e. false≢true (ap fills e)))
       (asked_both (prep s b (1 ∷ at) (s.temporary at ∷ scope) (row_at at 1 ∷ [])) _ (kind_asked ask weaker b (1 ∷ at) (s.temporary at ∷ scope) (row_at at 1 ∷ []) second)
-      (asked_one _ (λ n a t e. cc)))))
+      (asked_one _ (λ n a t e. false≢true (ap fills e))))))
       (asked_both (prep s a (0 ∷ at) scope _) _ (kind_asked ask weaker a (0 ∷ at) scope _ first) (kind_asked ask weaker b (1 ∷ at) _ k second))
   kind_asked kind into (Binary op a b) at scope k (first, second) =
       asked_both (prep s a (0 ∷ at) scope _) _ (kind_asked ask weaker a (0 ∷ at) scope _ first) (kind_asked ask weaker b (1 ∷ at) _ k second)
@@ -124,8 +134,8 @@ module _ (s : Setting) (ask passed alone single : ℕ → Type 0) (weaker : (n :
       | inr (inr never) ↦ absurd never
       | inr (inl same) ↦ (
           let both : instruction.Call n a (Some t) ≡ instruction.Call k b (Some o) = sym is ∙ ap (λ (z : NamedPoint). z.instr) same ∙ other in
-          let sub : n ≡ k = cc in
-          let actuals : a ≡ b = cc in
+          let sub : n ≡ k = ap sub_in both in
+          let actuals : a ≡ b = ap actuals_in both in
           inr (
             u,
             Has-append_right (ps ++ c ∷ []) (qs ++ u ∷ []) u (Has-append_right qs (u ∷ []) u (inl refl)),
@@ -172,7 +182,7 @@ module _ (s : Setting) (ask passed alone single : ℕ → Type 0) (weaker : (n :
       (asked_both (prep s e (1 ∷ at) w.scope _ ++ prep s target (0 ∷ at) _ (row_at at 0 ∷ [])) _
       (asked_both (prep s e (1 ∷ at) w.scope _) (prep s target (0 ∷ at) _ (row_at at 0 ∷ [])) (source_asked e (1 ∷ at) w.scope _ plain)
       (prep_asked target (0 ∷ at) _ (row_at at 0 ∷ []) only))
-      (asked_one _ (λ n a t e. cc)))
+      (asked_one _ (λ n a t e. false≢true (ap fills e))))
   assign_follows at p target e w next only (inr (q, n, a, is, may, plain, r, x, path, u, target_is, none)) =
       let actuals : List NamedPoint = prep s a (0 ∷ 1 ∷ at) w.scope (row_at (1 ∷ at) 0 ∷ []) in
       let inner : List ℕ = with_held s e (1 ∷ at) w.scope in
@@ -186,14 +196,14 @@ module _ (s : Setting) (ask passed alone single : ℕ → Type 0) (weaker : (n :
       (subst (λ z. Follow (((actuals ++ call ∷ []) ++ z) ++ user ∷ [])) (sym nothing)
       (subst (λ z. Follow (z ++ user ∷ [])) (sym (no_more (actuals ++ call ∷ [])))
       (follow_call actuals [] call user q n a (s.temporary (1 ∷ at)) (passed_asked a (0 ∷ 1 ∷ at) w.scope (row_at (1 ∷ at) 0 ∷ []) plain) (λ r never. absurd never) refl refl
-      (inr (inl (r, x, path, u, (λ j. instruction.Assign (target_is j) (is j)), none))) (λ n a t e. cc))))
+      (inr (inl (r, x, path, u, (λ j. instruction.Assign (target_is j) (is j)), none))) (λ n a t e. false≢true (ap fills e)))))
 
   -- ---- all points
 
   ends_asked : (at : Place) (row : ℕ) (p : Pos) (xs scope : List ℕ) (k : List PointName) → AreAsked (ends at row p xs scope k)
   ends_asked at row p [] scope k = λ q never. absurd never
   ends_asked at row p (x ∷ xs) scope k =
-      asked_both (_ ∷ []) (ends at (suc row) p xs (drop 1 (from x scope)) k) (asked_one _ (λ n a t e. cc)) (ends_asked at (suc row) p xs (drop 1 (from x scope)) k)
+      asked_both (_ ∷ []) (ends at (suc row) p xs (drop 1 (from x scope)) k) (asked_one _ (λ n a t e. false≢true (ap fills e))) (ends_asked at (suc row) p xs (drop 1 (from x scope)) k)
 
   hold_takes : (v e : TypedTree) → v ≡ typed.More e NoMore → Takes (instruction.Hold v) e
   hold_takes v e is = inr (inr (ap instruction.Hold is))
@@ -213,36 +223,36 @@ module _ (s : Setting) (ask passed alone single : ℕ → Type 0) (weaker : (n :
     laid_follows : (c : TypedCode) (at : Place) (w : Around) (k : List PointName) → CodeFits ask passed alone single c → Follow (laid s c at w k)
     laid_follows (typed.More a rest) at w k (first, second) =
         follow_both (laid s a (0 ∷ at) w _) (laid s rest (1 ∷ at) _ k) (laid_follows a (0 ∷ at) w _ first) (laid_follows rest (1 ∷ at) _ k second)
-    laid_follows (Declare p x v) at w k fits = value_follows at p v (instruction.Declare x v) w k (declare_takes x v) (λ n a t e. cc) fits
+    laid_follows (Declare p x v) at w k fits = value_follows at p v (instruction.Declare x v) w k (declare_takes x v) (λ n a t e. false≢true (ap fills e)) fits
     laid_follows (Assign p target e) at w k (only, source) = assign_follows at p target e w k only source
-    laid_follows (Skip p) at w k fits = only_one _ (λ n a t e. cc)
+    laid_follows (Skip p) at w k fits = only_one _ (λ n a t e. false≢true (ap fills e))
     laid_follows (typed.Call p sub actuals) at w k fits =
         all_asked (uses s at p actuals (instruction.Call sub actuals None) w k)
-        (asked_both (prep s actuals (0 ∷ at) w.scope (row_at at 0 ∷ [])) _ (passed_asked actuals (0 ∷ at) w.scope (row_at at 0 ∷ []) fits) (asked_one _ (λ n a t e. cc)))
-    laid_follows (Output p text line) at w k fits = only_uses at p text (instruction.Output text line) w k fits (λ n a t e. cc)
-    laid_follows (Input p target) at w k fits = only_uses at p target (instruction.Input target) w k fits (λ n a t e. cc)
-    laid_follows (Release p m) at w k fits = only_uses at p m (instruction.Release m) w k fits (λ n a t e. cc)
+        (asked_both (prep s actuals (0 ∷ at) w.scope (row_at at 0 ∷ [])) _ (passed_asked actuals (0 ∷ at) w.scope (row_at at 0 ∷ []) fits) (asked_one _ (λ n a t e. false≢true (ap fills e))))
+    laid_follows (Output p text line) at w k fits = only_uses at p text (instruction.Output text line) w k fits (λ n a t e. false≢true (ap fills e))
+    laid_follows (Input p target) at w k fits = only_uses at p target (instruction.Input target) w k fits (λ n a t e. false≢true (ap fills e))
+    laid_follows (Release p m) at w k fits = only_uses at p m (instruction.Release m) w k fits (λ n a t e. false≢true (ap fills e))
     laid_follows (If branches otherwise) at w k (first, second) =
         follow_both (laid_branches s branches (0 ∷ at) w k _) (laid s otherwise (1 ∷ at) w k) (branches_follow branches (0 ∷ at) w k _ first) (laid_follows otherwise (1 ∷ at) w k second)
     laid_follows (Case p e whens) at w k (first, second) =
-        follow_both (uses s at p e _ w _) _ (only_uses at p e _ w _ first (λ n a t e. cc)) (whens_follow whens (1 ∷ at) w k second)
+        follow_both (uses s at p e _ w _) _ (only_uses at p e _ w _ first (λ n a t e. false≢true (ap fills e))) (whens_follow whens (1 ∷ at) w k second)
     laid_follows (Loop stmts) at w k fits = laid_follows stmts (0 ∷ at) (within_loop k w) _ fits
     laid_follows (While p e stmts) at w k (first, second) =
-        follow_both (uses s at p e (instruction.Test e) w _) _ (only_uses at p e (instruction.Test e) w _ first (λ n a t e. cc))
+        follow_both (uses s at p e (instruction.Test e) w _) _ (only_uses at p e (instruction.Test e) w _ first (λ n a t e. false≢true (ap fills e)))
         (laid_follows stmts (1 ∷ at) (within_loop k w) _ second)
     laid_follows (For p x reversed low high stmts) at w k (first, second, inside) =
         follow_both (uses_both s at p low high (instruction.Start x reversed low high) w (row_at at 1 ∷ [])) _
         (all_asked (uses_both s at p low high (instruction.Start x reversed low high) w (row_at at 1 ∷ []))
         (asked_both (prep s low (0 ∷ at) w.scope _ ++ prep s high (1 ∷ at) _ (row_at at 0 ∷ [])) _
         (asked_both (prep s low (0 ∷ at) w.scope _) (prep s high (1 ∷ at) _ (row_at at 0 ∷ [])) (prep_asked low (0 ∷ at) w.scope _ first)
-        (prep_asked high (1 ∷ at) _ (row_at at 0 ∷ []) second)) (asked_one _ (λ n a t e. cc))))
-        (follow_both (_ ∷ []) (laid s stmts (2 ∷ at) _ (row_at at 1 ∷ [])) (only_one _ (λ n a t e. cc)) (laid_follows stmts (2 ∷ at) _ (row_at at 1 ∷ []) inside))
+        (prep_asked high (1 ∷ at) _ (row_at at 0 ∷ []) second)) (asked_one _ (λ n a t e. false≢true (ap fills e)))))
+        (follow_both (_ ∷ []) (laid s stmts (2 ∷ at) _ (row_at at 1 ∷ [])) (only_one _ (λ n a t e. false≢true (ap fills e))) (laid_follows stmts (2 ∷ at) _ (row_at at 1 ∷ []) inside))
     laid_follows (Exit p e) at w k fits =
-        follow_both (uses s at p e (instruction.LeaveLoop e) w _) _ (only_uses at p e (instruction.LeaveLoop e) w _ fits (λ n a t e. cc))
+        follow_both (uses s at p e (instruction.LeaveLoop e) w _) _ (only_uses at p e (instruction.LeaveLoop e) w _ fits (λ n a t e. false≢true (ap fills e)))
         (all_asked _ (ends_asked at 1 p w.in_loop w.scope w.leave))
     laid_follows (Return p v) at w k fits =
-        follow_both (uses s at p v (instruction.Hold v) w _) _ (value_follows at p v (instruction.Hold v) w _ (hold_takes v) (λ n a t e. cc) fits)
-        (follow_both (ends at 1 p w.in_all w.scope _) _ (all_asked _ (ends_asked at 1 p w.in_all w.scope _)) (only_one _ (λ n a t e. cc)))
+        follow_both (uses s at p v (instruction.Hold v) w _) _ (value_follows at p v (instruction.Hold v) w _ (hold_takes v) (λ n a t e. false≢true (ap fills e)) fits)
+        (follow_both (ends at 1 p w.in_all w.scope _) _ (all_asked _ (ends_asked at 1 p w.in_all w.scope _)) (only_one _ (λ n a t e. false≢true (ap fills e))))
     laid_follows (Block n stmts end) at w k fits =
         follow_both (laid s stmts (0 ∷ at) (within_block (ending s stmts) w) _) _ (laid_follows stmts (0 ∷ at) (within_block (ending s stmts) w) _ fits)
         (all_asked _ (ends_asked at 0 end (ending s stmts) _ k))
@@ -255,7 +265,7 @@ module _ (s : Setting) (ask passed alone single : ℕ → Type 0) (weaker : (n :
 
     branch_follows : (c : TypedCode) (at : Place) (w : Around) (k m : List PointName) → BranchFits ask passed alone single c → Follow (laid_branch s c at w k m)
     branch_follows (Branch p e stmts) at w k m (first, second) =
-        follow_both (uses s at p e (instruction.Test e) w _) _ (only_uses at p e (instruction.Test e) w _ first (λ n a t e. cc)) (laid_follows stmts (1 ∷ at) w k second)
+        follow_both (uses s at p e (instruction.Test e) w _) _ (only_uses at p e (instruction.Test e) w _ first (λ n a t e. false≢true (ap fills e))) (laid_follows stmts (1 ∷ at) w k second)
     branch_follows _ at w k m fits = λ p has. absurd has
 
     whens_follow : (c : TypedCode) (at : Place) (w : Around) (k : List PointName) → AlternativesFit ask passed alone single c → Follow (flat_map (λ ps. ps) (laid_whens s c at w k))
@@ -268,10 +278,10 @@ module _ (s : Setting) (ask passed alone single : ℕ → Type 0) (weaker : (n :
     when_follows _ at w k fits = λ p has. absurd has
 
   end_follows : (sub : TypedSub) (b : Bool) → Follow (if b then function_end sub else procedure_end s sub)
-  end_follows sub true = only_one _ (λ n a t e. cc)
+  end_follows sub true = only_one _ (λ n a t e. false≢true (ap fills e))
   end_follows sub false =
       follow_both (ends [] 0 sub.end (ending s sub.body) (scope_at_end sub) _) _ (all_asked _ (ends_asked [] 0 sub.end (ending s sub.body) (scope_at_end sub) _))
-      (only_one _ (λ n a t e. cc))
+      (only_one _ (λ n a t e. false≢true (ap fills e)))
 
 -- So it is at each point of a subprogram.
 pub sub_followed : (s : Setting) (sub : TypedSub) (ask passed alone single : ℕ → Type 0) → ((n : ℕ) → ask n → alone n) → ((n : ℕ) → passed n → alone n) → CodeFits ask passed alone single sub.body

@@ -2,6 +2,7 @@
 -- the subprogram fills.
 use Rattle.std.proofs.Common.{◌≡◌, refl, sym, ap, ◌∙◌, subst, ◌⊎◌, inl, inr, ℕ, suc, Bool, true, false, ◌||◌, List, [], ◌∷◌, ◌++◌, drop, Some, None, if◌then◌else◌}
 use Rattle.std.specs.Prelude.{flat_map, is_some}
+use Rattle.std.proofs.lemmas.Bool.{false≢true, true≢false}
 use Rattle.spark_base.specs.declared.position.Pos.{Pos}
 use Rattle.spark_base.specs.Lists.{Has}
 use Rattle.spark_base.proofs.Lists.{Has-append_left, Has-append_right, Has-append_cases}
@@ -13,8 +14,9 @@ use Rattle.flow_paths.specs.Instructions as instruction
 use Rattle.flow_paths.specs.Names.{has_call}
 use Rattle.flow_paths.specs.Points.{Place, PointName, row_at, NamedPoint, point, entry}
 use Rattle.flow_paths.specs.Prep.{Setting, held, with_held, prep}
-use Rattle.flow_paths.specs.Layout.{Around, within_loop, within_block, with_scope, declared, from, ending, ends, uses, uses_both, uses_second_first, laid, laid_branches, laid_branch, laid_whens, laid_when}
+use Rattle.flow_paths.specs.Layout.{Around, within_loop, within_block, with_scope, declared, from, ending, ends, uses, uses_both, uses_second_first, laid, laid_branches, laid_branch, laid_whens, laid_when, choices_of}
 use Rattle.flow_paths.specs.Laid.{around_body, scope_at_end, procedure_end, function_end, sub_points}
+use Rattle.scope_laws.specs.Returning.{is_return}
 
 -- An object is declared with this alone, or it is assigned or returned.
 abbrev pub Takes : Instruction → TypedTree → Type 0
@@ -36,84 +38,60 @@ AreGiven whole ps = (p : NamedPoint) → Has ps p → IsGiven whole p
 abbrev AreOthers : List NamedPoint → Type 0
 AreOthers ps = (p : NamedPoint) → Has ps p → (e : TypedTree) → Takes p.instr e → ⊥
 
+neither : (a b : Bool) → a || b ≡ false → (a ≡ false) × (b ≡ false)
+neither true b e = absurd (true≢false e)
+neither false b e = (refl, e)
+
 -- an expression without calls holds nothing
 pub none_held : (s : Setting) (e : TypedTree) (at : Place) → has_call e ≡ false → held s e at ≡ []
 unfolding held has_call
-none_held s (typed.Call p sub actuals) at none = cc
+none_held s (typed.Call p sub actuals) at none = absurd (true≢false none)
 none_held s (Short op p a q b) at none =
     let two = neither (has_call a) (has_call b) none in
     ap (λ z. if z then s.temporary at ∷ [] else held s b (1 ∷ at) ++ held s a (0 ∷ at)) two.1
     ∙ (λ j. none_held s b (1 ∷ at) two.1 j ++ none_held s a (0 ∷ at) two.0 j)
-  where
-    neither : (a b : Bool) → a || b ≡ false → (a ≡ false) × (b ≡ false)
-    neither true b e = cc
-    neither false b e = (refl, e)
 none_held s (Name p x steps t) at none = none_held s steps (0 ∷ at) none
 none_held s (Component i rest) at none = none_held s rest (0 ∷ at) none
 none_held s (Designated rest) at none = none_held s rest (0 ∷ at) none
 none_held s (Element index low high rest) at none =
     (let two = neither (has_call index) (has_call rest) none in (λ j. none_held s rest (1 ∷ at) two.1 j ++ none_held s index (0 ∷ at) two.0 j))
-  where
-    neither : (a b : Bool) → a || b ≡ false → (a ≡ false) × (b ≡ false)
-    neither true b e = cc
-    neither false b e = (refl, e)
 none_held s (Image t e) at none = none_held s e (0 ∷ at) none
 none_held s (Parens e) at none = none_held s e (0 ∷ at) none
 none_held s (Unary op e) at none = none_held s e (0 ∷ at) none
 none_held s (Binary op a b) at none =
     (let two = neither (has_call a) (has_call b) none in (λ j. none_held s b (1 ∷ at) two.1 j ++ none_held s a (0 ∷ at) two.0 j))
-  where
-    neither : (a b : Bool) → a || b ≡ false → (a ≡ false) × (b ≡ false)
-    neither true b e = cc
-    neither false b e = (refl, e)
 none_held s (IsNull equal e) at none = none_held s e (0 ∷ at) none
 none_held s (Aggregate t parts) at none = none_held s parts (0 ∷ at) none
 none_held s (Alike t e) at none = none_held s e (0 ∷ at) none
 none_held s (New t v) at none = none_held s v (0 ∷ at) none
 none_held s (typed.More e rest) at none =
     (let two = neither (has_call e) (has_call rest) none in (λ j. none_held s rest (1 ∷ at) two.1 j ++ none_held s e (0 ∷ at) two.0 j))
-  where
-    neither : (a b : Bool) → a || b ≡ false → (a ≡ false) × (b ≡ false)
-    neither true b e = cc
-    neither false b e = (refl, e)
 none_held s _ at none = refl
 
 second_none : (c : Bool) (ps qs : List NamedPoint) → c ≡ false → qs ≡ [] → (if c then ps else qs) ≡ []
-second_none true ps qs is none = cc
+second_none true ps qs is none = absurd (true≢false is)
 second_none false ps qs is none = none
 
 -- nor has it points of its own
 pub none_before : (s : Setting) (e : TypedTree) (at : Place) (scope : List ℕ) (k : List PointName) → has_call e ≡ false → prep s e at scope k ≡ []
 unfolding prep has_call
-none_before s (typed.Call p sub actuals) at scope k none = cc
+none_before s (typed.Call p sub actuals) at scope k none = absurd (true≢false none)
 none_before s (Short op p a q b) at scope k none =
     let two = neither (has_call a) (has_call b) none in
     second_none (has_call b) _ _ two.1
     (λ j. none_before s a (0 ∷ at) scope (entry (prep s b (1 ∷ at) (with_held s a (0 ∷ at) scope) k) k) two.0 j ++ none_before s b (1 ∷ at) (with_held s a (0 ∷ at) scope) k two.1 j)
-  where
-    neither : (a b : Bool) → a || b ≡ false → (a ≡ false) × (b ≡ false)
-    neither true b e = cc
-    neither false b e = (refl, e)
 none_before s (Name p x e t) at scope k none = none_before s e (0 ∷ at) scope k none
 none_before s (Component i e) at scope k none = none_before s e (0 ∷ at) scope k none
 none_before s (Designated e) at scope k none = none_before s e (0 ∷ at) scope k none
 none_before s (Element a low high b) at scope k none =
     (let two = neither (has_call a) (has_call b) none in
     (λ j. none_before s a (0 ∷ at) scope (entry (prep s b (1 ∷ at) (with_held s a (0 ∷ at) scope) k) k) two.0 j ++ none_before s b (1 ∷ at) (with_held s a (0 ∷ at) scope) k two.1 j))
-  where
-    neither : (a b : Bool) → a || b ≡ false → (a ≡ false) × (b ≡ false)
-    neither true b e = cc
-    neither false b e = (refl, e)
 none_before s (Image t e) at scope k none = none_before s e (0 ∷ at) scope k none
 none_before s (Parens e) at scope k none = none_before s e (0 ∷ at) scope k none
 none_before s (Unary op e) at scope k none = none_before s e (0 ∷ at) scope k none
 none_before s (Binary op a b) at scope k none =
     (let two = neither (has_call a) (has_call b) none in
     (λ j. none_before s a (0 ∷ at) scope (entry (prep s b (1 ∷ at) (with_held s a (0 ∷ at) scope) k) k) two.0 j ++ none_before s b (1 ∷ at) (with_held s a (0 ∷ at) scope) k two.1 j))
-  where
-    neither : (a b : Bool) → a || b ≡ false → (a ≡ false) × (b ≡ false)
-    neither true b e = cc
-    neither false b e = (refl, e)
 none_before s (IsNull equal e) at scope k none = none_before s e (0 ∷ at) scope k none
 none_before s (Aggregate t e) at scope k none = none_before s e (0 ∷ at) scope k none
 none_before s (Alike t e) at scope k none = none_before s e (0 ∷ at) scope k none
@@ -121,11 +99,47 @@ none_before s (New t e) at scope k none = none_before s e (0 ∷ at) scope k non
 none_before s (typed.More a b) at scope k none =
     (let two = neither (has_call a) (has_call b) none in
     (λ j. none_before s a (0 ∷ at) scope (entry (prep s b (1 ∷ at) (with_held s a (0 ∷ at) scope) k) k) two.0 j ++ none_before s b (1 ∷ at) (with_held s a (0 ∷ at) scope) k two.1 j))
-  where
-    neither : (a b : Bool) → a || b ≡ false → (a ≡ false) × (b ≡ false)
-    neither true b e = cc
-    neither false b e = (refl, e)
 none_before s _ at scope k none = refl
+
+-- ---- what an instruction takes
+
+abbrev assigns : Instruction → Bool
+assigns (instruction.Assign target e) = true
+assigns i = false
+
+abbrev takes : Instruction → Bool
+takes (instruction.Declare x v) = true
+takes (instruction.Assign target e) = true
+takes (instruction.Hold v) = true
+takes i = false
+
+abbrev value_in : Instruction → TypedTree
+value_in (instruction.Declare x v) = v
+value_in (instruction.Hold v) = v
+value_in i = NoMore
+
+abbrev target_in : Instruction → TypedTree
+target_in (instruction.Assign target e) = target
+target_in i = NoMore
+
+abbrev source_in : Instruction → TypedTree
+source_in (instruction.Assign target e) = e
+source_in i = NoMore
+
+no_take : (i : Instruction) → takes i ≡ false → (e : TypedTree) → Takes i e → ⊥
+no_take i none e (inl (x, is)) = true≢false (sym (ap takes is) ∙ none)
+no_take i none e (inr (inl (p, x, path, u, is, calls))) = true≢false (sym (ap takes is) ∙ none)
+no_take i none e (inr (inr is)) = true≢false (sym (ap takes is) ∙ none)
+
+value_declared : (x : ℕ) (v e : TypedTree) → Takes (instruction.Declare x v) e → v ≡ typed.More e NoMore
+value_declared x v e (inl (y, is)) = ap value_in is
+value_declared x v e (inr (inl (p, y, path, u, is, calls))) = absurd (false≢true (ap assigns is))
+value_declared x v e (inr (inr is)) = absurd (false≢true (ap is_return is))
+
+value_returned : (v e : TypedTree) → Takes (instruction.Hold v) e → v ≡ typed.More e NoMore
+value_returned v e (inl (y, is)) = absurd (true≢false (ap is_return is))
+value_returned v e (inr (inl (p, y, path, u, is, calls))) = absurd (true≢false (ap is_return is))
+value_returned v e (inr (inr is)) = ap value_in is
 
 module _ (s : Setting) where
   -- ---- points that take nothing so
@@ -141,30 +155,20 @@ module _ (s : Setting) where
   others_if true ps qs h g = h
   others_if false ps qs h g = g
 
-  call_other : (n : ℕ) (a : TypedTree) (t : ℕ) (e : TypedTree) → Takes (instruction.Call n a (Some t)) e → ⊥
-  call_other n a t e (inl (x, is)) = cc
-  call_other n a t e (inr (inl (p, x, path, u, is, calls))) = cc
-  call_other n a t e (inr (inr is)) = cc
-
   prep_others : (e : TypedTree) (at : Place) (scope : List ℕ) (k : List PointName) → AreOthers (prep s e at scope k)
   unfolding prep
   prep_others (typed.Call p sub actuals) at scope k =
       others_both (prep s actuals (0 ∷ at) scope (row_at at 0 ∷ [])) _ (prep_others actuals (0 ∷ at) scope (row_at at 0 ∷ []))
-      (others_one _ (call_other sub actuals (s.temporary at)))
+      (others_one _ (no_take (instruction.Call sub actuals (Some (s.temporary at))) refl))
   prep_others (Short op p a q b) at scope k =
       let right : List NamedPoint = prep s b (1 ∷ at) (s.temporary at ∷ scope) (row_at at 1 ∷ []) in
       others_if (has_call b) _ _
       (others_both (prep s a (0 ∷ at) scope (row_at at 0 ∷ [])) _ (prep_others a (0 ∷ at) scope (row_at at 0 ∷ []))
       (λ r has e by. elim has [
-        | inl same ↦ evaluate_other (s.temporary at) a (Some op) e (subst (λ (z : NamedPoint). Takes z.instr e) (sym same) by)
-        | inr more ↦ others_both right _ (prep_others b (1 ∷ at) (s.temporary at ∷ scope) (row_at at 1 ∷ [])) (others_one _ (evaluate_other (s.temporary at) b None)) r more e by
+        | inl same ↦ no_take (instruction.Evaluate (s.temporary at) a (Some op)) refl e (subst (λ (z : NamedPoint). Takes z.instr e) (sym same) by)
+        | inr more ↦ others_both right _ (prep_others b (1 ∷ at) (s.temporary at ∷ scope) (row_at at 1 ∷ [])) (others_one _ (no_take (instruction.Evaluate (s.temporary at) b None) refl)) r more e by
       ]))
       (others_both (prep s a (0 ∷ at) scope _) _ (prep_others a (0 ∷ at) scope _) (prep_others b (1 ∷ at) _ k))
-    where
-      evaluate_other : (t : ℕ) (a : TypedTree) (op : _) (e : TypedTree) → Takes (instruction.Evaluate t a op) e → ⊥
-      evaluate_other t a op e (inl (x, is)) = cc
-      evaluate_other t a op e (inr (inl (p, x, path, u, is, calls))) = cc
-      evaluate_other t a op e (inr (inr is)) = cc
   prep_others (Binary op a b) at scope k = others_both (prep s a (0 ∷ at) scope _) _ (prep_others a (0 ∷ at) scope _) (prep_others b (1 ∷ at) _ k)
   prep_others (typed.More a b) at scope k = others_both (prep s a (0 ∷ at) scope _) _ (prep_others a (0 ∷ at) scope _) (prep_others b (1 ∷ at) _ k)
   prep_others (Element a low high b) at scope k = others_both (prep s a (0 ∷ at) scope _) _ (prep_others a (0 ∷ at) scope _) (prep_others b (1 ∷ at) _ k)
@@ -183,14 +187,9 @@ module _ (s : Setting) where
   ends_others : (at : Place) (row : ℕ) (p : Pos) (xs scope : List ℕ) (k : List PointName) → AreOthers (ends at row p xs scope k)
   ends_others at row p [] scope k = λ q has e by. absurd has
   ends_others at row p (x ∷ xs) scope k = λ q has e by. elim has [
-    | inl same ↦ end_other x e (subst (λ (z : NamedPoint). Takes z.instr e) (sym same) by)
+    | inl same ↦ no_take (instruction.EndScope x) refl e (subst (λ (z : NamedPoint). Takes z.instr e) (sym same) by)
     | inr more ↦ ends_others at (suc row) p xs (drop 1 (from x scope)) k q more e by
   ]
-    where
-      end_other : (x : ℕ) (e : TypedTree) → Takes (instruction.EndScope x) e → ⊥
-      end_other x e (inl (y, is)) = cc
-      end_other x e (inr (inl (q, y, path, u, is, calls))) = cc
-      end_other x e (inr (inr is)) = cc
 
   -- ---- the points of a subprogram
 
@@ -270,12 +269,11 @@ module _ (s : Setting) where
         (others_given _ (others_both before behind (prep_others e (1 ∷ at) w.scope (entry behind (row_at at 0 ∷ [])))
         (prep_others target (0 ∷ at) (with_held s e (1 ∷ at) w.scope) (row_at at 0 ∷ []))))
         (given_one _ (λ q n a by. elim by [
-          | inl (x, is) ↦ (let never : instruction.Assign target e ≡ instruction.Declare x (typed.More (typed.Call q n a) NoMore) = is in cc)
-          | inr (inr is) ↦ (let never : instruction.Assign target e ≡ instruction.Hold (typed.More (typed.Call q n a) NoMore) = is in cc)
+          | inl (x, is) ↦ absurd (true≢false (ap assigns is))
+          | inr (inr is) ↦ absurd (true≢false (ap assigns is))
           | inr (inl (r, x, path, u, is, calls)) ↦ (
-              let same : instruction.Assign target e ≡ instruction.Assign (Name r x path u) (typed.Call q n a) = is in
-              let source_is : e ≡ typed.Call q n a = cc in
-              let target_is : target ≡ Name r x path u = cc in
+              let source_is : e ≡ typed.Call q n a = ap source_in is in
+              let target_is : target ≡ Name r x path u = ap target_in is in
               let found = call_filled q n a (1 ∷ at) w.scope (entry behind (row_at at 0 ∷ [])) in (
                 s.temporary (1 ∷ at),
                 w.scope,
@@ -287,12 +285,6 @@ module _ (s : Setting) where
                 found.2,
               ))
         ]))
-
-    no_take : (i : Instruction) → ((x : ℕ) (v : TypedTree) → i ≡ instruction.Declare x v → ⊥) → ((t e : TypedTree) → i ≡ instruction.Assign t e → ⊥)
-        → ((v : TypedTree) → i ≡ instruction.Hold v → ⊥) → (e : TypedTree) → Takes i e → ⊥
-    no_take i d a h e (inl (x, is)) = d x _ is
-    no_take i d a h e (inr (inl (p, x, path, u, is, calls))) = a _ e is
-    no_take i d a h e (inr (inr is)) = h _ is
 
     one_other : (p : NamedPoint) → ((e : TypedTree) → Takes p.instr e → ⊥) → AreGiven whole (p ∷ [])
     one_other p none = given_one p (λ q n a by. absurd (none (typed.Call q n a) by))
@@ -309,51 +301,41 @@ module _ (s : Setting) where
       laid_given (typed.More a rest) at w k within =
           given_both (laid s a (0 ∷ at) w _) _ (laid_given a (0 ∷ at) w _ (first_of (laid s a (0 ∷ at) w _) _ within))
           (laid_given rest (1 ∷ at) (with_scope (declared a) w) k (second_of (laid s a (0 ∷ at) w _) _ within))
-      laid_given (Declare p x v) at w k within = uses_given at p v (instruction.Declare x v) w k (value_of x v) within
-        where
-          value_of : (x : ℕ) (v e : TypedTree) → Takes (instruction.Declare x v) e → v ≡ typed.More e NoMore
-          value_of x v e (inl (y, is)) = cc
-          value_of x v e (inr (inl (q, y, path, u, is, calls))) = cc
-          value_of x v e (inr (inr is)) = cc
+      laid_given (Declare p x v) at w k within = uses_given at p v (instruction.Declare x v) w k (value_declared x v) within
       laid_given (Assign p target e) at w k within = assign_given at p target e w k within
-      laid_given (Skip p) at w k within = one_other (point (row_at at 0) p instruction.Skip w.scope k) (no_take instruction.Skip (λ x v e. cc) (λ t e f. cc) (λ v e. cc))
+      laid_given (Skip p) at w k within = one_other (point (row_at at 0) p instruction.Skip w.scope k) (no_take instruction.Skip refl)
       laid_given (typed.Call p sub actuals) at w k within =
-          uses_others at p actuals (instruction.Call sub actuals None) w k (no_take (instruction.Call sub actuals None) (λ x v e. cc) (λ t e f. cc) (λ v e. cc))
+          uses_others at p actuals (instruction.Call sub actuals None) w k (no_take (instruction.Call sub actuals None) refl)
       laid_given (Output p text line) at w k within =
-          uses_others at p text (instruction.Output text line) w k (no_take (instruction.Output text line) (λ x v e. cc) (λ t e f. cc) (λ v e. cc))
-      laid_given (Input p target) at w k within = uses_others at p target (instruction.Input target) w k (no_take (instruction.Input target) (λ x v e. cc) (λ t e f. cc) (λ v e. cc))
-      laid_given (Release p m) at w k within = uses_others at p m (instruction.Release m) w k (no_take (instruction.Release m) (λ x v e. cc) (λ t e f. cc) (λ v e. cc))
+          uses_others at p text (instruction.Output text line) w k (no_take (instruction.Output text line) refl)
+      laid_given (Input p target) at w k within = uses_others at p target (instruction.Input target) w k (no_take (instruction.Input target) refl)
+      laid_given (Release p m) at w k within = uses_others at p m (instruction.Release m) w k (no_take (instruction.Release m) refl)
       laid_given (If branches otherwise) at w k within =
           given_both (laid_branches s branches (0 ∷ at) w k _) _ (branches_given branches (0 ∷ at) w k _ (first_of (laid_branches s branches (0 ∷ at) w k _) _ within))
           (laid_given otherwise (1 ∷ at) w k (second_of (laid_branches s branches (0 ∷ at) w k _) _ within))
       laid_given (Case p e whens) at w k within =
-          given_both (uses s at p e _ w _) _ (uses_others at p e _ w _ (no_take _ (λ x v e. cc) (λ t e f. cc) (λ v e. cc)))
+          given_both (uses s at p e _ w _) _ (uses_others at p e _ w _ (no_take (instruction.Choose e (choices_of whens)) refl))
           (whens_given whens (1 ∷ at) w k (second_of (uses s at p e _ w _) _ within))
       laid_given (Loop stmts) at w k within = laid_given stmts (0 ∷ at) (within_loop k w) _ within
       laid_given (While p e stmts) at w k within =
-          given_both (uses s at p e (instruction.Test e) w _) _ (uses_others at p e (instruction.Test e) w _ (no_take (instruction.Test e) (λ x v e. cc) (λ t e f. cc) (λ v e. cc)))
+          given_both (uses s at p e (instruction.Test e) w _) _ (uses_others at p e (instruction.Test e) w _ (no_take (instruction.Test e) refl))
           (laid_given stmts (1 ∷ at) (within_loop k w) _ (second_of (uses s at p e (instruction.Test e) w _) _ within))
       laid_given (For p x reversed low high stmts) at w k within =
           given_both (uses_both s at p low high (instruction.Start x reversed low high) w (row_at at 1 ∷ [])) _
           (others_given _ (others_both (prep s low (0 ∷ at) w.scope _ ++ prep s high (1 ∷ at) (with_held s low (0 ∷ at) w.scope) (row_at at 0 ∷ [])) _
           (others_both (prep s low (0 ∷ at) w.scope _) _ (prep_others low (0 ∷ at) w.scope _) (prep_others high (1 ∷ at) (with_held s low (0 ∷ at) w.scope) (row_at at 0 ∷ [])))
-          (others_one _ (no_take (instruction.Start x reversed low high) (λ x v e. cc) (λ t e f. cc) (λ v e. cc)))))
+          (others_one _ (no_take (instruction.Start x reversed low high) refl))))
           (given_both (next_point x p reversed low high stmts at w k ∷ []) (laid s stmts (2 ∷ at) (with_scope (x ∷ []) (within_loop k w)) (row_at at 1 ∷ []))
-          (one_other (next_point x p reversed low high stmts at w k) (no_take (instruction.Next x reversed low high) (λ x v e. cc) (λ t e f. cc) (λ v e. cc)))
+          (one_other (next_point x p reversed low high stmts at w k) (no_take (instruction.Next x reversed low high) refl))
           (laid_given stmts (2 ∷ at) (with_scope (x ∷ []) (within_loop k w)) (row_at at 1 ∷ [])
           (λ r has. second_of (uses_both s at p low high (instruction.Start x reversed low high) w (row_at at 1 ∷ [])) _ within r (inr has))))
       laid_given (Exit p e) at w k within =
-          given_both (uses s at p e (instruction.LeaveLoop e) w _) _ (uses_others at p e (instruction.LeaveLoop e) w _ (no_take (instruction.LeaveLoop e) (λ x v e. cc) (λ t e f. cc) (λ v e. cc)))
+          given_both (uses s at p e (instruction.LeaveLoop e) w _) _ (uses_others at p e (instruction.LeaveLoop e) w _ (no_take (instruction.LeaveLoop e) refl))
           (others_given _ (ends_others at 1 p w.in_loop w.scope w.leave))
       laid_given (Return p v) at w k within =
-          given_both (uses s at p v (instruction.Hold v) w _) _ (uses_given at p v (instruction.Hold v) w _ (value_of v) (first_of (uses s at p v (instruction.Hold v) w _) _ within))
+          given_both (uses s at p v (instruction.Hold v) w _) _ (uses_given at p v (instruction.Hold v) w _ (value_returned v) (first_of (uses s at p v (instruction.Hold v) w _) _ within))
           (others_given _ (others_both (ends at 1 p w.in_all w.scope _) _ (ends_others at 1 p w.in_all w.scope _)
-          (others_one _ (no_take instruction.Finish (λ x v e. cc) (λ t e f. cc) (λ v e. cc)))))
-        where
-          value_of : (v e : TypedTree) → Takes (instruction.Hold v) e → v ≡ typed.More e NoMore
-          value_of v e (inl (y, is)) = cc
-          value_of v e (inr (inl (q, y, path, u, is, calls))) = cc
-          value_of v e (inr (inr is)) = cc
+          (others_one _ (no_take instruction.Finish refl))))
       laid_given (Block n stmts end) at w k within =
           given_both (laid s stmts (0 ∷ at) (within_block (ending s stmts) w) _) _
           (laid_given stmts (0 ∷ at) (within_block (ending s stmts) w) _ (first_of (laid s stmts (0 ∷ at) (within_block (ending s stmts) w) _) _ within))
@@ -368,7 +350,7 @@ module _ (s : Setting) where
 
       branch_given : (c : TypedCode) (at : Place) (w : Around) (k m : List PointName) → Within (laid_branch s c at w k m) → AreGiven whole (laid_branch s c at w k m)
       branch_given (Branch p e stmts) at w k m within =
-          given_both (uses s at p e (instruction.Test e) w _) _ (uses_others at p e (instruction.Test e) w _ (no_take (instruction.Test e) (λ x v e. cc) (λ t e f. cc) (λ v e. cc)))
+          given_both (uses s at p e (instruction.Test e) w _) _ (uses_others at p e (instruction.Test e) w _ (no_take (instruction.Test e) refl))
           (laid_given stmts (1 ∷ at) w k (second_of (uses s at p e (instruction.Test e) w _) _ within))
       branch_given _ at w k m within = λ p has. absurd has
 
@@ -384,10 +366,10 @@ module _ (s : Setting) where
       when_given _ at w k within = λ p has. absurd has
 
     end_given : (sub : TypedSub) (b : Bool) → AreGiven whole (if b then function_end sub else procedure_end s sub)
-    end_given sub true = one_other _ (no_take instruction.Fall (λ x v e. cc) (λ t e f. cc) (λ v e. cc))
+    end_given sub true = one_other _ (no_take instruction.Fall refl)
     end_given sub false =
         others_given _ (others_both (ends [] 0 sub.end (ending s sub.body) (scope_at_end sub) _) _ (ends_others [] 0 sub.end (ending s sub.body) (scope_at_end sub) _)
-        (others_one _ (no_take instruction.Finish (λ x v e. cc) (λ t e f. cc) (λ v e. cc))))
+        (others_one _ (no_take instruction.Finish refl)))
 
 -- Of each point of a subprogram.
 pub sub_given : (s : Setting) (sub : TypedSub) (p : NamedPoint) → Has (sub_points s sub) p → IsGiven (sub_points s sub) p

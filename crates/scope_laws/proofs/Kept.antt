@@ -2,6 +2,7 @@
 use Rattle.std.proofs.Common.{◌≡◌, refl, sym, ap, subst, inl, inr, ℕ, suc, Bool, true, false, ◌&&◌, ◌||◌, List, [], ◌∷◌, ◌++◌, length, if◌then◌else◌}
 use Rattle.std.specs.Prelude.{None, filter, flat_map, drop, reverse, is_some}
 use Rattle.std.specs.List.{AllByRecursion}
+use Rattle.std.proofs.lemmas.Bool.{false≢true}
 use Rattle.spark_base.specs.declared.position.Pos.{Pos}
 use Rattle.spark_base.specs.Lists.{Has}
 use Rattle.spark_base.proofs.Lists.{Has-append_left, Has-append_right, Has-append_cases}
@@ -45,7 +46,7 @@ module _ (outer keep : ℕ → Bool) where
     where
       by : (b : Bool) → b ≡ true → filter keep xs ≡ xs → (if b then x ∷ filter keep xs else filter keep xs) ≡ x ∷ xs
       by true is more = ap (λ ys. x ∷ ys) more
-      by false is more = cc
+      by false is more = absurd (false≢true is)
 
   kept_both : (xs ys : List ℕ) → AreKept xs → AreKept ys → AreKept (xs ++ ys)
   kept_both xs ys h g x has = elim (Has-append_cases xs ys x has) [ inl here ↦ h x here | inr more ↦ g x more ]

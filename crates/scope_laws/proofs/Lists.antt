@@ -3,6 +3,7 @@ use Rattle.std.proofs.Common.{◌≡◌, refl, sym, ap, subst, ◌⊎◌, inl, i
 use Rattle.std.specs.Prelude.{reverse}
 use Rattle.std.specs.List.{AllByRecursion}
 use Rattle.std.proofs.lemmas.List.{reverse-append}
+use Rattle.std.proofs.lemmas.Bool.{false≢true}
 use Rattle.spark_base.specs.Lists.{Has}
 use Rattle.spark_base.proofs.Lists.{Has-append_left, Has-append_right, Has-append_cases}
 use Rattle.flow_paths.specs.Scopes.{is_within}
@@ -11,13 +12,16 @@ use Rattle.scope_laws.specs.Code.{Once}
 -- ---- tests
 
 pub and_first : (a b : Bool) → (a && b) ≡ true → a ≡ true
-and_first a b p = grind (arith, p)
+and_first true b p = refl
+and_first false b p = absurd (false≢true p)
 
 pub and_second : (a b : Bool) → (a && b) ≡ true → b ≡ true
-and_second a b p = grind (arith, p)
+and_second true b p = p
+and_second false b p = absurd (false≢true p)
 
 pub both_true : (a b : Bool) → a ≡ true → b ≡ true → (a && b) ≡ true
-both_true a b e f = grind (arith, e, f)
+both_true true b e f = f
+both_true false b e f = absurd (false≢true e)
 
 pub bool_cases : (b : Bool) → (b ≡ true) ⊎ (b ≡ false)
 bool_cases true = inl refl
@@ -58,7 +62,7 @@ pub within_has : (x : ℕ) (scope : List ℕ) → is_within x scope ≡ true →
 within_has x [] e = absurd (none e)
   where
     none : is_within x [] ≡ true → ⊥
-    none e = cc
+    none e = false≢true e
 within_has x (y ∷ scope) e = elim (any_either (x == y) (is_within x scope) e) [
   | inl here ↦ inl (sym (eqb-true x y here))
   | inr later ↦ inr (within_has x scope later)

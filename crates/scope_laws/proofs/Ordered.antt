@@ -3,6 +3,7 @@ use Rattle.std.proofs.Common.{◌≡◌, refl, sym, ap, ◌∙◌, subst, inl, i
 use Rattle.std.specs.Prelude.{flat_map, drop, reverse, is_some}
 use Rattle.std.specs.List.{AllByRecursion}
 use Rattle.std.proofs.lemmas.Grind.{common_steps}
+use Rattle.std.proofs.lemmas.Bool.{false≢true, true≢false}
 use Rattle.spark_base.specs.Lists.{Has}
 use Rattle.spark_base.proofs.Lists.{Has-append_left, Has-append_right, Has-append_cases, Has-filter}
 use Rattle.spark_base.specs.declared.position.Pos.{Pos}
@@ -23,6 +24,7 @@ use Rattle.flow_paths.proofs.StatementScopes.{after, after_undeclaring, after_mo
 use Rattle.scope_laws.specs.Code.{Once, objects_of}
 use Rattle.scope_laws.specs.Order.{IsOrdered}
 use Rattle.scope_laws.proofs.Lists.{and_first, and_second, all_both, all_one, all_if, outside, has_reverse, once_left, once_right, once_apart}
+use Rattle.scope_laws.specs.Returning.{is_finish}
 
 -- ---- what is declared
 
@@ -75,6 +77,19 @@ held_temporary s _ at x has = absurd has
 
 or_second : (a b : Bool) → (a || b) ≡ true → a ≡ false → b ≡ true
 or_second a b h none = grind (arith, h, none)
+
+abbrev declares_one : Instruction → Bool
+declares_one (instruction.Declare x v) = true
+declares_one i = false
+
+abbrev ends_one : Instruction → Bool
+ends_one (instruction.EndScope x) = true
+ends_one i = false
+
+abbrev object_in : Instruction → ℕ
+object_in (instruction.Declare x v) = x
+object_in (instruction.EndScope x) = x
+object_in i = 0
 
 -- Instructions that neither declare an object nor end its scope, nor the call.
 abbrev is_quiet : Instruction → Bool
@@ -140,10 +155,10 @@ module _ (s : Setting) (is : ℕ → Type 0) (apart : (x : ℕ) → is x → IsT
   -- ---- one point
 
   quiet_ready : (p : NamedPoint) (i : Instruction) → is_quiet i ≡ true → is_ready p i ≡ true
-  quiet_ready p (instruction.Declare x v) h = cc
-  quiet_ready p (instruction.Start x reversed low high) h = cc
-  quiet_ready p (instruction.Next x reversed low high) h = cc
-  quiet_ready p (instruction.EndScope x) h = cc
+  quiet_ready p (instruction.Declare x v) h = absurd (false≢true h)
+  quiet_ready p (instruction.Start x reversed low high) h = absurd (false≢true h)
+  quiet_ready p (instruction.Next x reversed low high) h = absurd (false≢true h)
+  quiet_ready p (instruction.EndScope x) h = absurd (false≢true h)
   quiet_ready p instruction.Skip h = refl
   quiet_ready p (instruction.Assign target e) h = refl
   quiet_ready p (instruction.Call sub actuals result) h = refl
@@ -159,7 +174,7 @@ module _ (s : Setting) (is : ℕ → Type 0) (apart : (x : ℕ) → is x → IsT
   quiet_ready p instruction.Fall h = refl
 
   other_than : (i j : Instruction) → is_quiet i ≡ true → is_quiet j ≡ false → i ≡ j → ⊥
-  other_than i j h g e = let both : true ≡ false = sym h ∙ ap is_quiet e ∙ g in cc
+  other_than i j h g e = true≢false (sym h ∙ ap is_quiet e ∙ g)
 
   quiet : (formals : List ℕ) (p : NamedPoint) → is_quiet p.instr ≡ true → IsOrdered is formals p
   quiet formals p h = record {
@@ -173,43 +188,43 @@ module _ (s : Setting) (is : ℕ → Type 0) (apart : (x : ℕ) → is x → IsT
       → (Has scope x → ⊥) → IsOrdered is formals (point name p (instruction.Declare x v) scope next)
   declares_there formals name p x v scope next what none = record {
     ready = outside x scope none;
-    declares = λ y w e. (let same : x ≡ y = cc in subst is same what);
-    ends = λ y e. absurd (let no_end : ⊥ = cc in no_end);
-    finishes = λ e. absurd (let no_end : ⊥ = cc in no_end);
+    declares = λ y w e. subst is (ap object_in e) what;
+    ends = λ y e. absurd (false≢true (ap ends_one e));
+    finishes = λ e. absurd (false≢true (ap is_finish e));
   }
 
   starts_there : (formals : List ℕ) (name : PointName) (p : Pos) (x : ℕ) (reversed : Bool) (low high : TypedTree) (scope : List ℕ) (next : List PointName)
       → (Has scope x → ⊥) → IsOrdered is formals (point name p (instruction.Start x reversed low high) scope next)
   starts_there formals name p x reversed low high scope next none = record {
     ready = outside x scope none;
-    declares = λ y w e. absurd (let no_end : ⊥ = cc in no_end);
-    ends = λ y e. absurd (let no_end : ⊥ = cc in no_end);
-    finishes = λ e. absurd (let no_end : ⊥ = cc in no_end);
+    declares = λ y w e. absurd (false≢true (ap declares_one e));
+    ends = λ y e. absurd (false≢true (ap ends_one e));
+    finishes = λ e. absurd (false≢true (ap is_finish e));
   }
 
   next_there : (formals : List ℕ) (name : PointName) (p : Pos) (x : ℕ) (reversed : Bool) (low high : TypedTree) (scope : List ℕ) (next : List PointName)
       → IsOrdered is formals (point name p (instruction.Next x reversed low high) (x ∷ scope) next)
   next_there formals name p x reversed low high scope next = record {
     ready = eq-eqb x x refl;
-    declares = λ y w e. absurd (let no_end : ⊥ = cc in no_end);
-    ends = λ y e. absurd (let no_end : ⊥ = cc in no_end);
-    finishes = λ e. absurd (let no_end : ⊥ = cc in no_end);
+    declares = λ y w e. absurd (false≢true (ap declares_one e));
+    ends = λ y e. absurd (false≢true (ap ends_one e));
+    finishes = λ e. absurd (false≢true (ap is_finish e));
   }
 
   ends_there : (formals : List ℕ) (name : PointName) (p : Pos) (x : ℕ) (scope rest : List ℕ) (next : List PointName) → is x → scope ≡ x ∷ rest
       → IsOrdered is formals (point name p (instruction.EndScope x) scope next)
   ends_there formals name p x scope rest next what last = record {
     ready = ap (is_last x) last ∙ eq-eqb x x refl;
-    declares = λ y w e. absurd (let no_end : ⊥ = cc in no_end);
-    ends = λ y e. (let same : x ≡ y = cc in subst is same what);
-    finishes = λ e. absurd (let no_end : ⊥ = cc in no_end);
+    declares = λ y w e. absurd (false≢true (ap declares_one e));
+    ends = λ y e. subst is (ap object_in e) what;
+    finishes = λ e. absurd (false≢true (ap is_finish e));
   }
 
   finishes_there : (formals : List ℕ) (name : PointName) (p : Pos) → IsOrdered is formals (point name p Finish formals [])
   finishes_there formals name p = record {
     ready = refl;
-    declares = λ y w e. absurd (let no_end : ⊥ = cc in no_end);
-    ends = λ y e. absurd (let no_end : ⊥ = cc in no_end);
+    declares = λ y w e. absurd (false≢true (ap declares_one e));
+    ends = λ y e. absurd (false≢true (ap ends_one e));
     finishes = λ e. refl;
   }
 
@@ -317,7 +332,8 @@ module _ (s : Setting) (is : ℕ → Type 0) (apart : (x : ℕ) → is x → IsT
   inside k w scope st = ((tt, st.0.1), ((λ x none. absurd none), st.1.1))
 
   no_more : (xs : List ℕ) → xs ++ [] ≡ xs
-  no_more xs = grind (arith, common_steps)
+  no_more [] = refl
+  no_more (x ∷ xs) = ap (λ ys. x ∷ ys) (no_more xs)
 
   mutual
     unfolding laid is_settled is_undeclaring declared declared_within

@@ -2,6 +2,7 @@
 use Rattle.std.proofs.Common.{◌≡◌, refl, ℕ, zero, suc, Bool, true, false, ◌||◌, ◌==◌, List, [], ◌∷◌}
 use Rattle.std.specs.Prelude.{drop}
 use Rattle.std.specs.List.{AllByRecursion}
+use Rattle.std.proofs.lemmas.Bool.{false≢true}
 use Rattle.typed_tree.specs.Programs.{TypedSub}
 use Rattle.flow_paths.specs.Points.{NamedPoint}
 use Rattle.flow_paths.specs.Prep.{Setting}
@@ -26,7 +27,7 @@ within_all (suc k) (y ∷ scope) x is = or_later (x == y) (is_within x scope) (w
 
 or_first : (a b : Bool) → a ≡ true → a || b ≡ true
 or_first true b e = refl
-or_first false b e = cc
+or_first false b e = absurd (false≢true e)
 
 or_more : (a b outer : Bool) → (a ≡ true → b ≡ true) → a || outer ≡ true → b || outer ≡ true
 or_more true b outer more is = or_first b outer (more refl)

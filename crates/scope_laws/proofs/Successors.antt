@@ -3,6 +3,7 @@ use Rattle.std.proofs.Common.{◌≡◌, refl, sym, ◌∙◌, subst, ℕ, suc, 
 use Rattle.std.specs.Prelude.{None, flat_map, drop, reverse, is_some}
 use Rattle.std.specs.List.{AllByRecursion}
 use Rattle.std.proofs.lemmas.Grind.{common_steps}
+use Rattle.std.proofs.lemmas.Bool.{false≢true}
 use Rattle.spark_base.specs.declared.position.Pos.{Pos}
 use Rattle.typed_tree.specs.Trees.{TypedTree, Name, Component, Designated, Element, Image, Parens, Unary, Binary, Short, IsNull, Aggregate, Alike, New, TypedCode, Declare, Assign, Skip, Output, Input, Release, If, Branch, Case, When, Loop, While, For, Exit, Return, Block}
 use Rattle.typed_tree.specs.Trees as typed
@@ -116,28 +117,31 @@ closing_one ps q = subst One (sym (entry_append ps (q ∷ []) [])) (entry_one ps
 
 -- ---- statements
 
+alone : (out : List PointName) → One out → One (out ++ [])
+alone out x = grind (arith, common_steps, x)
+
 leave_count : (e : TypedTree) (out k : List PointName) → One out → One k → length (out ++ unless_empty e k) ≡ successors (instruction.LeaveLoop e)
 leave_count (typed.More e rest) out k x y = two out k x y
-leave_count typed.NoMore out k x y = grind (arith, common_steps, x)
-leave_count (typed.Number v) out k x y = grind (arith, common_steps, x)
-leave_count (typed.Literal v) out k x y = grind (arith, common_steps, x)
-leave_count typed.Null out k x y = grind (arith, common_steps, x)
-leave_count (typed.Text v) out k x y = grind (arith, common_steps, x)
-leave_count (Name p z steps t) out k x y = grind (arith, common_steps, x)
-leave_count (Component i rest) out k x y = grind (arith, common_steps, x)
-leave_count (Designated rest) out k x y = grind (arith, common_steps, x)
-leave_count (Element i low high rest) out k x y = grind (arith, common_steps, x)
-leave_count (typed.Call p sub actuals) out k x y = grind (arith, common_steps, x)
-leave_count typed.EndOfFile out k x y = grind (arith, common_steps, x)
-leave_count (Parens e) out k x y = grind (arith, common_steps, x)
-leave_count (Image t e) out k x y = grind (arith, common_steps, x)
-leave_count (Unary op e) out k x y = grind (arith, common_steps, x)
-leave_count (Binary op a b) out k x y = grind (arith, common_steps, x)
-leave_count (Short op p a q b) out k x y = grind (arith, common_steps, x)
-leave_count (IsNull equal e) out k x y = grind (arith, common_steps, x)
-leave_count (Aggregate t es) out k x y = grind (arith, common_steps, x)
-leave_count (Alike t e) out k x y = grind (arith, common_steps, x)
-leave_count (New t e) out k x y = grind (arith, common_steps, x)
+leave_count typed.NoMore out k x y = alone out x
+leave_count (typed.Number v) out k x y = alone out x
+leave_count (typed.Literal v) out k x y = alone out x
+leave_count typed.Null out k x y = alone out x
+leave_count (typed.Text v) out k x y = alone out x
+leave_count (Name p z steps t) out k x y = alone out x
+leave_count (Component i rest) out k x y = alone out x
+leave_count (Designated rest) out k x y = alone out x
+leave_count (Element i low high rest) out k x y = alone out x
+leave_count (typed.Call p sub actuals) out k x y = alone out x
+leave_count typed.EndOfFile out k x y = alone out x
+leave_count (Parens e) out k x y = alone out x
+leave_count (Image t e) out k x y = alone out x
+leave_count (Unary op e) out k x y = alone out x
+leave_count (Binary op a b) out k x y = alone out x
+leave_count (Short op p a q b) out k x y = alone out x
+leave_count (IsNull equal e) out k x y = alone out x
+leave_count (Aggregate t es) out k x y = alone out x
+leave_count (Alike t e) out k x y = alone out x
+leave_count (New t e) out k x y = alone out x
 
 one_before : (a b : List PointName) (n : ℕ) → One a → length b ≡ n → length (a ++ b) ≡ suc n
 one_before a b n x y = grind (arith, common_steps, x, y)
@@ -145,7 +149,7 @@ one_before a b n x y = grind (arith, common_steps, x, y)
 choices_more : (a rest : TypedCode) (looped : Bool) → is_formed_alternative looped a ≡ true → length (choices_of (typed.More a rest)) ≡ suc (length (choices_of rest))
 unfolding choices_of is_formed_alternative
 choices_more (When choices stmts) rest looped h = refl
-choices_more _ rest looped h = cc
+choices_more _ rest looped h = absurd (false≢true h)
 
 -- Each alternative of a `case` is a successor.
 whens_count : (s : Setting) (c : TypedCode) (at : Place) (w : Around) (k : List PointName) (looped : Bool) → are_alternatives looped c ≡ true → One k
@@ -272,10 +276,7 @@ Ends ps = Counted ps × One (entry ps [])
 body_counted : (s : Setting) (sub : TypedSub) (end : List NamedPoint) → is_formed false sub.body ≡ true → Ends end → Counted (body_points s sub end)
 body_counted s sub end h last =
     both (laid s sub.body (0 ∷ []) (around_body s sub) (entry end [])) end
-    (laid_counted s sub.body (0 ∷ []) (around_body s sub) (entry end []) false h (λ e. absurd (never e)) last.1) last.0
-  where
-    never : false ≡ true → ⊥
-    never e = cc
+    (laid_counted s sub.body (0 ∷ []) (around_body s sub) (entry end []) false h (λ e. absurd (false≢true e)) last.1) last.0
 
 end_counted : (s : Setting) (sub : TypedSub) (b : Bool) → Ends (if b then function_end sub else procedure_end s sub)
 end_counted s sub true = ((refl, tt), refl)

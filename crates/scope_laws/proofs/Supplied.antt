@@ -3,6 +3,7 @@
 use Rattle.std.proofs.Common.{◌≡◌, refl, sym, ap, ◌∙◌, subst, inl, inr, ℕ, suc, ◌+◌, Bool, true, false, List, [], ◌∷◌, ◌++◌, ◌==◌, length, reverse, arith, if◌then◌else◌, length-append, append_assoc}
 use Rattle.std.specs.Prelude.{Some, None, filter, flat_map, take, drop, is_some}
 use Rattle.std.specs.List.{AllByRecursion}
+use Rattle.std.proofs.lemmas.Bool.{false≢true, true≢false}
 use Rattle.spark_base.specs.declared.position.Pos.{Pos}
 use Rattle.spark_base.proofs.Lists.{Has-append_left, Has-append_right, Has-append_cases, Has-filter}
 use Rattle.typed_tree.specs.Trees.{TypedTree, Name, Component, Designated, Element, Image, Parens, Unary, Binary, Short, IsNull, Aggregate, Alike, New, TypedCode, Declare, Assign, Skip, Output, Input, Release, If, Branch, Case, When, Loop, While, For, Exit, Return, Block}
@@ -50,14 +51,14 @@ module _ (test : ℕ → Bool) where
     where
       by : (b : Bool) → b ≡ true → temporaries_in test xs ≡ length xs → length (if b then x ∷ filter test xs else filter test xs) ≡ suc (length xs)
       by true is more = ap suc more
-      by false is more = cc
+      by false is more = absurd (false≢true is)
 
   pub count_none : (xs : List ℕ) → AreNone test xs → temporaries_in test xs ≡ 0
   count_none [] none = refl
   count_none (x ∷ xs) none = by (test x) (none x (inl refl)) (count_none xs (λ y has. none y (inr has)))
     where
       by : (b : Bool) → b ≡ false → temporaries_in test xs ≡ 0 → length (if b then x ∷ filter test xs else filter test xs) ≡ 0
-      by true is more = cc
+      by true is more = absurd (true≢false is)
       by false is more = more
 
   none_both : (xs ys : List ℕ) → AreNone test xs → AreNone test ys → AreNone test (xs ++ ys)

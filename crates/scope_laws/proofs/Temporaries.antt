@@ -2,6 +2,7 @@
 -- scope, at its first point there is none, and what is in scope goes on from point to point.
 use Rattle.std.proofs.Common.{◌≡◌, refl, sym, ap, ◌∙◌, subst, inl, inr, ℕ, ◌+◌, ◌<◌, ◌≤◌, Bool, true, false, not, ◌&&◌, ◌||◌, List, [], ◌∷◌, ◌++◌, map, length}
 use Rattle.std.specs.List.{AllByRecursion}
+use Rattle.std.proofs.lemmas.Bool.{false≢true}
 use Rattle.spark_base.specs.Lists.{Has}
 use Rattle.spark_base.proofs.Lists.{Has-append_right, Has-append_cases}
 use Rattle.type_definitions.specs.Types.{Table}
@@ -26,7 +27,7 @@ use Rattle.scope_laws.proofs.Supplied.{sub_supplied, elaboration_supplied, sub_s
 -- ---- declared objects
 
 isnt : (b : Bool) → not b ≡ true → b ≡ false
-isnt true e = cc
+isnt true e = absurd (false≢true e)
 isnt false e = refl
 
 either_of : (xs ys : List ℕ) (x : ℕ) (P : Bool) → Has (xs ++ ys) x → (Has xs x → P ≡ false) → (Has ys x → P ≡ false) → P ≡ false

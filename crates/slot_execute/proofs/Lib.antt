@@ -4,10 +4,5 @@ pub mod Codes
 pub mod Same
 -- where runs start
 pub mod Started
-<<<<<<< HEAD
--- what is told of them
-pub mod Told
-=======
 -- runs without a step
 pub mod NoSteps
->>>>>>> 599e11edbf776cd017b0b3af5972eb7b22d77ae7

@@ -15,10 +15,6 @@ use accepted_runs::lower_ready;
 use code_rows::Codes;
 use laid_program::Laid;
 use path_check::AcceptedProgram;
-<<<<<<< HEAD
-use accepted_runs::lower_ready;
-=======
->>>>>>> 599e11edbf776cd017b0b3af5972eb7b22d77ae7
 use run_results::{ExecFault, Ran};
 use slot_executor::{run_started, run_unfit};
 use slot_heap::Store;

@@ -75,8 +75,9 @@ fn ended(steps: u64, made: u64, freed: u64, leaked: u64) -> Ran {
 /// The numbers from 1 on, a line each.
 fn numbers(alloc: Global, count: u32) -> Result<String, AllocError> {
     let mut text = String::new(alloc);
-    for n in 1..count + 1 {
-        text.push_str(format!(in alloc; "{n}\n")?.as_str())?;
+    for n in 0..count {
+        let number = n + 1;
+        text.push_str(format!(in alloc; "{number}\n")?.as_str())?;
     }
     Ok(text)
 }

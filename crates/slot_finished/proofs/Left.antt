@@ -18,8 +18,8 @@ finish_done Means before table returns u kept now frames stacked (Ok others) cop
 finish_done Means before table returns u kept now frames stacked (Err x) copied same memory = record { comes = λ g stands whole other. absurd (other memory) }
 
 -- The store is lent by the same reference.
-pub stopped_lent : {R : Type 0} (U : Type 0) (before now : Kept R) (x : Stop) → elsewhere now ≡ elsewhere before → LentOn {U = U} (Err x) before now
-stopped_lent U before now x same = λ other. ap (λ (e : Elsewhere). e.lent) same
+pub stopped_lent : {R : Type 0} (before now : Kept R) (x : Stop) → elsewhere now ≡ elsewhere before → LentOn {U = Bool} (Err x) before now
+stopped_lent before now x same = λ other. ap (λ (e : Elsewhere). e.lent) same
 
 pub finish_lent : {R : Type 0} (before kept now : Kept R) (frames stacked : Stacked) (r : Result Bool Stop) → elsewhere kept ≡ elsewhere before → Leaves r kept now frames stacked → LentOn r before now
 finish_lent before kept now frames stacked (Ok others) same left = ap (λ (m : Kept _). m.heap.lent) left.memory ∙ ap (λ (e : Elsewhere). e.lent) same

@@ -64,7 +64,7 @@ module _ {R : Type 0} (Means : R → Heap → Type 0) (m : Kept R) (table : Tabl
       record { holds = λ g stands fills settles other. absurd (other (error_is x stop.Memory memory)) }
 
   -- the store is lent by the same reference
-  pub stopped_lent : {V : Type 0} (x : Stop) (n : Kept R) → elsewhere n ≡ elsewhere m → LentOn {U = V} (Err x) m n
+  pub stopped_lent : (x : Stop) (n : Kept R) → elsewhere n ≡ elsewhere m → LentOn {U = Unit {0}} (Err x) m n
   stopped_lent x n same = λ other. ap (λ (e : Elsewhere). e.lent) same
 
   pub held_lent : {V : Type 0} (r : Result V Stop) (now : List ℤ) (n o p : Kept R) (frames stacked : Stacked) (k of next : ℕ) → elsewhere n ≡ elsewhere m → elsewhere o ≡ elsewhere n

@@ -20,6 +20,7 @@ use type_table::TypeTable;
 
 /// The values that wait from a number on are gone, and the main procedure begins where no frame
 /// waits.
+#[inline(never)]
 fn go_main<R: Store>(
     codes: &Codes,
     table: &TypeTable,
@@ -58,6 +59,7 @@ fn go_next<R: Store>(memory: &mut Memory<R>, frames: &mut Frames, k: usize, next
 
 /// The values that wait from a number on are gone, and the run goes on at a point. Where there is
 /// none, the main procedure begins.
+#[inline(always)]
 pub fn go_on<R: Store>(
     codes: &Codes,
     table: &TypeTable,

@@ -16,6 +16,7 @@ use type_table::TypeTable;
 
 /// The values that wait from a number on are gone, and the run goes on at a point. Where there is
 /// none, the main procedure begins.
+#[inline(always)]
 pub fn go<R: Store>(
     codes: &Codes,
     table: &TypeTable,

@@ -26,26 +26,26 @@ run_codes-requires-clause-same g c =
 pub returns-in_default-lower_ready-clause-sound : goal.returns-in_default-lower_ready-clause-sound
 returns-in_default-lower_ready-clause-sound g c = accepted_soundly c.args.program.now c.args.input.now c.requires.main
 
-pub returns-in-Ok-clause-sound : goal.returns-in-Ok-clause-sound
-returns-in-Ok-clause-sound g c = accepted_soundly c.args.program.now c.args.input.now c.requires.main
+pub returns-clause-sound : goal.returns-clause-sound
+returns-clause-sound g c = accepted_soundly c.args.program.now c.args.input.now c.requires.main
 
 -- what is laid out is the program
-pub returns-in-Ok-clause-executed : goal.returns-in-Ok-clause-executed
-returns-in-Ok-clause-executed g c =
+pub returns-clause-executed : goal.returns-clause-executed
+returns-clause-executed g c =
     let old : Sinks = record { output = g.K.Sink.written c.args.out.now; lines = g.K.Sink.written c.args.err.now } in
     let new : Sinks = record { output = g.K.Sink.written c.run_codes.new.out; lines = g.K.Sink.written c.run_codes.new.err } in
     subst (λ (l : Laid). IfOk c.run_codes.result (λ ran. IsExecuted (map string_bytes l.names.items) (run (program_of l) c.args.input.now c.args.steps) ran old new))
     c.laid-laid.ensures.value c.run_codes.ensures.executed
 
-pub returns-in-Ok-clause-fronts : goal.returns-in-Ok-clause-fronts
-returns-in-Ok-clause-fronts g c =
+pub returns-clause-fronts : goal.returns-clause-fronts
+returns-clause-fronts g c =
     let old : Sinks = record { output = g.K.Sink.written c.args.out.now; lines = g.K.Sink.written c.args.err.now } in
     let new : Sinks = record { output = g.K.Sink.written c.run_codes.new.out; lines = g.K.Sink.written c.run_codes.new.err } in
     let whole : Laid → Run = λ l. run (program_of l) c.args.input.now c.args.steps in
     subst (λ (l : Laid). OnErr c.run_codes.result (HaveFronts (map string_bytes l.names.items) old new (whole l).output (whole l).leaks))
     c.laid-laid.ensures.value c.run_codes.ensures.fronts
 
-pub returns-in-Ok-clause-slots : goal.returns-in-Ok-clause-slots
-returns-in-Ok-clause-slots g c =
+pub returns-clause-slots : goal.returns-clause-slots
+returns-clause-slots g c =
     subst (λ (l : Laid). IfOk c.run_codes.result (λ ran. Knows g.R.Store.Means c.run_codes.new.store (λ m. HasSlots (run (program_of l) c.args.input.now c.args.steps) m.slots)))
     c.laid-laid.ensures.value c.run_codes.ensures.slots

@@ -18,4 +18,4 @@ pub returns-in_err-copy_own-clause-lent : goal.returns-in_err-copy_own-clause-le
 returns-in_err-copy_own-clause-lent g c =
     let err : c.from_residual.result ≡ Err c.in_err-copy_own.field-0.0 = search rules in
     let P : Result Bool Stop → Type 0 = λ r. LentOn r c.args.memory.now c.copy_own.new.memory in
-    subst P (sym err) (stopped_lent _ c.args.memory.now c.copy_own.new.memory c.in_err-copy_own.field-0.0 c.in_err-copy_own.ensures.elsewhere)
+    subst P (sym err) (stopped_lent c.args.memory.now c.copy_own.new.memory c.in_err-copy_own.field-0.0 c.in_err-copy_own.ensures.elsewhere)
