@@ -510,11 +510,18 @@ def lists_in_lua(count):
     return "\n".join(lines) + "\n"
 
 
+def cells_in_lua():
+    """The work of `cells_again_and_again` in Lua."""
+    lines = ["local l, old", "for round = 1, 100 do", "for i = 1, 1000 do l = {value = i, next = l} end"]
+    lines += ["while l ~= nil do old = l; l = old.next; old = nil end", "end"]
+    return "\n".join(lines) + "\n"
+
+
 def runs():
     """Each program that is run, with its name, its input, the steps of its run, the bytes that it writes, and the same work
     in Lua, where that is compared."""
     yield "lists_of_cells_10000", lists_of_cells(10_000), "", 16_731_674, 7, lists_in_lua(10_000)
-    yield "cells_again_and_again", cells_again_and_again(), "", 600_407, 0, None
+    yield "cells_again_and_again", cells_again_and_again(), "", 600_407, 0, cells_in_lua()
     yield "deep_recursion", deep_recursion(), "", 4_000_006, 3, None
     yield "much_input", much_input(), numbers_of(16 * 1_048_576), 8_388_614, 5, None
     yield "much_output", much_output(), "", 2_097_155, 64 * 1_048_576, None

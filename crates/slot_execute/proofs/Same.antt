@@ -41,7 +41,7 @@ gives x r (inr wants) ran is = nothing (ap given (sym wants) ∙ is)
 slots : (x : Run) (r : Outcome) → IsRunOf x r → EndsWithSlots x r
 slots x (Goes s) is = tt
 slots x (Ends e s) (inl same) = same.1
-slots x (Ends e s) (inr wants) = cc
+slots x (Ends e s) (inr wants) = λ size. cc
 slots x Wants is = tt
 slots x Fails is = tt
 

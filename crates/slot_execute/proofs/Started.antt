@@ -1,5 +1,6 @@
 -- Where the runs of a program start.
-use Rattle.std.proofs.Common.{◌≡◌, ℕ, List, Bool, true, false, Option, Some, None, sym, ap, subst, ◌∙◌}
+use Rattle.std.proofs.Common.{◌≡◌, ℕ, List, Bool, true, false, Option, Some, None, Result, Ok, Err, sym, ap, subst, ◌∙◌}
+use Rattle.std.specs.Prelude.{IfOk, OnOk}
 use Rattle.flow_paths.specs.Laid.{flow_typing}
 use Rattle.machine.specs.Run.{Run, main_of}
 use Rattle.laid_program.specs.declared.laid.Laid.{Laid}
@@ -13,7 +14,7 @@ use Rattle.slot_executor.specs.Executes.{HasSlots, IsLeft, IsStarted, IsUnfit, f
 use Rattle.slot_runs.specs.Turns.{Setting, Inside}
 use Rattle.slot_turns.specs.declared.overs.Over.{Over}
 use Rattle.slot_turns.specs.Runs.{StandsWith}
-use Rattle.slot_running.specs.Runs.{Running, IsAtStart, RunStands, running_setting, running_untold}
+use Rattle.slot_running.specs.Runs.{Running, IsAtStart, RunStands, running_lent, running_setting, running_untold}
 use Rattle.slot_execute.specs.Executes.{IsReady}
 
 -- The store of a run means the heap of what it stands for.
@@ -29,6 +30,15 @@ pub left_slots : {R : Type 0} (Means : R → Heap → Type 0) (x : Run) (r : Run
     → Knows Means store (λ m. HasSlots x m.slots)
 left_slots Means x r store same is =
     subst (λ s. Knows Means s (λ m. HasSlots x m.slots)) (sym same) (is.inside.memory.heap, (left_means Means r is.inside is.left, is.slots))
+
+-- What is left of a run, and the store that it gives back, where that was lent by the same reference.
+pub fitting_slots : {R A E : Type 0} (Means : R → Heap → Type 0) (x : List ℕ → Run) (input : List ℕ) (old new : Running R) (reference : ℕ) (store : R) (r : Result A E)
+    → (running_lent new ≡ reference → store ≡ new.between.kept.heap.store) → running_lent old ≡ reference → old.input ≡ input
+    → IfOk r (λ a. IsLeft (x old.input) (RunStands Means new)) → OnOk r (running_lent new ≡ running_lent old)
+    → IfOk r (λ a. Knows Means store (λ m. HasSlots (x input) m.slots))
+fitting_slots Means x input old new reference store (Ok a) same first is left lent =
+    left_slots Means (x input) new store (same (lent ∙ first)) (subst (λ bytes. IsLeft (x bytes) (RunStands Means new)) is left)
+fitting_slots Means x input old new reference store (Err e) same first is left lent = tt
 
 module _ (laid : Laid) (codes : Codes) (ready : IsReady laid codes) where
   -- The first frames fit, and a run is made.

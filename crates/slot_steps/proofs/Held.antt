@@ -1,11 +1,12 @@
 -- The result of a function waits in the frame of its caller: what is asked for, and what the step comes to.
-use Rattle.std.proofs.Common.{◌≡◌, ◌≤◌, sym, ap, subst, ◌∙◌, ℕ, true, List, length, Ok, Err}
+use Rattle.std.proofs.Common.{◌≡◌, ◌≢◌, ◌≤◌, sym, ap, subst, ◌∙◌, ℕ, true, List, length, Ok, Err}
 use Rattle.std.specs.Prelude.{IsTrue}
 use Rattle.type_definitions.specs.Types.{Table}
 use Rattle.slot_heap.specs.Heaps.{Heap}
 use Rattle.code_rows.specs.declared.point.Point.{Point as PointRow}
 use Rattle.code_rows.specs.declared.point.Does.TheVariants as row
 use Rattle.code_rows.specs.declared.codes.Codes.{Codes}
+use Rattle.code_rows.specs.declared.stop.Stop.TheVariants as stop
 use Rattle.code_rows.specs.Values.{fill_at}
 use Rattle.code_rows.specs.Points.{point_of, program_of, next_of, does_of, is_value, is_does_there}
 use Rattle.run_codes.specs.Codes.{Point, Fill}

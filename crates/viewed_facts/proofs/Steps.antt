@@ -15,13 +15,13 @@ use Rattle.soundness.proofs.OwnedWays.Unique.{one_way}
 use Rattle.soundness.proofs.OwnedWays.Named.{longer}
 use Rattle.soundness.proofs.OwnedWays.Moving.{Given}
 use Rattle.soundness.proofs.OwnedWays.Told.{told_after}
-use Rattle.soundness.specs.OwnedLoans.Views.{Go, Part, Down, on, Views, Around, expand, Viewed, Becomes, Unused}
+use Rattle.soundness.specs.OwnedLoans.Views.{Go, Part, Down, on, Views, Around, expand, Viewed, Becomes, Unused, Lifted, InPart}
 use Rattle.soundness.proofs.OwnedLoans.Others.{below_through}
 use Rattle.place_names.specs.declared.rule.Loan.{Loan}
 use Rattle.flow_paths.specs.Objects.{Typing}
 use Rattle.soundness.specs.Seen.{IsNear, home as frame_home}
 use Rattle.soundness.proofs.Near.{near_under, named_near}
-use Rattle.soundness.proofs.OwnedLoans.Ways.{flip, under_on, meet_overlaps, base_on, on_named, Lifted, InPart, lifts, part_root, lifted_root, lifted_way}
+use Rattle.soundness.proofs.OwnedLoans.Ways.{flip, under_on, meet_overlaps, base_on, on_named, lifts, part_root, lifted_root, lifted_way}
 use Rattle.soundness.proofs.OwnedLoans.Meeting.{IsPlain}
 use Rattle.soundness.proofs.OwnedLoans.Safe.{Unborrowed, loan_of, clean_below, met, no_both, only_itself, lent_fact}
 use Rattle.soundness.proofs.OwnedLoans.Allowed.{move_unlent, move_unmoved, write_unlent, free_unlent}

@@ -34,8 +34,8 @@ use Rattle.soundness.proofs.Contents.{bool_cases}
 use Rattle.soundness.specs.Typed.{Kept}
 use Rattle.soundness.specs.Sound.{Stage, facts_of, AreStages, Uses, IsRunnable, InScope, IsNamedSub, IsAtPoint, view_of as view_here}
 use Rattle.soundness.proofs.Around.{package_named}
-use Rattle.soundness.specs.OwnedLoans.Views.{expand, Around, known_gone, Views, ViewedAlone, IsThrough, IsShared, on}
-use Rattle.soundness.proofs.OwnedLoans.Ways.{under_on, Lifted, lifted_way, stands_alone, on_named, on_under, InPart, in_part_way}
+use Rattle.soundness.specs.OwnedLoans.Views.{expand, Around, known_gone, Views, ViewedAlone, IsThrough, IsShared, on, Lifted, InPart}
+use Rattle.soundness.proofs.OwnedLoans.Ways.{under_on, lifted_way, stands_alone, on_named, on_under, in_part_way}
 use Rattle.soundness.proofs.ViewedSoundness.ViewKinds.{open_bundle, bundle_view, true_false}
 use Rattle.soundness.specs.ViewedSoundness.Holds.{Seeing, is_view, is_given, is_exclusive, is_bundle, GoesBy}
 use Rattle.viewed_steps.specs.Awaited.{lasting_of, AreAwaited}

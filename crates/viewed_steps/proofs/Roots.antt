@@ -7,8 +7,8 @@ use Rattle.place_names.specs.declared.fact.Fact.TheVariants.{Lent}
 use Rattle.place_names.specs.declared.rule.Loan.{Loan}
 use Rattle.place_names.specs.declared.rule.Loan.TheVariants.{Borrowed, Observed}
 use Rattle.soundness.specs.OwnedWays.Ways.{Way, Object, Lost, Into, All, View, Under, Named, name_of}
-use Rattle.soundness.specs.OwnedLoans.Views.{on, Views, expand, IsThrough, HasLoan, AreShared, AreViews, IsView}
-use Rattle.soundness.proofs.OwnedLoans.Ways.{under_on, on_under, on_named, Lifted, lifted_root, lifted_way}
+use Rattle.soundness.specs.OwnedLoans.Views.{on, Views, expand, IsThrough, HasLoan, AreShared, AreViews, IsView, Lifted}
+use Rattle.soundness.proofs.OwnedLoans.Ways.{under_on, on_under, on_named, lifted_root, lifted_way}
 use Rattle.soundness.proofs.OwnedWays.Locations.{under_itself}
 use Rattle.soundness.proofs.OwnedLoans.Meeting.{plain_lifts}
 

@@ -14,8 +14,7 @@ use Rattle.type_definitions.specs.Entries.{entry_of}
 use Rattle.type_definitions.specs.Names.{Context}
 use Rattle.type_definitions.specs.Gathered.{gather, each, with_entry, with_type, with_indication, full_info, with_literals, with_definition, with_object, object_info, constant_value, indicated, with_number, number_info, initial_value, with_formal, with_formal_group, with_formals, with_result, with_front, with_body_front, profile, is_subprogram, front_number, plain_object, parameter_type, in_subprogram, in_visible, in_hidden, instance_type, declared_number}
 use Rattle.type_definitions.specs.Whole.{predefined_entries, at_first, outside, gather_units, known_from, known_of}
-use Rattle.sound_files.proofs.MeantFiles.Puts.{sub_numbers}
-use Rattle.sound_files.specs.CalledSubs.Called.{is_subprogram_entry}
+use Rattle.sound_files.specs.CalledSubs.Called.{is_subprogram_entry, sub_numbers}
 
 entry_put : (P : ℕ → Type 0) (xs : List Entry) (d : ℕ) (x : Entry) → (is_subprogram_entry x ≡ true → P d)
     → ((t : ℕ) → is_subprogram_entry (get_or xs t entry.Nothing) ≡ true → P t) → (t : ℕ) → is_subprogram_entry (get_or (set xs d x) t entry.Nothing) ≡ true → P t

@@ -23,9 +23,9 @@ use Rattle.typed_tree.specs.Programs.{bodies_in}
 use Rattle.sound_files.specs.MeantFiles.Declarations.{Declarations, front_declarations, body_form, form_of_result, declarations, declared_by}
 use Rattle.sound_files.specs.MeantFiles.Followed.{AreFollowed}
 use Rattle.sound_files.specs.MeantFiles.Counted.{is_completing, Counts, kind_at}
-use Rattle.sound_files.proofs.MeantFiles.Puts.{sub_numbers}
 use Rattle.sound_files.proofs.MeantFiles.Walk.{files_declared, files_bodied}
 use Rattle.sound_files.proofs.MeantFiles.Events.{AreListed, counts_all, kinds_all, completed_all, awaiting_all}
+use Rattle.sound_files.specs.CalledSubs.Called.{sub_numbers}
 
 -- ---- subprograms of code
 

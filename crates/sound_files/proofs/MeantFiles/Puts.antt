@@ -15,23 +15,7 @@ use Rattle.type_definitions.specs.Names.{Context}
 use Rattle.type_definitions.specs.Gathered.{gather, each, with_entry, with_type, with_indication, full_info, with_literals, with_definition, with_object, object_info, constant_value, indicated, with_number, number_info, initial_value, with_formal, with_formal_group, with_formals, with_result, with_front, with_body_front, profile, is_subprogram, front_number, plain_object, parameter_type, in_subprogram, in_visible, in_hidden, instance_type, declared_number}
 use Rattle.type_definitions.specs.Whole.{predefined_entries, at_first, outside, gather_units, known_from, known_of}
 use Rattle.sound_files.proofs.MeantFiles.Lists.{entry_put}
-
--- The numbers of the subprograms that code declares.
-abbrev pub sub_numbers : Code → List ℕ
-sub_numbers (SubDecl front) = front_number front ∷ []
-sub_numbers (SubBody front items stmts end) = front_number front ∷ (sub_numbers items ++ sub_numbers stmts)
-sub_numbers (Package d visible hidden) = sub_numbers visible ++ sub_numbers hidden
-sub_numbers (PackageBody d parts) = sub_numbers parts
-sub_numbers (If p branches otherwise) = sub_numbers branches ++ sub_numbers otherwise
-sub_numbers (Branch p e stmts) = sub_numbers stmts
-sub_numbers (Case p e whens) = sub_numbers whens
-sub_numbers (When choices stmts) = sub_numbers stmts
-sub_numbers (Loop p stmts) = sub_numbers stmts
-sub_numbers (While p e stmts) = sub_numbers stmts
-sub_numbers (For p d reversed range stmts) = sub_numbers stmts
-sub_numbers (Block p items stmts end) = sub_numbers items ++ sub_numbers stmts
-sub_numbers (More a rest) = sub_numbers a ++ sub_numbers rest
-sub_numbers _ = []
+use Rattle.sound_files.specs.CalledSubs.Called.{sub_numbers}
 
 -- ---- entries
 

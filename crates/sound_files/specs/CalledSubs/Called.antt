@@ -1,15 +1,15 @@
 -- Calls in typed code, and the subprograms that resolved code declares.
-use Rattle.std.specs.Prelude.{ℕ, Bool, true, false, flat_map}
+use Rattle.std.specs.Prelude.{ℕ, Bool, true, false, List, [], ◌∷◌, ◌++◌, flat_map}
 use Rattle.spark_base.specs.Lists.{Has}
-use Rattle.resolved_tree.specs.Trees.{Program}
+use Rattle.resolved_tree.specs.Trees.{Program, Code, More, SubDecl, SubBody, Package, PackageBody, If, Branch, Case, When, Loop, While, For, Block}
 use Rattle.type_definitions.specs.declared.table.Entry.{Entry}
 use Rattle.type_definitions.specs.declared.table.Entry.TheVariants as entry
+use Rattle.type_definitions.specs.Gathered.{front_number}
 use Rattle.typed_tree.specs.Trees.{TypedTree, TypedCode}
 use Rattle.typed_tree.specs.Trees as typed
 use Rattle.typed_tree.specs.Programs.{bodies_in}
 use Rattle.flow_paths.specs.Instructions.{Instruction}
 use Rattle.flow_paths.specs.Instructions as instruction
-use Rattle.sound_files.proofs.MeantFiles.Puts.{sub_numbers}
 
 -- ---- typed code
 
@@ -62,6 +62,23 @@ PointCalls asked _ = Unit {0}
 abbrev pub is_subprogram_entry : Entry → Bool
 is_subprogram_entry (entry.Subprogram profile) = true
 is_subprogram_entry _ = false
+
+-- The numbers of the subprograms that code declares.
+abbrev pub sub_numbers : Code → List ℕ
+sub_numbers (SubDecl front) = front_number front ∷ []
+sub_numbers (SubBody front items stmts end) = front_number front ∷ (sub_numbers items ++ sub_numbers stmts)
+sub_numbers (Package d visible hidden) = sub_numbers visible ++ sub_numbers hidden
+sub_numbers (PackageBody d parts) = sub_numbers parts
+sub_numbers (If p branches otherwise) = sub_numbers branches ++ sub_numbers otherwise
+sub_numbers (Branch p e stmts) = sub_numbers stmts
+sub_numbers (Case p e whens) = sub_numbers whens
+sub_numbers (When choices stmts) = sub_numbers stmts
+sub_numbers (Loop p stmts) = sub_numbers stmts
+sub_numbers (While p e stmts) = sub_numbers stmts
+sub_numbers (For p d reversed range stmts) = sub_numbers stmts
+sub_numbers (Block p items stmts end) = sub_numbers items ++ sub_numbers stmts
+sub_numbers (More a rest) = sub_numbers a ++ sub_numbers rest
+sub_numbers _ = []
 
 -- Each subprogram that is declared has a body.
 abbrev pub HaveBodies : Program → Type 0

@@ -17,8 +17,8 @@ use Rattle.soundness.proofs.OwnedWays.Unique.{one_way}
 use Rattle.soundness.proofs.OwnedWays.Assigned.{kept_fact, is_false}
 use Rattle.soundness.proofs.OwnedWays.Named.{longer}
 use Rattle.soundness.proofs.OwnedWays.Dropped.{named_base, dropped, left}
-use Rattle.soundness.specs.OwnedLoans.Views.{Views, Around, expand, IsMovedBy, ExcusedBy, HasLoan, Viewed}
-use Rattle.soundness.proofs.OwnedLoans.Ways.{base_on, home_or_foreign, lifts, lifted_root, lifted_way, InPart, part_root}
+use Rattle.soundness.specs.OwnedLoans.Views.{Views, Around, expand, IsMovedBy, ExcusedBy, HasLoan, Viewed, InPart}
+use Rattle.soundness.proofs.OwnedLoans.Ways.{base_on, home_or_foreign, lifts, lifted_root, lifted_way, part_root}
 use Rattle.soundness.proofs.OwnedLoans.Clear.{before_or_new, clear_same}
 use Rattle.soundness.proofs.OwnedLoans.Moves.{view_rooted, reached, view_on, parts_on, moved_parts, as_sound, all_known}
 

@@ -9,8 +9,8 @@ use Rattle.place_names.specs.Names.{Name}
 use Rattle.soundness.specs.OwnedWays.Ways.{Step, OfVariable, OfRoot, Way, Object, All, View, Under, Named, base_of, name_of, number_of}
 use Rattle.soundness.proofs.OwnedWays.Named.{longer}
 use Rattle.soundness.proofs.OwnedWays.Dropped.{named_base}
-use Rattle.soundness.specs.OwnedLoans.Views.{on, Views, expand, IsView, IsForeign, IsPassed, AreViews, AreShared}
-use Rattle.soundness.proofs.OwnedLoans.Ways.{Meet, beginnings, under_on, base_on, meets_on, meets_front, meet_base, home_or_foreign, root_on, on_under, named_on, on_named, expand_on, other_front, Lifted, lifts, part_root, lifted_root, lifted_way, next_of}
+use Rattle.soundness.specs.OwnedLoans.Views.{on, Views, expand, IsView, IsForeign, IsPassed, AreViews, AreShared, Lifted}
+use Rattle.soundness.proofs.OwnedLoans.Ways.{Meet, beginnings, under_on, base_on, meets_on, meets_front, meet_base, home_or_foreign, root_on, on_under, named_on, on_named, expand_on, other_front, lifts, part_root, lifted_root, lifted_way, next_of}
 
 order : (a b : ℕ) → (a ≡ b) ⊎ ((a < b) ⊎ (b < a))
 order a b = by_less (nat_lt a b) refl

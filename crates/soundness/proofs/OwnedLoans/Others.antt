@@ -11,8 +11,8 @@ use Rattle.soundness.specs.OwnedWays.Ways.{Step, Loc, OfVariable, OfRoot, Way, O
 use Rattle.soundness.proofs.OwnedWays.Locations.{past_under, under_itself, under_along}
 use Rattle.soundness.proofs.OwnedWays.Named.{longer, under_leads}
 use Rattle.soundness.proofs.OwnedWays.Dropped.{named_base}
-use Rattle.soundness.specs.OwnedLoans.Views.{Around, Views, expand, HasLoan, IsThrough, IsAway, IsView, Viewed}
-use Rattle.soundness.proofs.OwnedLoans.Ways.{Meet, InPart, in_part_way, lifted_way, flip, meets_on, meets_front, beginnings, under_on, on_under, meet_overlaps, Lifted, next_of}
+use Rattle.soundness.specs.OwnedLoans.Views.{Around, Views, expand, HasLoan, IsThrough, IsAway, IsView, Viewed, InPart, Lifted}
+use Rattle.soundness.proofs.OwnedLoans.Ways.{Meet, in_part_way, lifted_way, flip, meets_on, meets_front, beginnings, under_on, on_under, meet_overlaps, next_of}
 use Rattle.soundness.proofs.OwnedLoans.Meeting.{IsPlain, stands, next, IsOwn}
 use Rattle.soundness.proofs.OwnedLoans.Safe.{under_shorter, past_front, Open, OpenWhole, Unlent, Unborrowed, Unmoved, lent_fact, lent_itself, only_itself, seen_lent, open_way, open_above, seen_above, seen_way, clean_below, seen_below, part_above, part_below}
 

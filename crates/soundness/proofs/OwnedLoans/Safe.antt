@@ -14,9 +14,9 @@ use Rattle.soundness.specs.OwnedWays.Ways.{Step, OfVariable, OfRoot, Way, Object
 use Rattle.soundness.proofs.OwnedWays.Locations.{past_under, not_past, under_itself}
 use Rattle.soundness.proofs.OwnedWays.Named.{longer, under_leads}
 use Rattle.soundness.proofs.OwnedWays.Dropped.{named_base}
-use Rattle.soundness.specs.OwnedLoans.Views.{Around, Views, expand, expand_root, IsThrough, IsMovedBy, HasLoan, IsView, IsPassed, Viewed}
+use Rattle.soundness.specs.OwnedLoans.Views.{Around, Views, expand, expand_root, IsThrough, IsMovedBy, HasLoan, IsView, IsPassed, Viewed, Lifted, InPart}
 use Rattle.soundness.proofs.OwnedLoans.Clear.{overlaps_whole}
-use Rattle.soundness.proofs.OwnedLoans.Ways.{Meet, flip, lifted_way, on_under, meets_on, meets_front, beginnings, under_on, meet_overlaps, stands_alone, named_base_of, home_or_foreign, Lifted, next_of, InPart, in_part_way}
+use Rattle.soundness.proofs.OwnedLoans.Ways.{Meet, flip, lifted_way, on_under, meets_on, meets_front, beginnings, under_on, meet_overlaps, stands_alone, named_base_of, home_or_foreign, next_of, in_part_way}
 use Rattle.soundness.proofs.OwnedLoans.Meeting.{IsPlain, no_part, next, not_foreign, off_seen, off_part, stands, Lends, MeetsLoan, Beside, Both, Lone, Meeting, meeting}
 
 -- what begins a way and isn't the way has a shorter name

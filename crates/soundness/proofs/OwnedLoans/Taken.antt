@@ -18,8 +18,8 @@ use Rattle.soundness.specs.OwnedWays.Ways.{Step, OfVariable, OfHand, OfRoot, OfC
 use Rattle.soundness.proofs.OwnedWays.Named.{longer}
 use Rattle.soundness.proofs.OwnedWays.Assigned.{kept_fact}
 use Rattle.soundness.proofs.OwnedWays.Locations.{under_itself}
-use Rattle.soundness.specs.OwnedLoans.Views.{Go, Views, Around, expand_root, expand_part, inner_steps, part_from, ArePartsSeen, expand, IsObject, AreClear, HasLoan, IsView, Viewed, Becomes, with_view, Unused, on, IsForeign, IsOuter, IsShared, IsPassed}
-use Rattle.soundness.proofs.OwnedLoans.Ways.{under_on, on_under, on_named, base_on, root_on, named_on, meets_front, on_deep, Lifted, lifted_way, next_of, InPart, in_part_way}
+use Rattle.soundness.specs.OwnedLoans.Views.{Go, Views, Around, expand_root, expand_part, inner_steps, part_from, ArePartsSeen, expand, IsObject, AreClear, HasLoan, IsView, Viewed, Becomes, with_view, Unused, on, IsForeign, IsOuter, IsShared, IsPassed, Lifted, InPart}
+use Rattle.soundness.proofs.OwnedLoans.Ways.{under_on, on_under, on_named, base_on, root_on, named_on, meets_front, on_deep, lifted_way, next_of, in_part_way}
 use Rattle.soundness.proofs.OwnedLoans.Meeting.{stands, own_off, own_view, next}
 use Rattle.soundness.proofs.OwnedLoans.Clear.{refused, clear_borrow, clear_observe, clear_same}
 use Rattle.soundness.proofs.OwnedLoans.Allowed.{LoansStay, loan_kept}

@@ -4,7 +4,7 @@ use Rattle.place_names.specs.Names.{overlaps}
 use Rattle.soundness.specs.OwnedWays.Ways.{Step, Root, OfVariable, OfHand, OfRoot, Way, Object, Lost, Into, All, Under, Named, along, base_of, number_of, name_of}
 use Rattle.soundness.proofs.OwnedWays.Locations.{depth, under_depth, under_itself}
 use Rattle.soundness.proofs.OwnedWays.Named.{longer, under_overlaps, under_front}
-use Rattle.soundness.specs.OwnedLoans.Views.{Go, Part, Down, go, on, Views, expand_root, expand_part, inner_steps, part_from, part_at, way_at, expand, IsObject, IsForeign}
+use Rattle.soundness.specs.OwnedLoans.Views.{Go, Part, Down, go, on, Views, expand_root, expand_part, inner_steps, part_from, part_at, way_at, expand, IsObject, IsForeign, Lifted, InPart}
 
 -- ---- beginnings of ways
 
@@ -175,15 +175,6 @@ pub expand_on : (v : Views) (w : Way) (r : List Go) → (IsObject w → ⊥) →
 expand_on v w [] d none = refl
 expand_on v w (g ∷ r) d none = expand_go v g (on w r) (on_deep w r d) (on_none v w r none) ∙ ap (go g) (expand_on v w r d none)
 
--- a name rooted in a view with a value
-pub record Lifted (v : Views) (x : Way) : Type 0 where
-  pub frame : ℕ
-  pub object : ℕ
-  pub rest : List Go
-  pub way : Way
-  pub is : x ≡ on (All (Object (OfVariable frame object))) rest
-  pub has : v.way object ≡ Some way
-
 abbrev pub further : (v : Views) (g : Go) (x : Way) → Lifted v x → Lifted v (go g x)
 further v g x l = record {
   frame = l.frame;
@@ -193,17 +184,6 @@ further v g x l = record {
   is = ap (go g) l.is;
   has = l.has;
 }
-
--- a name that goes through a part of a formal
-pub record InPart (v : Views) (x : Way) : Type 0 where
-  pub frame : ℕ
-  pub object : ℕ
-  pub steps : List Step
-  pub rest : List Go
-  pub way : Way
-  pub is : x ≡ on (All (along (Object (OfVariable frame object)) steps)) rest
-  pub has : v.part_way object steps ≡ Some way
-  pub deep : steps ≡ [] → ⊥
 
 abbrev pub further_in : (v : Views) (g : Go) (x : Way) → InPart v x → InPart v (go g x)
 further_in v g x l = record {

@@ -34,8 +34,8 @@ use Rattle.soundness.proofs.Steps.{room, taken_slots}
 use Rattle.soundness.proofs.Contents.{bool_cases}
 use Rattle.soundness.proofs.Stays.{Quiet, quiet_then}
 use Rattle.soundness.proofs.Taking.{Takes}
-use Rattle.soundness.specs.OwnedLoans.Views.{Around, Part, Down, Views, expand, ExcusedBy, Viewed}
-use Rattle.soundness.proofs.OwnedLoans.Ways.{IsDeep, HasNoPart, Lifted, InPart, further, further_in, lifted_root}
+use Rattle.soundness.specs.OwnedLoans.Views.{Around, Part, Down, Views, expand, ExcusedBy, Viewed, Lifted, InPart}
+use Rattle.soundness.proofs.OwnedLoans.Ways.{IsDeep, HasNoPart, further, further_in, lifted_root}
 use Rattle.soundness.proofs.OwnedLoans.Allowed.{Cleared, cleared_open}
 use Rattle.soundness.proofs.OwnedLoans.Clear.{overlaps_whole}
 use Rattle.soundness.proofs.OwnedLoans.Moves.{IsPlace, expand_along}

@@ -26,8 +26,8 @@ use Rattle.soundness.specs.PartOffsets.Parts.{IsSettled}
 use Rattle.soundness.specs.Seen.{IsNear, seen, home}
 use Rattle.soundness.specs.Typed.{IsCell, OwnsByShape}
 use Rattle.soundness.proofs.Scalars.{acts}
-use Rattle.soundness.specs.OwnedLoans.Views.{Go, on, Around, Views, Unused}
-use Rattle.soundness.proofs.OwnedLoans.Ways.{Lifted, InPart, further, further_in}
+use Rattle.soundness.specs.OwnedLoans.Views.{Go, on, Around, Views, Unused, Lifted, InPart}
+use Rattle.soundness.proofs.OwnedLoans.Ways.{further, further_in}
 use Rattle.soundness.specs.ViewedSoundness.Holds.{PartsAreNamed, is_given, GoesBy, Seeing}
 use Rattle.soundness.proofs.ViewedSoundness.Viewing.{IsReached}
 use Rattle.soundness.proofs.ViewedSoundness.Outcomes.{IsGood, Leads_on}

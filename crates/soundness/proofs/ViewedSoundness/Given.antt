@@ -8,8 +8,8 @@ use Rattle.soundness.proofs.OwnedWays.Dropped.{named_base}
 use Rattle.soundness.proofs.OwnedWays.Locations.{under_itself}
 use Rattle.soundness.specs.Seen.{IsNear, home}
 use Rattle.soundness.proofs.Around.{package_named}
-use Rattle.soundness.specs.OwnedLoans.Views.{on, Around, Views, expand, ExcusedBy, IsForeign, Viewed}
-use Rattle.soundness.proofs.OwnedLoans.Ways.{Meet, meets_front, beginnings, under_on, on_under, Lifted, lifted_way, next_of, InPart, in_part_way}
+use Rattle.soundness.specs.OwnedLoans.Views.{on, Around, Views, expand, ExcusedBy, IsForeign, Viewed, Lifted, InPart}
+use Rattle.soundness.proofs.OwnedLoans.Ways.{Meet, meets_front, beginnings, under_on, on_under, lifted_way, next_of, in_part_way}
 use Rattle.soundness.proofs.OwnedLoans.Meeting.{next, no_part}
 use Rattle.place_names.specs.Names.{overlaps}
 use Rattle.place_names.proofs.Names.{overlaps-sym}

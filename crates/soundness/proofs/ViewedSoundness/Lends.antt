@@ -45,10 +45,10 @@ use Rattle.soundness.proofs.Numbers.{index_law}
 use Rattle.soundness.proofs.Scalars.{acts, acts_append, after_append, allows_both}
 use Rattle.soundness.proofs.Stays.{Quiet}
 use Rattle.soundness.proofs.Taking.{Takes}
-use Rattle.soundness.specs.OwnedLoans.Views.{Go, on, Around, Views, expand, Viewed, Becomes, Unused, with_view}
+use Rattle.soundness.specs.OwnedLoans.Views.{Go, on, Around, Views, expand, Viewed, Becomes, Unused, with_view, Lifted, InPart}
 use Rattle.soundness.proofs.OwnedLoans.Allowed.{Cleared, borrow_clears, observe_clears, loan_kept, reborrow_clears}
 use Rattle.soundness.proofs.OwnedWays.Dropped.{named_base}
-use Rattle.soundness.proofs.OwnedLoans.Ways.{Lifted, part_root, next_of, lifts, lifted_root, lifted_way, root_on, named_on, base_on, on_named, on_under, InPart, in_part_way}
+use Rattle.soundness.proofs.OwnedLoans.Ways.{part_root, next_of, lifts, lifted_root, lifted_way, root_on, named_on, base_on, on_named, on_under, in_part_way}
 use Rattle.soundness.proofs.OwnedLoans.Taken.{becomes_with, Leaves, observe_leaves, borrow_leaves, reborrow_leaves}
 use Rattle.soundness.proofs.OwnedLoans.Taken as lent
 use Rattle.soundness.specs.ViewedSoundness.Holds.{PartsAreNamed, is_view, is_bundle, IsOwners, Holds, is_given, Seeing, GoesBy}

@@ -22,8 +22,8 @@ use Rattle.soundness.proofs.Contents.{word_dead}
 use Rattle.soundness.proofs.Near.{named_near, past_near}
 use Rattle.soundness.proofs.Walks.{way_step, way_along, Lead, Walked}
 use Rattle.soundness.proofs.Scalars.{number_along, named_along}
-use Rattle.soundness.specs.OwnedLoans.Views.{Around, Go, Part, Down, go, on, Views, way_at, expand_root, expand, IsObject, ExcusedBy, Viewed}
-use Rattle.soundness.proofs.OwnedLoans.Ways.{Meet, beginnings, on_deep, IsDeep, expand_go, expand_in, Lifted, InPart, in_part_way, part_root, lifts, further, further_in, lifted_root, lifted_way}
+use Rattle.soundness.specs.OwnedLoans.Views.{Around, Go, Part, Down, go, on, Views, way_at, expand_root, expand, IsObject, ExcusedBy, Viewed, Lifted, InPart}
+use Rattle.soundness.proofs.OwnedLoans.Ways.{Meet, beginnings, on_deep, IsDeep, expand_go, expand_in, in_part_way, part_root, lifts, further, further_in, lifted_root, lifted_way}
 use Rattle.soundness.proofs.OwnedLoans.Meeting.{IsPlain}
 use Rattle.soundness.proofs.OwnedLoans.Safe.{Open}
 use Rattle.soundness.proofs.OwnedLoans.Others.{open_away, seen_away, part_above_away}

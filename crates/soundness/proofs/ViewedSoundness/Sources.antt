@@ -26,8 +26,8 @@ use Rattle.soundness.proofs.Walks.{way_along, Walked}
 use Rattle.soundness.proofs.Scalars.{acts, number_along, named_along}
 use Rattle.soundness.proofs.Stays.{Quiet, quiet_then}
 use Rattle.soundness.proofs.Taking.{Takes, no_takes}
-use Rattle.soundness.specs.OwnedLoans.Views.{Around, Down, Views, expand, ExcusedBy, Viewed}
-use Rattle.soundness.proofs.OwnedLoans.Ways.{HasNoPart, Lifted, InPart, next_of, further, further_in, lifted_root, lifted_way, on_under}
+use Rattle.soundness.specs.OwnedLoans.Views.{Around, Down, Views, expand, ExcusedBy, Viewed, Lifted, InPart}
+use Rattle.soundness.proofs.OwnedLoans.Ways.{HasNoPart, next_of, further, further_in, lifted_root, lifted_way, on_under}
 use Rattle.soundness.proofs.OwnedLoans.Meeting.{next}
 use Rattle.soundness.proofs.OwnedLoans.Others.{clean_away, seen_away_below}
 use Rattle.soundness.proofs.OwnedLoans.Allowed.{Cleared, cleared_open}

@@ -24,8 +24,8 @@ use Rattle.soundness.proofs.Contents.{word_no}
 use Rattle.soundness.proofs.Joined.{trunk_trunk, not_inside}
 use Rattle.soundness.proofs.Memories.{put_same, put_other}
 use Rattle.soundness.proofs.Steps.{plain_end}
-use Rattle.soundness.specs.OwnedLoans.Views.{Go, on, Around, Views, expand_root, expand_part, expand, ExcusedBy, Viewed, Becomes, Unused, AreClear}
-use Rattle.soundness.proofs.OwnedLoans.Ways.{on_named, HasNoPart, part_none, Lifted, InPart, next_of, named_on}
+use Rattle.soundness.specs.OwnedLoans.Views.{Go, on, Around, Views, expand_root, expand_part, expand, ExcusedBy, Viewed, Becomes, Unused, AreClear, Lifted, InPart}
+use Rattle.soundness.proofs.OwnedLoans.Ways.{on_named, HasNoPart, part_none, next_of, named_on}
 use Rattle.soundness.proofs.OwnedLoans.Allowed.{LoansStay}
 use Rattle.soundness.proofs.OwnedLoans.Taken.{rebound, borrowed, observed, seen_again, seen_part, reborrowed, Leaves}
 use Rattle.soundness.proofs.OwnedWays.Locations.{same_loc}

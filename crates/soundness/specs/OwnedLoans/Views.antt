@@ -272,3 +272,25 @@ pub record Unused (home : ℕ → ℕ) (lent : Loan → Name → Type 0) (v : Vi
   pub unmoved : (n : Name) → Has facts (Moved n) → n.root ≡ b → ⊥
   pub unlent : (l : Loan) (n : Name) → lent l n → n.root ≡ b → ⊥
   pub untaken : (x : ℕ) (w : Way) → v.way x ≡ Some w → Named home (v.up x) → (x ≡ b → ⊥) → number_of (v.up x) ≡ b → ⊥
+
+-- ---- names that go through views
+
+-- A name rooted in a view with a value.
+pub record Lifted (v : Views) (x : Way) : Type 0 where
+  pub frame : ℕ
+  pub object : ℕ
+  pub rest : List Go
+  pub way : Way
+  pub is : x ≡ on (All (Object (OfVariable frame object))) rest
+  pub has : v.way object ≡ Some way
+
+-- A name that goes through a part of a formal.
+pub record InPart (v : Views) (x : Way) : Type 0 where
+  pub frame : ℕ
+  pub object : ℕ
+  pub steps : List Step
+  pub rest : List Go
+  pub way : Way
+  pub is : x ≡ on (All (along (Object (OfVariable frame object)) steps)) rest
+  pub has : v.part_way object steps ≡ Some way
+  pub deep : steps ≡ [] → ⊥

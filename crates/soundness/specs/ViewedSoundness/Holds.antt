@@ -16,8 +16,7 @@ use Rattle.flow_paths.specs.Objects.{Signature, Typing, object_at, is_anonymous,
 use Rattle.machine.specs.Words.{Word, Cell, component_type, element_type}
 use Rattle.machine.specs.Memory.{Memory, variable_slots, no_slot}
 use Rattle.soundness.specs.OwnedWays.Ways.{Step, OfVariable, OfHand, Way, Object, Lost, Into, All, Named}
-use Rattle.soundness.specs.OwnedLoans.Views.{Views}
-use Rattle.soundness.proofs.OwnedLoans.Ways.{Lifted, InPart}
+use Rattle.soundness.specs.OwnedLoans.Views.{Views, Lifted, InPart}
 use Rattle.soundness.specs.PartOffsets.Parts.{type_in, offset_in, has_part}
 use Rattle.soundness.specs.Seen.{home, is_view_formal}
 

@@ -18,8 +18,8 @@ use Rattle.soundness.specs.Typed.{Kept, Spot, loc_of}
 use Rattle.soundness.proofs.Walks.{way_along, past_along, Lead, Walked}
 use Rattle.soundness.proofs.Scalars.{number_along, named_along}
 use Rattle.soundness.proofs.Stays.{Quiet}
-use Rattle.soundness.specs.OwnedLoans.Views.{Around, Views, expand, ExcusedBy, Viewed}
-use Rattle.soundness.proofs.OwnedLoans.Ways.{on_under, IsDeep, Lifted, lifted_root, lifted_way, next_of, InPart, in_part_way}
+use Rattle.soundness.specs.OwnedLoans.Views.{Around, Views, expand, ExcusedBy, Viewed, Lifted, InPart}
+use Rattle.soundness.proofs.OwnedLoans.Ways.{on_under, IsDeep, lifted_root, lifted_way, next_of, in_part_way}
 use Rattle.soundness.proofs.OwnedLoans.Meeting.{next}
 use Rattle.soundness.proofs.OwnedLoans.Safe.{OpenWhole, Unborrowed, Unmoved}
 use Rattle.soundness.proofs.OwnedLoans.Others.{itself_away, seen_away_below, clean_away, part_above_away, part_away_below}

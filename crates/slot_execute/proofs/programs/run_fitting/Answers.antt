@@ -1,4 +1,4 @@
-use Rattle.std.proofs.Common.{ℕ, List, map, string_bytes, subst, sym, ap}
+use Rattle.std.proofs.Common.{ℕ, List, map, string_bytes, subst, sym, ap, rules}
 use Rattle.std.specs.Prelude.{IfOk, OnErr}
 use Rattle.machine.specs.Run.{Run, run}
 use Rattle.laid_program.specs.Programs.{program_of}
@@ -6,12 +6,12 @@ use Rattle.slot_runs.specs.Turns.{Setting}
 use Rattle.slot_runs.specs.Tellings.{Sinks, HaveFronts}
 use Rattle.slot_runs.proofs.Owed.{none_had}
 use Rattle.slot_executor.specs.Executes.{AreSame, IsExecuted}
-use Rattle.slot_execute.proofs.Started.{started}
+use Rattle.slot_execute.proofs.Started.{started, fitting_slots}
 use Rattle.slot_execute.proofs.programs.run_fitting.Goals as goal
 
 pub run_started-ran-requires-clause-started : goal.run_started-ran-requires-clause-started
 run_started-ran-requires-clause-started g c =
-    started c.args.laid.now c.args.codes c.requires.ready g.R.Store.Means c.args.store.ghost_name c.args.input.now c.is_declaring-declares.result c.in-Ok.run' c.requires.fits c.is_declaring-declares.ensures c.in-Ok.ensures
+    started c.args.laid.now c.args.codes c.requires.ready g.R.Store.Means _ c.args.input.now c.is_declaring-declares.result c.in-Ok.run' c.requires.fits c.is_declaring-declares.ensures c.in-Ok.ensures
 
 pub run_started-ran-requires-clause-same : goal.run_started-ran-requires-clause-same
 run_started-ran-requires-clause-same g c =
@@ -34,3 +34,9 @@ returns-clause-fronts g c =
     let whole : List ℕ → Run = λ bytes. run (program_of c.args.laid.now) bytes c.args.steps in
     subst (λ bytes. OnErr c.run_started-ran.result (HaveFronts (map string_bytes c.args.laid.now.names.items) old new (whole bytes).output (whole bytes).leaks))
     (ap (λ (s : Setting). s.input) c.in-Ok.ensures.setting) c.run_started-ran.ensures.fronts
+
+-- the store is given back
+pub returns-clause-slots : goal.returns-clause-slots
+returns-clause-slots g c =
+    fitting_slots g.R.Store.Means (λ bytes. run (program_of c.args.laid.now) bytes c.args.steps) c.args.input.now c.in-Ok.run' c.run_started-ran.new.run _ _ c.run_started-ran.result
+    (λ lent. search (rules, lent)) c.in-Ok.ensures.lent (ap (λ (s : Setting). s.input) c.in-Ok.ensures.setting) c.run_started-ran.ensures.left c.run_started-ran.ensures.lent
