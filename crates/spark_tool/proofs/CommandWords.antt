@@ -161,7 +161,7 @@ test_gives stored command n (Err stop) asked is = tt
 test_gives None command n (Ok done) asked is = tt
 test_gives (Some files) command n (Ok done) asked is =
     λ input. subst (λ (c : Option Command). Answers files input c (answer_for input done)) (sym asked)
-    (subst (λ (a : Answer). Answers files input (Some (Selftest n)) a) (sym (is.1.1.0 input)) (selftest n is.0 is.1.0))
+    (subst (λ (a : Answer). Answers files input (Some (Selftest n)) a) (sym (is.1.1 input)) (selftest n is.0 is.1.0))
 
 -- where the names of the files and what was read are those of it
 pub test_checks : (names : List (List ℕ)) (n : ℕ) (found : Sources) (finding : Finding) → names ≡ made_names → found ≡ made_source n
@@ -174,9 +174,9 @@ pub test_found : (n : ℕ) (names : List (List ℕ)) (found : Sources) (finding 
     → found ≡ made_source n → Checks names found finding
     → IfOk result (λ made. (input : List ℕ) → answer_for input made ≡ test_answer n finding)
     → IfOk result (λ made. (input : List ℕ) → run_for input made ≡ run_found STEPS [] finding) → IfOk result (IsTested n)
-test_found n names found finding (Err stop) named is checks answers runs = tt
-test_found n names found finding (Ok done) named is checks answers runs =
-    (finding, (test_checks names n found finding named is checks, (answers, runs)))
+test_found n names found finding (Err stop) named is checks answers ran = tt
+test_found n names found finding (Ok done) named is checks answers ran =
+    (finding, (test_checks names n found finding named is checks, answers, ran))
 
 -- ---- the run that is made
 
@@ -193,7 +193,7 @@ test_makes stored command n (Err stop) asked is = tt
 test_makes None command n (Ok done) asked is = tt
 test_makes (Some files) command n (Ok done) asked is =
     λ input. subst (λ (c : Option Command). Makes files input c (run_for input done)) (sym asked)
-    (subst (λ (r : Option Running). Makes files input (Some (Selftest n)) r) (sym (is.1.1.1 input)) (runs_made.selftest n is.0 is.1.0))
+    (subst (λ (r : Option Running). Makes files input (Some (Selftest n)) r) (sym (is.1.2 input)) (runs_made.selftest n is.0 is.1.0))
 
 -- none is made for another command
 no_run : (command : Option Command) (done : Outcome) → uses_store command ≡ false → IsFor command done → (input : List ℕ) → run_for input done ≡ None

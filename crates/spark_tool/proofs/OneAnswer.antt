@@ -179,7 +179,7 @@ abbrev OfCut : List (List ℕ) → AllTokens → Finding → Type 0
 OfCut names (Ok cuts) answer = OfTokens names cuts answer
 OfCut names (Err fault) answer = (pos : Pos) × ((code : Code) × ((lexical_code fault ≡ Some (pos, code)) × (answer ≡ stops names pos code)))
 
-abbrev pub Says : List (List ℕ) → Sources → Finding → Type 0
+abbrev Says : List (List ℕ) → Sources → Finding → Type 0
 Says names Missing answer = answer ≡ Ends unread
 Says names (TooLarge file) answer = answer ≡ stops names (first_position file) S1
 Says names (Texts texts) answer = OfCut names (all_tokens 0 TOKENS texts) answer
@@ -204,7 +204,7 @@ of_types names texts cuts trees answer cut of named fine found =
     of_names names texts cuts trees answer cut of named
     (subst (λ (f : Option TypeFault). OfTypes names (flow_of trees) f answer) (sym fine) found)
 
-pub says : (names : List (List ℕ)) (found : Sources) (answer : Finding) → Checks names found answer → Says names found answer
+says : (names : List (List ℕ)) (found : Sources) (answer : Finding) → Checks names found answer → Says names found answer
 says names _ _ missing = refl
 says names _ _ (too_large file) = refl
 says names _ _ (lexical texts fault pos code cut coded) =
@@ -235,6 +235,10 @@ says_once : (names : List (List ℕ)) (found : Sources) (a b : Finding) → Says
 says_once names Missing a b one two = one ∙ sym two
 says_once names (TooLarge file) a b one two = one ∙ sym two
 says_once names (Texts texts) a b one two = cut_once names (all_tokens 0 TOKENS texts) a b one two
+
+-- one thing is found of sources
+pub checks_once : (names : List (List ℕ)) (found : Sources) (a b : Finding) → Checks names found a → Checks names found b → a ≡ b
+checks_once names found a b one two = says_once names found a b (says names found a one) (says names found b two)
 
 -- ---- the answer to words
 
@@ -283,7 +287,7 @@ told stored input _ _ (leaks names found answer checks lists) =
 told stored input _ _ (make n) = refl
 told stored input _ _ (selftest n found checks) = (found, says made_names (made_source n) found checks, refl)
 
-pub found_once : {A : Type 0} (names : List (List ℕ)) (found : Sources) (f : Finding → A) (a b : A) → (x : Finding) × Says names found x × (a ≡ f x)
+found_once : {A : Type 0} (names : List (List ℕ)) (found : Sources) (f : Finding → A) (a b : A) → (x : Finding) × Says names found x × (a ≡ f x)
     → (x : Finding) × Says names found x × (b ≡ f x) → a ≡ b
 found_once names found f a b one two = one.2 ∙ ap f (says_once names found one.0 two.0 one.1 two.1) ∙ sym two.2
 

@@ -1,19 +1,19 @@
 -- One run is made for the words and the files, or none is.
-use Rattle.std.proofs.Common.{◌≡◌, ◌∙◌, refl, sym, ℕ, false, List, [], Option, None, Some}
+use Rattle.std.proofs.Common.{◌≡◌, ◌∙◌, refl, sym, ap, ℕ, false, List, [], Option, None, Some}
 use Rattle.spark_base.specs.declared.limits.TheConstants.{SOURCE_BYTES, STEPS}
 use Rattle.command_words.specs.Words.{Command, Check, Run, Leaks, Make, Selftest}
 use Rattle.answered_runs.specs.run_command.Stores.{Running}
 use Rattle.answered_runs.specs.tool_answers.Commands.{command_of, uses_store}
-use Rattle.answered_runs.specs.tool_answers.Reading.{sources}
-use Rattle.answered_runs.specs.tool_answers.Product.{Finding, made_names, made_source}
+use Rattle.answered_runs.specs.tool_answers.Reading.{Sources, sources}
+use Rattle.answered_runs.specs.tool_answers.Product.{Finding, Checks, made_names, made_source}
 use Rattle.answered_runs.specs.tool_answers.Runs as runs_made
 use Rattle.answered_runs.specs.tool_answers.Runs.{Makes, run_found}
-use Rattle.spark_tool.proofs.OneAnswer.{Says, says, found_once}
+use Rattle.spark_tool.proofs.OneAnswer.{checks_once}
 
 abbrev RunOf : List (List ℕ × List ℕ) → List ℕ → Option Command → Option Running → Type 0
 RunOf stored input (Some (Run names budget stats)) ran =
-    (found : Finding) × Says names (sources stored 0 SOURCE_BYTES names) found × (ran ≡ run_found budget input found)
-RunOf stored input (Some (Selftest n)) ran = (found : Finding) × Says made_names (made_source n) found × (ran ≡ run_found STEPS [] found)
+    (found : Finding) × Checks names (sources stored 0 SOURCE_BYTES names) found × (ran ≡ run_found budget input found)
+RunOf stored input (Some (Selftest n)) ran = (found : Finding) × Checks made_names (made_source n) found × (ran ≡ run_found STEPS [] found)
 RunOf stored input None ran = ran ≡ None
 RunOf stored input (Some (Check names)) ran = ran ≡ None
 RunOf stored input (Some (Leaks names)) ran = ran ≡ None
@@ -29,9 +29,13 @@ no_run stored input (Some (Selftest n)) idle = cc
 
 run_of : (stored : List (List ℕ × List ℕ)) (input : List ℕ) (command : Option Command) (ran : Option Running) → Makes stored input command ran
     → RunOf stored input command ran
-run_of stored input _ _ (runs_made.run names budget stats found checks) = (found, says names (sources stored 0 SOURCE_BYTES names) found checks, refl)
-run_of stored input _ _ (runs_made.selftest n found checks) = (found, says made_names (made_source n) found checks, refl)
+run_of stored input _ _ (runs_made.run names budget stats found checks) = (found, checks, refl)
+run_of stored input _ _ (runs_made.selftest n found checks) = (found, checks, refl)
 run_of stored input _ _ (runs_made.none command idle) = no_run stored input command idle
+
+found_once : (names : List (List ℕ)) (found : Sources) (f : Finding → Option Running) (a b : Option Running)
+    → (x : Finding) × Checks names found x × (a ≡ f x) → (x : Finding) × Checks names found x × (b ≡ f x) → a ≡ b
+found_once names found f a b one two = one.2 ∙ ap f (checks_once names found one.0 two.0 one.1 two.1) ∙ sym two.2
 
 run_once : (stored : List (List ℕ × List ℕ)) (input : List ℕ) (command : Option Command) (a b : Option Running) → RunOf stored input command a
     → RunOf stored input command b → a ≡ b

@@ -1,6 +1,7 @@
 use Rattle.std.proofs.Common.{◌∙◌, refl, sym, ap, List, ℕ, Some, map, string_bytes}
 use Rattle.spark_base.specs.Words.{operands}
 use Rattle.command_words.specs.Words.{Check, Run, Leaks, command_in}
+use Rattle.spark_tool.specs.declared.finding.Outcome.TheVariants as outcome
 use Rattle.spark_tool.specs.Answers.{answer_of}
 use Rattle.answered_runs.specs.tool_answers.Commands.{runs, there, uses_store}
 use Rattle.spark_tool.proofs.CommandWords.{may_be_opened, fits_check, fits_run, fits_leaks, check_fault, run_fault, leaks_fault, made_gives, made_fixed, test_gives, idle_makes, none_makes, only_as, makes_as, test_makes}
@@ -86,7 +87,8 @@ returns-in-Run-clause-makes g c =
 
 pub returns-in_ok-made_answer-in-Make-clause-makes : goal.returns-in_ok-made_answer-in-Make-clause-makes
 returns-in_ok-made_answer-in-Make-clause-makes g c =
-    none_makes (g.F.FileStore.stored c.args.files.now) (there (command_in c.args.command.now)) _ (ap (λ command. uses_store (there (command_in command))) c.in-Make.is)
+    none_makes (g.F.FileStore.stored c.args.files.now) (there (command_in c.args.command.now)) (outcome.Answers c.in_ok-made_answer-in-Make.field-0)
+    (ap (λ command. uses_store (there (command_in command))) c.in-Make.is)
     (λ input. refl)
 
 pub returns-in-Selftest-clause-makes : goal.returns-in-Selftest-clause-makes

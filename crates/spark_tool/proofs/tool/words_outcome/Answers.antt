@@ -2,6 +2,7 @@ use Rattle.std.proofs.Common.{◌≡◌, refl, None, ap, subst, map, string_byte
 use Rattle.std.specs.Prelude.{option_and_then}
 use Rattle.command_words.specs.Words as grammar
 use Rattle.command_words.specs.declared.command.WordFault.{WordFault}
+use Rattle.spark_tool.specs.declared.finding.Outcome.TheVariants as outcome
 use Rattle.spark_tool.specs.Answers.{answer_of}
 use Rattle.answered_runs.specs.tool_answers.Commands.{command_of, there, uses_store}
 use Rattle.spark_tool.proofs.CommandWords.{usage_gives, none_makes}
@@ -18,5 +19,6 @@ pub returns-in_ok-usage_answer-in-Err-Usage-clause-makes : goal.returns-in_ok-us
 returns-in_ok-usage_answer-in-Err-Usage-clause-makes g c =
     let none : grammar.command_of (map string_bytes c.args.words.now) ≡ None =
     subst (λ (fault : WordFault). grammar.IsReadAs (map string_bytes c.args.words.now) (Err fault)) c.in-Err-Usage.field-0-is c.in-Err-Usage.ensures.read in
-    none_makes (g.F.FileStore.stored c.args.files.now) (command_of (map string_bytes c.args.words.now)) _
+    none_makes (g.F.FileStore.stored c.args.files.now) (command_of (map string_bytes c.args.words.now))
+    (outcome.Answers c.in_ok-usage_answer-in-Err-Usage.field-0)
     (ap uses_store (ap (option_and_then there) none)) (λ input. refl)
