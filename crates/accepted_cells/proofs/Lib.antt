@@ -1,0 +1,2 @@
+-- what `check` accepts
+pub mod Main
