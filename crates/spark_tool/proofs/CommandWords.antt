@@ -170,12 +170,10 @@ test_checks names n found finding named is checks =
     subst (λ (s : Sources). Checks made_names s finding) is (subst (λ (ns : List (List ℕ)). Checks ns found finding) named checks)
 
 -- what was found of it, what is answered to that, and what is run
-pub test_found : {E : Type 0} (n : ℕ) (names : List (List ℕ)) (found : Sources) (finding : Finding) (result : Result Outcome E) → names ≡ made_names
-    → found ≡ made_source n → Checks names found finding
-    → IfOk result (λ made. (input : List ℕ) → answer_for input made ≡ test_answer n finding)
-    → IfOk result (λ made. (input : List ℕ) → run_for input made ≡ run_found STEPS [] finding) → IfOk result (IsTested n)
-test_found n names found finding (Err stop) named is checks answers ran = tt
-test_found n names found finding (Ok done) named is checks answers ran =
+pub test_found : (n : ℕ) (names : List (List ℕ)) (found : Sources) (finding : Finding) (done : Outcome) → names ≡ made_names
+    → found ≡ made_source n → Checks names found finding → ((input : List ℕ) → answer_for input done ≡ test_answer n finding)
+    → ((input : List ℕ) → run_for input done ≡ run_found STEPS [] finding) → IsTested n done
+test_found n names found finding done named is checks answers ran =
     (finding, (test_checks names n found finding named is checks, answers, ran))
 
 -- ---- the run that is made
