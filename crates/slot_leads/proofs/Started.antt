@@ -8,6 +8,7 @@ use Rattle.slot_heap.specs.Heaps.{Heap, no_heap}
 use Rattle.handled_runs.specs.Slots.{Slots}
 use Rattle.handled_steps.specs.Runs.{no_memory}
 use Rattle.slot_memory.specs.Cells.{Cells, Keep}
+use Rattle.slot_memory.proofs.Keeps.{keep_none}
 use Rattle.slot_memory.specs.Memory.{Kept, Ghosts, slots, Stands}
 use Rattle.slot_frames.specs.Stacks.{Stacked}
 use Rattle.slot_runs.specs.Pasts.{plain_memory}
@@ -21,17 +22,6 @@ use Rattle.slot_leads.specs.Starts.{only_frame, no_cells, HasPackages, silent, I
 
 abbrev no_ghosts : Ghosts
 no_ghosts = record { heap = no_heap; numbers = λ h. 0; moves = []; peaks = []; sizes = [] }
-
-keep_none : {R : Type 0} (Means : R → Heap → Type 0) (store : R) (lent : ℕ) → Means store no_heap → Keep Means (no_cells store lent) no_heap (λ h. 0)
-keep_none Means store lent means = record {
-  means = means;
-  once = tt;
-  sized = λ h n is. absurd (cc);
-  numbered = λ h. refl;
-  counted = omega arith;
-  slots = omega arith;
-  few = omega arith;
-}
 
 no_read : (n : ℕ) (bytes : List ℕ) → n ≡ 0 → n ≤ length bytes
 no_read n bytes none = omega (arith, none)

@@ -1,5 +1,5 @@
 -- The parts of a run at its start.
-use Rattle.std.proofs.Common.{◌≡◌, ℕ, Bool, List, [], sym, ap, subst, ◌∙◌}
+use Rattle.std.proofs.Common.{ℕ, Bool, List, [], ap, ◌∙◌}
 use Rattle.type_definitions.specs.Types.{Table}
 use Rattle.run_codes.specs.Programs.{Program}
 use Rattle.run_results.specs.Results.{leaks_of}

@@ -6,23 +6,22 @@ use Rattle.machine.specs.States.{Leak}
 use Rattle.slot_heap.specs.Heaps.{Heap}
 use Rattle.code_rows.specs.declared.point.Point.{Point as PointRow}
 use Rattle.code_rows.specs.declared.codes.Codes.{Codes}
-use Rattle.code_rows.specs.declared.stop.Stop.{Stop}
 use Rattle.code_rows.specs.declared.stop.Stop.TheVariants as stop
 use Rattle.code_rows.specs.Points.{point_of, program_of}
 use Rattle.run_codes.specs.Codes.{Point}
+use Rattle.run_codes.specs.Programs.{Program}
 use Rattle.run_results.specs.Results.{leaks_of}
 use Rattle.handled_runs.specs.Slots.{Slots}
 use Rattle.handled_steps.specs.States.{Outcome, Turn, goes, leaking_goes}
-use Rattle.slot_memory.specs.Memory.{Kept, Ghosts, Shows, Elsewhere, slots, ghosts_of, elsewhere}
-use Rattle.slot_runs.specs.Turns.{Setting, NeverFails}
-use Rattle.run_codes.specs.Programs.{Program}
+use Rattle.slot_memory.specs.Memory.{Kept, Ghosts, Shows, Elsewhere, ghosts_of, elsewhere}
 use Rattle.slot_frames.specs.Stacks.{Stacked}
+use Rattle.slot_runs.specs.Turns.{Setting, NeverFails}
 use Rattle.slot_stages.specs.Leads.{LeadsTo}
 use Rattle.slot_entries.specs.Entries.{stacked_words}
 use Rattle.slot_leads.proofs.Led.{led_bytes, led_between, led_goes, led_telling}
 use Rattle.slot_turns.specs.declared.halt.Halt.{Halt}
-use Rattle.slot_turns.specs.Betweens.{Between, StandAt}
-use Rattle.slot_turns.specs.Steps.{turn_at, DoneAt, GoesOn}
+use Rattle.slot_turns.specs.Betweens.{StandAt}
+use Rattle.slot_turns.specs.Steps.{turn_at, DoneAt}
 use Rattle.slot_parts.specs.declared.parts.Parts.{Parts}
 use Rattle.slot_parts.specs.Stages.{between_of, setting_of, IsAt}
 use Rattle.slot_parts.specs.Steps.{AreLeft, StepsOf, as_going}
