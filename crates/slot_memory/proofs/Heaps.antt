@@ -1,5 +1,5 @@
 -- Heaps whose cells have the same sizes, and words of cells.
-use Rattle.std.proofs.Common.{◌≡◌, ℕ, zero, suc, ◌+◌, ◌<◌, ◌≤◌, ◌==◌, true, false, if◌then◌else◌, Option, None, Some, IsSomeAnd, option_and_then, List, [], ◌∷◌, length, drop, get_or, set, slice_get, slice_set, map, refl, sym, ap, subst, ◌∙◌, arith, ℤ, pos, length-set}
+use Rattle.std.proofs.Common.{◌≡◌, ℕ, zero, suc, ◌+◌, ◌<◌, ◌≤◌, true, Option, Some, IsSomeAnd, option_and_then, List, [], ◌∷◌, length, drop, get_or, slice_get, slice_set, map, refl, sym, ap, subst, ◌∙◌, arith, ℤ, pos, length-set}
 use Rattle.std.proofs.lemmas.Bool.Decides.{nat_tests}
 use Rattle.std.proofs.lemmas.List.{drop-set-lt, drop_all}
 use Rattle.run_values.specs.declared.value.Value.{Value}
@@ -14,7 +14,7 @@ use Rattle.slot_heap.proofs.Places.{some_split}
 use Rattle.handled_runs.specs.Slots.{slot_word}
 use Rattle.handled_runs.specs.Changes.{slot_value, slot_values, written_all}
 use Rattle.slot_memory.specs.Cells.{size_at, Have}
-use Rattle.slot_memory.proofs.OfKinds.{StandsAt, stands_first, stands_below, kinds_next, values_on}
+use Rattle.slot_memory.proofs.OfKinds.{StandsAt, stands_first, kinds_next, values_on}
 
 -- ---- the same sizes
 

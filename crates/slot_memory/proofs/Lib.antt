@@ -15,3 +15,6 @@ pub mod Settled
 pub mod Settling
 -- what a memory stands for
 pub mod Shown
+-- what is freed where a step stops
+pub mod Given
+pub mod Giving

@@ -1,13 +1,13 @@
 -- Words of some kinds, one after the other.
-use Rattle.std.proofs.Common.{◌≡◌, ℕ, zero, suc, ◌+◌, ◌-◌, ◌<◌, ◌≤◌, Bool, true, false, ◌&&◌, List, [], ◌∷◌, ◌++◌, map, length, take, drop, get_or, set, refl, sym, ap, subst, ◌∙◌, arith, ℤ, pos, Some, None, Option, slice_get, IsSomeAnd, append_assoc, append-nil, if◌then◌else◌}
+use Rattle.std.proofs.Common.{◌≡◌, ℕ, zero, suc, ◌+◌, ◌<◌, ◌≤◌, Bool, true, false, ◌&&◌, List, [], ◌∷◌, ◌++◌, length, take, drop, get_or, refl, sym, ap, subst, ◌∙◌, arith, ℤ, Some, Option, slice_get, IsSomeAnd, append_assoc, append-nil, if◌then◌else◌}
 use Rattle.std.proofs.lemmas.List.{drop-drop, drop_more, drop_all}
 use Rattle.run_values.specs.declared.value.Value.{Value}
 use Rattle.run_values.specs.declared.value.Kind.{Kind}
 use Rattle.run_values.specs.declared.value.Kind.TheVariants as sort
 use Rattle.run_values.specs.Values.{kind}
-use Rattle.run_codes.specs.Flat.{Got, Given, Stops, Broken, and_then, is_broken, same_kind, have_kinds, is_pointer, are_pointers}
+use Rattle.run_codes.specs.Flat.{Got, Given, Stops, Broken, and_then, is_broken, same_kind, have_kinds, is_pointer}
 use Rattle.handled_runs.specs.Fits.{is_slot_word, are_slot_words}
-use Rattle.handled_runs.specs.Slots.{slot_word, front}
+use Rattle.handled_runs.specs.Slots.{front}
 use Rattle.handled_runs.specs.Changes.{slot_value, slot_values}
 
 pub never : true ≡ false → ⊥

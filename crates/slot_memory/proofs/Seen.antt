@@ -9,12 +9,12 @@ use Rattle.run_values.specs.Values.{kind}
 use Rattle.machine.specs.Evaluate.{heap_words}
 use Rattle.run_codes.specs.Flat.{Given, Broken, and_then, is_broken, same_kind, have_kinds, InCell, most_offsets}
 use Rattle.slot_heap.specs.Heaps.{Heap, words_at, word_at, written, Holds}
-use Rattle.slot_heap.proofs.Places.{some_split, and_then_split, is_within}
+use Rattle.slot_heap.proofs.Places.{and_then_split, is_within}
 use Rattle.handled_runs.specs.Fits.{are_slot_words}
 use Rattle.handled_runs.specs.Changes.{slot_values, written_all, with_heap, cell_stored, stored}
 use Rattle.handled_runs.specs.Slots.{Slots, slot_word, of_kind, behind, behind_at, cell_spot, live_spot, cell_words, front, held}
-use Rattle.slot_memory.specs.Cells.{Cells, Keep, size_at, Have}
-use Rattle.slot_memory.specs.Memory.{Kept, Ghosts, Stands, Shows, Changes, slots, ghosts_of}
+use Rattle.slot_memory.specs.Cells.{Cells, Have}
+use Rattle.slot_memory.specs.Memory.{Kept, Ghosts, Stands, Shows, Changes, slots}
 use Rattle.slot_memory.specs.Moves.{Clears}
 use Rattle.slot_memory.proofs.OfKinds.{never, and_first, and_second, tested, kind_is, kinds_within, one_kind, stands_below, drop_first, front_given}
 use Rattle.slot_memory.proofs.Heaps.{SameSizes, same_written, same_written_all, size_words, holds_in, word_in, word_mapped, have_words, words_have}

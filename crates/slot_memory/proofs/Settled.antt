@@ -1,5 +1,5 @@
 -- What is moved is emptied by spots with some kinds, or one access value after the other.
-use Rattle.std.proofs.Common.{◌≡◌, ℕ, zero, suc, ◌+◌, ◌-◌, ◌<◌, ◌≤◌, Bool, true, false, ◌&&◌, Option, None, Some, List, [], ◌∷◌, ◌++◌, map, flat_map, length, take, drop, set, slice_get, slice_set, refl, sym, ap, subst, ◌∙◌, arith, ℤ, pos, length-set, if◌then◌else◌}
+use Rattle.std.proofs.Common.{◌≡◌, ℕ, zero, suc, ◌+◌, ◌-◌, ◌≤◌, Bool, true, false, ◌&&◌, Option, None, Some, List, [], ◌∷◌, ◌++◌, map, length, take, drop, slice_get, slice_set, refl, sym, ap, subst, ◌∙◌, arith, ℤ, pos, length-set, if◌then◌else◌}
 use Rattle.std.proofs.lemmas.List.{length-drop, drop-set-add}
 use Rattle.run_values.specs.declared.value.Value.{Value}
 use Rattle.run_values.specs.declared.value.Value.TheVariants as value
@@ -12,7 +12,7 @@ use Rattle.handled_runs.specs.Slots.{Slots, Move, front}
 use Rattle.handled_runs.specs.Changes.{with_stack, with_heap, all_null, nulled, cell_emptied, emptied, all_emptied, settled}
 use Rattle.slot_memory.specs.Cells.{Have}
 use Rattle.slot_memory.specs.Memory.{beyond, spots_of, single}
-use Rattle.slot_memory.specs.Moves.{IsThere, AreThere, cleared, all_cleared}
+use Rattle.slot_memory.specs.Moves.{AreThere, cleared, all_cleared}
 use Rattle.slot_memory.proofs.OfKinds.{never, and_first, and_second, pointer_at, access_at, stands_at, front_given, front_within}
 use Rattle.slot_memory.proofs.Heaps.{have_words, words_have, words_written, holds_in}
 use Rattle.slot_memory.proofs.Lists.{AreBelow, each_at, from, each_spliced, to_null, all_null_is, null_set}

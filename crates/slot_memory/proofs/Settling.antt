@@ -1,8 +1,8 @@
 -- A memory on its way to what is settled.
 use Rattle.std.proofs.Common.{◌≡◌, ℕ, zero, suc, ◌+◌, ◌<◌, List, [], ◌∷◌, length, drop, get_or, refl, sym, ap, subst, ◌∙◌, arith}
-use Rattle.run_codes.specs.Flat.{Got, Given, Spot, InStack, InCell}
+use Rattle.run_codes.specs.Flat.{Given, Spot, InStack, InCell}
 use Rattle.slot_heap.specs.Heaps.{Heap}
-use Rattle.handled_runs.specs.Slots.{Slots, Move}
+use Rattle.handled_runs.specs.Slots.{Slots}
 use Rattle.handled_runs.specs.Changes.{settled}
 use Rattle.slot_memory.specs.declared.spot.Move.{Move as Noted}
 use Rattle.slot_memory.specs.declared.spot.Spot.{Spot as Place}

@@ -1,15 +1,15 @@
 -- What a memory stands for, where cells are made and freed, and where something is moved.
-use Rattle.std.proofs.Common.{◌≡◌, ℕ, zero, suc, ◌+◌, ◌-◌, ◌<◌, ◌≤◌, ◌^◌, List, [], ◌∷◌, ◌++◌, Some, map, length, refl, sym, ap, subst, ◌∙◌, arith, append_assoc, append-nil, ℤ, pos}
+use Rattle.std.proofs.Common.{◌≡◌, ℕ, suc, ◌+◌, ◌-◌, ◌<◌, ◌≤◌, List, [], ◌∷◌, ◌++◌, map, length, refl, sym, ap, subst, ◌∙◌, append_assoc, append-nil, ℤ, pos}
 use Rattle.run_values.specs.declared.value.Value.{Value}
 use Rattle.run_values.specs.declared.value.Kind.{Kind}
 use Rattle.machine.specs.Evaluate.{heap_words}
 use Rattle.run_codes.specs.Flat.{Given, Spot, most_cells}
-use Rattle.slot_heap.specs.Heaps.{Heap, words_at, allocated, released}
+use Rattle.slot_heap.specs.Heaps.{Heap, allocated, released}
 use Rattle.handled_runs.specs.Slots.{Slots, Move}
-use Rattle.handled_runs.specs.Changes.{without_cell, moving, row_with, with_peak}
-use Rattle.slot_memory.specs.Cells.{Cells, Keep, IsMadeAs, IsFreed}
-use Rattle.slot_memory.specs.Memory.{Kept, Ghosts, Stands, Shows, Always, Changes, slots, ghosts_of, beyond, spots_of, single}
-use Rattle.slot_memory.specs.Answers.{with_cell, IsMade, IsRefused, Frees}
+use Rattle.handled_runs.specs.Changes.{moving, row_with, with_peak}
+use Rattle.slot_memory.specs.Cells.{Cells, IsMadeAs, IsFreed}
+use Rattle.slot_memory.specs.Memory.{Kept, Ghosts, Stands, Shows, Always, Changes, slots, beyond, spots_of, single}
+use Rattle.slot_memory.specs.Answers.{with_cell, IsMade, Frees}
 
 -- Slots with other counts.
 abbrev counts : Slots → ℕ → ℕ → ℕ → Slots

@@ -1,12 +1,12 @@
 -- What stands in the stack, and stores.
-use Rattle.std.proofs.Common.{◌≡◌, ℕ, ◌+◌, ◌-◌, ◌≤◌, Bool, true, false, nat_le, List, length, take, drop, refl, sym, ap, subst, ◌∙◌, ℤ, arith, if◌then◌else◌}
+use Rattle.std.proofs.Common.{◌≡◌, ℕ, ◌+◌, ◌-◌, ◌≤◌, Bool, true, false, nat_le, List, length, take, drop, refl, sym, subst, ℤ, arith, if◌then◌else◌}
 use Rattle.std.proofs.lemmas.List.{length-drop}
 use Rattle.run_values.specs.declared.value.Kind.{Kind}
-use Rattle.run_codes.specs.Flat.{Got, Given, Stops, Broken, is_broken, spliced, InStack}
+use Rattle.run_codes.specs.Flat.{Given, Broken, is_broken, spliced, InStack}
 use Rattle.slot_heap.specs.Heaps.{Heap}
 use Rattle.handled_runs.specs.Slots.{Slots, held}
 use Rattle.handled_runs.specs.Changes.{stored, with_stack}
-use Rattle.slot_memory.specs.Memory.{Kept, Ghosts, Stands, Shows, Changes, slots, ghosts_of}
+use Rattle.slot_memory.specs.Memory.{Kept, Ghosts, Stands, Shows, Changes, slots}
 use Rattle.slot_memory.proofs.OfKinds.{tested, front_given, front_within}
 
 pub reads_out : (s : Slots) (n : ℕ) (ks : List Kind) → is_broken (held s (InStack n) ks) ≡ false

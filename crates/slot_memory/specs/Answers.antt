@@ -1,5 +1,5 @@
 -- What calls answer that stand for definitions over slots.
-use Rattle.std.specs.Prelude.{◌≡◌, ◌≢◌, ◌<◌, ◌≤◌, ℕ, suc, ◌+◌, ◌^◌, true, ℤ, pos, negsuc, zero, List, [], ◌∷◌, ◌++◌, Option, None, Some, Result, Ok, Err, length, nat_lt}
+use Rattle.std.specs.Prelude.{◌≡◌, ◌≢◌, ◌<◌, ◌≤◌, ℕ, suc, ◌+◌, ◌^◌, ℤ, pos, negsuc, zero, List, [], ◌∷◌, ◌++◌, Option, None, Some, Result, Ok, Err, length}
 use Rattle.run_values.specs.declared.value.Value.{Value}
 use Rattle.machine.specs.Evaluate.{StorageError, heap_words}
 use Rattle.slot_heap.specs.Heaps.{Heap, words_at, allocated}

@@ -4,3 +4,5 @@ pub mod Memory
 pub mod Spots
 pub mod Answers
 pub mod Moves
+-- steps that stop
+pub mod Given

@@ -1,5 +1,5 @@
 -- What is moved, one access value after the other.
-use Rattle.std.specs.Prelude.{◌<◌, ℕ, List, [], ◌∷◌, map, length, set, pos}
+use Rattle.std.specs.Prelude.{◌<◌, List, [], ◌∷◌, map, length, set, pos}
 use Rattle.run_values.specs.declared.value.Value.TheVariants as value
 use Rattle.run_values.specs.declared.value.Kind.TheVariants as sort
 use Rattle.run_codes.specs.Flat.{Spot, InStack, InCell}

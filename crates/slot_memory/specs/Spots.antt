@@ -1,5 +1,5 @@
 -- What spots of the code stand for, and what is answered with one.
-use Rattle.std.specs.Prelude.{ℕ, ◌+◌, Result, Ok, Err, ℤ}
+use Rattle.std.specs.Prelude.{Result, Ok, Err}
 use Rattle.run_codes.specs.Flat as flat
 use Rattle.run_codes.specs.Flat.{Got, Given, Stops}
 use Rattle.code_rows.specs.declared.stop.Stop.{Stop}

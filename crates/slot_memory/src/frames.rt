@@ -4,6 +4,7 @@ ghost use Rattle.run_codes.specs.Flat.{is_broken, some_words};
 ghost use Rattle.slot_heap.specs.Heaps.{IsLive};
 ghost use Rattle.slot_memory.specs.Memory.{IsKnown, Knows, Always, elsewhere};
 ghost use Rattle.slot_memory.specs.Answers.{Appends, Allocates, Frees, number_of};
+ghost use Rattle.slot_memory.specs.Given.{CanGive, IsGivenUp};
 
 use crate::cells::push_range;
 use crate::heap::{HEAP_WORDS, MOST_CELLS};
@@ -53,6 +54,15 @@ impl<'s, R: Store> Memory<'s, R> {
         ensures elsewhere { elsewhere self.new ≡ elsewhere self.old }
     {
         self.heap.free(cell)
+    }
+
+    /// The cells with greater numbers than one are freed, as a step is given up that made them.
+    pub fn give_up(&mut self, made: u64)
+        requires { CanGive R.Means self.old.heap made }
+        ensures given_up { IsGivenUp R.Means self.old.heap made self.new.heap }
+        ensures rest { self.new ≡ record self.old { heap = self.new.heap } }
+    {
+        self.heap.give_up(made);
     }
 
     /// How many cells were made.

@@ -6,6 +6,7 @@ ghost use Rattle.run_codes.specs.Flat.{most_cells};
 ghost use Rattle.slot_heap.specs.Heaps as heaps;
 ghost use Rattle.slot_heap.specs.Heaps.{Holds, HasWord, written};
 ghost use Rattle.slot_memory.specs.Cells.{KnowsCells, IsMadeAs, IsFreed};
+ghost use Rattle.slot_memory.specs.Given.{CanGive, IsGivenUp};
 
 use run_values::{Handle, Kind, Value};
 use slot_heap::Store;
@@ -189,5 +190,18 @@ impl<'s, R: Store> Heap<'s, R> {
         self.store.free(cell, words);
         self.freed += 1;
         self.live = self.live.saturating_sub(u64::from(words));
+    }
+
+    /// The cells with greater numbers than one are freed, as a step is given up that made them.
+    pub fn give_up(&mut self, made: u64)
+        requires { CanGive R.Means self.old made }
+        ensures { IsGivenUp R.Means self.old made self.new }
+    {
+        let handles = self.numbers.len();
+        'handles: for i in 0..handles {
+            if self.number_at(i) > made {
+                self.free(Handle::new(i as u64));
+            }
+        }
     }
 }

@@ -1,6 +1,4 @@
-use Rattle.std.proofs.Common.{◌≡◌, ◌+◌, ◌<◌, ◌≤◌, ◌^◌, List, ℕ, suc, length, set, sym, subst, arith, ap, ◌∙◌}
-use Rattle.machine.specs.Evaluate.{heap_words}
-use Rattle.run_codes.specs.Flat.{most_cells}
+use Rattle.std.proofs.Common.{◌≡◌, ◌+◌, ℕ, suc, length, set, sym, subst, arith, ap, ◌∙◌}
 use Rattle.slot_heap.specs.Heaps.{Heap, allocated}
 use Rattle.slot_memory.specs.Cells.{Cells}
 use Rattle.slot_memory.proofs.Keeps.{padded, made_as}

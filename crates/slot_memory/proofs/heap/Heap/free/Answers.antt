@@ -1,4 +1,4 @@
-use Rattle.std.proofs.Common.{◌≡◌, ◌+◌, ◌<◌, length, sym, subst, refl, arith, ap}
+use Rattle.std.proofs.Common.{◌+◌, ◌<◌, length, sym, subst, refl, arith, ap}
 use Rattle.run_codes.specs.Flat.{most_cells}
 use Rattle.slot_heap.specs.Heaps.{IsLive}
 use Rattle.slot_memory.specs.Cells.{Cells, KnowsCells, IsFreed}

@@ -1,13 +1,13 @@
-use Rattle.std.proofs.Common.{◌≡◌, ◌<◌, length, get_or, pos, ap, ◌∙◌, arith, rules}
+use Rattle.std.proofs.Common.{◌<◌, length, get_or, pos, ap, ◌∙◌, arith, rules}
 use Rattle.std.proofs.lemmas.Int.{to_z-of_z}
 use mir.Syntax.{w64}
-use mir.Val.{SFits, of_z, to_z}
+use mir.Val.{SFits}
 use Rattle.slot_memory.proofs.heap.Heap.store_words.Goals as goal
 use Rattle.run_values.specs.declared.value.Kind.TheVariants as sort
 use Rattle.handled_runs.specs.Changes.{slot_values, written_all}
 use Rattle.slot_memory.specs.Cells.{Cells}
 use Rattle.slot_memory.proofs.OfKinds.{words_long, word_is}
-use Rattle.slot_memory.proofs.Heaps.{storing_holds, storing_next, storing_end}
+use Rattle.slot_memory.proofs.Heaps.{storing_holds, storing_next}
 
 pub bounds-words-i : goal.bounds-words-i
 bounds-words-i g c = omega (arith, c.kinds-test.true, words_long c.args.kinds.now c.args.words.now c.requires.words)

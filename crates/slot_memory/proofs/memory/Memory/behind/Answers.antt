@@ -1,7 +1,7 @@
 use Rattle.std.proofs.Common.{◌≡◌, ◌-◌, ap, sym, subst, ◌∙◌, arith, rules, unsigned_abs}
 use Rattle.std.proofs.lemmas.Int.{to_z-of_z}
 use mir.Syntax.{w64}
-use mir.Val.{SFits, of_z, to_z}
+use mir.Val.{SFits, of_z}
 use Rattle.slot_memory.specs.Memory.{Kept}
 use Rattle.slot_memory.proofs.Seen.{abs_zero, seen_behind, read_behind}
 use Rattle.slot_memory.proofs.memory.Memory.behind.Goals as goal

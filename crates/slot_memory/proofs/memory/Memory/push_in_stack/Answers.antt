@@ -1,4 +1,4 @@
-use Rattle.std.proofs.Common.{◌≡◌, ◌≤◌, ◌-◌, ◌++◌, length, take, drop, sym, ap, ◌∙◌, arith}
+use Rattle.std.proofs.Common.{◌++◌, length, take, drop, sym, ap, ◌∙◌, arith}
 use Rattle.run_codes.specs.Flat.{Given, and_then}
 use Rattle.slot_memory.specs.Memory.{Kept, slots}
 use Rattle.slot_memory.proofs.Stacks.{reads_out}

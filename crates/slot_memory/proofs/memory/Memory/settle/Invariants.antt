@@ -1,4 +1,4 @@
-use Rattle.std.proofs.Common.{◌≡◌, [], drop}
+use Rattle.std.proofs.Common.{◌≡◌, drop}
 use Rattle.run_codes.specs.Flat.{Given}
 use Rattle.handled_runs.specs.Slots.{Slots}
 use Rattle.handled_runs.specs.Changes.{settled}

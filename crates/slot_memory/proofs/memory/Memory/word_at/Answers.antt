@@ -1,7 +1,7 @@
-use Rattle.std.proofs.Common.{◌≡◌, false, [], ◌∷◌, ap, sym, subst, ◌∙◌, rules}
+use Rattle.std.proofs.Common.{◌≡◌, false, [], ◌∷◌, sym, subst, rules}
 use Rattle.std.proofs.lemmas.Int.{to_z-of_z}
 use mir.Syntax.{w64}
-use mir.Val.{SFits, of_z, to_z}
+use mir.Val.{SFits}
 use Rattle.run_codes.specs.Flat.{InCell, is_broken}
 use Rattle.handled_runs.specs.Slots.{held}
 use Rattle.slot_memory.specs.Memory.{Kept, slots}

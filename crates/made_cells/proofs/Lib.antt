@@ -1,0 +1,6 @@
+-- values
+pub mod Values
+-- actuals
+pub mod Actuals
+-- what is freed then
+pub mod Freed

@@ -1,0 +1,2 @@
+-- the cells that a step made
+pub mod Since
