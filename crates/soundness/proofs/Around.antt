@@ -1,6 +1,7 @@
 -- The frames around the innermost one. What it can name they have moved only where it is a package
 -- object, and then facts say so; so their facts on package objects stand beside its own.
 use Rattle.std.proofs.Common.{◌≡◌, sym, ap, ◌∙◌, ◌⊎◌, inl, inr, ℕ, ◌<◌, true, false, ◌==◌, eqb-true, eq-eqb, arith, if◌then◌else◌}
+use Rattle.std.proofs.lemmas.Bool.{true≢false}
 use Rattle.flow_paths.specs.declared.report.Effects.{Effects}
 use Rattle.flow_paths.specs.Objects.{Typing, is_package_object}
 use Rattle.flow_paths.specs.Laid.{FlowProgram, flow_typing}
@@ -13,7 +14,7 @@ use Rattle.soundness.proofs.Contents.{bool_cases}
 pub same_or_not : (a b : ℕ) → (a ≡ b) ⊎ (a ≡ b → ⊥)
 same_or_not a b = elim (bool_cases (a == b)) [
   | inl e ↦ inl (eqb-true a b e)
-  | inr e ↦ inr (λ same. (let yes : true ≡ false = sym (eq-eqb a b same) ∙ e in cc))
+  | inr e ↦ inr (λ same. (let yes : true ≡ false = sym (eq-eqb a b same) ∙ e in absurd (true≢false yes)))
 ]
 
 pub near_or_far : (frame : ℕ) (w : Way) → IsNear frame w ⊎ (IsNear frame w → ⊥)

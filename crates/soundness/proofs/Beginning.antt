@@ -1,6 +1,7 @@
 -- A memory without variables and cells is sound.
 use Rattle.std.proofs.Common.{◌≡◌, refl, sym, ◌∙◌, ℕ, zero, suc, false, List, [], arith}
 use Rattle.std.proofs.lemmas.List.{length-map}
+use Rattle.std.proofs.lemmas.Bool.{true≢false}
 use Rattle.place_names.specs.declared.fact.Fact.{Fact}
 use Rattle.flow_paths.specs.Objects.{Typing, object_at}
 use Rattle.machine.specs.Words.{default}
@@ -33,8 +34,8 @@ module _ (s : Typing) where
   none_held l n e = let no_number = sym (empty_trunk (trunk l) (steps_in l) (trunk_trunk l)) ∙ e in cc
 
   all_freed : (n : ℕ) → (cell empty_memory n).freed ≡ false → ⊥
-  all_freed zero e = cc
-  all_freed (suc n) e = cc
+  all_freed zero e = absurd (true≢false e)
+  all_freed (suc n) e = absurd (true≢false e)
 
   pub empty_sound : (at_home : ℕ → ℕ) (other : Way → Type 0) (facts : List Fact) → Sound at_home other (seen s empty_memory [] []) facts
   empty_sound at_home other facts = record {

@@ -3,6 +3,7 @@ use Rattle.std.proofs.Common.{◌≡◌, refl, sym, ap, ◌∙◌, subst, ◌⊎
 use Rattle.std.specs.List.{list_any}
 use Rattle.std.proofs.lemmas.List.{get_or_past}
 use Rattle.std.proofs.lemmas.Grind.{flat_map-append}
+use Rattle.std.proofs.lemmas.Bool.{false≢true}
 use Rattle.spark_base.specs.Lists.{Has}
 use Rattle.spark_base.specs.declared.position.Pos.{Pos}
 use Rattle.place_names.specs.declared.selector.Sel.{Sel}
@@ -22,6 +23,7 @@ use Rattle.soundness.proofs.PartOffsets.Leaves.{Has-flat, Has-flat_from, leaf_at
 use Rattle.soundness.specs.Seen.{Content, in_hand, word_in, owner_at, owner_word, trunk, steps_in, seen_of}
 use Rattle.soundness.specs.Changes.{Alike, Put, leaks_at, is_leaked, Checks, hand, Stores, Takes}
 use Rattle.soundness.proofs.Joined.{offset_join, leaf_join, trunk_part, steps_part, trunk_trunk, below_from, below_root}
+use Rattle.soundness.proofs.Constructors.{is_gone_word, is_held_word}
 
 pub bool_cases : (b : Bool) → (b ≡ true) ⊎ (b ≡ false)
 bool_cases true = inl refl
@@ -45,7 +47,7 @@ owner_held (machine.Cell k) false n e = let same : k ≡ n = cc in (ap machine.C
 
 owner_gone : (w : machine.Word) (g : Bool) → g ≡ true → owner_at w g ≡ Gone
 owner_gone w true e = refl
-owner_gone w false e = cc
+owner_gone w false e = absurd (false≢true e)
 
 module _ (table : Table) where
   pub word_yes : (c : Content) (p : List Step) → c.owns ≡ true → is_leaf table c.of p ≡ true
@@ -157,7 +159,7 @@ module _ (table : Table) (settled : IsSettled table) where
     freed = λ n. refl;
     off = off;
     comes = λ p. comes p (bool_cases (is_leaf table (type_in table (a (trunk to)).of (steps_in to)) p));
-    goes = λ p n e. (let none : Empty ≡ Held n = sym (empty_hand table p) ∙ ap (λ c. word_in table c p) (sym g.behind) ∙ sym (word_root table b (OfHand h) p) ∙ e in cc);
+    goes = λ p n e. (let none : Empty ≡ Held n = sym (empty_hand table p) ∙ ap (λ c. word_in table c p) (sym g.behind) ∙ sym (word_root table b (OfHand h) p) ∙ e in absurd (false≢true (ap is_held_word none)));
     keeps = k.keeps;
     checks = λ p n e. k.checks p n (sym (word_part table a to p) ∙ e);
     only = λ n e. elim (k.only n e) [ inl old ↦ inl old | inr x ↦ inr (x.0, word_part table a to x.0 ∙ x.1) ];
@@ -202,7 +204,7 @@ module _ (table : Table) (settled : IsSettled table) where
   pub stored_whole : (a b : Loc → Content) (h : ℕ) (v : Waiting) (to : Loc) (count : ℕ) (dead : ℕ → Bool) (leaks : List Leak) → Stores table a b h v to
       → (p : List Step) → (seen_of table b count dead leaks).word (part (hand h) p) ≡ Gone → ⊥
   stored_whole a b h v to count dead leaks g p e =
-      let none : Empty ≡ Gone = sym (empty_hand table p) ∙ ap (λ c. word_in table c p) (sym g.behind) ∙ sym (word_root table b (OfHand h) p) ∙ e in cc
+      let none : Empty ≡ Gone = sym (empty_hand table p) ∙ ap (λ c. word_in table c p) (sym g.behind) ∙ sym (word_root table b (OfHand h) p) ∙ e in absurd (false≢true (ap is_gone_word none))
 
   -- ---- what a place has goes to a hand
 
@@ -215,7 +217,7 @@ module _ (table : Table) (settled : IsSettled table) where
     comes = λ p. comes p (bool_cases (is_leaf table (type_in table (a (trunk from)).of (steps_in from)) p));
     goes = λ p n e. goes p n (sym (word_part table b from p) ∙ e);
     keeps = λ n e. e;
-    checks = λ p n e. (let none : Empty ≡ Held n = sym (empty_hand table p) ∙ ap (λ c. word_in table c p) (sym g.before) ∙ sym (word_root table a (OfHand h) p) ∙ e in cc);
+    checks = λ p n e. (let none : Empty ≡ Held n = sym (empty_hand table p) ∙ ap (λ c. word_in table c p) (sym g.before) ∙ sym (word_root table a (OfHand h) p) ∙ e in absurd (false≢true (ap is_held_word none)));
     only = λ n e. inl e;
   }
     where
@@ -248,7 +250,7 @@ module _ (table : Table) (settled : IsSettled table) where
           let leaf : is_leaf table (a (trunk from)).of (p ++ steps_in from) ≡ true = ap (λ t. is_leaf table t (p ++ steps_in from)) (sym g.of) ∙ s.leaf in
           let gone = owner_gone _ _ (g.goes p leaf) in
           let at = ap (λ t. owner_word (get_or (b (trunk from)).slots (offset_in table t (p ++ steps_in from)) no_slot)) g.of in
-          let is : Held n ≡ Gone = sym s.slot ∙ at ∙ gone in cc
+          let is : Held n ≡ Gone = sym s.slot ∙ at ∙ gone in absurd (false≢true (ap is_gone_word is))
 
       owner_kept : (w : machine.Word) (g : Bool) → g ≡ false → owner_at w false ≡ owner_at w g
       owner_kept w g e = ap (owner_at w) (sym e)
@@ -304,7 +306,7 @@ any_has f (y ∷ xs) x (inr h) e = ap (λ b. f y || b) (any_has f xs x h e) ∙ 
     or_true false = refl
 
 pub any_from : {A : Type 0} (f : A → Bool) (xs : List A) → list_any f xs ≡ true → (x : A) × Has xs x × (f x ≡ true)
-any_from f [] e = cc
+any_from f [] e = absurd (false≢true e)
 any_from f (y ∷ xs) e = elim (bool_cases (f y)) [
   | inl holds ↦ (y, inl refl, holds)
   | inr isnt ↦ (let found = any_from f xs (sym (ap (λ b. b || list_any f xs) isnt) ∙ e) in (found.0, inr found.1, found.2))
@@ -312,7 +314,7 @@ any_from f (y ∷ xs) e = elim (bool_cases (f y)) [
 
 or_left : (a b : Bool) → a ≡ true → a || b ≡ true
 or_left true b e = refl
-or_left false b e = cc
+or_left false b e = absurd (false≢true e)
 
 or_right : (a b : Bool) → b ≡ true → a || b ≡ true
 or_right true b e = refl

@@ -1,6 +1,7 @@
 -- An object without a value has no cell.
 use Rattle.std.proofs.Common.{◌≡◌, refl, ap, ◌∙◌, inl, inr, ℕ, zero, suc, Bool, List, [], ◌∷◌, ◌++◌, flat_map, length, get_or, nat_eq, ℤ, pos, if◌then◌else◌}
 use Rattle.std.specs.Prelude.{slice_get}
+use Rattle.std.proofs.lemmas.Bool.{false≢true}
 use Rattle.spark_base.specs.Lists.{Has}
 use Rattle.spark_base.proofs.Lists.{Has-append_cases}
 use Rattle.type_definitions.specs.declared.table.Component.{Component as Part}
@@ -14,6 +15,7 @@ use Rattle.soundness.specs.OwnedWays.Ways as ways
 use Rattle.soundness.specs.PartOffsets.Parts.{is_leaf, offset_in}
 use Rattle.soundness.specs.Seen.{Content, word_in, owner_word}
 use Rattle.soundness.proofs.Contents.{bool_cases, word_yes, word_no, word_dead}
+use Rattle.soundness.proofs.Constructors.{is_cell_word}
 
 abbrev pub NoCell : List Word → Type 0
 NoCell ws = (k : ℕ) → Has ws (Cell k) → ⊥
@@ -30,7 +32,7 @@ none_flat f each [] k h = absurd h
 none_flat f each (c ∷ cs) k h = none_append (f c.of) (flat_map (λ (c : Part). f c.of) cs) (each c.of) (none_flat f each cs) k h
 
 none_first : (t : ℕ) (v : ℤ) (b : Bool) (k : ℕ) → Int (if b then pos 0 else v) ≡ Cell k → ⊥
-none_first t v b k e = cc
+none_first t v b k e = absurd (false≢true (ap is_cell_word e))
 
 none_in : (f : ℕ → List Word) → ((t : ℕ) → NoCell (f t)) → (t : ℕ) (s : Shape) → NoCell (default_of f t s)
 none_in f each t (shape.Whole low high) k (inl e) = none_first t low (nat_eq t integer) k e

@@ -1,5 +1,6 @@
 -- Where the i-th part of a record or an array stands.
 use Rattle.std.proofs.Common.{◌≡◌, refl, sym, ap, ◌∙◌, ℕ, suc, ◌+◌, ◌*◌, ◌<◌, true, ◌||◌, List, [], ◌∷◌, map, sum, take, length, get_or, arith, suc-mul, nat_lt, lt-ltb}
+use Rattle.std.proofs.lemmas.Bool.{false≢true}
 use Rattle.type_definitions.specs.declared.table.Component.{Component as Part}
 use Rattle.type_definitions.specs.declared.table.Shape.{Shape}
 use Rattle.type_definitions.specs.declared.table.Shape.TheVariants as shape
@@ -46,10 +47,10 @@ take_all (c ∷ cs) = ap (λ z. c ∷ z) (take_all cs)
 pub words_whole : (w : ℕ → ℕ) (s : Shape) → is_record s || is_array s ≡ true → words_to w s (field_count s) ≡ words_of w s
 words_whole w (shape.Fields cs) is = ap (λ z. sum (map (λ (c : Part). w c.of) z)) (take_all cs)
 words_whole w (shape.Elements low high e) is = refl
-words_whole w (shape.Whole a b) is = cc
-words_whole w (shape.Listed l a b) is = cc
-words_whole w (shape.Access d c n) is = cc
-words_whole w (shape.Same of) is = cc
+words_whole w (shape.Whole a b) is = absurd (false≢true is)
+words_whole w (shape.Listed l a b) is = absurd (false≢true is)
+words_whole w (shape.Access d c n) is = absurd (false≢true is)
+words_whole w (shape.Same of) is = absurd (false≢true is)
 
 module _ (table : Table) (t : ℕ) where
   pub part_there : (s : Shape) → shape_of table t ≡ s → (i : ℕ) → i < field_count s → has_part table t (nth_part s i ∷ []) ≡ true

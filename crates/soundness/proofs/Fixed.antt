@@ -1,5 +1,6 @@
 -- Words of a scalar type that are put at a place: owners don't see it, and words stay typed.
 use Rattle.std.proofs.Common.{◌≡◌, refl, sym, ap, ◌∙◌, subst, inl, inr, ℕ, suc, ◌+◌, ◌<◌, ◌≤◌, true, false, ◌&&◌, ◌⊎◌, List, ◌++◌, length, get_or, arith, append-nil, if◌then◌else◌}
+use Rattle.std.proofs.lemmas.Bool.{true≢false}
 use Rattle.type_definitions.specs.Types.{shape_of, words, full, view_of, is_scalar}
 use Rattle.flow_paths.specs.Objects.{Typing, object_at}
 use Rattle.machine.specs.Memory.{Memory, Place, Slot, no_slot, with_slots}
@@ -47,7 +48,7 @@ module _ (s : Typing) (settled : IsSettled s.table) (m : Memory) (hands : List W
   not_in p leaf r e =
       let u : ℕ = type_in s.table whole.of (steps_in l) in
       let none = leaf_join s.table whole.of (steps_in l) r there ∙ no_leaf s.table settled u (matches_scalar s k.of u inner_of plain) r in
-      let no : true ≡ false = sym leaf ∙ ap (is_leaf s.table whole.of) e ∙ none in cc
+      let no : true ≡ false = sym leaf ∙ ap (is_leaf s.table whole.of) e ∙ none in absurd (true≢false no)
 
   apart : (p : List Step) → is_leaf s.table whole.of p ≡ true
       → (offset_in s.table whole.of p < k.at) ⊎ (k.at + length slots ≤ offset_in s.table whole.of p)

@@ -1,5 +1,6 @@
 -- What a release checks: a scalar type has no access parts, and which fact forbids doesn't matter.
 use Rattle.std.proofs.Common.{◌≡◌, refl, ℕ, Bool, true, false, List, [], Some, None, if◌then◌else◌}
+use Rattle.std.proofs.lemmas.Bool.{false≢true}
 use Rattle.place_names.specs.declared.selector.Sel.{Sel}
 use Rattle.place_names.specs.Rules.{Forbidden}
 use Rattle.type_definitions.specs.declared.table.Shape.{Shape}
@@ -10,10 +11,10 @@ use Rattle.type_definitions.specs.Types.{parts_of, is_scalar, view_of as view_of
 pub plain_parts : (f : ℕ → List (List Sel)) (sh : Shape) → is_scalar (view_of_shape sh) ≡ true → parts_of f sh ≡ []
 plain_parts f (shape.Whole a b) e = refl
 plain_parts f (shape.Listed l a b) e = refl
-plain_parts f (shape.Access d c n) e = cc
-plain_parts f (shape.Fields cs) e = cc
-plain_parts f (shape.Elements a b el) e = cc
-plain_parts f (shape.Same of) e = cc
+plain_parts f (shape.Access d c n) e = absurd (false≢true e)
+plain_parts f (shape.Fields cs) e = absurd (false≢true e)
+plain_parts f (shape.Elements a b el) e = absurd (false≢true e)
+plain_parts f (shape.Same of) e = absurd (false≢true e)
 
 pub switched : (b : Bool) (x y : Forbidden) → (if b then Some x else None) ≡ None → (if b then Some y else None) ≡ None
 switched true x y e = cc

@@ -70,16 +70,16 @@ same_steps (i ∷ p) (j ∷ q) = elim (same_step i j) [
   ]
 ]
 
+not_longer : (r q : List Step) → [] ≡ r ++ q → ([] ≡ q → ⊥) → ⊥
+not_longer [] q e isnt = isnt e
+not_longer (i ∷ r) q e isnt = cc
+
 -- one list ends with another one, or doesn't
 in_or_not : (p q : List Step) → ((r : List Step) × (p ≡ r ++ q)) ⊎ ((r : List Step) → p ≡ r ++ q → ⊥)
 in_or_not [] q = elim (same_steps [] q) [
   | inl e ↦ inl ([], e)
-  | inr isnt ↦ inr (λ r e. never r q e isnt)
+  | inr isnt ↦ inr (λ r e. not_longer r q e isnt)
 ]
-  where
-    never : (r q : List Step) → [] ≡ r ++ q → ([] ≡ q → ⊥) → ⊥
-    never [] q e isnt = isnt e
-    never (i ∷ r) q e isnt = cc
 in_or_not (i ∷ p) q = elim (same_steps (i ∷ p) q) [
   | inl e ↦ inl ([], e)
   | inr isnt ↦ elim (in_or_not p q) [

@@ -1,6 +1,7 @@
 -- A cell is made of the latest value in hand, and its number goes to the hand below.
 use Rattle.std.proofs.Common.{◌≡◌, refl, sym, ap, ◌∙◌, subst, ◌⊎◌, inl, inr, ℕ, suc, ◌+◌, true, false, not, ◌==◌, List, [], ◌∷◌, ◌++◌, length, get_or, arith, append-nil, if◌then◌else◌}
 use Rattle.std.proofs.lemmas.List.{get_or_past}
+use Rattle.std.proofs.lemmas.Bool.{false≢true}
 use Rattle.place_names.specs.declared.fact.Fact.{Fact}
 use Rattle.type_definitions.specs.Types.{words}
 use Rattle.flow_paths.specs.Objects.{Typing}
@@ -20,6 +21,7 @@ use Rattle.soundness.proofs.Contents.{bool_cases, word_yes, word_no, word_dead, 
 use Rattle.soundness.proofs.Steps.{hand_top, hand_past, hand_below}
 use Rattle.soundness.proofs.Defaults.{NoCell, blank_word}
 use Rattle.soundness.proofs.Ends.{new_there, new_other, new_count}
+use Rattle.soundness.proofs.Constructors.{is_held_word}
 
 module _ (s : Typing) (settled : IsSettled s.table) (m : Memory) (t want : ℕ) (ws : List machine.Word) (rest : List Waiting) (leaks : List Leak)
     (long : length ws ≡ words s.table t) (own : is_leaf s.table want [] ≡ true) where
@@ -164,7 +166,7 @@ module _ (s : Typing) (settled : IsSettled s.table) (m : Memory) (t want : ℕ) 
         keeps = λ n e. e;
         checks = λ p n e. (
             let none : Empty ≡ Held n = sym (blank_word s.table (record { of = t; slots = []; owns = true }) [] refl no_words (p ++ []))
-            ∙ sym (ap (λ c. word_in s.table c (p ++ [])) new_cell) ∙ e in cc);
+            ∙ sym (ap (λ c. word_in s.table c (p ++ [])) new_cell) ∙ e in absurd (false≢true (ap is_held_word none)));
         only = λ n e. inl e;
       } in
       let a : Loc → Content = content s mid (value ∷ got ∷ rest) in

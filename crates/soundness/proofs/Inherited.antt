@@ -3,6 +3,7 @@
 use Rattle.std.proofs.Common.{◌≡◌, refl, sym, ap, ◌∙◌, subst, ◌⊎◌, inl, inr, ℕ, Bool, true, false, not, ◌&&◌, ◌||◌, ◌==◌, eq-eqb, eqb-true, List, [], ◌∷◌, map, append-nil, None}
 use Rattle.std.specs.Prelude.{filter}
 use Rattle.std.specs.List.{list_any}
+use Rattle.std.proofs.lemmas.Bool.{false≢true, true≢false}
 use Rattle.spark_base.specs.Lists.{Has}
 use Rattle.spark_base.proofs.Lists.{Has-append_left, Has-append_right, Has-append_cases, Has-filter, Has-filter_passes}
 use Rattle.place_names.specs.declared.selector.Sel.{Sel}
@@ -79,7 +80,7 @@ global_allowed (b ∷ more) facts are allowed a (inr has) f there =
 -- ---- facts and acts of different roots
 
 forbidden_none : (test : Bool) (r : Rule) (m : Name) (f : Fact) → test ≡ false → forbidden_if test r m f ≡ None
-forbidden_none true r m f e = cc
+forbidden_none true r m f e = absurd (true≢false e)
 forbidden_none false r m f e = refl
 
 none_forbidden : (test : Bool) (r : Rule) (m : Name) (f : Fact) → forbidden_if test r m f ≡ None → test ≡ false
@@ -101,7 +102,7 @@ module _ (n : Name) (x : ℕ) (is : n.root ≡ x) where
   other_root : (r : ℕ) → (r == x) ≡ false → (n.root == r) ≡ false
   other_root r other = elim (bool_cases (n.root == r)) [
     | inr e ↦ e
-    | inl e ↦ (let same : (r == x) ≡ true = eq-eqb r x (sym (eqb-true n.root r e) ∙ is) in let no : true ≡ false = sym same ∙ other in cc)
+    | inl e ↦ (let same : (r == x) ≡ true = eq-eqb r x (sym (eqb-true n.root r e) ∙ is) in let no : true ≡ false = sym same ∙ other in absurd (true≢false no))
   ]
 
   -- the root decides
@@ -131,12 +132,12 @@ module _ (n : Name) (x : ℕ) (is : n.root ≡ x) where
       forbidden_none (breaks_O3 m (Moved n)) _ m (Moved n) (apart_write m (one (m.root == x) writes))
     where
       one : (b : Bool) → b && true ≡ false → b ≡ false
-      one true e = cc
+      one true e = absurd (true≢false e)
       one false e = refl
   apart_allows (act.EndScope y borrower) opens writes reads = forbidden_none (breaks_O8 y borrower (Moved n)) _ n (Moved n) (by_kind borrower opens)
     where
       by_kind : (b : Bool) → not b ≡ true → breaks_O8 y b (Moved n) ≡ false
-      by_kind true e = cc
+      by_kind true e = absurd (false≢true e)
       by_kind false e = refl
   apart_allows a opens writes reads = cc
 
@@ -146,7 +147,7 @@ module _ (n : Name) (x : ℕ) (is : n.root ≡ x) where
       let same : (n.root == x) ≡ true = eq-eqb n.root x is in
       let broken : breaks_O11 x written (Moved n) ≡ true = by_use written same in
       let spared : breaks_O11 x written (Moved n) ≡ false = none_forbidden (breaks_O11 x written (Moved n)) _ _ (Moved n) allowed in
-      let no : true ≡ false = sym broken ∙ spared in cc
+      let no : true ≡ false = sym broken ∙ spared in absurd (true≢false no)
     where
       ends_there : (sels : List Sel) → agree_along sels [] ≡ true
       ends_there [] = refl

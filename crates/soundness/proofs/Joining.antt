@@ -1,6 +1,7 @@
 -- A part of an aggregate: the latest value in hand goes after the words of the hand below.
 use Rattle.std.proofs.Common.{◌≡◌, refl, sym, ap, ◌∙◌, subst, ◌⊎◌, inl, inr, ℕ, suc, ◌+◌, ◌<◌, ◌≤◌, true, false, List, [], ◌∷◌, ◌++◌, length, get_or, arith, length-append}
 use Rattle.std.proofs.lemmas.List.{length-map, get_or_past, get_or_append_left, get_or-append-add}
+use Rattle.std.proofs.lemmas.Bool.{false≢true}
 use Rattle.place_names.specs.declared.fact.Fact.{Fact}
 use Rattle.type_definitions.specs.Types.{words}
 use Rattle.flow_paths.specs.Objects.{Typing}
@@ -15,6 +16,7 @@ use Rattle.soundness.specs.Changes.{Alike, Put, hand, Checks, Stores}
 use Rattle.soundness.proofs.Joined.{not_inside, offset_join}
 use Rattle.soundness.proofs.Contents.{shown, stored_step, stored_whole}
 use Rattle.soundness.proofs.Steps.{hand_top, hand_past, hand_below}
+use Rattle.soundness.proofs.Constructors.{is_held_word}
 
 pub fresh_append : (a b : List machine.Word) → fresh (a ++ b) ≡ fresh a ++ fresh b
 fresh_append [] b = refl
@@ -89,7 +91,7 @@ module _ (s : Typing) (settled : IsSettled s.table) (m : Memory) (u t : ℕ) (ws
       let at = offset_join s.table t (step ∷ []) p in
       let long = fresh_length acc in
       let past = get_or_past (fresh acc) (offset_in s.table t (p ++ step ∷ [])) no_slot (omega (arith, at, offset, long)) in
-      let is : Empty ≡ Held n = sym (ap owner_word past) ∙ shows.slot in cc
+      let is : Empty ≡ Held n = sym (ap owner_word past) ∙ shows.slot in absurd (false≢true (ap is_held_word is))
 
   pub joined_sound : (at_home : ℕ → ℕ) (other : Way → Type 0) (facts : List Fact) → ((h : ℕ) → Spares other (Object (OfHand h)))
       → Sound at_home other (seen s m (value ∷ part ∷ rest) leaks) facts → Sound at_home other (seen s m (whole ∷ rest) leaks) facts

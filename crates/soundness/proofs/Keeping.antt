@@ -1,11 +1,12 @@
 -- What is in hand keeps words typed.
 use Rattle.std.proofs.Common.{◌≡◌, refl, sym, ap, ◌∙◌, subst, ◌⊎◌, inl, inr, ℕ, zero, suc, ◌+◌, ◌*◌, ◌<◌, ◌≤◌, Bool, true, ◌==◌, List, [], ◌∷◌, ◌++◌, map, length, get_or, ℤ, arith, append-nil, eqb-true, length-append, suc-mul, nat_lt, ltb-true, if◌then◌else◌}
 use Rattle.std.proofs.lemmas.List.{get_or_past, get_or_append_left, get_or-append-add}
+use Rattle.std.proofs.lemmas.Bool.{false≢true}
 use Rattle.spark_base.specs.Lists.{Has}
 use Rattle.spark_base.proofs.Lists.{ends}
 use Rattle.type_definitions.specs.declared.table.Shape.{Shape}
 use Rattle.type_definitions.specs.declared.table.Shape.TheVariants as shape
-use Rattle.type_definitions.specs.Types.{shape_of, components_of, span, words, words_of as shape_words, full, view_of, is_scalar}
+use Rattle.type_definitions.specs.Types.{shape_of, components_of, span, words, words_of as shape_words, full, view_of, is_scalar, is_nil}
 use Rattle.flow_paths.specs.Objects.{Typing}
 use Rattle.machine.specs.Words as machine
 use Rattle.machine.specs.Typed.{is_array}
@@ -23,6 +24,7 @@ use Rattle.soundness.proofs.Contents.{bool_cases}
 use Rattle.soundness.proofs.Steps.{hand_top, hand_past, plain_shape, plain_end, same_below, room, taken_slots, content_slots}
 use Rattle.soundness.proofs.Defaults.{NoCell}
 use Rattle.soundness.proofs.Joining.{fresh_append, fresh_length}
+use Rattle.soundness.proofs.Constructors.{is_access_shape, is_cell_word}
 
 pub cell_has : (ws : List machine.Word) (o n : ℕ) → (get_or (fresh ws) o no_slot).word ≡ machine.Cell n → Has ws (machine.Cell n)
 cell_has [] zero n e = cc
@@ -32,6 +34,10 @@ cell_has (w ∷ ws) (suc o) n e = inr (cell_has ws o n e)
 
 no_access : (d : ℕ) (c n : Bool) (s : Shape) → s ≡ shape.Access d c n → is_scalar (view_of s) ≡ true → ⊥
 no_access d c n s e f = let is : is_scalar (view_of (shape.Access d c n)) ≡ true = ap (λ z. is_scalar (view_of z)) (sym e) ∙ f in cc
+
+nil_right : (r p : List Step) → [] ≡ r ++ p → p ≡ []
+nil_right [] p e = sym e
+nil_right (i ∷ r) p e = cc
 
 module _ (s : Typing) (settled : IsSettled s.table) (m : Memory) where
   hand_points : (v : Waiting) (rest : List Waiting) → Points s m (in_hand v) → ((l : Loc) → Points s m (content s m rest l)) → (l : Loc) → Points s m (content s m (v ∷ rest) l)
@@ -159,10 +165,6 @@ module _ (s : Typing) (settled : IsSettled s.table) (m : Memory) where
   pub one_word : (t d : ℕ) (c n : Bool) → shape_of s.table t ≡ shape.Access d c n → words s.table t ≡ 1
   one_word t d c n is = settled.word_law t ∙ ap (shape_words (words s.table)) is
 
-  nil_right : (r p : List Step) → [] ≡ r ++ p → p ≡ []
-  nil_right [] p e = sym e
-  nil_right (i ∷ r) p e = cc
-
   module _ (u t : ℕ) (ws acc : List machine.Word) (step : Step) (there : has_part s.table t (step ∷ []) ≡ true)
       (offset : offset_in s.table t (step ∷ []) ≡ length acc) (long : length ws ≡ words s.table (type_in s.table t (step ∷ [])))
       (fits : Matches s.table u (type_in s.table t (step ∷ []))) (points_value : Points s m (in_hand (record { of = u; words = ws })))
@@ -207,7 +209,7 @@ module _ (s : Typing) (settled : IsSettled s.table) (m : Memory) where
             let e = fresh_length (acc ++ ws) in
             let both : length (acc ++ ws) ≡ length acc + length ws = length-append acc ws in
             let none : machine.Null ≡ machine.Cell k =
-            sym (ap (λ (x : Slot). x.word) (get_or_past (fresh (acc ++ ws)) (offset_in s.table t p) no_slot (omega (arith, e, both, behind, offset, long)))) ∙ at in cc
+            sym (ap (λ (x : Slot). x.word) (get_or_past (fresh (acc ++ ws)) (offset_in s.table t p) no_slot (omega (arith, e, both, behind, offset, long)))) ∙ at in absurd (false≢true (ap is_cell_word none))
 
         at_front : (r : List Step) → step ∷ [] ≡ r ++ p → IsCell s m d k
         at_front [] e = in_new [] d c n k there (ap (λ z. shape_of s.table (type_in s.table t z)) e ∙ is)
@@ -215,7 +217,7 @@ module _ (s : Typing) (settled : IsSettled s.table) (m : Memory) where
         at_front (i ∷ r) e =
             let rest : [] ≡ r ++ p = cc in
             let none = nil_right r p rest in
-            let no : step ∷ [] ≡ [] = access_end t d c n (ap (λ z. shape_of s.table (type_in s.table t z)) (sym none) ∙ is) (step ∷ []) there in cc
+            let no : step ∷ [] ≡ [] = access_end t d c n (ap (λ z. shape_of s.table (type_in s.table t z)) (sym none) ∙ is) (step ∷ []) there in absurd (false≢true (ap is_nil no))
 
   -- the latest value goes after the words of the one below
   pub joined : (u t : ℕ) (ws acc : List machine.Word) (rest : List Waiting) (step : Step) → has_part s.table t (step ∷ []) ≡ true
@@ -288,7 +290,7 @@ module _ (s : Typing) (settled : IsSettled s.table) (m : Memory) where
 
       by_end : (p ≡ []) ⊎ ((r : List Step) × (i : Step) × (p ≡ r ++ i ∷ [])) → IsCell s m d k
       by_end (inl none) =
-          let no : shape.Elements low high el ≡ shape.Access d c n = sym array ∙ ap (λ z. shape_of s.table (type_in s.table t z)) (sym none) ∙ is in cc
+          let no : shape.Elements low high el ≡ shape.Access d c n = sym array ∙ ap (λ z. shape_of s.table (type_in s.table t z)) (sym none) ∙ is in absurd (false≢true (ap is_access_shape no))
       by_end (inr more) = by_step more.0 more.1 more.2
 
   elements_repeated : (t : ℕ) (low high : ℤ) (el : ℕ) (ws : List machine.Word) (rest : List Waiting) → shape_of s.table t ≡ shape.Elements low high el

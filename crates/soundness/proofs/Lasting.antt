@@ -1,7 +1,7 @@
 -- Changes of a memory keep words typed.
 use Rattle.std.proofs.Common.{◌≡◌, refl, sym, ap, ◌∙◌, subst, ◌⊎◌, inl, inr, ℕ, zero, suc, ◌+◌, ◌-◌, ◌*◌, ◌<◌, ◌≤◌, Bool, true, false, not, ◌||◌, List, [], ◌∷◌, ◌++◌, map, flat_map, sum, take, drop, length, get_or, slice_get, nat_lt, ltb-true, arith, append-nil, length-append, length-drop}
 use Rattle.std.proofs.lemmas.List.{length-map, length-take-le}
-use Rattle.std.proofs.lemmas.Bool.{cases_lt}
+use Rattle.std.proofs.lemmas.Bool.{cases_lt, false≢true, true≢false}
 use Rattle.type_definitions.specs.declared.table.Component.{Component as Part}
 use Rattle.type_definitions.specs.declared.table.Shape.{Shape}
 use Rattle.type_definitions.specs.declared.table.Shape.TheVariants as shape
@@ -90,11 +90,11 @@ element_owns owns (shape.Same of) n lt e = absurd (omega (arith, lt))
 
 one_owns : (owns : ℕ → Bool) (sh : Shape) → owns_one sh ≡ true → owns_of owns sh ≡ true
 one_owns owns (shape.Access d c n) e = e
-one_owns owns (shape.Fields cs) e = cc
-one_owns owns (shape.Whole a b) e = cc
-one_owns owns (shape.Listed l a b) e = cc
-one_owns owns (shape.Elements a b el) e = cc
-one_owns owns (shape.Same of) e = cc
+one_owns owns (shape.Fields cs) e = absurd (false≢true e)
+one_owns owns (shape.Whole a b) e = absurd (false≢true e)
+one_owns owns (shape.Listed l a b) e = absurd (false≢true e)
+one_owns owns (shape.Elements a b el) e = absurd (false≢true e)
+one_owns owns (shape.Same of) e = absurd (false≢true e)
 
 module _ (table : Table) (own_law : OwnsByShape table) where
   part_owns : (t : ℕ) (p : List Step) → has_part table t p ≡ true → is_owning table (type_in table t p) ≡ true → is_owning table t ≡ true
@@ -112,7 +112,7 @@ module _ (table : Table) (own_law : OwnsByShape table) where
     | inl leaf ↦ (
         let both = both_parts (has_part table t p) (owns_one (shape_of table (type_in table t p))) leaf in
         let owns = part_owns t p both.0 (own_law (type_in table t p) ∙ one_owns (is_owning table) (shape_of table (type_in table t p)) both.1) in
-        let no : true ≡ false = sym owns ∙ none in cc)
+        let no : true ≡ false = sym owns ∙ none in absurd (true≢false no))
   ]
 
 -- ---- memories

@@ -1,3 +1,4 @@
+pub mod Constructors
 -- places, the ways that names take to them, and who owns what
 pub mod OwnedWays
 -- where the parts of a type stand among its words

@@ -1,5 +1,6 @@
 -- A declaration keeps the state sound.
-use Rattle.std.proofs.Common.{◌≡◌, refl, sym, ◌∙◌, inl, ℕ, false, List, [], ◌∷◌, ◌++◌, length}
+use Rattle.std.proofs.Common.{◌≡◌, refl, sym, ◌∙◌, inl, ℕ, false, List, [], ◌∷◌, ◌++◌, length, ap}
+use Rattle.std.proofs.lemmas.Bool.{false≢true}
 use Rattle.place_names.specs.declared.fact.Fact.{Fact}
 use Rattle.type_definitions.specs.Types.{words}
 use Rattle.flow_paths.specs.Objects.{Typing, object_at}
@@ -13,6 +14,7 @@ use Rattle.soundness.specs.Changes.{Alike, hand, Checks}
 use Rattle.soundness.specs.Typed.{Kept}
 use Rattle.soundness.proofs.Contents.{stored_step, stored_whole}
 use Rattle.soundness.proofs.Ends.{declares}
+use Rattle.soundness.proofs.Constructors.{is_held_word}
 
 -- ---- names of parts
 
@@ -38,7 +40,7 @@ module _ (s : Typing) (settled : IsSettled s.table) (at_home : ℕ → ℕ) (oth
       let change = declares s m f x v rest kept long like own in
       let checks : Checks s.table (a (OfRoot (OfVariable f x))) [] leaks leaks = record {
         keeps = λ n e. e;
-        checks = λ p n e. (let none : Empty ≡ Held n = sym (blank (p ++ [])) ∙ e in cc);
+        checks = λ p n e. (let none : Empty ≡ Held n = sym (blank (p ++ [])) ∙ e in absurd (false≢true (ap is_held_word none)));
         only = λ n e. inl e;
       } in
       let move = stored_step s.table settled a b (length rest) v (OfRoot (OfVariable f x)) (length m.cells) (λ n. (cell m n).freed) leaks leaks change checks in

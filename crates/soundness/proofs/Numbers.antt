@@ -1,12 +1,13 @@
 -- An index within the bounds of its array has fewer elements before it than the array has.
 use Rattle.std.proofs.Common.{◌≡◌, refl, ap, ◌+◌, ◌<◌, Bool, true, false, ◌&&◌, ℤ, ◌-ℤ◌, int_le, unsigned_abs, arith, if◌then◌else◌}
 use Rattle.std.proofs.lemmas.Int.{ints}
+use Rattle.std.proofs.lemmas.Bool.{false≢true}
 use Rattle.type_definitions.specs.Types.{span}
 use Rattle.typed_laws.specs.Needed.{IndexLaw}
 
 both_true : (a b : Bool) → a && b ≡ true → (a ≡ true) × (b ≡ true)
 both_true true b e = (refl, e)
-both_true false b e = cc
+both_true false b e = absurd (false≢true e)
 
 less : (low high v : ℤ) → int_le low v ≡ true → int_le v high ≡ true → unsigned_abs (v -ℤ low) < unsigned_abs (high -ℤ low) + 1
 less low high v a b = grind (arith, ints)

@@ -1,5 +1,6 @@
 -- Where a step goes on, and which variables may own cells then, whatever waits.
 use Rattle.std.proofs.Common.{◌≡◌, refl, sym, ap, ◌∙◌, subst, inl, inr, ℕ, ◌<◌, Bool, true, false, not, ◌&&◌, List, [], ◌∷◌, ◌++◌, drop, length, get_or, nat_lt, ltb-true, int_le, arith, ℤ, Option, Some, None, if◌then◌else◌}
+use Rattle.std.proofs.lemmas.Bool.{false≢true}
 use Rattle.spark_base.specs.declared.position.Pos.{Pos}
 use Rattle.type_definitions.specs.Types.{full}
 use Rattle.typed_tree.specs.Trees.{TypedTree, TypedCode, Text, Name, Parens, Image, Binary, More}
@@ -32,6 +33,7 @@ use Rattle.soundness.proofs.Ends.{removed_blank}
 use Rattle.soundness.proofs.Keeping.{cell_has}
 use Rattle.soundness.proofs.Fading.{FadesTo, still, then_fades, if_fades, checked_fades, fades, steps_fade}
 use Rattle.soundness.proofs.Scoped.{OnlyAt, NoVariable, only_same, only_then, only_fades, only_stored, only_declared, only_freed, MayHold, Inside, scope_kept, scope_ends, IsFrom, LeadsFrom, walked_from}
+use Rattle.soundness.proofs.Constructors.{is_of_variable_base}
 
 -- Of the state that a step goes on to.
 abbrev pub Each : (State → Type 0) → Outcome → Type 0
@@ -149,7 +151,7 @@ module _ (t : Turn) (Left : List Waiting → Type 0) (left : Left (waiting t)) (
             let frames : home s depth x ≡ f = cc in
             let objects : x ≡ y = cc in
             subst (λ z. MayHold s older depth scope' z y) frames (subst (λ z. MayHold s older depth scope' (home s depth x) z) objects holds)
-        there (inr (c, is)) f y e = (let same : memory.OfCell c ≡ memory.OfVariable f y = sym is ∙ e in cc)
+        there (inr (c, is)) f y e = (let same : memory.OfCell c ≡ memory.OfVariable f y = sym is ∙ e in absurd (false≢true (ap is_of_variable_base same)))
 
     -- ---- declarations
 

@@ -1,5 +1,6 @@
 -- A sound state is well owned.
 use Rattle.std.proofs.Common.{◌≡◌, refl, sym, ap, ◌∙◌, subst, ◌⊎◌, inl, inr, ℕ, zero, suc, ◌<◌, ◌≤◌, Bool, true, false, not, ◌&&◌, ◌==◌, eqb-true, List, [], ◌∷◌, ◌++◌, get_or, arith, append-nil}
+use Rattle.std.proofs.lemmas.Bool.{false≢true, true≢false}
 use Rattle.type_definitions.specs.Types.{is_owning}
 use Rattle.flow_paths.specs.Objects.{Typing, object_at}
 use Rattle.machine.specs.Memory.{Slot, cell, no_slot}
@@ -21,7 +22,7 @@ slot_of : (x : Slot) (n : ℕ) → owner_word x ≡ Held n → x ≡ owned n
 slot_of x n e = let is = owner_held x.word x.gone n e in (λ j. record { word = is.0 j; gone = is.1 j })
 
 not_both : (a b : Bool) → not a ≡ true → not (a && b) ≡ true
-not_both true b e = cc
+not_both true b e = absurd (false≢true e)
 not_both false b e = refl
 
 not_first : (a b : Bool) → b ≡ true → not (a && b) ≡ true → not a ≡ true
@@ -88,7 +89,7 @@ module _ (s : Typing) (settled : IsSettled s.table) (own_law : OwnsByShape s.tab
   may_there : (h : Holder) (p : List Step) → (seen_at (at_holder h)).owns ≡ true → is_leaf s.table (holder_type s state h) p ≡ true → may_own s state h ≡ true
   may_there (InVariable f x) p owns leaf = elim (bool_cases (is_owning s.table (object_at s x).of)) [
     | inl owning ↦ not_first (is_in_formal s x) (is_owning s.table (object_at s x).of) owning owns
-    | inr none ↦ (let no : true ≡ false = sym leaf ∙ ownerless s.table own_law (object_at s x).of none p in cc)
+    | inr none ↦ (let no : true ≡ false = sym leaf ∙ ownerless s.table own_law (object_at s x).of none p in absurd (true≢false no))
   ]
   may_there (InWaiting k) p owns leaf = refl
   may_there (InCell c) p owns leaf = owns

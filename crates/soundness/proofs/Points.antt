@@ -6,6 +6,7 @@ use Rattle.std.specs.List.{AllByRecursion, position_or_len}
 use Rattle.std.specs.Cmp.Lexicographic.{pointwise_decides}
 use Rattle.std.proofs.lemmas.Bool.Decides.{Decides-eqb}
 use Rattle.std.proofs.lemmas.List.{length-map}
+use Rattle.std.proofs.lemmas.Bool.{false≢true}
 use Rattle.spark_base.specs.Lists.{Has}
 use Rattle.spark_base.proofs.Lists.{Has-append_right, Has-map}
 use Rattle.type_definitions.specs.Types.{Table}
@@ -165,7 +166,7 @@ point_decides a b =
   where
     both_parts : (a b : Bool) → a && b ≡ true → (a ≡ true) × (b ≡ true)
     both_parts true b e = (refl, e)
-    both_parts false b e = cc
+    both_parts false b e = absurd (false≢true e)
 
     both_true : (a b : Bool) → a ≡ true → b ≡ true → a && b ≡ true
     both_true a b e f = ap (λ x. x && b) e ∙ f

@@ -2,7 +2,7 @@
 -- that is well owned.
 use Rattle.std.proofs.Common.{◌≡◌, refl, sym, ap, ◌∙◌, ◌⊎◌, inl, inr, ℕ, zero, suc, ◌+◌, ◌-◌, ◌<◌, ◌≤◌, true, false, not, List, [], ◌∷◌, ◌++◌, map, drop, length, get_or, arith, length-append}
 use Rattle.std.proofs.lemmas.List.{get_or_past, get_or_append_left, get_or-append-add}
-use Rattle.std.proofs.lemmas.Bool.{cases_lt}
+use Rattle.std.proofs.lemmas.Bool.{cases_lt, true≢false}
 use Rattle.flow_paths.specs.Objects.{Typing}
 use Rattle.machine.specs.Memory.{Memory, HeapCell, cell, no_cell, as_freed, given_up}
 use Rattle.machine.specs.States.{Waiting, Leak, State}
@@ -90,7 +90,7 @@ module _ (s : Typing) (before m : Memory) where
         there zero free = omega arith
         there (suc n) free = elim (cases_lt n (length before.cells)) [
           | inl less ↦ omega (arith, less)
-          | inr le ↦ (let dead : true ≡ false = sym (ap (λ (c : HeapCell). c.freed) (get_or_past before.cells n no_cell le)) ∙ free in cc)
+          | inr le ↦ (let dead : true ≡ false = sym (ap (λ (c : HeapCell). c.freed) (get_or_past before.cells n no_cell le)) ∙ free in absurd (true≢false dead))
         ]
 
 -- the state that a raising step leaves

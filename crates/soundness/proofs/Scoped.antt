@@ -1,6 +1,7 @@
 -- Which variables own cells after a change of memory: those that did before, and those that are
 -- stored at.
 use Rattle.std.proofs.Common.{◌≡◌, refl, sym, ap, ◌∙◌, subst, ◌⊎◌, inl, inr, ℕ, ◌+◌, Bool, true, false, not, ◌||◌, ◌==◌, eqb-true, List, [], ◌∷◌, ◌++◌, take, drop, length, get_or, if◌then◌else◌}
+use Rattle.std.proofs.lemmas.Bool.{true≢false}
 use Rattle.flow_paths.specs.Objects.{Typing, object_at, designated}
 use Rattle.flow_paths.specs.Scopes.{is_within, is_last}
 use Rattle.machine.specs.Words as machine
@@ -50,7 +51,7 @@ module _ (s : Typing) where
 
       before : Fainter old (get_or (variable_slots s f x n.variables) o no_slot) → old ≡ owned c
       before faint = elim (bool_cases old.gone) [
-        | inl gone ↦ (let yes : true ≡ false = sym (faint.gone gone) ∙ ap (λ (z : Slot). z.gone) e in cc)
+        | inl gone ↦ (let yes : true ≡ false = sym (faint.gone gone) ∙ ap (λ (z : Slot). z.gone) e in absurd (true≢false yes))
         | inr whole ↦ was_there old (sym faint.word ∙ ap (λ (z : Slot). z.word) e) whole
       ]
 

@@ -1,5 +1,6 @@
 -- Evaluations that change nothing.
 use Rattle.std.proofs.Common.{◌≡◌, refl, sym, ◌∙◌, subst, ℕ, Bool, true, false, List, length}
+use Rattle.std.proofs.lemmas.Bool.{false≢true}
 use Rattle.type_definitions.specs.declared.table.Shape.{Shape}
 use Rattle.type_definitions.specs.declared.table.Shape.TheVariants as shape
 use Rattle.type_definitions.specs.Types.{is_scalar, view_of, owns_of}
@@ -36,7 +37,7 @@ One ws = length ws ≡ 1
 pub scalar_owns : (s : Shape) (f : ℕ → Bool) → is_scalar (view_of s) ≡ true → owns_of f s ≡ false
 scalar_owns (shape.Whole a b) f e = refl
 scalar_owns (shape.Listed l a b) f e = refl
-scalar_owns (shape.Access d c n) f e = cc
-scalar_owns (shape.Fields cs) f e = cc
-scalar_owns (shape.Elements a b el) f e = cc
-scalar_owns (shape.Same of) f e = cc
+scalar_owns (shape.Access d c n) f e = absurd (false≢true e)
+scalar_owns (shape.Fields cs) f e = absurd (false≢true e)
+scalar_owns (shape.Elements a b el) f e = absurd (false≢true e)
+scalar_owns (shape.Same of) f e = absurd (false≢true e)

@@ -1,6 +1,7 @@
 -- The steps of a memory as changes of contents.
 use Rattle.std.proofs.Common.{◌≡◌, refl, sym, ap, ◌∙◌, subst, inl, inr, ℕ, zero, suc, ◌+◌, ◌-◌, ◌*◌, ◌<◌, ◌≤◌, Bool, true, false, not, ◌&&◌, ◌==◌, eqb-true, eq-eqb, List, [], ◌∷◌, ◌++◌, map, sum, take, drop, length, get_or, nat_lt, ltb-true, arith, length-drop, append-nil, if◌then◌else◌}
 use Rattle.std.proofs.lemmas.List.{length-map, get_or-take, get_or-drop, length-take-le}
+use Rattle.std.proofs.lemmas.Bool.{false≢true, true≢false}
 use Rattle.type_definitions.specs.declared.table.Shape.{Shape}
 use Rattle.type_definitions.specs.declared.table.Shape.TheVariants as shape
 use Rattle.type_definitions.specs.declared.table.Component.{Component as Part}
@@ -46,10 +47,10 @@ hand_below v rest h ne = ap (λ b. if b then v else waiting_at rest h) (is_false
 pub plain_shape : (s : Shape) → is_scalar (view_of s) ≡ true → (components_of s ≡ []) × (count_of s ≡ 0) × (owns_one s ≡ false) × ((w : ℕ → ℕ) → shape_words w s ≡ 1)
 plain_shape (shape.Whole a b) e = (refl, refl, refl, λ w. refl)
 plain_shape (shape.Listed l a b) e = (refl, refl, refl, λ w. refl)
-plain_shape (shape.Access d c n) e = cc
-plain_shape (shape.Fields cs) e = cc
-plain_shape (shape.Elements a b el) e = cc
-plain_shape (shape.Same of) e = cc
+plain_shape (shape.Access d c n) e = absurd (false≢true e)
+plain_shape (shape.Fields cs) e = absurd (false≢true e)
+plain_shape (shape.Elements a b el) e = absurd (false≢true e)
+plain_shape (shape.Same of) e = absurd (false≢true e)
 
 module _ (table : Table) (settled : IsSettled table) where
   pub matches_words : (t u : ℕ) → Matches table t u → words table t ≡ words table u
@@ -102,7 +103,7 @@ module _ (table : Table) (settled : IsSettled table) where
       let both = both_parts (has_part table t p) (owns_one (shape_of table (type_in table t p))) h in
       let none = plain_end t s.0 s.1 p both.0 in
       let own : owns_one (shape_of table t) ≡ true = ap (λ z. owns_one (shape_of table (type_in table t z))) (sym none) ∙ both.1 in
-      let not : true ≡ false = sym own ∙ s.2 in cc))
+      let not : true ≡ false = sym own ∙ s.2 in absurd (true≢false not)))
 
   pub alike : (t u : ℕ) → Matches table t u → Alike table t u
   alike t u (inl e) = record {
@@ -111,7 +112,7 @@ module _ (table : Table) (settled : IsSettled table) where
   }
   alike t u (inr (a, b)) = record {
     leaf = λ p. no_leaf t a p ∙ sym (no_leaf u b p);
-    at = λ p leaf. (let isnt : true ≡ false = sym leaf ∙ no_leaf t a p in cc);
+    at = λ p leaf. (let isnt : true ≡ false = sym leaf ∙ no_leaf t a p in absurd (true≢false isnt));
   }
 
 -- ---- other slots at a place

@@ -1,6 +1,7 @@
 -- What instructions without calls take, the successors of points, and facts where nothing is moved.
 use Rattle.std.proofs.Common.{◌≡◌, refl, ◌⊎◌, inl, inr, ℕ, zero, suc, ◌<◌, Bool, true, false, not, ◌&&◌, List, [], ◌∷◌, length, arith, Option, Some, None}
 use Rattle.std.specs.Prelude.{filter}
+use Rattle.std.proofs.lemmas.Bool.{false≢true}
 use Rattle.spark_base.specs.Lists.{Has}
 use Rattle.spark_base.proofs.Lists.{Has-append_cases, Has-filter}
 use Rattle.place_names.specs.declared.act.Act.{Act}
@@ -17,16 +18,16 @@ use Rattle.soundness.specs.Sound.{calls_nothing, calls_procedures, IsNoCall}
 -- ---- texts without calls take nothing that waits
 
 pub not_true : (b : Bool) → not b ≡ true → b ≡ false
-not_true true e = cc
+not_true true e = absurd (false≢true e)
 not_true false e = refl
 
 pub both_not : (a b : Bool) → not a && not b ≡ true → (a ≡ false) × (b ≡ false)
-both_not true b e = cc
-both_not false true e = cc
+both_not true b e = absurd (false≢true e)
+both_not false true e = absurd (false≢true e)
 both_not false false e = (refl, refl)
 
 pub nothing_procedures : (i : Instruction) → calls_nothing i ≡ true → calls_procedures i ≡ true
-nothing_procedures (Call n actuals result) calls = cc
+nothing_procedures (Call n actuals result) calls = absurd (false≢true calls)
 nothing_procedures i calls = calls
 
 pub finish_or : (i : Instruction) → (i ≡ Finish) ⊎ (i ≡ Finish → ⊥)

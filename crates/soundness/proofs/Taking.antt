@@ -1,6 +1,7 @@
 -- Expressions take values that wait, the first ones, each of one word.
 use Rattle.std.proofs.Common.{◌≡◌, refl, sym, ap, ◌∙◌, subst, ◌⊎◌, inl, inr, ℕ, zero, suc, ◌+◌, Bool, true, false, ◌||◌, List, [], ◌∷◌, ◌++◌, length, drop, get_or, arith}
 use Rattle.std.specs.List.{AllByRecursion}
+use Rattle.std.proofs.lemmas.Bool.{true≢false}
 use Rattle.typed_tree.specs.Trees.{TypedTree}
 use Rattle.flow_paths.specs.Objects.{Typing}
 use Rattle.flow_paths.specs.Names.{has_call, waiting}
@@ -79,7 +80,7 @@ abbrev pub TakesPlainly : Typing → Bool → Type 0
 TakesPlainly s calls = (calls ≡ false) ⊎ ArePlainResults s
 
 no_either : (a b : Bool) → a || b ≡ false → (a ≡ false) × (b ≡ false)
-no_either true b e = cc
+no_either true b e = absurd (true≢false e)
 no_either false b e = (refl, e)
 
 pub both_plainly : (s : Typing) (a b : Bool) → TakesPlainly s (a || b) → TakesPlainly s a × TakesPlainly s b

@@ -2,6 +2,7 @@
 use Rattle.std.proofs.Common.{◌≡◌, refl, sym, ap, ◌∙◌, inl, inr, ℕ, suc, ◌+◌, Bool, true, false, List, [], ◌∷◌, ◌++◌, length, if◌then◌else◌}
 use Rattle.std.specs.Prelude.{Some, flat_map, drop, reverse, is_some}
 use Rattle.std.specs.List.{AllByRecursion}
+use Rattle.std.proofs.lemmas.Bool.{false≢true}
 use Rattle.spark_base.specs.Lists.{Has}
 use Rattle.spark_base.specs.declared.position.Pos.{Pos}
 use Rattle.typed_tree.specs.Trees.{TypedTree, Name, Component, Designated, Element, Image, Parens, Unary, Binary, Short, IsNull, Aggregate, Alike, New, TypedCode, Declare, Assign, Skip, Output, Input, Release, If, Branch, Case, When, Loop, While, For, Exit, Return, Block}
@@ -68,7 +69,7 @@ module _ (t : Typing) where
   first_calm (p ∷ ps) q qs h = first_calm ps q qs h.1
 
   refused : (i : Instruction) → calls_procedures i ≡ false → calls_procedures i ≡ true → ⊥
-  refused i h g = let both : false ≡ true = sym h ∙ g in cc
+  refused i h g = let both : false ≡ true = sym h ∙ g in absurd (false≢true both)
 
   -- The points are laid out by one setting, and by another one: only the temporaries have other numbers.
   module _ (s z : Setting) where

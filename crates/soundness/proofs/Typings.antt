@@ -1,6 +1,7 @@
 -- The objects of the flow are those of the typed program, and temporaries after them. What a point
 -- does to places goes by the former alone.
 use Rattle.std.proofs.Common.{◌≡◌, refl, sym, ap, ◌∙◌, subst, ◌⊎◌, inl, inr, ℕ, zero, suc, Bool, true, false, not, ◌&&◌, List, [], ◌∷◌, ◌++◌, map, flat_map, get_or, Option, Some, None, is_some, if◌then◌else◌}
+use Rattle.std.proofs.lemmas.Bool.{true≢false}
 use Rattle.spark_base.specs.Lists.{Has}
 use Rattle.spark_base.specs.declared.position.Pos.{Pos}
 use Rattle.place_names.specs.declared.act.Act.{Act}
@@ -87,7 +88,7 @@ module _ (a b : Typing) (agree : Agree a b) where
   pub formal_object : (x : ℕ) → is_formal a x ≡ true → object_at a x ≡ object_at b x
   formal_object x formal = elim (agree.object x) [
     | inl same ↦ same
-    | inr others ↦ (let no : true ≡ false = sym formal ∙ others.0.1 in cc)
+    | inr others ↦ (let no : true ≡ false = sym formal ∙ others.0.1 in absurd (true≢false no))
   ]
 
   pub borrower_same : (x : ℕ) → is_borrower a x ≡ is_borrower b x

@@ -3,6 +3,7 @@
 use Rattle.std.proofs.Common.{◌≡◌, refl, sym, ap, ◌∙◌, subst, ◌⊎◌, inl, inr, ℕ, zero, suc, ◌+◌, ◌<◌, ◌≤◌, Bool, true, false, not, ◌&&◌, ◌||◌, ◌==◌, eq-eqb, eqb-true, List, [], ◌∷◌, map, drop, length, arith, IsTrue, Option}
 use Rattle.std.specs.Prelude.{filter}
 use Rattle.std.specs.List.{list_any}
+use Rattle.std.proofs.lemmas.Bool.{false≢true}
 use Rattle.spark_base.specs.Lists.{Has}
 use Rattle.spark_base.specs.declared.position.Pos.{Pos}
 use Rattle.spark_base.proofs.Lists.{Has-append_left, Has-append_right, Has-append_cases, Has-filter, Has-map_from}
@@ -90,7 +91,7 @@ module _ (program : FlowProgram) (effects : Effects) (are : AreEffects program e
   -- ---- the acts of a call on package objects
 
   package_less : (objects : List Object) (x : ℕ) → is_package_object (record s { objects = objects }) x ≡ true → x < length objects
-  package_less [] x shared = cc
+  package_less [] x shared = absurd (false≢true shared)
   package_less (o ∷ objects) zero shared = omega arith
   package_less (o ∷ objects) (suc x) shared = (let less = package_less objects x shared in omega (arith, less))
 
@@ -136,7 +137,7 @@ module _ (program : FlowProgram) (effects : Effects) (are : AreEffects program e
   -- (Object 0 is Ada.Text_IO.)
   pub used_global : (callee x : ℕ) → is_package_object (flow_typing program) 0 ≡ false → is_package_object (flow_typing program) x ≡ true → Uses effects callee x
       → (w : Bool) × Has (globals_of program effects callee) (act.Global x w)
-  used_global callee zero text shared used = (let no : false ≡ true = sym text ∙ shared in cc)
+  used_global callee zero text shared used = (let no : false ≡ true = sym text ∙ shared in absurd (false≢true no))
   used_global callee (suc x) text shared used =
       globals_there (read_by effects callee) (written_by effects callee) (drop 1 program.objects) 1 (suc x) (omega arith)
       (from_one program.objects (package_less program.objects (suc x) shared)) used

@@ -1,5 +1,6 @@
 -- What waits: nothing for texts without calls; and what waits in the frames after a step.
 use Rattle.std.proofs.Common.{◌≡◌, refl, ap, ◌∙◌, ℕ, ◌+◌, Bool, true, false, ◌||◌, List, [], ◌∷◌, ◌++◌, flat_map, take, drop, arith, Option, Some, None, if◌then◌else◌}
+use Rattle.std.proofs.lemmas.Bool.{true≢false}
 use Rattle.typed_tree.specs.Trees.{TypedTree, Number, Literal, Text, Name, Component as IntoComponent, Designated, Element, Call, EndOfFile, Parens, Image, Unary, Binary, Short, IsNull, Aggregate, Alike, New, NoMore, More}
 use Rattle.typed_tree.specs.Trees as typed
 use Rattle.flow_paths.specs.Names.{has_call, waiting as waits_in}
@@ -13,12 +14,12 @@ pub no_sum : (a b : ℕ) → a ≡ 0 → b ≡ 0 → a + b ≡ 0
 no_sum a b x y = omega (arith, x, y)
 
 pub or_both : (a b : Bool) → a || b ≡ false → (a ≡ false) × (b ≡ false)
-or_both true b e = cc
+or_both true b e = absurd (true≢false e)
 or_both false b e = (refl, e)
 
 pub no_waits : (e : TypedTree) → has_call e ≡ false → waits_in e ≡ 0
 unfolding has_call waits_in
-no_waits (Call p sub actuals) none = cc
+no_waits (Call p sub actuals) none = absurd (true≢false none)
 no_waits (Name p x steps t) none = no_waits steps none
 no_waits (IntoComponent i rest) none = no_waits rest none
 no_waits (Designated rest) none = no_waits rest none

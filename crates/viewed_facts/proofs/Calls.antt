@@ -21,10 +21,12 @@ use Rattle.place_names.specs.declared.rule.Loan.{Loan}
 use Rattle.place_names.specs.declared.fact.Fact.TheVariants.{Moved, Lent}
 use Rattle.place_names.specs.Names.{Name as PlaceName, overlaps, covers}
 use Rattle.std.proofs.Common.{None}
+use Rattle.std.proofs.lemmas.Bool.{false≢true}
 use Rattle.soundness.proofs.ExactFacts.Steps.{under_covers}
 use Rattle.viewed_steps.specs.Sound.{ViewStage, stages_of, Lies}
 use Rattle.viewed_steps.specs.Taken.{TakenBy, AreCarried, Lodge, IsTakenIn}
 use Rattle.viewed_facts.specs.Exact.{IsDefiniteBy}
+use Rattle.viewed_facts.proofs.Constructors.{is_of_root_loc}
 
 -- ---- ways from variables, where words are carried
 
@@ -54,7 +56,7 @@ module _ (s : Typing) (these : ℕ → Type 0) (cells : List Lodge) (ways : List
     where
       same_root : (r : Root) → OfRoot r ≡ OfRoot (OfVariable f x) → Object r ≡ Object (OfVariable f x)
       same_root r e = cc
-  stands (Lost c) l (f, x, base, there) reach = absurd (let no : OfCell c ≡ OfRoot (OfVariable f x) = base in cc)
+  stands (Lost c) l (f, x, base, there) reach = absurd (let no : OfCell c ≡ OfRoot (OfVariable f x) = base in absurd (false≢true (ap is_of_root_loc no)))
   stands (Into w i) l begins (k, reach, e) = elim (stands w k begins reach) [
     | inl (f, x, p, there, is, at) ↦ inl (f, x, i ∷ p, there, ap (λ z. Into z i) is, e ∙ ap (λ z. Inside z i) at)
     | inr (c, p, at) ↦ inr (c, i ∷ p, e ∙ ap (λ z. Inside z i) at)
@@ -95,7 +97,7 @@ module _ (s : Typing) (these : ℕ → Type 0) (cells : List Lodge) (ways : List
   -- such a way leads where it led
   reached_before : (w : Way) (l : Loc) → Begins w → IsOff w → Reaches now w l → Reaches was w l
   reached_before (Object r) l begins off reach = reach
-  reached_before (Lost c) l (f, x, base, there) off reach = absurd (let no : OfCell c ≡ OfRoot (OfVariable f x) = base in cc)
+  reached_before (Lost c) l (f, x, base, there) off reach = absurd (let no : OfCell c ≡ OfRoot (OfVariable f x) = base in absurd (false≢true (ap is_of_root_loc no)))
   reached_before (Into w i) l begins off (k, reach, e) = (k, reached_before w k begins (λ to has under. off to has (inr under)) reach, e)
   reached_before (All w) l begins off (k, c, reach, held, e) =
       let off_front : IsOff w = (λ to has under. off to has (inr under)) in

@@ -5,7 +5,7 @@ use Rattle.spark_base.specs.Lists.{Has}
 use Rattle.place_names.specs.declared.fact.Fact.{Fact}
 use Rattle.place_names.specs.declared.fact.Fact.TheVariants.{Moved}
 use Rattle.place_names.specs.Names.{Name as PlaceName}
-use Rattle.type_definitions.specs.Types.{Table}
+use Rattle.type_definitions.specs.Types.{Table, is_nil}
 use Rattle.typed_tree.specs.Programs.{TypedProgram}
 use Rattle.flow_paths.specs.declared.report.Effects.{Effects}
 use Rattle.flow_paths.specs.Instructions.{Instruction, EndScope, Finish}
@@ -38,6 +38,7 @@ use Rattle.viewed_steps.proofs.Views.{same_lies}
 use Rattle.viewed_facts.proofs.Calls.{carried_told, lies_low, passed_clean}
 use Rattle.viewed_steps.proofs.Handed.{AreApart, apart_of}
 use Rattle.std.proofs.Common.{Option}
+use Rattle.std.proofs.lemmas.Bool.{false≢true, true≢false}
 use Rattle.place_names.specs.declared.rule.Loan.TheVariants.{Borrowed}
 use Rattle.viewed_steps.specs.Taken.{AreCarried, Lodge, IsTakenIn}
 use Rattle.viewed_facts.proofs.Frames.{IsDefiniteHere}
@@ -254,7 +255,7 @@ module _ (table : Table) (typed : TypedProgram) (effects : Effects) (input : Lis
   packages_of : (state : State) (top : Stage) (views : Views) (older : List ViewStage) → IsRunning table typed effects state (record { stage = top; views = views; cells = [] }) older
       → older ≡ [] → top.frame.sub ≡ 0
   packages_of state top views [] running none = running.0
-  packages_of state top views (below ∷ more) running none = cc
+  packages_of state top views (below ∷ more) running none = absurd (false≢true (ap is_nil none))
 
   between_of : (state : State) (top : Stage) (views : Views) (older : List ViewStage) (fs : List Frame) → AreStages (top ∷ stages_of older) fs
       → IsRunning table typed effects state (record { stage = top; views = views; cells = [] }) older → (g : ViewStage) → Has older g → Between state top.depth older g
@@ -334,7 +335,7 @@ module _ (table : Table) (typed : TypedProgram) (effects : Effects) (input : Lis
 
         no_way : (x : ℕ) → is_package_object s x ≡ true → (o : Option Way) → next.views.way x ≡ o → next.views.way x ≡ None
         no_way x shared None is = is
-        no_way x shared (Some w) is = (let no : true ≡ false = sym shared ∙ local x (waits.holds.only x w is) in cc)
+        no_way x shared (Some w) is = (let no : true ≡ false = sym shared ∙ local x (waits.holds.only x w is) in absurd (true≢false no))
 
   -- of the frame that the innermost one returns to
   clear_around : (state : State) (top : Stage) (views : Views) (older : List ViewStage) (fs : List Frame) → AreStages (top ∷ stages_of older) fs

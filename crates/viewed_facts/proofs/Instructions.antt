@@ -2,6 +2,7 @@
 -- checks don't fail. What is exact is said with the ways that views had before; that a view got another way is
 -- `told_turned` of `Steps`.
 use Rattle.std.proofs.Common.{◌≡◌, refl, sym, ap, ◌∙◌, subst, ◌⊎◌, inl, inr, ℕ, Bool, true, false, not, List, [], ◌∷◌, ◌++◌, map, length, ◌+◌, append-nil, Some, if◌then◌else◌}
+use Rattle.std.proofs.lemmas.Bool.{false≢true}
 use Rattle.soundness.specs.ViewedSoundness.Taken.{GivesPlainly}
 use Rattle.place_names.specs.declared.rule.Loan.{Loan}
 use Rattle.place_names.specs.declared.rule.Loan.TheVariants.{Borrowed}
@@ -62,6 +63,10 @@ use Rattle.viewed_facts.proofs.Stored.{StoresExact, assigned_exact}
 use Rattle.viewed_facts.proofs.Checks.{place_holds}
 use Rattle.viewed_steps.proofs.Views.{AreAccess, same_named, view_cases}
 use Rattle.soundness.proofs.OwnedLoans.Meeting.{no_part, stands}
+use Rattle.viewed_facts.proofs.Constructors.{is_held_word}
+
+same_frame : (f x g y : ℕ) → OfRoot (OfVariable f x) ≡ OfRoot (OfVariable g y) → f ≡ g
+same_frame f x g y e = cc
 
 module _ (t : Turn) (sees : ℕ → Bool) (seeing : Seeing (typing t) sees) (settled : IsSettled (typing t).table) (own_law : OwnsByShape (typing t).table) (other : Around (home (typing t) (length t.outer)))
     (alone : (w : Way) → IsNear (length t.outer) w → other.gone w → ⊥) (in_formals : AreAccess (typing t))
@@ -176,9 +181,6 @@ module _ (t : Turn) (sees : ℕ → Bool) (seeing : Seeing (typing t) sees) (set
 
   abbrev Given_here : ℕ → List Fact → Evaluated (List machine.Word) → Type 0
   Given_here u facts y = Given (here t) sees seeing settled t.state.leaks [] other alone (keeps s settled own_law) index_law own_law v parts_named u hands facts y
-
-  same_frame : (f x g y : ℕ) → OfRoot (OfVariable f x) ≡ OfRoot (OfVariable g y) → f ≡ g
-  same_frame f x g y e = cc
 
   -- a place that others have lent isn't a part of the variable
   off_lent : (x : ℕ) (l : Loan) (k w : Way) → Named (home s depth) k → Under k w → other.lent l (way_name k)
@@ -313,7 +315,7 @@ module _ (t : Turn) (sees : ℕ → Bool) (seeing : Seeing (typing t) sees) (set
         | inl anonymous ↦ word_no s.table (content s n waiting (OfRoot (OfVariable f x))) [] (view_leaf s.table settled (object_at s x).of anonymous [])
         | inr formal ↦ word_dead s.table (content s n waiting (OfRoot (OfVariable f x))) [] (ap not formal)
       ] in
-      let no_number : Empty ≡ Held c = sym none ∙ held in cc
+      let no_number : Empty ≡ Held c = sym none ∙ held in absurd (false≢true (ap is_held_word no_number))
 
   -- `mine`: the object is one of the frame
   pub end_scope_checked : (x : ℕ) → (facts : List Fact) → Viewed (home s depth) sees other v (seen s m hands t.state.leaks) facts

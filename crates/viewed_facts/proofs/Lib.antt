@@ -1,3 +1,4 @@
+pub mod Constructors
 pub mod Steps
 pub mod Checks
 pub mod Memories

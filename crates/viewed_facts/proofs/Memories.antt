@@ -1,5 +1,6 @@
 -- Facts without an element stay exact in the steps of a memory, where names may be rooted in views.
 use Rattle.std.proofs.Common.{◌≡◌, refl, sym, ap, ◌∙◌, inl, inr, ℕ, suc, Bool, true, false, not, List, [], ◌∷◌, ◌++◌, length, get_or, arith, Some}
+use Rattle.std.proofs.lemmas.Bool.{false≢true}
 use Rattle.spark_base.specs.Lists.{Has}
 use Rattle.spark_base.proofs.Lists.{Has-map_from}
 use Rattle.spark_base.specs.declared.position.Pos.{Pos}
@@ -42,7 +43,7 @@ use Rattle.viewed_facts.proofs.Steps.{no_hand_base, stands_variable, IsOthers, d
 
 marked : (x : machine.Word) (g : Bool) → g ≡ true → owner_at x g ≡ Gone
 marked x true e = refl
-marked x false e = cc
+marked x false e = absurd (false≢true e)
 
 module _ (s : Typing) (settled : IsSettled s.table) (home : ℕ → ℕ) (observer : ℕ → Bool) (other : Around home) (v : Views) (elsewhere : Way → Type 0)
     (apart : (w : Way) → elsewhere w → IsOthers home other w) where

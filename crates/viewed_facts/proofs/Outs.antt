@@ -2,6 +2,7 @@
 -- exact before the call.
 use Rattle.std.proofs.Common.{◌≡◌, refl, sym, ap, ◌∙◌, subst, inl, inr, ℕ, ◌+◌, Bool, true, false, ◌&&◌, List, [], ◌∷◌, ◌++◌, map, length, append_assoc, arith}
 use Rattle.std.proofs.lemmas.List.{length-append, length-map}
+use Rattle.std.proofs.lemmas.Bool.{true≢false}
 use Rattle.spark_base.specs.Lists.{Has}
 use Rattle.spark_base.specs.declared.position.Pos.{Pos}
 use Rattle.place_names.specs.declared.selector.Sel.{Sel}
@@ -130,7 +131,7 @@ module _ (s : Typing) (sees : ℕ → Bool) (settled : IsSettled s.table) (depth
 
   same_type : (t u : ℕ) → Matches s.table t u → is_scalar (full s.table u) ≡ false → shape_of s.table t ≡ shape_of s.table u
   same_type t u (inl e) many = e
-  same_type t u (inr both) many = (let no : true ≡ false = sym both.1 ∙ many in cc)
+  same_type t u (inr both) many = (let no : true ≡ false = sym both.1 ∙ many in absurd (true≢false no))
 
   abbrev view : ways.View
   view = seen s m hands leaks

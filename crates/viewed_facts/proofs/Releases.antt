@@ -67,6 +67,9 @@ use Rattle.soundness.proofs.ViewedSoundness.Walks.{slot_at, one_slot, type_is, h
 use Rattle.viewed_steps.proofs.Views.{AreAccess}
 use Rattle.soundness.proofs.OwnedLoans.Meeting.{no_part}
 
+same_access : (d e : ℕ) (b c m n : Bool) → shape.Access d b m ≡ shape.Access e c n → n ≡ m
+same_access d e b c m n is = cc
+
 module _ (t : Turn) (sees : ℕ → Bool) (seeing : Seeing (typing t) sees) (settled : IsSettled (typing t).table) (own_law : OwnsByShape (typing t).table) (other : Around (home (typing t) (length t.outer)))
     (alone : (w : Way) → IsNear (length t.outer) w → other.gone w → ⊥) (in_formals : AreAccess (typing t))
     (v : Views) (parts_named : PartsAreNamed (typing t).table) (may : ℕ → ℕ → Type 0)
@@ -107,9 +110,6 @@ module _ (t : Turn) (sees : ℕ → Bool) (seeing : Seeing (typing t) sees) (set
 
   named_type : (table : Table) (u d : ℕ) → shape_of table u ≡ shape.Access d false true → IsNamed table u
   named_type table u d is e c n e' = same_access d e false c true n (sym is ∙ e')
-    where
-      same_access : (d e : ℕ) (b c m n : Bool) → shape.Access d b m ≡ shape.Access e c n → n ≡ m
-      same_access d e b c m n is = cc
 
   module _ (f : Place → Memory → Outcome) (pos : Pos) (does : Does f pos) (facts : List Fact) (good : Good facts) (exact : Exact m facts) (pos' : Pos) (count : ℕ)
       (u d : ℕ) (access : shape_of s.table u ≡ shape.Access d false true) where

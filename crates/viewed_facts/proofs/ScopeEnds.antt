@@ -1,6 +1,7 @@
 -- At the end of a scope, facts of all frames stay exact, and no leak check fails that is excused.
 use Rattle.soundness.specs.ViewedSoundness.Holds.{is_view, Seeing}
-use Rattle.std.proofs.Common.{◌≡◌, refl, sym, ◌∙◌, subst, ℕ, suc, true, false, List, [], ◌∷◌, ◌++◌, length, Some, None, take, Bool}
+use Rattle.std.proofs.Common.{◌≡◌, refl, sym, ◌∙◌, subst, ℕ, suc, true, false, List, [], ◌∷◌, ◌++◌, length, Some, None, take, Bool, ap}
+use Rattle.std.proofs.lemmas.Bool.{false≢true}
 use Rattle.spark_base.specs.Lists.{Has}
 use Rattle.spark_base.specs.declared.position.Pos.{Pos}
 use Rattle.place_names.specs.declared.selector.Sel.{Sel}
@@ -52,6 +53,7 @@ use Rattle.viewed_steps.proofs.Views.{AreAccess}
 use Rattle.viewed_facts.proofs.Steps.{IsAway}
 use Rattle.viewed_steps.specs.Seeing.{sees_in}
 use Rattle.viewed_steps.proofs.Sees.{sees_seeing}
+use Rattle.viewed_facts.proofs.Constructors.{is_call_instruction}
 
 module _ (table : Table) (typed : TypedProgram) (effects : Effects) (input : List ℕ) (ready : IsReady table typed effects) where
   abbrev sees : ℕ → Bool
@@ -186,7 +188,7 @@ module _ (table : Table) (typed : TypedProgram) (effects : Effects) (input : Lis
 
     module _ (y : ℕ) (is : p.instr ≡ EndScope y) where
       no_call_there : IsNoCall p.instr
-      no_call_there n actuals result same = (let never : EndScope y ≡ Call n actuals result = sym is ∙ same in cc)
+      no_call_there n actuals result same = (let never : EndScope y ≡ Call n actuals result = sym is ∙ same in absurd (false≢true (ap is_call_instruction never)))
 
       plain_end : Plainly
       plain_end = innermost.plain_here table typed effects input ready state top below more_frames rest named p frames deep stages running awaiting of_sub at_point path views viewed_before kept scope holds placed_before above no_call_there (subst StoresNone (sym is) tt)

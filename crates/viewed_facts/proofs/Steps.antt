@@ -1,5 +1,6 @@
 -- Facts without an element stay exact in each of the four steps, under its act, and where a view gets another way.
 use Rattle.std.proofs.Common.{◌≡◌, refl, sym, ap, ◌∙◌, subst, ◌⊎◌, inl, inr, ℕ, Bool, true, false, eq-eqb, List, [], ◌∷◌, Option, Some}
+use Rattle.std.proofs.lemmas.Bool.{false≢true, true≢false}
 use Rattle.spark_base.specs.Lists.{Has}
 use Rattle.place_names.specs.declared.selector.Sel.{Sel}
 use Rattle.place_names.specs.declared.rule.Loan.TheVariants.{Borrowed}
@@ -32,6 +33,7 @@ use Rattle.soundness.proofs.OwnedLoans.Meeting.{stands, stands_base}
 use Rattle.viewed_steps.proofs.Views.{base_named}
 use Rattle.soundness.proofs.ExactFacts.Steps.{fact_before, under_covers, named_variable, Keeps, told_on, variable_begins, variable_rooted}
 use Rattle.viewed_facts.specs.Exact.{IsDefiniteBy, IsDefinite}
+use Rattle.viewed_facts.proofs.Constructors.{is_empty_word, is_held_word}
 
 -- ---- ways that begin at variables
 
@@ -237,8 +239,8 @@ module _ (home : ℕ → ℕ) (observer : ℕ → Bool) (other : Around home) (v
     where
       was : (l : Loc) (c : ℕ) → t.word l ≡ Held c → s.word l ≡ Held c
       was l c h =
-          sym (step.off l (λ e. (let is : Held c ≡ Empty = sym h ∙ ap t.word e ∙ step.null in cc))
-          (λ b. (let is : Held c ≡ Empty = sym h ∙ ap t.word b.1 ∙ step.empty b.0 in cc))) ∙ h
+          sym (step.off l (λ e. (let is : Held c ≡ Empty = sym h ∙ ap t.word e ∙ step.null in absurd (false≢true (ap is_empty_word is))))
+          (λ b. (let is : Held c ≡ Empty = sym h ∙ ap t.word b.1 ∙ step.empty b.0 in absurd (false≢true (ap is_empty_word is))))) ∙ h
 
       -- what isn't below the cell stays gone
       stays : (w : Way) (l : Loc) → Definite facts w → (Under (expand v k) w → ⊥) → Reaches t w l → t.word l ≡ Gone
@@ -246,7 +248,7 @@ module _ (home : ℕ → ℕ) (observer : ℕ → Bool) (other : Around home) (v
           let before = reached_before s t was w l (rooted s facts viewed w is) reach in
           let gone : s.word l ≡ Gone = told w l is before in
           step.off l
-          (λ e. (let is_held : Gone ≡ Held n = sym gone ∙ ap s.word e ∙ held in cc))
+          (λ e. (let is_held : Gone ≡ Held n = sym gone ∙ ap s.word e ∙ held in absurd (false≢true (ap is_held_word is_held))))
           (λ b. (
           let cell : Reaches s (along (All (expand v k)) b.0) (part (OfCell n) b.0) = reaches_along s (All (expand v k)) (OfCell n) b.0 (at, n, target, held, refl) in
           let same : w ≡ along (All (expand v k)) b.0 = one_way s viewed.owned w (along (All (expand v k)) b.0) l before (subst (Reaches s (along (All (expand v k)) b.0)) (sym b.1) cell) in
@@ -292,7 +294,7 @@ module _ (home : ℕ → ℕ) (observer : ℕ → Bool) (other : Around home) (v
   AreSeenParts t = (y : ℕ) (p : List Step) (w : Way) → t.part_way y p ≡ Some w → observer y ≡ true
 
   none_in : (t : Views) → AreSeenParts t → (u : Way) → observer (number_of u) ≡ false → InPart t u → ⊥
-  none_in t seen u plain l = (let is : true ≡ false = sym (seen l.object l.steps l.way l.has) ∙ ap observer (sym (part_root t u l)) ∙ plain in cc)
+  none_in t seen u plain l = (let is : true ≡ false = sym (seen l.object l.steps l.way l.has) ∙ ap observer (sym (part_root t u l)) ∙ plain in absurd (true≢false is))
 
   before_seen : (s : View) (facts : List Fact) → Viewed home observer other v s facts → AreSeenParts v
   before_seen s facts viewed y p w has = (viewed.views.1 y p w has).sees
@@ -355,7 +357,7 @@ module _ (home : ℕ → ℕ) (observer : ℕ → Bool) (other : Around home) (v
       told_left = told_turned s left facts (before_seen s facts viewed) parts (λ u moved. viewed.clear.owned (name_of u) moved.1) (λ y w has. inl (was y w has).0) empty told
 
       held_before : (l : Loc) (c : ℕ) → t.word l ≡ Held c → s.word l ≡ Held c
-      held_before l c h = sym (step.off l (λ b. (let is : Held c ≡ Empty = sym h ∙ ap t.word b.1 ∙ step.empty b.0 in cc))) ∙ h
+      held_before l c h = sym (step.off l (λ b. (let is : Held c ≡ Empty = sym h ∙ ap t.word b.1 ∙ step.empty b.0 in absurd (false≢true (ap is_empty_word is))))) ∙ h
 
       stays : (w : Way) (l : Loc) → IsDefinite home left elsewhere facts w → (Under (place x) w → ⊥) → Reaches t w l → t.word l ≡ Gone
       stays w l is off reach =

@@ -1,7 +1,8 @@
 -- Where a step of an instruction goes on that is no call and isn't the end of a scope, facts of all frames are exact,
 -- with the views then.
-use Rattle.soundness.specs.ViewedSoundness.Holds.{is_view, is_given, is_exclusive, is_fixed, AllKeep, IsNamed, Seeing}
-use Rattle.std.proofs.Common.{◌≡◌, refl, sym, ap, ◌∙◌, subst, inl, inr, ℕ, suc, true, false, List, [], ◌∷◌, ◌++◌, map, length, Some, None, take, ◌||◌, ◌&&◌, not, Bool}
+use Rattle.soundness.specs.ViewedSoundness.Holds.{is_view, is_fixed, AllKeep, IsNamed, Seeing}
+use Rattle.std.proofs.Common.{◌≡◌, refl, sym, ap, ◌∙◌, subst, inl, inr, ℕ, suc, true, false, List, [], ◌∷◌, ◌++◌, map, length, Some, None, take, Bool}
+use Rattle.std.proofs.lemmas.Bool.{false≢true}
 use Rattle.spark_base.specs.Lists.{Has}
 use Rattle.spark_base.specs.declared.position.Pos.{Pos}
 use Rattle.place_names.specs.declared.act.Act.{Act}
@@ -66,6 +67,16 @@ use Rattle.viewed_facts.proofs.Given.{call_tree, given_unmoved, reborrowed_acts}
 use Rattle.viewed_steps.proofs.Ended.{view_kinds}
 use Rattle.viewed_steps.specs.Seeing.{sees_in}
 use Rattle.viewed_steps.proofs.Sees.{sees_seeing}
+use Rattle.viewed_facts.proofs.Constructors.{is_declare_instruction, is_goes_outcome, is_hold_instruction}
+
+assigned_same : {a b c d : TypedTree} → Assign a b ≡ Assign c d → b ≡ d
+assigned_same e = cc
+
+target_same : {q r : Pos} {x y u w : ℕ} {path_of steps_there a b : TypedTree} → Assign (Name q x path_of u) a ≡ Assign (Name r y steps_there w) b → u ≡ w
+target_same e = cc
+
+by_source : (e : TypedTree) (k : Pos) (n : ℕ) (actuals : TypedTree) (r : Pos) (y : ℕ) (steps_there : TypedTree) (w : ℕ) → e ≡ CallIn k n actuals → e ≡ Name r y steps_there w → ⊥
+by_source e k n actuals r y steps_there w is same = cc
 
 module _ (table : Table) (typed : TypedProgram) (effects : Effects) (input : List ℕ) (ready : IsReady table typed effects) where
   abbrev sees : ℕ → Bool
@@ -219,30 +230,20 @@ module _ (table : Table) (typed : TypedProgram) (effects : Effects) (input : Lis
           elim (innermost.taken_there table typed effects input ready state top below more_frames rest named p frames deep stages running awaiting of_sub at_point path views viewed_before kept scope holds placed_before above no_calls) [
             | inl plain ↦ plain
             | inr (inr together) ↦ absurd (elim together.1 [
-              | inl (y, other_instr, owner) ↦ (let never : Assign (Name q x NoMore u) e ≡ Declare y (More together.0 NoMore) = sym is ∙ other_instr in cc)
+              | inl (y, other_instr, owner) ↦ (let never : Assign (Name q x NoMore u) e ≡ Declare y (More together.0 NoMore) = sym is ∙ other_instr in absurd (false≢true (ap is_declare_instruction never)))
               | inr (inl (r, y, steps_there, w, same, place, scalar)) ↦ (
                   let there : Assign (Name q x NoMore u) e ≡ Assign (Name r y steps_there w) together.0 = sym is ∙ same in
                   true_false (is_anonymous (full s.table u)) view (ap (λ z. is_anonymous (full s.table z)) (target_same there) ∙ place))
-              | inr (inr (other_instr, plain_result)) ↦ (let never : Assign (Name q x NoMore u) e ≡ Hold (More together.0 NoMore) = sym is ∙ other_instr in cc)
+              | inr (inr (other_instr, plain_result)) ↦ (let never : Assign (Name q x NoMore u) e ≡ Hold (More together.0 NoMore) = sym is ∙ other_instr in absurd (false≢true (ap is_hold_instruction never)))
             ])
             | inr (inl taken_alone) ↦ absurd (elim taken_alone.8 [
-              | inl (y, other_instr) ↦ (let never : Assign (Name q x NoMore u) e ≡ Declare y (More (CallIn taken_alone.3 taken_alone.4 taken_alone.5) NoMore) = sym is ∙ other_instr in cc)
+              | inl (y, other_instr) ↦ (let never : Assign (Name q x NoMore u) e ≡ Declare y (More (CallIn taken_alone.3 taken_alone.4 taken_alone.5) NoMore) = sym is ∙ other_instr in absurd (false≢true (ap is_declare_instruction never)))
               | inr (inl (r, y, steps_there, w, same, calls)) ↦ (
                   let there : Assign (Name q x NoMore u) e ≡ Assign (Name r y steps_there w) (CallIn taken_alone.3 taken_alone.4 taken_alone.5) = sym is ∙ same in
                   by_source e taken_alone.3 taken_alone.4 taken_alone.5 k z path_of o (assigned_same there) named_so)
-              | inr (inr other_instr) ↦ (let never : Assign (Name q x NoMore u) e ≡ Hold (More (CallIn taken_alone.3 taken_alone.4 taken_alone.5) NoMore) = sym is ∙ other_instr in cc)
+              | inr (inr other_instr) ↦ (let never : Assign (Name q x NoMore u) e ≡ Hold (More (CallIn taken_alone.3 taken_alone.4 taken_alone.5) NoMore) = sym is ∙ other_instr in absurd (false≢true (ap is_hold_instruction never)))
             ])
           ]
-        where
-          assigned_same : {a b c d : TypedTree} → Assign a b ≡ Assign c d → b ≡ d
-          assigned_same e = cc
-
-          target_same : {q r : Pos} {x y u w : ℕ} {path_of steps_there a b : TypedTree} → Assign (Name q x path_of u) a ≡ Assign (Name r y steps_there w) b → u ≡ w
-          target_same e = cc
-
-          by_source : (e : TypedTree) (k : Pos) (n : ℕ) (actuals : TypedTree) (r : Pos) (y : ℕ) (steps_there : TypedTree) (w : ℕ)
-              → e ≡ CallIn k n actuals → e ≡ Name r y steps_there w → ⊥
-          by_source e k n actuals r y steps_there w is same = cc
 
       -- no moved name is rooted in a view that is declared or assigned
       assigned_unmoved : (q : Pos) (x u : ℕ) (e : TypedTree) → p.instr ≡ Assign (Name q x NoMore u) e → (p.instr ≡ Finish → ⊥)
@@ -351,4 +352,4 @@ module _ (table : Table) (typed : TypedProgram) (effects : Effects) (input : Lis
           goes_exact (Goes after_step) same_step on = (
               let state_same : after_step ≡ next = cc in
               subst (λ (z : State). IsExact s (home s depth) views elsewhere z.memory (after (acts_by p.instr) facts_now)) state_same on.0)
-          goes_exact (Ends how after_step) same_step on = cc
+          goes_exact (Ends how after_step) same_step on = absurd (false≢true (ap is_goes_outcome same_step))

@@ -13,7 +13,8 @@ use Rattle.soundness.specs.Seen.{content, steps_in, word_in}
 use Rattle.viewed_steps.specs.Taken.{Lodge, IsInside, IsAmong, AreTaken}
 use Rattle.viewed_steps.proofs.Carried.{start_reached, start_steps}
 use Rattle.soundness.specs.OwnedLoans.Views.{Views}
-use Rattle.viewed_steps.proofs.Constructors.{is_into_way, is_nil}
+use Rattle.viewed_steps.proofs.Constructors.{is_into_way}
+use Rattle.type_definitions.specs.Types.{is_nil}
 
 -- A way to a variable or a cell as a whole.
 abbrev pub IsTop : View → Way → Loc → Type 0

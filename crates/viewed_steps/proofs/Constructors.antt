@@ -1,5 +1,5 @@
 -- Which constructor a value has.
-use Rattle.std.specs.Prelude.{Bool, true, false, List, [], ◌∷◌}
+use Rattle.std.specs.Prelude.{Bool, true, false}
 use Rattle.flow_paths.specs.Instructions as instructions
 use Rattle.machine.specs.Calls as calls
 use Rattle.machine.specs.Memory as memory
@@ -97,7 +97,3 @@ is_of_root_loc v = false
 abbrev pub is_access_shape : Shape → Bool
 is_access_shape (shape.Access a b c) = true
 is_access_shape v = false
-
-abbrev pub is_nil : {A : Type 0} → List A → Bool
-is_nil [] = true
-is_nil (x ∷ xs) = false

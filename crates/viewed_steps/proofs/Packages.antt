@@ -15,7 +15,7 @@ use Rattle.place_names.specs.declared.rule.Loan.{Loan}
 use Rattle.place_names.specs.declared.fact.Fact.TheVariants.{Moved}
 use Rattle.place_names.specs.Facts.{adds}
 use Rattle.place_names.specs.Names.{Name as PlaceName}
-use Rattle.type_definitions.specs.Types.{Table}
+use Rattle.type_definitions.specs.Types.{Table, is_nil}
 use Rattle.typed_tree.specs.Trees.{TypedTree}
 use Rattle.typed_tree.specs.Programs.{TypedProgram}
 use Rattle.flow_paths.specs.declared.report.Effects.{Effects}
@@ -63,7 +63,7 @@ use Rattle.viewed_steps.proofs.Views.{AreAccess, all_held, parts_none}
 use Rattle.soundness.proofs.OwnedLoans.Alone.{viewed_alone, alone_viewed}
 use Rattle.viewed_steps.specs.Seeing.{sees_in}
 use Rattle.viewed_steps.proofs.Sees.{sees_seeing}
-use Rattle.viewed_steps.proofs.Constructors.{is_call_instruction, is_end_scope_instruction, is_finish_instruction, is_nil}
+use Rattle.viewed_steps.proofs.Constructors.{is_call_instruction, is_end_scope_instruction, is_finish_instruction}
 
 frame_is : (g x y : ℕ) → OfVariable 0 x ≡ OfVariable g y → 0 ≡ g
 frame_is g x y same_there = cc

@@ -1,6 +1,7 @@
 -- Each step of a sound state leads on, in a program with borrowers and observers that is ready.
 use Rattle.viewed_steps.specs.Traversals.{AreGiven}
 use Rattle.std.proofs.Common.{◌≡◌, refl, sym, ap, ◌∙◌, subst, ℕ, suc, List, [], ◌∷◌, length, None, inl, inr, Bool}
+use Rattle.std.proofs.lemmas.Bool.{false≢true}
 use Rattle.type_definitions.specs.Types.{Table}
 use Rattle.typed_tree.specs.Trees.{More}
 use Rattle.typed_tree.specs.Programs.{TypedProgram}
@@ -36,6 +37,7 @@ use Rattle.viewed_steps.proofs.ScopeEnds as scopes
 use Rattle.viewed_steps.proofs.CallEnds as ends
 use Rattle.viewed_steps.proofs.CallEnters as call_enters
 use Rattle.viewed_steps.specs.Seeing.{sees_in}
+use Rattle.viewed_steps.proofs.Constructors.{is_call_instruction, is_end_scope_instruction, is_finish_instruction}
 
 module _ (table : Table) (typed : TypedProgram) (effects : Effects) (input : List ℕ) (ready : IsReady table typed effects) where
   abbrev sees : ℕ → Bool
@@ -88,13 +90,13 @@ module _ (table : Table) (typed : TypedProgram) (effects : Effects) (input : Lis
     ])
       where
         going_here : (y : ℕ) → p.instr ≡ EndScope y → ⊥
-        going_here y e = (let same = sym is ∙ e in cc)
+        going_here y e = false≢true (ap is_end_scope_instruction (sym is ∙ e))
 
         no_calls : IsNoCall p.instr
-        no_calls n actuals result e = (let same = sym is ∙ e in cc)
+        no_calls n actuals result e = false≢true (ap is_call_instruction (sym is ∙ e))
 
         no_finish : p.instr ≡ Finish → ⊥
-        no_finish e = (let same = sym is ∙ e in cc)
+        no_finish e = false≢true (ap is_finish_instruction (sym is ∙ e))
 
         taken_there : IsTaken s named.sub.result p
         taken_there = innermost.taken_there table typed effects input ready state top below more_frames rest named p frames deep stages running awaiting of_sub at_point path views viewed_before kept scope holds placed_before above no_calls

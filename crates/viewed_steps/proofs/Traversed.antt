@@ -10,7 +10,7 @@ use Rattle.std.proofs.lemmas.Bool.{false≢true, true≢false}
 use Rattle.spark_base.specs.declared.position.Pos.{Pos}
 use Rattle.spark_base.specs.Lists.{Has}
 use Rattle.spark_base.proofs.Lists.{Has-filter, Has-append_right}
-use Rattle.type_definitions.specs.Types.{Table, full, is_scalar, shape_of}
+use Rattle.type_definitions.specs.Types.{Table, full, is_scalar, shape_of, is_nil}
 use Rattle.typed_tree.specs.Trees.{TypedTree, NoMore, More, Name, Call as CallIn}
 use Rattle.typed_tree.specs.Programs.{TypedProgram}
 use Rattle.flow_paths.specs.Instructions.{Instruction, Skip, Declare, Assign, Call, Output, Input, Release, Test, Choose, Start, Next, Evaluate, LeaveLoop, Hold, EndScope, Finish, Fall}
@@ -31,7 +31,6 @@ use Rattle.viewed_steps.specs.Traversals.{IsSourceName, IsSourceIn}
 use Rattle.viewed_steps.specs.Sound.{ViewStage, IsGivenIn, NoneGiven, IsGivenBelow, AreGivenIn}
 use Rattle.viewed_steps.specs.Ready.{AreNamedIn}
 use Rattle.viewed_steps.proofs.Sources.{view_scalar, observer_only}
-use Rattle.viewed_steps.proofs.Constructors.{is_nil}
 
 -- ---- temporaries
 

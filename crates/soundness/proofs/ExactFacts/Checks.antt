@@ -1,5 +1,6 @@
 -- A leak check doesn't fail at a place that a fact without an element calls moved.
 use Rattle.std.proofs.Common.{◌≡◌, refl, Bool, true, false, List, [], ◌∷◌}
+use Rattle.std.proofs.lemmas.Bool.{false≢true}
 use Rattle.spark_base.specs.declared.position.Pos.{Pos}
 use Rattle.flow_paths.specs.declared.point.LeakSpot.{LeakSpot}
 use Rattle.machine.specs.Words as machine
@@ -15,7 +16,7 @@ none_made Excused (spot ∷ spots) = tt
 
 pub failed_gone : (p : Pos) (w : machine.Word) (g : Bool) → g ≡ true → failed_at p w g ≡ []
 failed_gone p (machine.Cell n) true e = refl
-failed_gone p (machine.Cell n) false e = cc
+failed_gone p (machine.Cell n) false e = absurd (false≢true e)
 failed_gone p (machine.Int v) g e = refl
 failed_gone p (machine.Enumerated v) g e = refl
 failed_gone p machine.Null g e = refl

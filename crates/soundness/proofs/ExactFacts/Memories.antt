@@ -1,5 +1,6 @@
 -- Facts without an element stay exact in the steps of a memory.
 use Rattle.std.proofs.Common.{◌≡◌, refl, sym, ap, ◌∙◌, ℕ, false, List, [], ◌∷◌, ◌++◌, append_assoc, append-nil}
+use Rattle.std.proofs.lemmas.Bool.{true≢false}
 use Rattle.place_names.specs.declared.selector.Sel.{Sel}
 use Rattle.place_names.specs.declared.selector.Sel.TheVariants.{Field, Elem, Deref}
 use Rattle.place_names.specs.Names.{has_elem}
@@ -25,7 +26,7 @@ named_part at_home w (i ∷ p) n = named_part at_home w p n
 pub end_plain : (a q : List Sel) → has_elem (a ++ q) ≡ false → has_elem q ≡ false
 end_plain [] q e = e
 end_plain (Field i ∷ a) q e = end_plain a q e
-end_plain (Elem ∷ a) q e = cc
+end_plain (Elem ∷ a) q e = absurd (true≢false e)
 end_plain (Deref ∷ a) q e = end_plain a q e
 
 -- ---- what is in hand has no name

@@ -1,6 +1,7 @@
 -- The objects of the flow are those of the typed program, and temporaries after them. The leak checks
 -- of a point go by the former alone; and what an excused one says of the facts at its point.
 use Rattle.std.proofs.Common.{◌≡◌, refl, sym, ap, ◌∙◌, subst, ◌⊎◌, inl, inr, ℕ, zero, suc, ◌+◌, true, false, List, [], ◌∷◌, ◌++◌, map, flat_map, length, get_or, Option, Some, None, Bool, not, IsTrue, take}
+use Rattle.std.proofs.lemmas.Bool.{false≢true, true≢false}
 use Rattle.spark_base.specs.Lists.{Has}
 use Rattle.spark_base.specs.declared.position.Pos.{Pos}
 use Rattle.place_names.specs.declared.act.Act.{Act}
@@ -30,6 +31,7 @@ use Rattle.soundness.specs.Sound.{IsNoCall, is_temporary_object}
 use Rattle.soundness.proofs.Scalars.{acts}
 use Rattle.soundness.proofs.Typings.{Agree, wide, wide_is, instruction_same, passings_same}
 use Rattle.typed_laws.specs.Needed.{IsFine}
+use Rattle.soundness.proofs.Constructors.{is_call_instruction}
 
 abbrev temporaries_of : NamedSub → List Temporary
 temporaries_of named = named.temporaries
@@ -39,7 +41,7 @@ temporaries_of named = named.temporaries
 module _ (a b : Typing) (agree : Agree a b) where
   acts_same : (pos : Pos) (e : TypedTree) → acts_in a e ≡ acts_in b e
   acts_same pos e =
-      instruction_same a b agree None [] pos (Test e) (λ n actuals t never x has. (let no : Test e ≡ Call n actuals t = never in cc))
+      instruction_same a b agree None [] pos (Test e) (λ n actuals t never x has. (let no : Test e ≡ Call n actuals t = never in absurd (false≢true (ap is_call_instruction no))))
 
   index_same : (pos : Pos) (e : TypedTree) → index_acts a e ≡ index_acts b e
   index_same pos (Name p x path t) = acts_same pos path
@@ -115,7 +117,7 @@ object_same table typed x other =
         ⊎ (is_temporary (get_or (typed.objects ++ map temporary_object (flat_map temporaries_of (flow_named table typed))) x text_io).kind ≡ true)
         → is_temporary_object (wide table typed) x ≡ false → object_at (wide table typed) x ≡ object_at (typing_of table typed) x
     by (inl same) other = same
-    by (inr temporary) other = (let no : true ≡ false = sym temporary ∙ other in cc)
+    by (inr temporary) other = (let no : true ≡ false = sym temporary ∙ other in absurd (true≢false no))
 
 -- ---- an excused check
 

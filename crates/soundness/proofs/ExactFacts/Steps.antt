@@ -1,6 +1,7 @@
 -- Facts without an element stay exact in each of the four steps, under its act.
 use Rattle.std.proofs.Common.{◌≡◌, refl, sym, ap, ◌∙◌, subst, ◌⊎◌, inl, inr, ℕ, Bool, true, false, not, ◌==◌, eq-eqb, List, [], ◌∷◌, ◌++◌}
 use Rattle.std.specs.List.{filter}
+use Rattle.std.proofs.lemmas.Bool.{false≢true, true≢false}
 use Rattle.spark_base.specs.Lists.{Has}
 use Rattle.spark_base.proofs.Lists.{Has-append_cases, Has-filter}
 use Rattle.place_names.specs.declared.selector.Sel.{Sel}
@@ -18,7 +19,7 @@ use Rattle.soundness.specs.ExactFacts.Exact.{IsOfVariable}
 -- ---- facts
 
 not_true : (b : Bool) → not b ≡ true → b ≡ false
-not_true true e = cc
+not_true true e = absurd (false≢true e)
 not_true false e = refl
 
 -- what holds after an act held before it and isn't removed, or is added
@@ -42,7 +43,7 @@ begins_front (s ∷ a) q = both_true (is_equal s s) (begins a (a ++ q)) (sel_its
 pub front_plain : (a q : List Sel) → has_elem (a ++ q) ≡ false → has_elem a ≡ false
 front_plain [] q e = refl
 front_plain (Field i ∷ a) q e = front_plain a q e
-front_plain (Elem ∷ a) q e = cc
+front_plain (Elem ∷ a) q e = absurd (true≢false e)
 front_plain (Deref ∷ a) q e = front_plain a q e
 
 -- a way without an element is covered by each way that begins it

@@ -2,6 +2,7 @@
 -- overlap it.
 use Rattle.std.proofs.Common.{◌≡◌, refl, sym, ap, ◌∙◌, ℕ, Bool, true, false, ◌||◌, ◌==◌, List, [], ◌∷◌, length, nat_lt, lt-ltb}
 use Rattle.std.specs.List.{list_any}
+use Rattle.std.proofs.lemmas.Bool.{false≢true}
 use Rattle.spark_base.specs.Lists.{Has}
 use Rattle.place_names.specs.declared.selector.Sel.{Sel}
 use Rattle.place_names.specs.declared.rule.Rule.TheVariants.{O1, O2, O3, O4, O5, O6, O7, O14}
@@ -35,7 +36,7 @@ loan_kept a facts stays l h n lent = kept_fact a facts (Lent l h n) lent (stays 
 -- what leads to a name overlaps it
 whole_along : (a b : List Sel) → agrees_whole a b ≡ true → agree_along a b ≡ true
 whole_along [] b e = refl
-whole_along (s ∷ a) [] e = cc
+whole_along (s ∷ a) [] e = absurd (false≢true e)
 whole_along (s ∷ a) (t ∷ b) e =
     let parts = both_parts (agrees s t) (agrees_whole a b) e in both_true (agrees s t) (agree_along a b) parts.0 (whole_along a b parts.1)
 

@@ -2,6 +2,7 @@
 -- other one.
 use Rattle.std.proofs.Common.{◌≡◌, refl, sym, ap, ◌∙◌, subst, ◌⊎◌, inl, inr, ℕ, Bool, true, false, not, ◌==◌, List, [], ◌∷◌, ◌++◌, None}
 use Rattle.std.specs.List.{filter}
+use Rattle.std.proofs.lemmas.Bool.{false≢true}
 use Rattle.spark_base.specs.Lists.{Has}
 use Rattle.spark_base.proofs.Lists.{Has-append_cases, Has-filter, Has-map_from}
 use Rattle.place_names.specs.declared.selector.Sel.{Sel}
@@ -19,6 +20,7 @@ use Rattle.place_names.specs.Facts.{adds, removes, effect}
 use Rattle.place_names.specs.Rules.{forbidden_if, moved_or_borrowed, moved_or_lent}
 use Rattle.soundness.specs.OwnedWays.Ways.{Allows}
 use Rattle.soundness.specs.OwnedLoans.Views.{AreClear}
+use Rattle.soundness.proofs.Constructors.{is_moved_fact, is_observed_loan}
 
 -- a test that succeeds forbids
 pub refused : (b : Bool) (r : Rule) (m : Name) (f : Fact) → b ≡ true → forbidden_if b r m f ≡ None → ⊥
@@ -55,15 +57,18 @@ nothing_new observer facts facts' old clear = record {
 only_before : (a : Act) (facts : List Fact) → adds a ≡ [] → (f : Fact) → Has (effect a facts) f → Has facts f
 only_before a facts none f h = elim (before_or_new a facts f h) [ inl old ↦ old | inr new ↦ absurd (subst (λ z. Has z f) none new) ]
 
+moved_is : (m n : Name) → Moved m ≡ Moved n → m ≡ n
+moved_is m n e = cc
+
+the_loan : (l k : Loan) (b h : ℕ) (m n : Name) → Lent l b m ≡ Lent k h n → (l ≡ k) × (b ≡ h) × (m ≡ n)
+the_loan l k b h m n e = (cc, cc, cc)
+
 module _ (observer : ℕ → Bool) (facts : List Fact) (clear : AreClear observer facts) where
   pub clear_same : (a : Act) → adds a ≡ [] → AreClear observer (effect a facts)
   clear_same a none = nothing_new observer facts (effect a facts) (only_before a facts none) clear
 
   moved_name : (m : Name) (parts : List (List Sel)) (f : Fact) → Has (adds (Move m parts)) f → (q : List Sel) × (f ≡ Moved (extend m q))
   moved_name m parts f h = let found = Has-map_from (λ q. Moved (extend m q)) parts f h in (found.0, sym found.2)
-
-  moved_is : (m n : Name) → Moved m ≡ Moved n → m ≡ n
-  moved_is m n e = cc
 
   no_loan : (m : Name) (parts : List (List Sel)) (l : Loan) (h : ℕ) (n : Name) → Has (adds (Move m parts)) (Lent l h n) → ⊥
   no_loan m parts l h n new = let found = moved_name m parts (Lent l h n) new in let is = found.1 in cc
@@ -102,14 +107,11 @@ module _ (observer : ℕ → Bool) (facts : List Fact) (clear : AreClear observe
     ];
   }
 
-  the_loan : (l k : Loan) (b h : ℕ) (m n : Name) → Lent l b m ≡ Lent k h n → (l ≡ k) × (b ≡ h) × (m ≡ n)
-  the_loan l k b h m n e = (cc, cc, cc)
-
   not_moved : (l : Loan) (b : ℕ) (m n : Name) → Lent l b m ≡ Moved n → ⊥
-  not_moved l b m n e = cc
+  not_moved l b m n e = absurd (false≢true (ap is_moved_fact e))
 
   borrowed_observed : Borrowed ≡ Observed → ⊥
-  borrowed_observed e = cc
+  borrowed_observed e = absurd (false≢true (ap is_observed_loan e))
 
   pub clear_borrow : (x : ℕ) (m : Name) → Allows facts (Borrow x m) → AreClear observer (effect (Borrow x m) facts)
   clear_borrow x m allowed = record {

@@ -1,6 +1,7 @@
 -- The end of a variable or of a hand keeps the ways of views that don't begin there.
-use Rattle.std.proofs.Common.{◌≡◌, refl, sym, ap, ◌∙◌, subst, ◌⊎◌, inl, inr, ℕ, Bool, true, false, not, ◌==◌, eqb-true, eq-eqb, List, [], ◌∷◌, ◌++◌, Some, None}
+use Rattle.std.proofs.Common.{◌≡◌, refl, sym, ap, ◌∙◌, subst, ◌⊎◌, inl, inr, ℕ, Bool, true, false, not, ◌==◌, eqb-true, eq-eqb, List, [], ◌∷◌, ◌++◌, Some, None, is_some}
 use Rattle.std.specs.List.{filter}
+use Rattle.std.proofs.lemmas.Bool.{false≢true, true≢false}
 use Rattle.spark_base.specs.Lists.{Has}
 use Rattle.spark_base.proofs.Lists.{Has-append_cases, Has-filter, Has-filter_passes}
 use Rattle.place_names.specs.declared.rule.Loan.{Loan}
@@ -21,6 +22,7 @@ use Rattle.soundness.specs.OwnedLoans.Views.{Views, Around, expand, IsMovedBy, E
 use Rattle.soundness.proofs.OwnedLoans.Ways.{base_on, home_or_foreign, lifts, lifted_root, lifted_way, part_root}
 use Rattle.soundness.proofs.OwnedLoans.Clear.{before_or_new, clear_same}
 use Rattle.soundness.proofs.OwnedLoans.Moves.{view_rooted, reached, view_on, parts_on, moved_parts, as_sound, all_known}
+use Rattle.soundness.proofs.Constructors.{is_empty_word}
 
 along_base : (w : Way) (p : List Step) → base_of (along w p) ≡ base_of w
 along_base w [] = refl
@@ -29,7 +31,7 @@ along_base w (i ∷ p) = along_base w p
 -- what has a number then had it before
 drop_held : (s t : View) (r : Root) → IsDrop s t r → (l : Loc) (c : ℕ) → t.word l ≡ Held c → s.word l ≡ Held c
 drop_held s t r d l c held =
-    let outside : Below (OfRoot r) l → ⊥ = λ b. (let is : Held c ≡ Empty = sym held ∙ ap t.word b.1 ∙ d.empty b.0 in cc) in
+    let outside : Below (OfRoot r) l → ⊥ = λ b. (let is : Held c ≡ Empty = sym held ∙ ap t.word b.1 ∙ d.empty b.0 in absurd (false≢true (ap is_empty_word is))) in
     sym (d.off l outside) ∙ held
 
 -- a way that doesn't begin at a root that ends reaches what it reached
@@ -51,10 +53,16 @@ number_base (Lost n) f y e = cc
 number_base (Into w i) f y e = number_base w f y e
 number_base (All w) f y e = number_base w f y e
 
-module _ (home : ℕ → ℕ) (observer : ℕ → Bool) (other : Around home) (v : Views) where
-  variable_hand : (f x h : ℕ) → OfRoot (OfVariable f x) ≡ OfRoot (OfHand h) → ⊥
-  variable_hand f x h e = cc
+variable_hand : (f x h : ℕ) → OfRoot (OfVariable f x) ≡ OfRoot (OfHand h) → ⊥
+variable_hand f x h e = cc
 
+same_frame : (f g x y : ℕ) → OfRoot (OfVariable f x) ≡ OfRoot (OfVariable g y) → (f ≡ g) × (x ≡ y)
+same_frame f g x y e = (cc, cc)
+
+same_variable : (f g x y : ℕ) → OfRoot (OfVariable f x) ≡ OfRoot (OfVariable g y) → x ≡ y
+same_variable f g x y e = cc
+
+module _ (home : ℕ → ℕ) (observer : ℕ → Bool) (other : Around home) (v : Views) where
   -- a hand ends
   pub hand_left : (s t : View) (h : ℕ) (facts : List Fact) → Viewed home observer other v s facts → IsDrop s t (OfHand h)
       → Viewed home observer other v t facts
@@ -86,18 +94,12 @@ module _ (home : ℕ → ℕ) (observer : ℕ → Bool) (other : Around home) (v
         bare = λ w l p bare q c held. viewed.bare w l p bare q c (drop_held s t (OfHand h) d (part l (q ++ p)) c held);
       }
 
-  same_frame : (f g x y : ℕ) → OfRoot (OfVariable f x) ≡ OfRoot (OfVariable g y) → (f ≡ g) × (x ≡ y)
-  same_frame f g x y e = (cc, cc)
-
-  same_variable : (f g x y : ℕ) → OfRoot (OfVariable f x) ≡ OfRoot (OfVariable g y) → x ≡ y
-  same_variable f g x y e = cc
-
   -- a name that is rooted in no view with a value stands for itself
   pub stands_itself : (u : Way) → Named home u → v.way (number_of u) ≡ None → ((p : List Step) → v.part_way (number_of u) p ≡ None) → expand v u ≡ u
   stands_itself u named none bare = elim (lifts v u) [
     | inl e ↦ e
-    | inr (inr l) ↦ (let is : Some l.way ≡ None = sym l.has ∙ ap (λ z. v.part_way z l.steps) (sym (part_root v u l)) ∙ bare l.steps in cc)
-    | inr (inl l) ↦ (let is : Some l.way ≡ None = sym l.has ∙ ap v.way (sym (lifted_root v u l)) ∙ none in cc)
+    | inr (inr l) ↦ (let is : Some l.way ≡ None = sym l.has ∙ ap (λ z. v.part_way z l.steps) (sym (part_root v u l)) ∙ bare l.steps in absurd (true≢false (ap is_some is)))
+    | inr (inl l) ↦ (let is : Some l.way ≡ None = sym l.has ∙ ap v.way (sym (lifted_root v u l)) ∙ none in absurd (true≢false (ap is_some is)))
   ]
 
   -- A variable without a value as a view ends. No view begins there, and the observers that are left
@@ -139,7 +141,7 @@ module _ (home : ℕ → ℕ) (observer : ℕ → Bool) (other : Around home) (v
       no_part_in u moved l =
           let none : v.part_way l.object l.steps ≡ None =
           ap (λ z. v.part_way z l.steps) (sym (part_root v u l)) ∙ moved_parts home observer other v s facts viewed u moved.1 l.steps in
-          let is : Some l.way ≡ None = sym l.has ∙ none in cc
+          let is : Some l.way ≡ None = sym l.has ∙ none in absurd (true≢false (ap is_some is))
 
       direct : (w : Way) → IsMovedBy home v facts w → base_of w ≡ variable x → IsMoved home facts w
       direct w (u, moved, same) here = elim (lifts v u) [
@@ -273,4 +275,4 @@ module _ (home : ℕ → ℕ) (observer : ℕ → Bool) (other : Around home) (v
           let old = subst (λ z. HasLoan observer z y facts (name_of (v.loan y))) e loan in
           subst (λ z. HasLoan observer z y (effect act facts) (name_of (v.loan y))) (sym e)
           (kept_fact act facts (Lent Borrowed y (name_of (v.loan y))) old
-          (is_false (y == x) (λ same. (let is : Some w ≡ None = sym has ∙ ap v.way (eqb-true y x same) ∙ leaves.none in cc))))
+          (is_false (y == x) (λ same. (let is : Some w ≡ None = sym has ∙ ap v.way (eqb-true y x same) ∙ leaves.none in absurd (true≢false (ap is_some is))))))

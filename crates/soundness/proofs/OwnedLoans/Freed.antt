@@ -1,5 +1,6 @@
 -- Freeing the cell that a name leads to keeps owners, what is known and the ways of views.
 use Rattle.std.proofs.Common.{◌≡◌, refl, sym, ap, ◌∙◌, subst, inl, inr, ℕ, Bool, false, List, [], ◌∷◌, ◌++◌}
+use Rattle.std.proofs.lemmas.Bool.{false≢true}
 use Rattle.place_names.specs.Names.{covers}
 use Rattle.place_names.specs.declared.act.Act.{Act}
 use Rattle.place_names.specs.declared.act.Act.TheVariants.{Free}
@@ -19,6 +20,7 @@ use Rattle.soundness.proofs.OwnedLoans.Safe.{off_view, off_parts}
 use Rattle.soundness.proofs.OwnedLoans.Others.{off_kept}
 use Rattle.soundness.proofs.OwnedLoans.Allowed.{loan_kept, free_unlent}
 use Rattle.soundness.proofs.OwnedLoans.Moves.{IsPlace, expand_under, reached, view_on, parts_on, moved_parts, own_loan, lends_on}
+use Rattle.soundness.proofs.Constructors.{is_empty_word, is_gone_word, is_held_word}
 
 -- ---- what a release leaves
 
@@ -26,21 +28,21 @@ module _ (s t : View) (at : Loc) (n : ℕ) (step : IsRelease s t at n) where
   held_before : (l : Loc) (c : ℕ) → t.word l ≡ Held c → s.word l ≡ Held c
   held_before l c h =
       let other : l ≡ at → ⊥ = λ e. (let is : Held c ≡ Empty = sym h ∙ ap t.word e ∙ step.null in cc) in
-      let outside : Below (OfCell n) l → ⊥ = λ b. (let is : Held c ≡ Empty = sym h ∙ ap t.word b.1 ∙ step.empty b.0 in cc) in
+      let outside : Below (OfCell n) l → ⊥ = λ b. (let is : Held c ≡ Empty = sym h ∙ ap t.word b.1 ∙ step.empty b.0 in absurd (false≢true (ap is_empty_word is))) in
       sym (step.off l other outside) ∙ h
 
   gone_before : (l : Loc) → t.word l ≡ Gone → s.word l ≡ Gone
   gone_before l h =
-      sym (step.off l (λ e. (let is : Gone ≡ Empty = sym h ∙ ap t.word e ∙ step.null in cc))
-      (λ b. (let is : Gone ≡ Empty = sym h ∙ ap t.word b.1 ∙ step.empty b.0 in cc))) ∙ h
+      sym (step.off l (λ e. (let is : Gone ≡ Empty = sym h ∙ ap t.word e ∙ step.null in absurd (false≢true (ap is_empty_word is))))
+      (λ b. (let is : Gone ≡ Empty = sym h ∙ ap t.word b.1 ∙ step.empty b.0 in absurd (false≢true (ap is_empty_word is))))) ∙ h
 
   not_gone : (p : List Step) → t.word (part at p) ≡ Gone → ⊥
-  not_gone [] e = let is : Empty ≡ Gone = sym step.null ∙ e in cc
-  not_gone (i ∷ p) e = let is : Empty ≡ Gone = sym (step.leaf p i) ∙ e in cc
+  not_gone [] e = let is : Empty ≡ Gone = sym step.null ∙ e in absurd (false≢true (ap is_gone_word is))
+  not_gone (i ∷ p) e = let is : Empty ≡ Gone = sym (step.leaf p i) ∙ e in absurd (false≢true (ap is_gone_word is))
 
   no_number : (p : List Step) (c : ℕ) → t.word (part at p) ≡ Held c → ⊥
-  no_number [] c e = let is : Empty ≡ Held c = sym step.null ∙ e in cc
-  no_number (i ∷ p) c e = let is : Empty ≡ Held c = sym (step.leaf p i) ∙ e in cc
+  no_number [] c e = let is : Empty ≡ Held c = sym step.null ∙ e in absurd (false≢true (ap is_held_word is))
+  no_number (i ∷ p) c e = let is : Empty ≡ Held c = sym (step.leaf p i) ∙ e in absurd (false≢true (ap is_held_word is))
 
   reached_before : (w : Way) (l : Loc) → IsRooted w → Reaches t w l → Reaches s w l
   reached_before (Object x) l rooted r = r
@@ -83,14 +85,15 @@ module _ (s t : View) (at : Loc) (n : ℕ) (step : IsRelease s t at n) where
 
 -- ---- under its act
 
+named_there : {f x : ℕ} (w : Way) → base_of w ≡ OfRoot (OfVariable f x) → Named (λ z. f) w
+named_there (Object (OfVariable g y)) e = cc
+named_there (Object (OfHand h)) e = cc
+named_there (Lost n) e = cc
+named_there (Into w i) e = named_there w e
+named_there (All w) e = named_there w e
+
 module _ (home : ℕ → ℕ) (observer : ℕ → Bool) (other : Around home) (v : Views) where
   -- a way is named where each object lives in the frame that it begins in
-  named_there : {f x : ℕ} (w : Way) → base_of w ≡ OfRoot (OfVariable f x) → Named (λ z. f) w
-  named_there (Object (OfVariable g y)) e = cc
-  named_there (Object (OfHand h)) e = cc
-  named_there (Lost n) e = cc
-  named_there (Into w i) e = named_there w e
-  named_there (All w) e = named_there w e
 
   pub freed : (s t : View) (k : Way) (at : Loc) (n : ℕ) (facts : List Fact) → Viewed home observer other v s facts → IsRelease s t at n
       → Named home k → observer (number_of k) ≡ false → IsPlace v k → Reaches s (expand v k) at → s.word at ≡ Held n

@@ -1,7 +1,8 @@
 -- Where the names of owners that two names stand for begin one another, one of the two names begins
 -- the other one, or it meets a loan of the other, or two loans meet.
-use Rattle.std.proofs.Common.{◌≡◌, refl, sym, ap, ◌∙◌, subst, ◌⊎◌, inl, inr, ℕ, Bool, true, false, List, zero, suc, ◌<◌, ◌≤◌, ◌+◌, nat_lt, ltb-true, ltb-false, arith, Option, Some, None}
+use Rattle.std.proofs.Common.{◌≡◌, refl, sym, ap, ◌∙◌, subst, ◌⊎◌, inl, inr, ℕ, Bool, true, false, List, zero, suc, ◌<◌, ◌≤◌, ◌+◌, nat_lt, ltb-true, ltb-false, arith, Option, Some, None, is_some}
 use Rattle.std.proofs.Math.Nat.{eq-or-lt_of_le}
+use Rattle.std.proofs.lemmas.Bool.{true≢false}
 use Rattle.place_names.specs.declared.fact.Fact.{Fact}
 use Rattle.place_names.specs.declared.rule.Loan.{Loan}
 use Rattle.place_names.specs.declared.rule.Loan.TheVariants.{Borrowed}
@@ -19,6 +20,12 @@ order a b = by_less (nat_lt a b) refl
     by_less true e = inr (inl (ltb-true a b e))
     by_less false e = let most : b ≤ a = ltb-false a b e in elim (eq-or-lt_of_le most) [ inl same ↦ inl (sym same) | inr less ↦ inr (inr less) ]
 
+true_false : (b : Bool) → b ≡ true → b ≡ false → ⊥
+true_false b e f = cc
+
+variables : (f x g y : ℕ) → OfRoot (OfVariable f x) ≡ OfRoot (OfVariable g y) → (f ≡ g) × (x ≡ y)
+variables f x g y e = (cc, cc)
+
 module _ (home : ℕ → ℕ) (observer : ℕ → Bool) (v : Views) (s : View) (facts : List Fact) (views : AreViews home observer v s facts) where
   -- A name of the frame that isn't rooted in an observer.
   abbrev pub IsPlain : Way → Type 0
@@ -30,17 +37,11 @@ module _ (home : ℕ → ℕ) (observer : ℕ → Bool) (v : Views) (s : View) (
     pub less : observer b ≡ false → number_of y < b
     pub loan : Under (v.loan b) y
 
-  true_false : (b : Bool) → b ≡ true → b ≡ false → ⊥
-  true_false b e f = cc
-
   -- a way of the frame doesn't begin where a foreign one does
   pub not_foreign : (w z : Way) → Named home w → IsForeign home z → base_of w ≡ base_of z → ⊥
   not_foreign w z named foreign base =
       let same = variables (home (number_of w)) (number_of w) foreign.0 foreign.1 (sym (named_base home w named) ∙ base ∙ foreign.2) in
       foreign.3 (sym same.0 ∙ ap home same.1)
-    where
-      variables : (f x g y : ℕ) → OfRoot (OfVariable f x) ≡ OfRoot (OfVariable g y) → (f ≡ g) × (x ≡ y)
-      variables f x g y e = (cc, cc)
 
   -- a view that was taken from a name is one of the frame
   pub own_view : (x : ℕ) (w : Way) → v.way x ≡ Some w → Named home (v.up x) → IsView home observer v s facts x w
@@ -268,7 +269,7 @@ module _ (home : ℕ → ℕ) (observer : ℕ → Bool) (v : Views) (s : View) (
 
     -- a place that others have lent isn't rooted in a view
     no_place : (o : ℕ) (w : Way) → v.way o ≡ Some w → (l : Loan) (k : Way) → lent l (name_of k) → number_of k ≡ o → ⊥
-    no_place o w has l k is e = (let no : Some w ≡ None = sym has ∙ ap v.way (sym e) ∙ none l (name_of k) is in cc)
+    no_place o w has l k is e = (let no : Some w ≡ None = sym has ∙ ap v.way (sym e) ∙ none l (name_of k) is in absurd (true≢false (ap is_some no)))
 
     -- nor does a name through a view stand for the view
     off_lifted : (x y : Way) (l : Lifted v x) → IsPlain x → Named home y → number_of x ≡ number_of y → base_of (expand v x) ≡ base_of y

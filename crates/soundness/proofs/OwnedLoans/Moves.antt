@@ -110,12 +110,12 @@ hand_rooted (Lost x) n = absurd n
 hand_rooted (Into w i) n = hand_rooted w n
 hand_rooted (All w) n = hand_rooted w n
 
-pub variable_apart : {g x : ℕ} (f k : Way) → base_of f ≡ OfRoot (OfVariable g x) → InHand k → base_of f ≡ base_of k → ⊥
-variable_apart f k base inhand e = variable_hand base (hand_base k inhand) e
-  where
-    variable_hand : {a b : Loc} {g x h : ℕ} → a ≡ OfRoot (OfVariable g x) → b ≡ OfRoot (OfHand h) → a ≡ b → ⊥
-    variable_hand p q e = cc
+bases_apart : {a b : Loc} {g x h : ℕ} → a ≡ OfRoot (OfVariable g x) → b ≡ OfRoot (OfHand h) → a ≡ b → ⊥
+bases_apart p q e = cc
 
+pub variable_apart : {g x : ℕ} (f k : Way) → base_of f ≡ OfRoot (OfVariable g x) → InHand k → base_of f ≡ base_of k → ⊥
+variable_apart f k base inhand e = bases_apart base (hand_base k inhand) e
+  where
     hand_base : (k : Way) (n : InHand k) → base_of k ≡ OfRoot (OfHand (hand_of k))
     hand_base (Object (OfVariable f x)) n = absurd n
     hand_base (Object (OfHand h)) n = refl

@@ -1,7 +1,8 @@
 -- What a name through views meets, where the facts allow its act: nothing gone on its way, and for
 -- what is changed, no way of a view.
-use Rattle.std.proofs.Common.{◌≡◌, refl, sym, ap, ◌∙◌, subst, ◌⊎◌, inl, inr, ℕ, Bool, true, false, List, [], ◌∷◌, ◌++◌, length, ◌<◌, ◌≤◌, ◌+◌, arith, Some, None}
+use Rattle.std.proofs.Common.{◌≡◌, refl, sym, ap, ◌∙◌, subst, ◌⊎◌, inl, inr, ℕ, Bool, true, false, List, [], ◌∷◌, ◌++◌, length, ◌<◌, ◌≤◌, ◌+◌, arith, Some, None, is_some}
 use Rattle.std.proofs.lemmas.List.{length-append}
+use Rattle.std.proofs.lemmas.Bool.{true≢false}
 use Rattle.spark_base.specs.Lists.{Has}
 use Rattle.place_names.specs.declared.selector.Sel.TheVariants.{Deref}
 use Rattle.place_names.specs.declared.rule.Loan.{Loan}
@@ -138,7 +139,7 @@ module _ (home : ℕ → ℕ) (observer : ℕ → Bool) (other : Around home) (v
   lent_apart l k lent b lends meets = by_loan l (lent_fact l k lent)
     where
       differ : b ≡ number_of k → ⊥
-      differ e = let is : Some lends.0 ≡ None = sym lends.1 ∙ ap v.way e ∙ unviewed l (name_of k) lent in cc
+      differ e = let is : Some lends.0 ≡ None = sym lends.1 ∙ ap v.way e ∙ unviewed l (name_of k) lent in absurd (true≢false (ap is_some is))
 
       by_loan : (l : Loan) → Has facts (Lent l (number_of k) (name_of k)) → ⊥
       by_loan Borrowed has =
@@ -411,7 +412,7 @@ module _ (home : ℕ → ℕ) (observer : ℕ → Bool) (other : Around home) (v
 
   -- what others have lent isn't rooted in a view
   pub no_place : (x : ℕ) (w : Way) → v.way x ≡ Some w → (l : Loan) (k : Way) → other.lent l (name_of k) → number_of k ≡ x → ⊥
-  no_place x w has l k lent e = (let no : Some w ≡ None = sym has ∙ ap v.way (sym e) ∙ unviewed l (name_of k) lent in cc)
+  no_place x w has l k lent e = (let no : Some w ≡ None = sym has ∙ ap v.way (sym e) ∙ unviewed l (name_of k) lent in absurd (true≢false (ap is_some no)))
 
   -- what a view was given doesn't begin at a view
   given_root : (x o : ℕ) (w u : Way) → v.way x ≡ Some w → v.way o ≡ Some u → IsPassed home observer v s o u → base_of u ≡ OfRoot (OfVariable (home x) x)

@@ -1,9 +1,10 @@
 -- Borrow, Observe and Reborrow: a view gets the way of the cell that a name designates.
-use Rattle.std.proofs.Common.{◌≡◌, refl, sym, ap, ◌∙◌, subst, ◌⊎◌, inl, inr, ℕ, ◌==◌, eqb-true, eq-eqb, Bool, true, false, List, [], ◌∷◌, ◌<◌, arith, Option, Some, None, if◌then◌else◌}
+use Rattle.std.proofs.Common.{◌≡◌, refl, sym, ap, ◌∙◌, subst, ◌⊎◌, inl, inr, ℕ, ◌==◌, eqb-true, eq-eqb, Bool, true, false, List, [], ◌∷◌, ◌<◌, arith, Option, Some, None, if◌then◌else◌, is_some}
 use Rattle.spark_base.specs.Lists.{Has}
 use Rattle.spark_base.proofs.Lists.{Has-append_right}
 use Rattle.std.specs.List.{filter}
 use Rattle.std.proofs.Common.{not}
+use Rattle.std.proofs.lemmas.Bool.{false≢true}
 use Rattle.place_names.specs.declared.rule.Rule.TheVariants.{O7}
 use Rattle.place_names.specs.declared.rule.Loan.TheVariants.{Borrowed, Observed}
 use Rattle.place_names.specs.Names.{Name, object, agree_along, overlaps}
@@ -302,13 +303,13 @@ module _ (observer : ℕ → Bool) (facts : List Fact) (clear : AreClear observe
     clear = clear_same observer facts clear (Reborrow b m) refl;
   }
 
+not_both : (c : Bool) → c ≡ true → c ≡ false → ⊥
+not_both c e f = cc
+
 module _ (home : ℕ → ℕ) (observer : ℕ → Bool) (other : Around home) (v t : Views) (s : View) (facts : List Fact)
     (viewed : Viewed home observer other v s facts) where
   stays : (a : Act) → ((m : Name) → removes a (Moved m) ≡ false) → (m : Name) → Has facts (Moved m) → Has (effect a facts) (Moved m)
   stays a keeps m has = kept_fact a facts (Moved m) has (keeps m)
-
-  true_false : (c : Bool) → c ≡ true → c ≡ false → ⊥
-  true_false c e f = cc
 
   own_of : (x : ℕ) (w : Way) → v.way x ≡ Some w → Named home (v.up x) → IsView home observer v s facts x w
   own_of = own_view home observer v s facts viewed.views
@@ -316,9 +317,9 @@ module _ (home : ℕ → ℕ) (observer : ℕ → Bool) (other : Around home) (v
   -- nothing is rooted in an observer but names that are looked at
   pub observer_unused : (b : ℕ) → observer b ≡ true → Unused home other.lent v facts b
   observer_unused b is = record {
-    unmoved = λ n has e. true_false (observer b) is (ap observer (sym e) ∙ viewed.clear.owned n has);
-    unlent = λ l n lent e. true_false (observer b) is (ap observer (sym e) ∙ (viewed.lends l n lent).plain);
-    untaken = λ x w has named off e. true_false (observer b) is (ap observer (sym e) ∙ (own_of x w has named).plain);
+    unmoved = λ n has e. not_both (observer b) is (ap observer (sym e) ∙ viewed.clear.owned n has);
+    unlent = λ l n lent e. not_both (observer b) is (ap observer (sym e) ∙ (viewed.lends l n lent).plain);
+    untaken = λ x w has named off e. not_both (observer b) is (ap observer (sym e) ∙ (own_of x w has named).plain);
   }
 
   -- The way that a name stands for, if it leads to a cell.
@@ -363,7 +364,7 @@ module _ (home : ℕ → ℕ) (observer : ℕ → Bool) (other : Around home) (v
         begins = designated_begins u r;
         deep = on_deep (All u) r (λ d. d);
         plain = ap observer (root_on (All u) r) ∙ plain;
-        older = λ is. absurd (true_false (observer b) observes is);
+        older = λ is. absurd (not_both (observer b) observes is);
         lent = subst (λ z. HasLoan observer z b (effect act facts) (name_of u)) (sym observes)
             (b, Has-append_right (filter (λ g. not (removes act g)) facts) (Lent Observed b (name_of u) ∷ []) (Lent Observed b (name_of u)) (inl refl), observes);
         reaches = (designates w e).1;
@@ -382,7 +383,7 @@ module _ (home : ℕ → ℕ) (observer : ℕ → Bool) (other : Around home) (v
         given = λ named. passed.given (on_named home (v.up l.object) l.rest named);
         alone = λ x z has plain given meets. elim (viewed.views.0 x z has) [
           | inl view ↦ given view.named
-          | inr first ↦ first.alone plain l.object l.way l.has (λ same. true_false (observer l.object) sees (ap observer same ∙ plain)) passed.given
+          | inr first ↦ first.alone plain l.object l.way l.has (λ same. not_both (observer l.object) sees (ap observer same ∙ plain)) passed.given
               (meets_front l.way w z under meets)
         ];
         reaches = (designates w e).1;
@@ -390,7 +391,7 @@ module _ (home : ℕ → ℕ) (observer : ℕ → Bool) (other : Around home) (v
         whole_away = λ z away meets. viewed.whole_away l.object l.way z l.has passed.given away (meets_front l.way w z under meets);
         shown = λ named. (let (loan, (k, at_home, above, lent), changed) = viewed.shown.0 l.object l.way l.has passed.given
             (on_named home l.way l.rest (subst (Named home) stands named)) in
-            (loan, (k, at_home, under_on k l.way w above under, lent), λ plain. absurd (true_false true refl plain)));
+            (loan, (k, at_home, under_on k l.way w above under, lent), λ plain. absurd (not_both true refl plain)));
       }
 
   -- one of what the frame was given needs no loan
@@ -421,7 +422,7 @@ module _ (home : ℕ → ℕ) (observer : ℕ → Bool) (other : Around home) (v
         whole_away = λ z away meets. viewed.parts_away l.object l.steps l.way z l.has away (meets_front l.way w z under meets);
         shown = λ named. (let (loan, (k, at_home, above, lent), changed) = viewed.shown.1 l.object l.steps l.way l.has
             (on_named home l.way l.rest (subst (Named home) stands named)) in
-            (loan, (k, at_home, under_on k l.way w above under, lent), λ plain. absurd (true_false true refl plain)));
+            (loan, (k, at_home, under_on k l.way w above under, lent), λ plain. absurd (not_both true refl plain)));
       }
 
   pub seen_part : (b : ℕ) (o : Option Way) (k : Way) (n : ℕ) (l : InPart v k) → Becomes v t b o (Lost 0) (Lost 0) n → observer b ≡ true
@@ -445,7 +446,7 @@ module _ (home : ℕ → ℕ) (observer : ℕ → Bool) (other : Around home) (v
         begins = on.loan;
         deep = on_deep (v.up l.object) l.rest view.deep;
         plain = on.plain.1;
-        older = λ is. absurd (true_false (observer b) observes is);
+        older = λ is. absurd (not_both (observer b) observes is);
         lent = subst (λ z. HasLoan observer z b after_it (name_of (v.loan l.object))) (sym observes)
             (loan.0, leaves.loans Observed loan.0 (name_of (v.loan l.object)) loan.1, loan.2);
         reaches = (designates w e).1;
@@ -519,7 +520,7 @@ module _ (home : ℕ → ℕ) (observer : ℕ → Bool) (other : Around home) (v
       (λ w e. absurd (none_some w e))
     where
       none_some : (w : Way) → None ≡ Some w → ⊥
-      none_some w e = cc
+      none_some w e = absurd (false≢true (ap is_some e))
 
 pub becomes_with : (v : Views) (b : ℕ) (o : Option Way) (loan up : Way) (n : ℕ) → Becomes v (with_view v b o loan up n) b o loan up n
 becomes_with v b o loan up n = record {

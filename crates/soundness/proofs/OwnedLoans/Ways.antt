@@ -1,5 +1,6 @@
 -- How ways go on, and the names of owners that names through views stand for.
-use Rattle.std.proofs.Common.{◌≡◌, refl, sym, ap, ◌∙◌, subst, ◌⊎◌, inl, inr, ℕ, ◌==◌, eqb-true, eq-eqb, Bool, true, false, List, [], ◌∷◌, length, suc, ◌+◌, arith, Option, Some, None}
+use Rattle.std.proofs.Common.{◌≡◌, refl, sym, ap, ◌∙◌, subst, ◌⊎◌, inl, inr, ℕ, ◌==◌, eqb-true, eq-eqb, Bool, true, false, List, [], ◌∷◌, length, suc, ◌+◌, arith, Option, Some, None, is_some}
+use Rattle.std.proofs.lemmas.Bool.{true≢false}
 use Rattle.place_names.specs.Names.{overlaps}
 use Rattle.soundness.specs.OwnedWays.Ways.{Step, Root, OfVariable, OfHand, OfRoot, Way, Object, Lost, Into, All, Under, Named, along, base_of, number_of, name_of}
 use Rattle.soundness.proofs.OwnedWays.Locations.{depth, under_depth, under_itself}
@@ -293,8 +294,8 @@ next_of v x l = on (v.up l.object) l.rest
 pub stands_alone : (v : Views) (u : Way) → v.way (number_of u) ≡ None → ((p : List Step) → v.part_way (number_of u) p ≡ None) → expand v u ≡ u
 stands_alone v u none bare = elim (lifts v u) [
   | inl e ↦ e
-  | inr (inl l) ↦ (let is : Some l.way ≡ None = sym l.has ∙ ap v.way (sym (lifted_root v u l)) ∙ none in cc)
-  | inr (inr l) ↦ (let is : Some l.way ≡ None = sym l.has ∙ ap (λ z. v.part_way z l.steps) (sym (part_root v u l)) ∙ bare l.steps in cc)
+  | inr (inl l) ↦ (let is : Some l.way ≡ None = sym l.has ∙ ap v.way (sym (lifted_root v u l)) ∙ none in absurd (true≢false (ap is_some is)))
+  | inr (inr l) ↦ (let is : Some l.way ≡ None = sym l.has ∙ ap (λ z. v.part_way z l.steps) (sym (part_root v u l)) ∙ bare l.steps in absurd (true≢false (ap is_some is)))
 ]
 
 -- a way that begins at a variable of the frame is named

@@ -1,6 +1,7 @@
 -- A move into a hand, and from a hand to a target, under the acts Move and Write.
 use Rattle.std.proofs.Common.{◌≡◌, ◌<◌, refl, sym, ap, ◌∙◌, subst, inl, inr, ℕ, Bool, true, false, not, ◌||◌, List, [], ◌∷◌, Some, None, if◌then◌else◌}
 use Rattle.std.specs.List.{filter}
+use Rattle.std.proofs.lemmas.Bool.{false≢true}
 use Rattle.place_names.specs.declared.selector.Sel.{Sel}
 use Rattle.spark_base.specs.Lists.{Has}
 use Rattle.spark_base.proofs.Lists.{Has-append_left, Has-append_right, Has-filter_passes, Has-map}
@@ -25,7 +26,7 @@ test_fails A x false e f = cc
 
 pub either_left : (a b : Bool) → a ≡ true → a || b ≡ true
 either_left true b e = refl
-either_left false b e = cc
+either_left false b e = absurd (false≢true e)
 
 -- no moved name overlaps the name of a move
 pub move_clean : (home : ℕ → ℕ) (facts : List Fact) (m : Way) (parts : List (List Sel)) → Allows facts (Move (name_of m) parts)

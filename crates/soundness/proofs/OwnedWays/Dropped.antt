@@ -1,5 +1,6 @@
 -- The end of a scope.
 use Rattle.std.proofs.Common.{◌≡◌, sym, ap, ◌∙◌, subst, inl, inr, ℕ, Bool, ◌==◌, eqb-true, List, [], ◌∷◌, ◌<◌}
+use Rattle.std.proofs.lemmas.Bool.{false≢true}
 use Rattle.place_names.specs.declared.act.Act.TheVariants.{EndScope}
 use Rattle.place_names.specs.declared.fact.Fact.{Fact}
 use Rattle.place_names.specs.declared.fact.Fact.TheVariants.{Moved}
@@ -7,6 +8,7 @@ use Rattle.place_names.specs.Facts.{effect}
 use Rattle.soundness.specs.OwnedWays.Ways.{Loc, OfRoot, OfCell, Inside, Way, Object, Lost, Into, All, Empty, Gone, Held, View, part, Below, Reaches, IsRooted, IsDrop, Root, OfVariable, OfHand, base_of, number_of, name_of, Named, Sound, Owned, Covered}
 use Rattle.soundness.proofs.OwnedWays.Locations.{below}
 use Rattle.soundness.proofs.OwnedWays.Assigned.{kept_fact, is_false}
+use Rattle.soundness.proofs.Constructors.{is_empty_word}
 
 pub record Kept (s : View) (x : Root) (l : Loc) (c : ℕ) : Type 0 where
   pub word : s.word l ≡ Held c
@@ -14,7 +16,7 @@ pub record Kept (s : View) (x : Root) (l : Loc) (c : ℕ) : Type 0 where
 
 owner_before : (s t : View) (x : Root) → IsDrop s t x → (l : Loc) (c : ℕ) → t.word l ≡ Held c → Kept s x l c
 owner_before s t x d l c h =
-    let outside : Below (OfRoot x) l → ⊥ = λ b. (let is : Held c ≡ Empty = sym h ∙ ap t.word b.1 ∙ d.empty b.0 in cc) in
+    let outside : Below (OfRoot x) l → ⊥ = λ b. (let is : Held c ≡ Empty = sym h ∙ ap t.word b.1 ∙ d.empty b.0 in absurd (false≢true (ap is_empty_word is))) in
     record { word = sym (d.off l outside) ∙ h; outside = outside }
 
 before : (s t : View) (x : Root) → IsDrop s t x → (w : Way) (l : Loc) → IsRooted w → Reaches t w l → Reaches s w l
@@ -66,7 +68,7 @@ owned_after s t x owned d = record {
 -- what ways found gone elsewhere they found gone before
 gone_before : (s t : View) (x : Root) → IsDrop s t x → (l : Loc) → t.word l ≡ Gone → (Below (OfRoot x) l → ⊥) × (s.word l ≡ Gone)
 gone_before s t x d l h =
-    let outside : Below (OfRoot x) l → ⊥ = λ b. (let is : Gone ≡ Empty = sym h ∙ ap t.word b.1 ∙ d.empty b.0 in cc) in
+    let outside : Below (OfRoot x) l → ⊥ = λ b. (let is : Gone ≡ Empty = sym h ∙ ap t.word b.1 ∙ d.empty b.0 in absurd (false≢true (ap is_empty_word is))) in
     (outside, sym (d.off l outside) ∙ h)
 
 covered_after : (s t : View) (x : Root) → Covered s → IsDrop s t x → Covered t

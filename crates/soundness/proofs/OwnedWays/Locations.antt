@@ -1,11 +1,12 @@
 -- Locations and ways as such.
 use Rattle.std.proofs.Common.{◌≡◌, refl, sym, ap, ◌∙◌, subst, ◌⊎◌, inl, inr, ℕ, Bool, true, false, ◌&&◌, ◌==◌, eqb-true, eq-eqb, List, [], ◌∷◌, length, suc, ◌<◌, ◌≤◌, ◌+◌, arith}
 use Rattle.std.specs.Bool.{Decides}
+use Rattle.std.proofs.lemmas.Bool.{false≢true}
 use Rattle.soundness.specs.OwnedWays.Ways.{Step, Component, Element, Root, OfVariable, OfHand, Loc, OfRoot, OfCell, Inside, Way, Object, Lost, Into, All, View, part, along, Below, Reaches, IsRooted, Under, Past}
 
 pub both_parts : (a b : Bool) → a && b ≡ true → (a ≡ true) × (b ≡ true)
 both_parts true b e = (refl, e)
-both_parts false b e = cc
+both_parts false b e = absurd (false≢true e)
 
 pub both_true : (a b : Bool) → a ≡ true → b ≡ true → a && b ≡ true
 both_true a b e f = ap (λ x. x && b) e ∙ f

@@ -1,6 +1,7 @@
 -- Names of ways: what begins one, what covers one.
 use Rattle.std.proofs.Common.{◌≡◌, refl, sym, ap, ◌∙◌, ◌⊎◌, inl, inr, ℕ, Bool, true, false, not, ◌==◌, eqb-true, eq-eqb, List, [], ◌∷◌, ◌++◌}
 use Rattle.std.proofs.lemmas.List.{append_assoc, append-nil}
+use Rattle.std.proofs.lemmas.Bool.{false≢true, true≢false}
 use Rattle.place_names.specs.declared.selector.Sel.{Sel}
 use Rattle.place_names.specs.declared.selector.Sel.TheVariants.{Field, Elem, Deref}
 use Rattle.place_names.specs.Names.{is_equal, begins, is_prefix, agree_along, overlaps, has_elem, covers, agrees_whole, leads_to}
@@ -94,13 +95,13 @@ same_ends (u ∷ a) (v ∷ b) s t e =
 elem_front : (a : List Sel) (s : Sel) → has_elem (a ++ s ∷ []) ≡ false → has_elem a ≡ false
 elem_front [] s e = refl
 elem_front (Field i ∷ a) s e = elem_front a s e
-elem_front (Elem ∷ a) s e = cc
+elem_front (Elem ∷ a) s e = absurd (true≢false e)
 elem_front (Deref ∷ a) s e = elem_front a s e
 
 elem_end : (a : List Sel) → has_elem (a ++ Elem ∷ []) ≡ false → ⊥
-elem_end [] e = cc
+elem_end [] e = absurd (true≢false e)
 elem_end (Field i ∷ a) e = elem_end a e
-elem_end (Elem ∷ a) e = cc
+elem_end (Elem ∷ a) e = absurd (true≢false e)
 elem_end (Deref ∷ a) e = elem_end a e
 
 same_root : (home : ℕ → ℕ) (r q : Root) → IsAt home r → IsAt home q → object_of r ≡ object_of q → r ≡ q
@@ -137,13 +138,13 @@ same_way home (All k) (All w) n m r e h =
 
 is_same : (s t : Sel) → is_equal s t ≡ true → s ≡ t
 is_same (Field i) (Field j) e = ap Field (eqb-true i j e)
-is_same (Field i) Elem e = cc
-is_same (Field i) Deref e = cc
-is_same Elem (Field j) e = cc
+is_same (Field i) Elem e = absurd (false≢true e)
+is_same (Field i) Deref e = absurd (false≢true e)
+is_same Elem (Field j) e = absurd (false≢true e)
 is_same Elem Elem e = refl
-is_same Elem Deref e = cc
-is_same Deref (Field j) e = cc
-is_same Deref Elem e = cc
+is_same Elem Deref e = absurd (false≢true e)
+is_same Deref (Field j) e = absurd (false≢true e)
+is_same Deref Elem e = absurd (false≢true e)
 is_same Deref Deref e = refl
 
 begins_end : (k m : List Sel) (s : Sel) → begins k (m ++ s ∷ []) ≡ true → (k ≡ m ++ s ∷ []) ⊎ (begins k m ≡ true)
@@ -155,7 +156,7 @@ begins_end (t ∷ k) [] s e =
   where
     nothing : (k : List Sel) → begins k [] ≡ true → k ≡ []
     nothing [] e = refl
-    nothing (t ∷ k) e = cc
+    nothing (t ∷ k) e = absurd (false≢true e)
 begins_end (t ∷ k) (u ∷ m) s e =
     let parts = both_parts (is_equal t u) (begins k (m ++ s ∷ [])) e in
     let head = is_same t u parts.0 in
@@ -166,7 +167,7 @@ begins_end (t ∷ k) (u ∷ m) s e =
 
 nothing_begins : (k : List Sel) → begins k [] ≡ true → k ≡ []
 nothing_begins [] e = refl
-nothing_begins (t ∷ k) e = cc
+nothing_begins (t ∷ k) e = absurd (false≢true e)
 
 begun_under : (home : ℕ → ℕ) (k w : Way) → Named home k → Named home w → number_of k ≡ number_of w → begins (sels_of k) (sels_of w) ≡ true
     → has_elem (sels_of k) ≡ false → Under k w
@@ -182,7 +183,7 @@ begun_under home k (All w) n m r e h = elim (begins_end (sels_of k) (sels_of w) 
 ]
 
 not_true : (b : Bool) → not b ≡ true → b ≡ false
-not_true true e = cc
+not_true true e = absurd (false≢true e)
 not_true false e = refl
 
 pub covered_under : (home : ℕ → ℕ) (k w : Way) → Named home k → Named home w → covers (name_of k) (name_of w) ≡ true → Under k w

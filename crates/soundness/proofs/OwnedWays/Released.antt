@@ -1,6 +1,7 @@
 -- Freeing a cell that a name reaches, and making one.
 use Rattle.std.proofs.Common.{◌≡◌, sym, ap, ◌∙◌, subst, ◌⊎◌, inl, inr, ℕ, List, [], ◌∷◌, suc, ◌<◌, ◌≤◌, arith}
 use Rattle.std.proofs.Math.Nat.{eq-or-lt_of_le}
+use Rattle.std.proofs.lemmas.Bool.{false≢true}
 use Rattle.place_names.specs.Names.{covers}
 use Rattle.place_names.specs.declared.act.Act.TheVariants.{Free}
 use Rattle.place_names.specs.declared.fact.Fact.{Fact}
@@ -11,6 +12,7 @@ use Rattle.soundness.proofs.OwnedWays.Locations.{below, same_loc}
 use Rattle.soundness.proofs.OwnedWays.Unique.{one_location}
 use Rattle.soundness.proofs.OwnedWays.Named.{covered_under}
 use Rattle.soundness.proofs.OwnedWays.Assigned.{kept_fact, is_false}
+use Rattle.soundness.proofs.Constructors.{is_empty_word, is_gone_word, is_held_word}
 
 pub record Frees (s t : View) (k : Way) (at : Loc) (n : ℕ) : Type 0 where
   pub owned : Owned s
@@ -26,7 +28,7 @@ pub record Kept (s : View) (at l : Loc) (n c : ℕ) : Type 0 where
 owner_before : (s t : View) (at : Loc) (n : ℕ) → IsRelease s t at n → (l : Loc) (c : ℕ) → t.word l ≡ Held c → Kept s at l n c
 owner_before s t at n r l c h =
     let other : l ≡ at → ⊥ = λ e. (let is : Held c ≡ Empty = sym h ∙ ap t.word e ∙ r.null in cc) in
-    let outside : Below (OfCell n) l → ⊥ = λ b. (let is : Held c ≡ Empty = sym h ∙ ap t.word b.1 ∙ r.empty b.0 in cc) in
+    let outside : Below (OfCell n) l → ⊥ = λ b. (let is : Held c ≡ Empty = sym h ∙ ap t.word b.1 ∙ r.empty b.0 in absurd (false≢true (ap is_empty_word is))) in
     record { word = sym (r.off l other outside) ∙ h; other = other; outside = outside }
 
 before : (s t : View) (at : Loc) (n : ℕ) → IsRelease s t at n → (w : Way) (l : Loc) → IsRooted w → Reaches t w l → Reaches s w l
@@ -87,17 +89,21 @@ stuck s t k at n g (All w) l named (m, c, r, h, e) u = elim u [
 ]
   where
     nothing : (p : List Step) → Held c ≡ t.word (part at p) → ⊥
-    nothing [] e = let is : Held c ≡ Empty = e ∙ g.step.null in cc
-    nothing (i ∷ p) e = let is : Held c ≡ Empty = e ∙ g.step.leaf p i in cc
+    nothing [] e = let is : Held c ≡ Empty = e ∙ g.step.null in absurd (false≢true (ap is_empty_word is))
+    nothing (i ∷ p) e = let is : Held c ≡ Empty = e ∙ g.step.leaf p i in absurd (false≢true (ap is_empty_word is))
 
 not_gone : (s t : View) (at : Loc) (n : ℕ) → IsRelease s t at n → (p : List Step) → t.word (part at p) ≡ Gone → ⊥
-not_gone s t at n f [] e = let is : Empty ≡ Gone = sym f.null ∙ e in cc
-not_gone s t at n f (i ∷ p) e = let is : Empty ≡ Gone = sym (f.leaf p i) ∙ e in cc
+not_gone s t at n f [] e = let is : Empty ≡ Gone = sym f.null ∙ e in absurd (false≢true (ap is_gone_word is))
+not_gone s t at n f (i ∷ p) e = let is : Empty ≡ Gone = sym (f.leaf p i) ∙ e in absurd (false≢true (ap is_gone_word is))
 
 gone_before : (s t : View) (at : Loc) (n : ℕ) → IsRelease s t at n → (l : Loc) → t.word l ≡ Gone → s.word l ≡ Gone
 gone_before s t at n f l h =
-    sym (f.off l (λ e. (let is : Gone ≡ Empty = sym h ∙ ap t.word e ∙ f.null in cc))
-    (λ b. (let is : Gone ≡ Empty = sym h ∙ ap t.word b.1 ∙ f.empty b.0 in cc))) ∙ h
+    sym (f.off l (λ e. (let is : Gone ≡ Empty = sym h ∙ ap t.word e ∙ f.null in absurd (false≢true (ap is_empty_word is))))
+    (λ b. (let is : Gone ≡ Empty = sym h ∙ ap t.word b.1 ∙ f.empty b.0 in absurd (false≢true (ap is_empty_word is))))) ∙ h
+
+same_cell : (c n : ℕ) → Below (OfCell n) (OfCell c) → c ≡ n
+same_cell c n ([], e) = cc
+same_cell c n (i ∷ p, e) = cc
 
 pub released : (home : ℕ → ℕ) (other : Way → Type 0) (s t : View) (k : Way) (at : Loc) (n : ℕ) (facts : List Fact) → Sound home other s facts
     → IsRelease s t at n → Named home k → Reaches s k at → s.word at ≡ Held n → Sound home other t (effect (Free (name_of k)) facts)
@@ -120,10 +126,6 @@ released home other s t k at n facts sound step named target held =
         )
       ];
     }
-  where
-    same_cell : (c n : ℕ) → Below (OfCell n) (OfCell c) → c ≡ n
-    same_cell c n ([], e) = cc
-    same_cell c n (i ∷ p, e) = cc
 
 -- ---- a new cell
 
@@ -144,7 +146,7 @@ fresh_back s t at f (Into w i) l named (m, r, e) = elim (fresh_back s t at f w m
 fresh_back s t at f (All w) l named (m, c, r, o, e) = elim (fresh_owner s t at f m c o) [
   | inl x ↦ inl ([], e ∙ ap OfCell x.1)
   | inr old ↦ elim (fresh_back s t at f w m named r) [
-    | inl b ↦ (let is : Held c ≡ Empty = sym o ∙ ap t.word b.1 ∙ f.empty b.0 in cc)
+    | inl b ↦ (let is : Held c ≡ Empty = sym o ∙ ap t.word b.1 ∙ f.empty b.0 in absurd (false≢true (ap is_empty_word is)))
     | inr r ↦ inr (m, c, r, old, e)
   ]
 ]
@@ -154,7 +156,7 @@ fresh_on s t at f (Object x) l r = r
 fresh_on s t at f (Lost x) l r = (f.leaked x ∙ r.0, r.1)
 fresh_on s t at f (Into w i) l (m, r, e) = (m, fresh_on s t at f w m r, e)
 fresh_on s t at f (All w) l (m, c, r, o, e) =
-    (m, c, fresh_on s t at f w m r, f.off m (λ same. (let is : Held c ≡ Empty = sym o ∙ ap s.word same ∙ f.was in cc)) ∙ o, e)
+    (m, c, fresh_on s t at f w m r, f.off m (λ same. (let is : Held c ≡ Empty = sym o ∙ ap s.word same ∙ f.was in absurd (false≢true (ap is_empty_word is)))) ∙ o, e)
 
 less_or_last : (c n : ℕ) → c < suc n → (c < n) ⊎ (c ≡ n)
 less_or_last c n e = let most : c ≤ n = (omega arith) in elim (eq-or-lt_of_le most) [ inl same ↦ inr same | inr less ↦ inl less ]
@@ -192,7 +194,7 @@ freshly home other s t k at facts sound there f = record {
     | inr last ↦ (All k, (at, s.made, fresh_on s t at f k at there, f.now, ap OfCell last))
   ];
   known = λ w l named r gone. elim (fresh_back s t at f w l named r) [
-    | inl b ↦ (let is : Gone ≡ Empty = sym gone ∙ ap t.word b.1 ∙ f.empty b.0 in cc)
-    | inr r ↦ sound.known w l named r (sym (f.off l (λ same. (let is : Gone ≡ Held s.made = sym gone ∙ ap t.word same ∙ f.now in cc))) ∙ gone)
+    | inl b ↦ (let is : Gone ≡ Empty = sym gone ∙ ap t.word b.1 ∙ f.empty b.0 in absurd (false≢true (ap is_empty_word is)))
+    | inr r ↦ sound.known w l named r (sym (f.off l (λ same. (let is : Gone ≡ Held s.made = sym gone ∙ ap t.word same ∙ f.now in absurd (false≢true (ap is_held_word is))))) ∙ gone)
   ];
 }

@@ -1,5 +1,6 @@
 -- The access parts of a type are its words that own, and stand at the offsets of its access parts.
 use Rattle.std.proofs.Common.{◌≡◌, refl, sym, ap, ◌∙◌, subst, inl, inr, ℕ, zero, suc, ◌+◌, ◌*◌, ◌<◌, Bool, true, false, ◌&&◌, List, [], ◌∷◌, ◌++◌, map, flat_map, length, get_or, arith, append_assoc, append-nil, nat_lt, ltb-true, lt-ltb, suc-mul, zero-mul}
+use Rattle.std.proofs.lemmas.Bool.{false≢true}
 use Rattle.spark_base.specs.Lists.{Has}
 use Rattle.spark_base.proofs.Lists.{Has-append_left, Has-append_right, Has-append_cases, Has-map, Has-map_from}
 use Rattle.place_names.specs.declared.selector.Sel.{Sel}
@@ -129,12 +130,12 @@ module _ (f : ℕ → List (List Sel)) where
 
   own_part : (s : Shape) → owns_one s ≡ true → parts_of f s ≡ [] ∷ []
   own_part (shape.Access d c true) e = refl
-  own_part (shape.Access d c false) e = cc
-  own_part (shape.Fields cs) e = cc
-  own_part (shape.Whole a b) e = cc
-  own_part (shape.Listed l a b) e = cc
-  own_part (shape.Elements a b el) e = cc
-  own_part (shape.Same of) e = cc
+  own_part (shape.Access d c false) e = absurd (false≢true e)
+  own_part (shape.Fields cs) e = absurd (false≢true e)
+  own_part (shape.Whole a b) e = absurd (false≢true e)
+  own_part (shape.Listed l a b) e = absurd (false≢true e)
+  own_part (shape.Elements a b el) e = absurd (false≢true e)
+  own_part (shape.Same of) e = absurd (false≢true e)
 
   from_own : (s : Shape) → ((of : ℕ) → s ≡ shape.Same of → ⊥) → Has (parts_of f s) [] → owns_one s ≡ true
   from_own (shape.Access d c true) plain h = refl

@@ -1,6 +1,6 @@
 -- A part stands within its whole, and two parts of which neither is in the other stand apart.
 use Rattle.std.proofs.Common.{◌≡◌, refl, sym, ap, ◌∙◌, subst, ◌⊎◌, inl, inr, ℕ, suc, ◌+◌, ◌*◌, ◌<◌, ◌≤◌, Bool, true, false, ◌&&◌, List, [], ◌∷◌, ◌++◌, map, sum, length, arith, append_assoc, nat_lt, ltb-true}
-use Rattle.std.proofs.lemmas.Bool.{cases_lt}
+use Rattle.std.proofs.lemmas.Bool.{cases_lt, false≢true}
 use Rattle.spark_base.proofs.Lists.{ends}
 use Rattle.type_definitions.specs.declared.table.Component.{Component as Field}
 use Rattle.type_definitions.specs.declared.table.Shape.{Shape}
@@ -13,7 +13,7 @@ use Rattle.soundness.proofs.PartOffsets.Sums.{sum_next, sum_more, sum_all, run_b
 
 pub both_parts : (a b : Bool) → a && b ≡ true → (a ≡ true) × (b ≡ true)
 both_parts true b e = (refl, e)
-both_parts false b e = cc
+both_parts false b e = absurd (false≢true e)
 
 -- ---- words of wholes
 
@@ -45,11 +45,11 @@ not_both (shape.Same of) i n a b = absurd (omega (arith, b))
 -- an owning word has none
 pub no_inner : (s : Shape) → owns_one s ≡ true → (components_of s ≡ []) × (count_of s ≡ 0) × ((w : ℕ → ℕ) → words_of w s ≡ 1)
 no_inner (shape.Access d c n) e = (refl, refl, λ w. refl)
-no_inner (shape.Fields cs) e = cc
-no_inner (shape.Whole l h) e = cc
-no_inner (shape.Listed k l h) e = cc
-no_inner (shape.Elements l h el) e = cc
-no_inner (shape.Same of) e = cc
+no_inner (shape.Fields cs) e = absurd (false≢true e)
+no_inner (shape.Whole l h) e = absurd (false≢true e)
+no_inner (shape.Listed k l h) e = absurd (false≢true e)
+no_inner (shape.Elements l h el) e = absurd (false≢true e)
+no_inner (shape.Same of) e = absurd (false≢true e)
 
 module _ (table : Table) (settled : IsSettled table) where
   pub component_within : (u i : ℕ) → i < length (fields table u)

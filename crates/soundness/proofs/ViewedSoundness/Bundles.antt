@@ -2,6 +2,7 @@
 -- the way of what that designates.
 use Rattle.std.proofs.Common.{◌≡◌, refl, sym, ap, ◌∙◌, subst, ◌⊎◌, inl, inr, ℕ, suc, zero, ◌+◌, ◌*◌, ◌<◌, Bool, true, false, ◌&&◌, List, [], ◌∷◌, ◌++◌, map, length, get_or, append-nil, arith, ltb-true}
 use Rattle.std.proofs.lemmas.List.{length-map}
+use Rattle.std.proofs.lemmas.Bool.{false≢true}
 use Rattle.spark_base.specs.declared.position.Pos.{Pos}
 use Rattle.place_names.specs.declared.fact.Fact.{Fact}
 use Rattle.place_names.specs.Names.{Name as PlaceName, overlaps}
@@ -77,7 +78,7 @@ place_of table k (Element n ∷ p) =
 
 both_parts : (a b : Bool) → a && b ≡ true → (a ≡ true) × (b ≡ true)
 both_parts true b e = (refl, e)
-both_parts false b e = cc
+both_parts false b e = absurd (false≢true e)
 
 word_map : (xs : List Slot) (i : ℕ) → (get_or (fresh (map (λ (x : Slot). x.word) xs)) i no_slot).word ≡ (get_or xs i no_slot).word
 word_map [] zero = refl

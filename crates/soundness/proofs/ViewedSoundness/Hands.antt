@@ -1,6 +1,7 @@
 -- Values that wait are hands below those of an expression. They go to a new hand where they are taken; those that
 -- show no cell fall empty, and empty hands fall from below a value.
 use Rattle.std.proofs.Common.{◌≡◌, refl, sym, ap, ◌∙◌, subst, inl, inr, ℕ, suc, ◌==◌, true, List, [], ◌∷◌, ◌++◌, length, reverse, map, arith, append_assoc, length-append, if◌then◌else◌, Bool}
+use Rattle.std.proofs.lemmas.Bool.{false≢true}
 use mathlib.Core.List.{reverse_aux}
 use Rattle.place_names.specs.declared.fact.Fact.{Fact}
 use Rattle.type_definitions.specs.Types.{words}
@@ -30,6 +31,7 @@ use Rattle.soundness.specs.ViewedSoundness.Taken.{AreScalarValues}
 use Rattle.soundness.proofs.ViewedSoundness.Evaluated as evaluating
 use Rattle.soundness.proofs.ViewedSoundness.Lifted.{lifted_sound, lifted_kept}
 use Rattle.soundness.proofs.ViewedSoundness.Moments.{from_sound, hands_spared, other_hands}
+use Rattle.soundness.proofs.Constructors.{is_cell_word}
 
 -- ---- lists of hands
 
@@ -150,7 +152,7 @@ module _ (h : Here) (sees : ℕ → Bool) (seeing : Seeing h.typing sees) (settl
   nothing_shown t p = blank_word h.typing.table (in_hand (record { of = t; words = [] })) [] refl (λ c has. has) p
 
   nothing_points : (m : Memory) (t : ℕ) → Points h.typing m (in_hand (record { of = t; words = [] }))
-  nothing_points m t p d c n i has is at = (let none : machine.Null ≡ machine.Cell i = at in cc)
+  nothing_points m t p d c n i has is at = (let none : machine.Null ≡ machine.Cell i = at in absurd (false≢true (ap is_cell_word none)))
 
   -- a scalar value falls empty
   blanked : (m : Memory) (K : List Waiting) (x : Waiting) (rest : List Waiting) (facts : List Fact) → is_scalar (full h.typing.table x.of) ≡ true

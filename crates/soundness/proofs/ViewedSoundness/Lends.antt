@@ -1,6 +1,6 @@
 -- What declarations of borrowers and observers and assignments to them lead to: the view gets what
 -- its source has, and its way from it.
-use Rattle.std.proofs.Common.{◌≡◌, refl, sym, ap, ◌∙◌, subst, ◌⊎◌, inl, inr, ℕ, ◌<◌, Bool, true, false, not, ◌||◌, List, [], ◌∷◌, ◌++◌, flat_map, take, drop, length, Option, Some, None, if◌then◌else◌, ◌==◌, eqb-true, eq-eqb, ◌+◌, append-nil, arith}
+use Rattle.std.proofs.Common.{◌≡◌, refl, sym, ap, ◌∙◌, subst, ◌⊎◌, inl, inr, ℕ, ◌<◌, Bool, true, false, not, ◌||◌, List, [], ◌∷◌, ◌++◌, flat_map, take, drop, length, Option, Some, None, if◌then◌else◌, ◌==◌, eqb-true, eq-eqb, ◌+◌, append-nil, arith, is_some}
 use Rattle.spark_base.specs.declared.position.Pos.{Pos}
 use Rattle.soundness.proofs.Contents.{bool_cases}
 use Rattle.place_names.specs.declared.act.Act.{Act}
@@ -37,6 +37,7 @@ use Rattle.soundness.proofs.OwnedLoans.Clear.{clear_same}
 use Rattle.spark_base.specs.Lists.{Has}
 use Rattle.spark_base.proofs.Lists.{Has-append_right}
 use Rattle.std.specs.Prelude.{filter}
+use Rattle.std.proofs.lemmas.Bool.{false≢true, true≢false}
 use Rattle.place_names.specs.declared.fact.Fact.TheVariants.{Moved, Lent}
 use Rattle.place_names.specs.declared.rule.Loan.TheVariants.{Observed}
 use Rattle.soundness.proofs.OwnedWays.Assigned.{kept_fact}
@@ -70,6 +71,24 @@ matches_on table a b c (inr e) (inl f) = inr (e.1, scalar_on table a c f e.0)
 matches_on table a b c (inr e) (inr g) = inr (e.1, g.1)
 
 -- ---- views
+
+same_some : (a b : Way) → Some a ≡ Some b → a ≡ b
+same_some a b e = cc
+
+way_of : (z : machine.Word) (w k : Way) → way_from z w ≡ Some k → k ≡ w
+way_of (machine.Cell n) w k e = sym (same_some w k e)
+way_of (machine.Int n) w k e = cc
+way_of (machine.Enumerated n) w k e = cc
+way_of machine.Null w k e = cc
+
+in_word : (z : machine.Word) (w k : Way) → way_from z w ≡ Some k → (n : ℕ) × (z ≡ machine.Cell n)
+in_word (machine.Cell n) w k e = (n, refl)
+in_word (machine.Int n) w k e = cc
+in_word (machine.Enumerated n) w k e = cc
+in_word machine.Null w k e = cc
+
+same_designated : (k d : ℕ) (e o c n : Bool) → shape.Access k e o ≡ shape.Access d c n → k ≡ d
+same_designated k d e o c n is = cc
 
 module _ (t : Turn) (sees : ℕ → Bool) (seeing : Seeing (typing t) sees) (settled : IsSettled (typing t).table) (own_law : OwnsByShape (typing t).table) (other : Around (home (typing t) (length t.outer)))
     (alone : (w : Way) → IsNear (length t.outer) w → other.gone w → ⊥)
@@ -146,7 +165,7 @@ module _ (t : Turn) (sees : ℕ → Bool) (seeing : Seeing (typing t) sees) (set
   root_from x y u named root apart bare = elim (lifts v u) [
     | inl e ↦ inl (ap base_of e ∙ named_base (home s depth) u named ∙ ap (λ z. OfRoot (ways.OfVariable (home s depth z) z)) root, apart)
     | inr (inl l) ↦ lifted_from x y u root l
-    | inr (inr l) ↦ (let is : Some l.way ≡ None = sym l.has ∙ ap (λ z. v.part_way z l.steps) (sym (part_root v u l) ∙ root) ∙ bare l.steps in cc)
+    | inr (inr l) ↦ (let is : Some l.way ≡ None = sym l.has ∙ ap (λ z. v.part_way z l.steps) (sym (part_root v u l) ∙ root) ∙ bare l.steps in absurd (true≢false (ap is_some is)))
   ]
 
   -- what is changed through has no parts
@@ -164,15 +183,6 @@ module _ (t : Turn) (sees : ℕ → Bool) (seeing : Seeing (typing t) sees) (set
       by_kind : (b : Bool) → is_bundle s y ≡ b → is_bundle s y ≡ false
       by_kind false e = e
       by_kind true e = absurd (true_false (sees y) (good.holds.parts.looks y e) plain)
-
-  same_some : (a b : Way) → Some a ≡ Some b → a ≡ b
-  same_some a b e = cc
-
-  way_of : (z : machine.Word) (w k : Way) → way_from z w ≡ Some k → k ≡ w
-  way_of (machine.Cell n) w k e = sym (same_some w k e)
-  way_of (machine.Int n) w k e = cc
-  way_of (machine.Enumerated n) w k e = cc
-  way_of machine.Null w k e = cc
 
   -- one view got another way
   turned_by : (views : Views) (x y : ℕ) (way : Option Way) (loan up : Way) (cell : ℕ) (facts : List Fact) → Becomes v views x way loan up cell → may x y
@@ -192,12 +202,6 @@ module _ (t : Turn) (sees : ℕ → Bool) (seeing : Seeing (typing t) sees) (set
   comes_under : (y : ℕ) (k w : Way) → expand v k ≡ w → (l : Lifted v k) → l.object ≡ y → (q : Way) × (v.way y ≡ Some q) × Under q w
   comes_under y k w is l object =
       (l.way, subst (λ q. v.way q ≡ Some l.way) object l.has, subst (Under l.way) (sym (lifted_way v k l) ∙ is) (on_under l.way l.rest))
-
-  in_word : (z : machine.Word) (w k : Way) → way_from z w ≡ Some k → (n : ℕ) × (z ≡ machine.Cell n)
-  in_word (machine.Cell n) w k e = (n, refl)
-  in_word (machine.Int n) w k e = cc
-  in_word (machine.Enumerated n) w k e = cc
-  in_word machine.Null w k e = cc
 
   -- it is taken from an object, or from what another view designates
   taken_from : (views : Views) (x y : ℕ) (z : machine.Word) (k loan : Way) (facts : List Fact)
@@ -315,9 +319,6 @@ module _ (t : Turn) (sees : ℕ → Bool) (seeing : Seeing (typing t) sees) (set
       → is_view_formal s (number_of (on (All w) r)) ≡ true → (k : ℕ) → z ≡ machine.Cell k → Lifted v (on (All w) r)
   found w r y z root bare goes formal k e =
       ((goes k e).0 bare (either_true (is_anonymous (view_of s y)) (is_view_formal s y) (ap (is_view_formal s) (sym (root_on (All w) r ∙ root)) ∙ formal))).0
-
-  same_designated : (k d : ℕ) (e o c n : Bool) → shape.Access k e o ≡ shape.Access d c n → k ≡ d
-  same_designated k d e o c n is = cc
 
   of_type : (x d : ℕ) → Sees x d → (z : machine.Word) → ((k : ℕ) → z ≡ machine.Cell k → IsCell s m d k) → IsOfType s sees settled m x z
   of_type x d observes z typed d' c' n' k is e =
@@ -580,8 +581,8 @@ module _ (t : Turn) (sees : ℕ → Bool) (seeing : Seeing (typing t) sees) (set
   replaced (a ∷ b ∷ all) z one = absurd (omega (arith, one))
 
   pub no_parts : (k : ℕ) (e o : Bool) → is_anonymous (view_of_shape (shape.Access k e o)) ≡ true → (f : ℕ → List (List Sel)) → parts_of f (shape.Access k e o) ≡ []
-  no_parts k true true any f = cc
-  no_parts k false true any f = cc
+  no_parts k true true any f = absurd (false≢true any)
+  no_parts k false true any f = absurd (false≢true any)
   no_parts k e false any f = refl
 
   -- the variable of a view has no leak checks, and its word is the whole of it

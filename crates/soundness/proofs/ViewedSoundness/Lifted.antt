@@ -1,6 +1,7 @@
 -- A value goes from one hand to another one.
 use Rattle.std.proofs.Common.{◌≡◌, refl, sym, ap, ◌∙◌, subst, inl, inr, ℕ, ◌+◌, List, [], ◌++◌, length, get_or, arith}
 use Rattle.std.proofs.lemmas.List.{get_or_past}
+use Rattle.std.proofs.lemmas.Bool.{false≢true}
 use Rattle.place_names.specs.declared.fact.Fact.{Fact}
 use Rattle.type_definitions.specs.Types.{shape_of, words}
 use Rattle.flow_paths.specs.Objects.{Typing}
@@ -19,15 +20,16 @@ use Rattle.soundness.proofs.Contents.{stored_step, stored_whole}
 use Rattle.soundness.proofs.Defaults.{blank_word}
 use Rattle.soundness.proofs.Joined.{not_inside}
 use Rattle.soundness.proofs.Steps.{alike}
+use Rattle.soundness.proofs.Constructors.{is_cell_word, is_held_word}
+
+same_hand : (i j : ℕ) → hand i ≡ hand j → i ≡ j
+same_hand i j e = cc
 
 module _ (s : Typing) (settled : IsSettled s.table) (m : Memory) (leaks : List Leak) (a b : List Waiting) (h k : ℕ) (v : Waiting) (differ : k ≡ h → ⊥)
     (from : waiting_at a h ≡ v) (left : waiting_at b h ≡ no_value) (free : waiting_at a k ≡ record { of = v.of; words = [] }) (to : waiting_at b k ≡ v)
     (others : (j : ℕ) → (j ≡ h → ⊥) → (j ≡ k → ⊥) → waiting_at b j ≡ waiting_at a j) (long : length v.words ≡ words s.table v.of) where
   abbrev blank : Waiting
   blank = record { of = v.of; words = [] }
-
-  same_hand : (i j : ℕ) → hand i ≡ hand j → i ≡ j
-  same_hand i j e = cc
 
   raw : Put (in_hand blank) (in_hand v) 0 (fresh v.words)
   raw = record {
@@ -64,7 +66,7 @@ module _ (s : Typing) (settled : IsSettled s.table) (m : Memory) (leaks : List L
   nothing p n e =
       let none : word_in s.table (content s m a (hand k)) p ≡ Empty =
       ap (λ z. word_in s.table (in_hand z) p) free ∙ blank_word s.table (in_hand blank) [] refl (λ c has. has) p in
-      let is : Empty ≡ Held n = sym none ∙ e in cc
+      let is : Empty ≡ Held n = sym none ∙ e in absurd (false≢true (ap is_held_word is))
 
   pub lifted_sound : (at_home : ℕ → ℕ) (other : Way → Type 0) (facts : List Fact) → ((j : ℕ) → Spares other (Object (OfHand j)))
       → Sound at_home other (seen s m a leaks) facts → Sound at_home other (seen s m b leaks) facts
@@ -85,7 +87,7 @@ module _ (s : Typing) (settled : IsSettled s.table) (m : Memory) (leaks : List L
     where
       in_hands : (j : ℕ) → Points s m (in_hand (waiting_at b j))
       in_hands j = elim (same_or_not j h) [
-        | inl e ↦ subst (λ z. Points s m (in_hand z)) (sym (ap (waiting_at b) e ∙ left)) (λ p d c n i has is at. (let none : machine.Null ≡ machine.Cell i = at in cc))
+        | inl e ↦ subst (λ z. Points s m (in_hand z)) (sym (ap (waiting_at b) e ∙ left)) (λ p d c n i has is at. (let none : machine.Null ≡ machine.Cell i = at in absurd (false≢true (ap is_cell_word none))))
         | inr ne ↦ elim (same_or_not j k) [
           | inl e ↦ subst (λ z. Points s m (in_hand z)) (from ∙ sym (ap (waiting_at b) e ∙ to)) (kept.points (hand h))
           | inr off ↦ subst (λ z. Points s m (in_hand z)) (sym (others j ne off)) (kept.points (hand j))

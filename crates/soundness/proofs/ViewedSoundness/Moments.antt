@@ -1,6 +1,7 @@
 -- Steps of a memory keep the state sound with views: what names have is taken, values are stored,
 -- and variables are declared and end.
 use Rattle.std.proofs.Common.{◌≡◌, refl, sym, ap, ◌∙◌, subst, inl, inr, ℕ, ◌+◌, ◌<◌, Bool, true, false, not, List, [], ◌∷◌, ◌++◌, take, drop, length, get_or, append-nil, arith}
+use Rattle.std.proofs.lemmas.Bool.{false≢true}
 use Rattle.spark_base.specs.declared.position.Pos.{Pos}
 use Rattle.place_names.specs.declared.selector.Sel.{Sel}
 use Rattle.place_names.specs.declared.act.Act.TheVariants.{Move, Write, EndScope}
@@ -228,7 +229,7 @@ module _ (s : Typing) (settled : IsSettled s.table) (home : ℕ → ℕ) (observ
         where
           marked : (z : machine.Word) (g : Bool) → g ≡ true → owner_at z g ≡ Gone
           marked z true e = refl
-          marked z false e = cc
+          marked z false e = absurd (false≢true e)
 
           clean : ExcusedBy home v other facts (along (expand v u) p) → ⊥
           clean (inl moved) =

@@ -1,6 +1,7 @@
 -- Where a name leads that may be rooted in a borrower or observer, and that it touches no freed
 -- cell.
 use Rattle.std.proofs.Common.{◌≡◌, refl, sym, ap, ◌∙◌, subst, ◌⊎◌, inl, inr, ℕ, ◌<◌, Bool, true, false, not, ◌||◌, List, [], ◌∷◌, append-nil, map, take, drop, length, get_or, arith, Option, Some, None, if◌then◌else◌}
+use Rattle.std.proofs.lemmas.Bool.{false≢true}
 use Rattle.place_names.specs.declared.fact.Fact.{Fact}
 use Rattle.type_definitions.specs.declared.table.Shape.{Shape}
 use Rattle.type_definitions.specs.declared.table.Shape.TheVariants as shape
@@ -33,6 +34,7 @@ use Rattle.soundness.specs.ViewedSoundness.Holds.{IsNamed, PartsAreNamed, is_vie
 use Rattle.soundness.proofs.ViewedSoundness.Walks.{owners_rooted, walk, component_spot, element_spot, one_slot as one_there, slot_is}
 use Rattle.soundness.proofs.ViewedSoundness.Spared.{gone_off}
 use Rattle.soundness.proofs.ViewedSoundness.ViewKinds.{either, neither, either_true, true_false, plain_named, not_view, no_parts_in, bundle_view, bundle_access, bundle_named, plain_sees}
+use Rattle.soundness.proofs.Constructors.{is_held_word}
 
 -- ---- steps from the variable of a view
 
@@ -113,6 +115,9 @@ lifted_along : (v : Views) (way : List run.Step) (w : Way) → Lifted v w → Li
 lifted_along v [] w l = l
 lifted_along v (step ∷ rest) w l = lifted_along v rest (way_step step w) (lifted_step v step w l)
 
+cell_is : (n k : ℕ) → OfCell n ≡ OfCell k → n ≡ k
+cell_is n k e = cc
+
 -- the cell that a way reaches is there
 pub way_live : (s : View) (w : Way) (n : ℕ) → Owned s → IsRooted w → Reaches s w (OfCell n) → s.freed n ≡ false
 way_live s (Object r) n owned rooted e = cc
@@ -120,9 +125,6 @@ way_live s (Lost k) n owned rooted r = absurd rooted
 way_live s (Into w i) n owned rooted (m, r, e) = cc
 way_live s (All w) n owned rooted (m, k, r, held, e) =
     let same : n ≡ k = cell_is n k e in ap s.freed same ∙ owned.live m k held
-  where
-    cell_is : (n k : ℕ) → OfCell n ≡ OfCell k → n ≡ k
-    cell_is n k e = cc
 
 -- ---- types of views
 
@@ -130,15 +132,15 @@ pub not_object_along : (rest : List run.Step) (step : run.Step) (w : Way) → Is
 not_object_along [] step w d = not_object step w d
 not_object_along (next ∷ rest) step w d = not_object_along rest next (way_step step w) d
 
+root_is : (a b : Root) → Object a ≡ Object b → a ≡ b
+root_is a b e = cc
+
 -- a name of a named type isn't that of a view, if it isn't a formal itself
 pub is_place : (s : Typing) (v : Views) (f x t : ℕ) (way : List run.Step) → Starts s.table (object_at s x).of way t → IsNamed s.table t
     → (is_view_formal s x ≡ true → way ≡ [] → ⊥)
     → ((y : ℕ) (w : Way) → v.way y ≡ Some w → is_view s y ≡ true) → IsPlace v (way_along way (Object (OfVariable f x)))
 is_place s v f x t [] starts named own only r e = ap (way_at v) (sym (root_is (OfVariable f x) r e)) ∙ no_way (v.way x) refl
   where
-    root_is : (a b : Root) → Object a ≡ Object b → a ≡ b
-    root_is a b e = cc
-
     not_formal : (b : Bool) → is_view_formal s x ≡ b → is_view_formal s x ≡ false
     not_formal true e = absurd (own e refl)
     not_formal false e = e
@@ -228,6 +230,9 @@ parts_same s sees frame v m n same parts = record {
 }
 
 -- ---- names
+
+scalar_no_access : (sh : Shape) (d : ℕ) (c n : Bool) → sh ≡ shape.Access d c n → is_scalar (view_of_shape sh) ≡ true → ⊥
+scalar_no_access sh d c n is plain = (let no : is_scalar (view_of_shape (shape.Access d c n)) ≡ true = ap (λ z. is_scalar (view_of_shape z)) (sym is) ∙ plain in cc)
 
 module _ (h : Here) (sees : ℕ → Bool) (seeing : Seeing h.typing sees) (settled : IsSettled h.typing.table) (hands : List Waiting) (leaks : List Leak) (m : Memory) (waits : List (List machine.Word))
     (other : Around (home h.typing h.frame)) (facts : List Fact) (v : Views) (kept : Kept h.typing m hands)
@@ -430,9 +435,6 @@ module _ (h : Here) (sees : ℕ → Bool) (seeing : Seeing h.typing sees) (settl
         record { base = refl; made = (points.0, points.1); at = refl; there = refl; of = points.2 },
       )
     where
-      scalar_no_access : (sh : Shape) (d : ℕ) (c n : Bool) → sh ≡ shape.Access d c n → is_scalar (view_of_shape sh) ≡ true → ⊥
-      scalar_no_access sh d c n is plain = (let no : is_scalar (view_of_shape (shape.Access d c n)) ≡ true = ap (λ z. is_scalar (view_of_shape z)) (sym is) ∙ plain in cc)
-
       type_there : Matches s.table k.of (type_in s.table (content s m hands (trunk (InBundle x p))).of (steps_in (InBundle x p)))
           → shape_of s.table (type_in s.table (content s m hands (trunk (InBundle x p))).of (steps_in (InBundle x p))) ≡ shape.Access d c n
       type_there (inl same) = sym same ∙ is
@@ -529,7 +531,7 @@ module _ (h : Here) (sees : ℕ → Bool) (seeing : Seeing h.typing sees) (settl
   ]
     where
       empty_held : {n : ℕ} → Empty ≡ Held n → ⊥
-      empty_held e = cc
+      empty_held e = absurd (false≢true (ap is_held_word e))
 
   -- what is changed begins at an owner
   pub changed_owners : (x t : ℕ) (way : List run.Step) → sees x ≡ false → (is_view_formal s x ≡ true → way ≡ [] → ⊥) → Starts s.table (object_at s x).of way t → (l : Loc)

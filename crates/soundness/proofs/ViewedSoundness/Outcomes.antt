@@ -1,6 +1,7 @@
 -- What instructions lead to in programs with borrowers and observers: conditions, assignments to
 -- targets that aren't views, and ends of scopes.
 use Rattle.std.proofs.Common.{◌≡◌, refl, sym, ap, ◌∙◌, subst, ◌⊎◌, inl, inr, ℕ, Bool, true, false, not, ◌&&◌, ◌||◌, List, [], ◌∷◌, ◌++◌, map, flat_map, reverse, take, drop, length, nat_lt, Some, None, if◌then◌else◌, eq-eqb}
+use Rattle.std.proofs.lemmas.Bool.{true≢false}
 use Rattle.spark_base.specs.declared.position.Pos.{Pos}
 use Rattle.place_names.specs.declared.act.Act.TheVariants as act
 use Rattle.place_names.specs.declared.fact.Fact.{Fact}
@@ -69,7 +70,7 @@ no_and true c e = e
 no_and false c e = refl
 
 neither : (a b : Bool) → a || b ≡ false → (a ≡ false) × (b ≡ false)
-neither true b e = cc
+neither true b e = absurd (true≢false e)
 neither false b e = (refl, e)
 
 pub not_views : (s : Typing) (x : ℕ) → IsNamed s.table (object_at s x).of → (is_borrower s x ≡ false) × (is_observer s x ≡ false)

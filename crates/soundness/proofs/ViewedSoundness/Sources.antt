@@ -1,6 +1,7 @@
 -- The source of a borrow, of an observation and of a reborrow: a name that is looked at where it
 -- stands, whose word is null or the number of the cell that it designates.
 use Rattle.std.proofs.Common.{◌≡◌, refl, sym, ap, ◌∙◌, subst, inl, inr, ℕ, Bool, true, false, not, ◌&&◌, ◌||◌, List, [], ◌∷◌, map, get_or}
+use Rattle.std.proofs.lemmas.Bool.{false≢true}
 use Rattle.spark_base.specs.declared.position.Pos.{Pos}
 use Rattle.place_names.specs.declared.fact.Fact.{Fact}
 use Rattle.place_names.specs.Names.{Name as PlaceName}
@@ -46,6 +47,12 @@ use Rattle.soundness.proofs.ViewedSoundness.Viewing.{IsDesignated, owner_designa
 anonymous_access : (c : Bool) → (not false && not c) || (not false && c) ≡ true
 anonymous_access true = refl
 anonymous_access false = refl
+
+not_both : (b : Bool) → b ≡ true → b ≡ false → ⊥
+not_both b e f = cc
+
+named_is : (d e : ℕ) (c b q : Bool) → shape.Access d c true ≡ shape.Access e b q → q ≡ true
+named_is d e c b q z = cc
 
 module _ (h : Here) (sees : ℕ → Bool) (seeing : Seeing h.typing sees) (settled : IsSettled h.typing.table) (hands : List Waiting) (leaks : List Leak) (m : Memory) (waits : List (List machine.Word))
     (other : Around (home h.typing h.frame)) (facts : List Fact) (v : Views)
@@ -173,17 +180,17 @@ module _ (h : Here) (sees : ℕ → Bool) (seeing : Seeing h.typing sees) (settl
       let root : number_of u ≡ y = number_along way (variable y) in
       elim (name_lifted h sees seeing settled hands leaks m on other facts v kept viewed holds alone live y t way bare (λ e b q shape_is. named_is d e c b q (sym is ∙ shape_is)) starts) [
         | inl plain ↦ owner_shows on y t d c way starts is
-            (λ moved. unmoved y u named root (λ e. absurd (true_false (sees y) e (plain_sees s sees seeing y plain))) clears moved)
+            (λ moved. unmoved y u named root (λ e. absurd (not_both (sees y) e (plain_sees s sees seeing y plain))) clears moved)
             (stands_owners s sees h.frame v m u holds named
             (inl (ap (is_view_formal s) root ∙ (neither (is_anonymous (view_of s y)) (is_view_formal s y) plain).1)))
             (is_place s v (home s h.frame y) y t way starts (λ e b q shape_is. named_is d e c b q (sym is ∙ shape_is))
-            (λ formal none. true_false (is_view_formal s y) formal (neither (is_anonymous (view_of s y)) (is_view_formal s y) plain).1) holds.only)
+            (λ formal none. not_both (is_view_formal s y) formal (neither (is_anonymous (view_of s y)) (is_view_formal s y) plain).1) holds.only)
             (inr (λ p. ap (λ z. v.part_way z p) root ∙ names.seen_parts h sees seeing settled hands leaks m on other facts v kept viewed holds alone live y (plain_sees s sees seeing y plain) p))
-            (λ e view. absurd (true_false (is_view s y) view plain)) (λ e. absurd (true_false (is_bundle s y) e bare))
+            (λ e view. absurd (not_both (is_view s y) view plain)) (λ e. absurd (not_both (is_bundle s y) e bare))
             (walked s way (variable_place h y) (at on)) there
         | inr more ↦ elim more [
           | inl lifted ↦ owner_shows on y t d c way starts is (λ moved. unmoved y u named root (λ e. lifted.0) clears moved) lifted.2
-              (lifted_place v u lifted.0) (inl (lifted_deep v u lifted.0)) (λ e view. (lifted.0, lifted.1)) (λ e. absurd (true_false (is_bundle s y) e bare))
+              (lifted_place v u lifted.0) (inl (lifted_deep v u lifted.0)) (λ e view. (lifted.0, lifted.1)) (λ e. absurd (not_both (is_bundle s y) e bare))
               (walked s way (variable_place h y) (at on)) there
           | inr more ↦ elim more [
             | inl raises ↦ raised (walked s way (variable_place h y) (at on)) raises
@@ -194,12 +201,6 @@ module _ (h : Here) (sees : ℕ → Bool) (seeing : Seeing h.typing sees) (settl
         ]
       ]
     where
-      true_false : (b : Bool) → b ≡ true → b ≡ false → ⊥
-      true_false b e f = cc
-
-      named_is : (d e : ℕ) (c b q : Bool) → shape.Access d c true ≡ shape.Access e b q → q ≡ true
-      named_is d e c b q z = cc
-
       raised : (x : Evaluated Place) → IsRaised h sees seeing settled hands leaks m on other facts v kept viewed holds alone live m x → Quiet (at on) (Shows y d (way_along way (variable y))) (followed_by x (held_or_taken h AsView))
       raised (Raises e n) same = same
       raised (Done k n) none = absurd none
@@ -214,7 +215,7 @@ module _ (h : Here) (sees : ℕ → Bool) (seeing : Seeing h.typing sees) (settl
         (λ excused. part_whole s sees h.frame other v view_here facts viewed alone (way_along way (variable y)) inner (expand v (way_along way (variable y))) excused
         (inl (under_itself (expand v (way_along way (variable y))))))
         (part_owners s sees h.frame v m (way_along way (variable y)) holds inner) (in_part_place v (way_along way (variable y)) inner)
-        (inl (in_part_deep v (way_along way (variable y)) inner)) (λ bare view. absurd (true_false (is_bundle s y) bundle bare)) (λ e. inner)
+        (inl (in_part_deep v (way_along way (variable y)) inner)) (λ bare view. absurd (not_both (is_bundle s y) bundle bare)) (λ e. inner)
         (walked s way (variable_place h y) (at on)) there
     | inr (inr raises) ↦ raised (walked s way (variable_place h y) (at on)) raises
     | inl own ↦ (
@@ -234,7 +235,7 @@ module _ (h : Here) (sees : ℕ → Bool) (seeing : Seeing h.typing sees) (settl
                 (names.InBundle h sees seeing settled hands leaks m on other facts v kept viewed holds alone live y q) d c n own.4 access e in
                 (cell.made.0, cell.made.1, cell.of));
             goes = λ n e. (
-              (λ bare view. absurd (true_false (is_bundle s y) bundle bare)),
+              (λ bare view. absurd (not_both (is_bundle s y) bundle bare)),
               (λ any. (let part = names.part_found_there h sees seeing settled hands leaks m on other facts v kept viewed holds alone live y q k d c true n bundle own.4 access e in
                   record {
                     frame = home s h.frame y;
@@ -251,9 +252,6 @@ module _ (h : Here) (sees : ℕ → Bool) (seeing : Seeing h.typing sees) (settl
         ))
   ]
     where
-      true_false : (b : Bool) → b ≡ true → b ≡ false → ⊥
-      true_false b e f = cc
-
       raised : (x : Evaluated Place) → IsRaised h sees seeing settled hands leaks m on other facts v kept viewed holds alone live m x → Quiet (at on) (Shows y d (way_along way (variable y))) (followed_by x (held_or_taken h AsView))
       raised (Raises e n) same = same
       raised (Done k n) none = absurd none
@@ -276,7 +274,7 @@ module _ (h : Here) (sees : ℕ → Bool) (seeing : Seeing h.typing sees) (settl
       view_shows on y d c false shape_is
       (ap (λ b. b || is_view_formal s y) (ap (λ z. is_anonymous (view_of_shape z)) shape_is ∙ anonymous_access c))
   by_way on y t d c false (step ∷ rest) starts is clears there =
-      (let no : false ≡ true = starts_named s.table parts_named (object_at s y).of t step rest starts d c false is in cc)
+      (let no : false ≡ true = starts_named s.table parts_named (object_at s y).of t step rest starts d c false is in absurd (false≢true no))
 
   -- the source of a view: nothing changes but what waits, and it has null, or the number of the cell
   -- that its name designates

@@ -1,6 +1,7 @@
 -- An assignment to a target that isn't a view, but may be named through a borrower: the source is
 -- evaluated, the place of the target found, the leak checks made, and the value stored.
 use Rattle.std.proofs.Common.{◌≡◌, refl, sym, ap, ◌∙◌, subst, inl, ℕ, ◌+◌, true, false, Bool, not, List, [], ◌∷◌, ◌++◌, take, drop, length, get_or, append_assoc}
+use Rattle.std.proofs.lemmas.Bool.{false≢true}
 use Rattle.spark_base.specs.declared.position.Pos.{Pos}
 use Rattle.place_names.specs.declared.act.Act.{Act}
 use Rattle.place_names.specs.declared.act.Act.TheVariants as act
@@ -93,7 +94,7 @@ module _ (h : Here) (sees : ℕ → Bool) (seeing : Seeing h.typing sees) (settl
       not_view h.typing.table (object_at h.typing y).of view (matches_named h.typing.table k.of (object_at h.typing y).of fits (subst (IsNamed h.typing.table) (sym of) named))
     where
       not_true : (b : Bool) → not b ≡ true → b ≡ false
-      not_true true e = cc
+      not_true true e = absurd (false≢true e)
       not_true false e = refl
 
   -- a store elsewhere leaves what the variables of views have

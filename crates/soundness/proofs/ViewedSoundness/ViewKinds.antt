@@ -1,6 +1,7 @@
 -- What sees cells that it doesn't own, and what only sees: kinds of objects and of their types.
 use Rattle.std.proofs.Common.{◌≡◌, refl, sym, ap, ◌∙◌, ℕ, Bool, true, false, not, ◌&&◌, ◌||◌, [], length}
 use Rattle.std.specs.List.{list_any}
+use Rattle.std.proofs.lemmas.Bool.{false≢true, true≢false}
 use Rattle.place_names.specs.Names.{Name as PlaceName}
 use Rattle.type_definitions.specs.declared.judgement.View.{View}
 use Rattle.type_definitions.specs.declared.judgement.View.TheVariants as view
@@ -23,7 +24,7 @@ either true b e f = refl
 either false b e f = absurd (true_false b e f)
 
 pub neither : (a b : Bool) → a || b ≡ false → (a ≡ false) × (b ≡ false)
-neither true b e = cc
+neither true b e = absurd (true≢false e)
 neither false b e = (refl, e)
 
 pub either_true : (a b : Bool) → b ≡ true → a || b ≡ true
@@ -35,8 +36,8 @@ both_no a b e f = ap (λ z. z || b) e ∙ f
 
 named_of : (c n : Bool) → (not n && not c) || (not n && c) ≡ false → n ≡ true
 named_of c true e = refl
-named_of true false e = cc
-named_of false false e = cc
+named_of true false e = absurd (true≢false e)
+named_of false false e = absurd (true≢false e)
 
 pub plain_named : (table : Table) (t : ℕ) → is_anonymous (full table t) ≡ false → IsNamed table t
 plain_named table t plain d c n is = named_of c n (sym (ap (λ z. is_anonymous (view_of_shape z)) is) ∙ plain)
@@ -45,16 +46,16 @@ pub view_access : (sh : Shape) → is_anonymous (view_of_shape sh) ≡ true → 
 view_access (shape.Whole a b) e = (refl, refl)
 view_access (shape.Listed l a b) e = (refl, refl)
 view_access (shape.Access d c n) e = (refl, refl)
-view_access (shape.Fields cs) e = cc
-view_access (shape.Elements a b el) e = cc
-view_access (shape.Same of) e = cc
+view_access (shape.Fields cs) e = absurd (false≢true e)
+view_access (shape.Elements a b el) e = absurd (false≢true e)
+view_access (shape.Same of) e = absurd (false≢true e)
+
+clash : (c n : Bool) → (not n && not c) || (not n && c) ≡ true → n ≡ true → ⊥
+clash c true e is = cc
+clash c false e is = cc
 
 view_unnamed : (sh : Shape) → is_anonymous (view_of_shape sh) ≡ true → ((d : ℕ) (c n : Bool) → sh ≡ shape.Access d c n → n ≡ true) → ⊥
 view_unnamed (shape.Access d c n) e named = let is = named d c n refl in clash c n e is
-  where
-    clash : (c n : Bool) → (not n && not c) || (not n && c) ≡ true → n ≡ true → ⊥
-    clash c true e is = cc
-    clash c false e is = cc
 view_unnamed (shape.Whole a b) e named = cc
 view_unnamed (shape.Listed l a b) e named = cc
 view_unnamed (shape.Fields cs) e named = cc
@@ -78,7 +79,7 @@ plain_observer s x plain = no_and (is_variable (object_at s x).kind) (is_observi
 
 and_true : (a b : Bool) → a && b ≡ true → (a ≡ true) × (b ≡ true)
 and_true true b e = (refl, e)
-and_true false b e = cc
+and_true false b e = absurd (false≢true e)
 
 -- what isn't a view isn't given
 plain_given : (s : Typing) (x : ℕ) → is_view s x ≡ false → is_given s x ≡ false
@@ -92,8 +93,8 @@ given_view s x given = by (is_view_formal s x) (is_in_formal s x) (is_anonymous 
     by : (f i a : Bool) → f || (i && a) ≡ true → a || f ≡ true
     by f i true e = refl
     by true i false e = refl
-    by false true false e = cc
-    by false false false e = cc
+    by false true false e = absurd (false≢true e)
+    by false false false e = absurd (false≢true e)
 
 pub bundle_formal : (s : Typing) (x : ℕ) → is_bundle s x ≡ true → is_view_formal s x ≡ true
 bundle_formal s x bundle = (and_true (is_view_formal s x) (not (is_access (view_of s x))) bundle).0
@@ -133,7 +134,7 @@ variable_given s x none = by (is_formal s x) (is_in (object_at s x).mode) (is_ow
   where
     by : (f i o a : Bool) → f ≡ false → ((f && i) && o) || ((f && i) && a) ≡ false
     by false i o a e = refl
-    by true i o a e = cc
+    by true i o a e = absurd (true≢false e)
 
 -- what isn't a view doesn't see another's cell
 pub plain_sees : (s : Typing) (sees : ℕ → Bool) (seeing : Seeing s sees) (x : ℕ) → is_view s x ≡ false → sees x ≡ false
@@ -159,19 +160,19 @@ pub open_bundle : (s : Typing) (x : ℕ) → is_bundle s x ≡ true → is_exclu
 open_bundle s x bundle = no_access (view_of s x) (list_any (is_of_procedure x) s.subs) (parts (is_view_formal s x) (not (is_access (view_of s x))) bundle)
   where
     no_access : (v : View) (any : Bool) → not (is_access v) ≡ true → is_named_access v && any ≡ false
-    no_access (view.Access d c n) any none = cc
+    no_access (view.Access d c n) any none = absurd (false≢true none)
     no_access v any none = refl
 
     parts : (a b : Bool) → a && b ≡ true → b ≡ true
     parts true b e = e
-    parts false b e = cc
+    parts false b e = absurd (false≢true e)
 
 pub bundle_sees : (s : Typing) (sees : ℕ → Bool) (seeing : Seeing s sees) (x : ℕ) → is_bundle s x ≡ true → sees x ≡ true
 bundle_sees s sees seeing x bundle = by (sees x) refl
   where
     formal : (a b : Bool) → a && b ≡ true → a ≡ true
     formal true b e = refl
-    formal false b e = cc
+    formal false b e = absurd (false≢true e)
 
     by : (b : Bool) → sees x ≡ b → b ≡ true
     by true e = refl
@@ -216,8 +217,8 @@ only_seeing s = record {
     observed : (a b c f : Bool) → a && c ≡ true → (b || c) || f ≡ true
     observed true true c f is = refl
     observed true false true f is = refl
-    observed true false false f is = cc
-    observed false b c f is = cc
+    observed true false false f is = absurd (false≢true is)
+    observed false b c f is = absurd (false≢true is)
 
     seen_view : (x : ℕ) (o g : Bool) → is_observer s x ≡ o → is_given s x ≡ g → sees_only s x ≡ true → is_view s x ≡ true
     seen_view x true g is given any = observed (is_variable (object_at s x).kind) (is_borrowing (view_of s x)) (is_observing (view_of s x)) (is_view_formal s x) is
@@ -239,11 +240,11 @@ only_seeing s = record {
 
     given_formal : (f i o a : Bool) → ((f && i) && o) || ((f && i) && a) ≡ true → f ≡ true
     given_formal true i o a e = refl
-    given_formal false i o a e = cc
+    given_formal false i o a e = absurd (false≢true e)
 
     no_variable : (k : ObjectKind) → is_formal_kind k ≡ true → is_variable k ≡ false
     no_variable object_kind.Formal is = refl
-    no_variable k is = cc
+    no_variable k is = absurd (false≢true is)
 
     formal_observer : (x : ℕ) → is_given s x ≡ true → is_observer s x ≡ false
     formal_observer x given =

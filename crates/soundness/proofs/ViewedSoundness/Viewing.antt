@@ -1,6 +1,7 @@
 -- What a name has that is borrowed or observed, and that its value is stored in the variable of a
 -- view.
 use Rattle.std.proofs.Common.{◌≡◌, refl, sym, ap, ◌∙◌, subst, inl, inr, ℕ, ◌<◌, ◌==◌, eqb-true, eq-eqb, Bool, true, false, ◌&&◌, ◌||◌, ◌⊎◌, List, [], ◌∷◌, length, get_or, Option, Some, None}
+use Rattle.std.proofs.lemmas.Bool.{false≢true}
 use Rattle.place_names.specs.declared.act.Act.TheVariants.{Borrow, Observe, Reborrow}
 use Rattle.spark_base.specs.Lists.{Has}
 use Rattle.place_names.specs.Names.{Name as PlaceName}
@@ -34,6 +35,7 @@ use Rattle.soundness.specs.ViewedSoundness.Holds.{is_view, is_bundle, part_word,
 use Rattle.soundness.proofs.ViewedSoundness.Walks.{held_there}
 use Rattle.soundness.proofs.ViewedSoundness.Names.{stands_owners, part_owners}
 use Rattle.soundness.proofs.ViewedSoundness.ViewKinds.{true_false, anonymous_bundle, view_access}
+use Rattle.soundness.proofs.Constructors.{is_cell_word}
 
 -- ---- the way of what a name designates
 
@@ -59,13 +61,13 @@ IsReached v s k z = (n : ℕ) → z ≡ machine.Cell n → Reaches s (expand v k
 abbrev pub IsDesignated : Views → View → Way → machine.Word → Type 0
 IsDesignated v s u z = IsReached v s (All u) z
 
+same_some : (a b : Way) → Some a ≡ Some b → a ≡ b
+same_some a b e = cc
+
 pub reached_by : (v : Views) (s : View) (k : Way) (z : machine.Word) → IsReached v s k z
     → (w : Way) → way_from z (expand v k) ≡ Some w → (w ≡ expand v k) × Reaches s w (OfCell (number_in z))
 reached_by v s k (machine.Cell n) is w e =
     let same = same_some (expand v k) w e in (sym same, subst (λ q. Reaches s q (OfCell n)) same (is n refl))
-  where
-    same_some : (a b : Way) → Some a ≡ Some b → a ≡ b
-    same_some a b e = cc
 reached_by v s k (machine.Int n) is w e = cc
 reached_by v s k (machine.Enumerated n) is w e = cc
 reached_by v s k machine.Null is w e = cc
@@ -110,7 +112,7 @@ pub view_leaf : (table : Table) (settled : IsSettled table) (t : ℕ) → is_ano
 view_leaf table settled t view p = by_part (has_part table t p) refl
   where
     unowned : (sh : Shape) → is_anonymous (view_of_shape sh) ≡ true → owns_one sh ≡ false
-    unowned (shape.Access d c true) e = cc
+    unowned (shape.Access d c true) e = absurd (false≢true e)
     unowned (shape.Access d c false) e = refl
     unowned (shape.Whole a b) e = refl
     unowned (shape.Listed l a b) e = refl
@@ -126,6 +128,9 @@ view_leaf table settled t view p = by_part (has_part table t p) refl
         ap (λ z. z && owns_one (shape_of table (type_in table t p))) e
         ∙ ap (λ z. owns_one (shape_of table (type_in table t z))) none ∙ unowned (shape_of table t) view
 
+objects_same : (f x g y : ℕ) → OfVariable f x ≡ OfVariable g y → y ≡ x
+objects_same f x g y e = cc
+
 module _ (s : Typing) (sees : ℕ → Bool) (settled : IsSettled s.table) where
   -- owners don't see a view
   pub view_unseen : (m : Memory) (hands : List Waiting) (leaks : List Leak) (f x : ℕ) (ws : List machine.Word) → is_anonymous (view_of s x) ≡ true
@@ -140,9 +145,6 @@ module _ (s : Typing) (sees : ℕ → Bool) (settled : IsSettled s.table) where
       by_trunk : (l : Loc) (p : List Step) → trunk l ≡ l → word_in s.table (content s (declared f x ws m) hands l) p ≡ word_in s.table (content s m hands l) p
       by_trunk (OfRoot (OfVariable g y)) p t = by_object (y == x) refl
         where
-          other_object : (f x g y : ℕ) → OfVariable f x ≡ OfVariable g y → y ≡ x
-          other_object f x g y e = cc
-
           by_object : (b : Bool) → (y == x) ≡ b
               → word_in s.table (content s (declared f x ws m) hands (OfRoot (OfVariable g y))) p ≡ word_in s.table (content s m hands (OfRoot (OfVariable g y))) p
           by_object true e =
@@ -151,7 +153,7 @@ module _ (s : Typing) (sees : ℕ → Bool) (settled : IsSettled s.table) where
               ∙ sym (word_no s.table (content s m hands (OfRoot (OfVariable g y))) p leaf)
           by_object false e =
               ap (λ z. word_in s.table (record { of = (object_at s y).of; slots = z; owns = (content s m hands (OfRoot (OfVariable g y))).owns }) p)
-              (put_other s f x g y (λ same. (let is : y ≡ x = other_object f x g y same in let no = eq-eqb y x is in cc)) (fresh ws) m.variables)
+              (put_other s f x g y (λ same. (let is : y ≡ x = objects_same f x g y same in let no = eq-eqb y x is in cc)) (fresh ws) m.variables)
       by_trunk (OfRoot (OfHand h)) p t = refl
       by_trunk (OfCell c) p t = refl
       by_trunk (Inside l i) p t = absurd (not_inside l l i t)
@@ -181,9 +183,9 @@ module _ (s : Typing) (sees : ℕ → Bool) (settled : IsSettled s.table) where
     where
       got : (z : machine.Word) (n : ℕ) → z ≡ machine.Cell n → (way_from z w ≡ Some w) × (number_in z ≡ n)
       got (machine.Cell k) n e = (refl, cc)
-      got (machine.Int k) n e = cc
-      got (machine.Enumerated k) n e = cc
-      got machine.Null n e = cc
+      got (machine.Int k) n e = absurd (false≢true (ap is_cell_word e))
+      got (machine.Enumerated k) n e = absurd (false≢true (ap is_cell_word e))
+      got machine.Null n e = absurd (false≢true (ap is_cell_word e))
 
       here : (y n : ℕ) → y ≡ x → (get_or (variable_slots s (home s frame y) y (declared frame x (z ∷ []) m).variables) 0 no_slot).word ≡ machine.Cell n → z ≡ machine.Cell n
       here y n same e =
@@ -291,6 +293,18 @@ module _ (s : Typing) (sees : ℕ → Bool) (settled : IsSettled s.table) where
 
 -- ---- a borrower or observer is declared, or an observer gets another value
 
+word_way : (z : machine.Word) (w q : Way) → way_from z w ≡ Some q → ((n : ℕ) × (z ≡ machine.Cell n)) × (w ≡ q)
+word_way (machine.Cell n) w q e = ((n, refl), cc)
+word_way (machine.Int k) w q e = cc
+word_way (machine.Enumerated k) w q e = cc
+word_way machine.Null w q e = cc
+
+of_word : (z : machine.Word) (w q : Way) → way_from z w ≡ Some q → w ≡ q
+of_word (machine.Cell n) w q e = cc
+of_word (machine.Int k) w q e = cc
+of_word (machine.Enumerated k) w q e = cc
+of_word machine.Null w q e = cc
+
 module _ (s : Typing) (sees : ℕ → Bool) (settled : IsSettled s.table) (frame : ℕ) (other : Around (home s frame)) (v t : Views) (m : Memory) (hands : List Waiting) (leaks : List Leak)
     (facts : List Fact) (viewed : Viewed (home s frame) sees other v (seen s m hands leaks) facts) (kept : Kept s m hands)
     (holds : Holds s sees frame v m) (x : ℕ) (z : machine.Word) (mine : home s frame x ≡ frame) (view : is_anonymous (view_of s x) ≡ true)
@@ -316,15 +330,9 @@ module _ (s : Typing) (sees : ℕ → Bool) (settled : IsSettled s.table) (frame
   owned_way : (k : Way) → Named (home s frame) k → (is_view_formal s (number_of k) ≡ true → (n : ℕ) → z ≡ machine.Cell n → Lifted v k)
       → (q : Way) → way_from z (expand v k) ≡ Some q → IsOwners s q
   owned_way k named lifts q e =
-      let word = of_word z (expand v k) q e in
+      let word = word_way z (expand v k) q e in
       subst (IsOwners s) word.1 (stands_owners s sees frame v m k holds named (by_kind (is_view_formal s (number_of k)) refl word.0.0 word.0.1))
     where
-      of_word : (z : machine.Word) (w q : Way) → way_from z w ≡ Some q → ((n : ℕ) × (z ≡ machine.Cell n)) × (w ≡ q)
-      of_word (machine.Cell n) w q e = ((n, refl), cc)
-      of_word (machine.Int k) w q e = cc
-      of_word (machine.Enumerated k) w q e = cc
-      of_word machine.Null w q e = cc
-
       by_kind : (b : Bool) → is_view_formal s (number_of k) ≡ b → (n : ℕ) → z ≡ machine.Cell n → (is_view_formal s (number_of k) ≡ false) ⊎ Lifted v k
       by_kind false is n e = inl is
       by_kind true is n e = inr (lifts is n e)
@@ -360,12 +368,6 @@ module _ (s : Typing) (sees : ℕ → Bool) (settled : IsSettled s.table) (frame
       (λ q e. subst (IsOwners s) (of_word z (expand v k) q e) (part_owners s sees frame v m k holds l)) (λ q e no. absurd (true_false (sees x) looks no)) (λ q e lost. absurd lost)
       (seen_part (home s frame) sees other v t (seen s m hands leaks) facts viewed x (way_from z (expand v k)) k (number_in z) l becomes looks
       (reached_by v (seen s m hands leaks) k z is) after_it leaves)
-    where
-      of_word : (z : machine.Word) (w q : Way) → way_from z w ≡ Some q → w ≡ q
-      of_word (machine.Cell n) w q e = cc
-      of_word (machine.Int k) w q e = cc
-      of_word (machine.Enumerated k) w q e = cc
-      of_word machine.Null w q e = cc
 
   -- or what another object sees
   pub view_again : (k : Way) (l : Lifted v k) → sees l.object ≡ true → (is_observer s x ≡ false → is_observer s l.object ≡ false)

@@ -1,6 +1,7 @@
 -- Calls of subprograms and their ends lead to the same in memories that agree, where of what is passed
 -- and copied back nothing is gone: so it is with formals of scalar types.
 use Rattle.std.proofs.Common.{◌≡◌, refl, sym, subst, ℕ, suc, Bool, true, false, List, [], ◌∷◌, ◌++◌, length, nat_le, if◌then◌else◌, ◌∙◌}
+use Rattle.std.proofs.lemmas.Bool.{true≢false}
 use Rattle.spark_base.specs.declared.position.Pos.{Pos}
 use Rattle.type_definitions.specs.Types.{full}
 use Rattle.typed_tree.specs.Trees.{TypedTree, More}
@@ -92,7 +93,7 @@ module _ (s : Typing) (settled : IsSettled s.table) (own_law : OwnsByShape s.tab
     spot_whole s settled m hands only kept k (fixed_at s settled k fixed) (fixed_spot s settled k fixed m hands)
         (plain_whole s settled m hands k (fixed_at s settled k fixed) (fixed_spot s settled k fixed m hands) (λ p. no_leaf s.table settled k.of fixed.scalar p)),
     moved_only s settled m hands only kept k (fixed_at s settled k fixed) (fixed_spot s settled k fixed m hands)
-        (λ p leaf f x is. (let no : true ≡ false = sym leaf ∙ no_leaf s.table settled k.of fixed.scalar p in cc)),
+        (λ p leaf f x is. (let no : true ≡ false = sym leaf ∙ no_leaf s.table settled k.of fixed.scalar p in absurd (true≢false no))),
   )
 
 -- ---- the call

@@ -1,5 +1,6 @@
 -- Names that go through no access value.
 use Rattle.std.proofs.Common.{◌≡◌, refl, Bool, true, false, List, [], ◌∷◌, ◌++◌}
+use Rattle.std.proofs.lemmas.Bool.{false≢true}
 use Rattle.place_names.specs.declared.selector.Sel.{Sel}
 use Rattle.place_names.specs.declared.selector.Sel.TheVariants as sel
 use Rattle.typed_tree.specs.Trees.{TypedTree, Component as IntoComponent, Designated, Element}
@@ -15,7 +16,7 @@ has_deref (sel.Field i ∷ rest) = has_deref rest
 has_deref (sel.Elem ∷ rest) = has_deref rest
 
 deref_front : (a b : List Sel) → has_deref a ≡ true → has_deref (a ++ b) ≡ true
-deref_front [] b e = cc
+deref_front [] b e = absurd (false≢true e)
 deref_front (sel.Deref ∷ a) b e = refl
 deref_front (sel.Field i ∷ a) b e = deref_front a b e
 deref_front (sel.Elem ∷ a) b e = deref_front a b e
@@ -36,6 +37,6 @@ past_deref v (ways.All w) past = deref_end (ways.sels_of w)
 pub selectors_direct : (path : TypedTree) → goes_through_none path ≡ true → has_deref (selectors path) ≡ false
 unfolding goes_through_none selectors
 selectors_direct (IntoComponent i rest) direct = selectors_direct rest direct
-selectors_direct (Designated rest) direct = cc
+selectors_direct (Designated rest) direct = absurd (false≢true direct)
 selectors_direct (Element index low high rest) direct = selectors_direct rest direct
 selectors_direct path direct = refl

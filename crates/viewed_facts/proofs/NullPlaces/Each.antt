@@ -1,6 +1,7 @@
 -- Each instruction leads to the same in memories that agree, calls and what differs between classes of
 -- programs apart: declarations, assignments, returns and ends of scopes.
 use Rattle.std.proofs.Common.{◌≡◌, refl, sym, ap, ◌∙◌, subst, ℕ, ◌+◌, Bool, true, false, ◌||◌, List, [], ◌∷◌, Option}
+use Rattle.std.proofs.lemmas.Bool.{false≢true}
 use Rattle.spark_base.specs.declared.position.Pos.{Pos}
 use Rattle.place_names.specs.declared.act.Act.{Act}
 use Rattle.place_names.specs.declared.act.Act.TheVariants as act
@@ -116,7 +117,7 @@ module _ (t : Turn) (settled : IsSettled (typing t).table) (own_law : OwnsByShap
   each_by (Next x reversed low high) no_call going others scalar calls takes compares allowed keep =
       next_same t settled own_law asks ready values facts so only n agrees x reversed scalar
   each_by (Evaluate temporary e op) no_call going others stays calls takes compares allowed keep =
-      operand_on t settled own_law asks ready values facts so only n agrees on e op stays takes (calls (has_call e) (λ none. (let no : false ≡ true = none in cc))) compares allowed
+      operand_on t settled own_law asks ready values facts so only n agrees on e op stays takes (calls (has_call e) (λ none. (let no : false ≡ true = none in absurd (false≢true no)))) compares allowed
   each_by (LeaveLoop e) no_call going others text calls takes compares allowed keep = leaves e text calls takes compares allowed
   each_by (Hold v) no_call going others text calls takes compares allowed keep = others.holds v refl
   each_by (EndScope x) no_call going others text calls takes compares allowed keep = others.ends x refl

@@ -1,6 +1,7 @@
 -- Instructions lead to the same in memories that agree.
 use Rattle.std.proofs.Common.{◌≡◌, refl, sym, ap, ◌∙◌, subst, inl, inr, ℕ, ◌+◌, Bool, true, false, not, ◌&&◌, List, [], ◌∷◌, ◌++◌, drop, length, nat_lt, append_assoc, append-nil, ℤ, Option, Some, None, if◌then◌else◌}
 use Rattle.std.specs.Prelude.{int_le}
+use Rattle.std.proofs.lemmas.Bool.{true≢false}
 use Rattle.spark_base.specs.declared.position.Pos.{Pos}
 use Rattle.place_names.specs.declared.act.Act.{Act}
 use Rattle.place_names.specs.declared.act.Act.TheVariants as act
@@ -270,7 +271,7 @@ module _ (t : Turn) (settled : IsSettled (typing t).table) (own_law : OwnsByShap
       ap (λ z. acts_in (typing t) e ++ acts_in (typing t) z) last ∙ append-nil (acts_in (typing t) e) in
       let alone_there : waits_in e + waits_in rest ≡ waits_in e = ap (λ z. waits_in e + waits_in z) last ∙ nothing_more (waits_in e) in
       elim source [
-        | inl view ↦ absurd (let no : true ≡ false = sym view.0 ∙ owner in cc)
+        | inl view ↦ absurd (let no : true ≡ false = sym view.0 ∙ owner in absurd (true≢false no))
         | inr gives ↦ source_same on u e owner own gives (asks.both_calls (has_call e) (has_call rest) calls).0 (asks.both_give e rest own_calls).0
             (takes_as (waits_in e + waits_in rest) (waits_in e) (start t).waits on alone_there takes) compares.0 (subst (λ z. AllowsAll facts (acts z)) same allowed)
             (subst (λ z. asks.keeps (acts z)) same keep)

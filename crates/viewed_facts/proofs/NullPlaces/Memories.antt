@@ -1,6 +1,7 @@
 -- What the machine does to memories that agree: each function of a memory gives the same or leaves
 -- memories that agree. Nothing is asked of programs and states here.
 use Rattle.std.proofs.Common.{◌≡◌, refl, sym, ap, ◌∙◌, subst, inl, inr, ℕ, zero, suc, ◌+◌, Bool, true, false, not, ◌&&◌, ◌==◌, List, [], ◌∷◌, ◌++◌, map, filter, take, drop, length, sum, get_or, if◌then◌else◌}
+use Rattle.std.proofs.lemmas.Bool.{true≢false}
 use Rattle.spark_base.specs.declared.position.Pos.{Pos}
 use Rattle.place_names.specs.declared.selector.Sel.{Sel}
 use Rattle.type_definitions.specs.Types.{words, parts}
@@ -23,7 +24,7 @@ NoneGone xs = (i : ℕ) → (get_or xs i no_slot).gone ≡ false
 
 one_word : (x y : Slot) → AgreeSlot x y → x.gone ≡ false → x.word ≡ y.word
 one_word x y (inl e) whole = ap (λ (z : Slot). z.word) e
-one_word x y (inr (gone, null)) whole = (let no : true ≡ false = sym gone ∙ whole in cc)
+one_word x y (inr (gone, null)) whole = (let no : true ≡ false = sym gone ∙ whole in absurd (true≢false no))
 
 -- where nothing is gone, the words are the same
 pub same_words : (xs ys : List Slot) → AgreeSlots xs ys → NoneGone xs → map (λ (z : Slot). z.word) xs ≡ map (λ (z : Slot). z.word) ys

@@ -1,5 +1,6 @@
 -- Only words that own are ever gone.
 use Rattle.std.proofs.Common.{◌≡◌, refl, sym, ap, ◌∙◌, subst, ◌⊎◌, inl, inr, ℕ, zero, suc, ◌+◌, Bool, true, false, not, cond, ◌&&◌, ◌==◌, eqb-true, List, [], ◌∷◌, ◌++◌, filter, take, drop, length, get_or, arith, if◌then◌else◌}
+use Rattle.std.proofs.lemmas.Bool.{false≢true, true≢false}
 use Rattle.type_definitions.specs.Types.{Table}
 use Rattle.flow_paths.specs.Objects.{Typing, object_at}
 use Rattle.machine.specs.Words.{Word, default}
@@ -47,17 +48,17 @@ fresh_whole [] i = refl
 fresh_whole (w ∷ ws) zero = refl
 fresh_whole (w ∷ ws) (suc i) = fresh_whole ws i
 
+never : (ys : List Slot) (o : ℕ) → NoneGone ys → IsGone (ys ++ []) o → ⊥
+never [] o none gone = cc
+never (y ∷ ys) zero none gone = (let no : true ≡ false = sym gone ∙ none 0 in absurd (true≢false no))
+never (y ∷ ys) (suc o) none gone = never ys o (λ i. none (suc i)) gone
+
 -- whole slots at the front of a list
 front_whole : (ys all : List Slot) (o : ℕ) → NoneGone ys → IsGone (ys ++ drop (length ys) all) o → IsGone all o
 front_whole [] [] o none gone = gone
 front_whole [] (x ∷ all) o none gone = gone
-front_whole (y ∷ ys) all zero none gone = (let no : true ≡ false = sym gone ∙ none 0 in cc)
+front_whole (y ∷ ys) all zero none gone = (let no : true ≡ false = sym gone ∙ none 0 in absurd (true≢false no))
 front_whole (y ∷ ys) [] (suc o) none gone = absurd (never ys o (λ i. none (suc i)) gone)
-  where
-    never : (ys : List Slot) (o : ℕ) → NoneGone ys → IsGone (ys ++ []) o → ⊥
-    never [] o none gone = cc
-    never (y ∷ ys) zero none gone = (let no : true ≡ false = sym gone ∙ none 0 in cc)
-    never (y ∷ ys) (suc o) none gone = never ys o (λ i. none (suc i)) gone
 front_whole (y ∷ ys) (x ∷ all) (suc o) none gone = front_whole ys all o (λ i. none (suc i)) gone
 
 spliced : (at n : ℕ) (ys all : List Slot) (o : ℕ) → n ≡ at + length ys → NoneGone ys → IsGone (take at all ++ ys ++ drop n all) o → IsGone all o
@@ -97,7 +98,7 @@ freed_less_at (suc n) (suc k) (c ∷ cs) o gone = freed_less_at n k cs o gone
 
 made_less_at : (k : ℕ) (new : HeapCell) (cs : List HeapCell) → NoneGone new.slots → (o : ℕ) → IsGone (get_or (cs ++ new ∷ []) k no_cell).slots o
     → IsGone (get_or cs k no_cell).slots o × ((get_or cs k no_cell).of ≡ (get_or (cs ++ new ∷ []) k no_cell).of)
-made_less_at zero new [] none o gone = (let no : true ≡ false = sym gone ∙ none o in cc)
+made_less_at zero new [] none o gone = (let no : true ≡ false = sym gone ∙ none o in absurd (true≢false no))
 made_less_at (suc k) new [] none o gone = (gone, refl)
 made_less_at zero new (c ∷ cs) none o gone = (gone, refl)
 made_less_at (suc k) new (c ∷ cs) none o gone = made_less_at k new cs none o gone
@@ -137,7 +138,7 @@ module _ (s : Typing) (m : Memory) where
   pub declared_only : OnlyOwners s m → (f x : ℕ) (ws : List Word) → OnlyOwners s (declared f x ws m)
   declared_only only f x ws =
       only_less s m (declared f x ws m) only
-      (put_less (OfVariable f x) (fresh ws) (λ o gone. (let no : true ≡ false = sym gone ∙ fresh_whole ws o in cc)))
+      (put_less (OfVariable f x) (fresh ws) (λ o gone. (let no : true ≡ false = sym gone ∙ fresh_whole ws o in absurd (true≢false no))))
 
   pub undeclared_only : OnlyOwners s m → (f x : ℕ) → OnlyOwners s (undeclared f x m)
   undeclared_only only f x = only_less s m (undeclared f x m) only less
@@ -149,7 +150,7 @@ module _ (s : Typing) (m : Memory) where
             let same = parts_same f x g y e in
             let mine : variable_slots s g y (filter (λ v. not (is_variable f x v)) m.variables) ≡ fresh (default s.table (object_at s x).of) =
             (λ j. variable_slots s (sym same.0 j) (sym same.1 j) (filter (λ v. not (is_variable f x v)) m.variables)) ∙ removed_same s f x m.variables in
-            let no : true ≡ false = sym (subst (λ z. IsGone z o) mine gone) ∙ fresh_whole (default s.table (object_at s x).of) o in cc)
+            let no : true ≡ false = sym (subst (λ z. IsGone z o) mine gone) ∙ fresh_whole (default s.table (object_at s x).of) o in absurd (true≢false no))
         | inr ne ↦ (subst (λ z. IsGone z o) (removed_other s f x g y (λ e. ne (ap OfRoot e)) m.variables) gone, refl)
       ]
 
@@ -188,7 +189,7 @@ module _ (s : Typing) (m : Memory) where
         where
           first : (a b : Bool) → a && b ≡ true → a ≡ true
           first true b e = refl
-          first false b e = cc
+          first false b e = absurd (false≢true e)
       by_frame true e false other gone on = on gone
       by_frame false e true mine gone on = inl (subst (λ c. IsGone (if c then v.slots else variable_slots s g y (others f vs)) o) mine gone)
       by_frame false e false other gone on = on (subst (λ c. IsGone (if c then v.slots else variable_slots s g y (others f vs)) o) other gone)
@@ -213,5 +214,5 @@ module _ (s : Typing) (m : Memory) where
         | inr same ↦ (
             let mine : variable_slots s g y (others f m.variables) ≡ fresh (default s.table (object_at s y).of) =
             ap (λ k. variable_slots s k y (others f m.variables)) (sym same) ∙ none_left f y m.variables in
-            let no : true ≡ false = sym (subst (λ z. IsGone z o) mine gone) ∙ fresh_whole (default s.table (object_at s y).of) o in cc)
+            let no : true ≡ false = sym (subst (λ z. IsGone z o) mine gone) ∙ fresh_whole (default s.table (object_at s y).of) o in absurd (true≢false no))
       ]

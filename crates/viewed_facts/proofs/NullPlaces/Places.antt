@@ -1,6 +1,6 @@
 -- What a place holds that a name leads to isn't gone, where no fact says so.
 use Rattle.std.proofs.Common.{◌≡◌, refl, sym, ap, ◌∙◌, subst, ◌⊎◌, inl, inr, ℕ, zero, suc, ◌+◌, ◌-◌, ◌<◌, ◌≤◌, Bool, true, false, ◌&&◌, List, [], ◌∷◌, ◌++◌, length, get_or, arith}
-use Rattle.std.proofs.lemmas.Bool.{cases_lt}
+use Rattle.std.proofs.lemmas.Bool.{cases_lt, false≢true, true≢false}
 use Rattle.std.proofs.lemmas.List.{get_or_past}
 use Rattle.spark_base.specs.Lists.{Has}
 use Rattle.type_definitions.specs.declared.table.Shape.TheVariants as shape
@@ -51,6 +51,10 @@ marked_from (n ∷ rest) xs o gone = elim (marked_from rest (at_number n as_gone
         one_below (suc n) (x ∷ xs) zero was = inl was
         one_below (suc n) (x ∷ xs) (suc o) was = elim (one_below n xs o was) [ inl e ↦ inl e | inr e ↦ inr (ap suc e) ]
 
+same_base : (b : Base) (f x : ℕ) → loc_of b ≡ loc_of (OfVariable f x) → b ≡ OfVariable f x
+same_base (OfVariable g y) f x e = cc
+same_base (OfCell n) f x e = cc
+
 module _ (s : Typing) (settled : IsSettled s.table) (m : Memory) (hands : List Waiting) where
   -- The words that own in a location aren't gone.
   abbrev pub IsWhole : Loc → Type 0
@@ -90,7 +94,7 @@ module _ (s : Typing) (settled : IsSettled s.table) (m : Memory) (hands : List W
           let long = matches_words s.table settled k.of (type_in s.table c.of (steps_in l)) spot.of in
           elim (leaf_outside s.table settled c.of found.0 (steps_in l) found.1 spot.there (λ r e. (
           let whole = clean r (subst (λ z. is_leaf s.table c.of z ≡ true) e found.1) in
-          let no : true ≡ false = sym there ∙ ap (λ o. (get_or c.slots o no_slot).gone) (sym at ∙ ap (offset_in s.table c.of) e) ∙ whole in cc))) [
+          let no : true ≡ false = sym there ∙ ap (λ o. (get_or c.slots o no_slot).gone) (sym at ∙ ap (offset_in s.table c.of) e) ∙ whole in absurd (true≢false no)))) [
             | inl before ↦ absurd (omega (arith, before, at, start))
             | inr behind ↦ absurd (omega (arith, behind, at, start, long, lt))
           ]
@@ -104,7 +108,7 @@ module _ (s : Typing) (settled : IsSettled s.table) (m : Memory) (hands : List W
       let u : ℕ = type_in s.table c.of (steps_in l) in
       let below : is_leaf s.table u p ≡ true = sym (leaf_join s.table c.of (steps_in l) p spot.there) ∙ leaf in
       let mine : is_leaf s.table k.of p ≡ true = (alike s.table settled k.of u spot.of).leaf p ∙ below in
-      let no : true ≡ false = sym mine ∙ none p in cc
+      let no : true ≡ false = sym mine ∙ none p in absurd (true≢false no)
 
   module _ (leaks : List Leak) (moved : Way → Type 0) (known : Known (seen s m hands leaks) moved) (w : Way) (l : Loc) (rooted : IsRooted w)
       (reaches : Reaches (seen s m hands leaks) w l) (owns : (content s m hands (trunk l)).owns ≡ true) where
@@ -116,7 +120,7 @@ module _ (s : Typing) (settled : IsSettled s.table) (m : Memory) (hands : List W
       where
         marked : (x : machine.Word) (g : Bool) → g ≡ true → owner_at x g ≡ Gone
         marked x true e = refl
-        marked x false e = cc
+        marked x false e = absurd (false≢true e)
 
     -- a place of which no part was moved
     pub unmoved_whole : ((p : List Step) → moved (along w p) → ⊥) → IsWhole l
@@ -154,10 +158,6 @@ module _ (s : Typing) (settled : IsSettled s.table) (m : Memory) (hands : List W
     ],
   )
     where
-      same_base : (b : Base) (f x : ℕ) → loc_of b ≡ loc_of (OfVariable f x) → b ≡ OfVariable f x
-      same_base (OfVariable g y) f x e = cc
-      same_base (OfCell n) f x e = cc
-
       marks : List Slot
       marks = gone_at (access_offsets s.table k.of) (slots_of s m k)
 

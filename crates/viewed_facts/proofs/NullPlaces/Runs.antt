@@ -1,5 +1,6 @@
 -- A run with null in moved places gives the same, if the steps of its states do.
 use Rattle.std.proofs.Common.{◌≡◌, refl, sym, ap, ◌∙◌, subst, ℕ, zero, suc, Bool, true, false, List, [], ◌∷◌, nat_le, if◌then◌else◌}
+use Rattle.std.proofs.lemmas.Bool.{true≢false}
 use Rattle.flow_paths.specs.Objects.{Typing, object_at}
 use Rattle.flow_paths.specs.Laid.{FlowProgram, flow_typing}
 use Rattle.machine.specs.Words.{default}
@@ -101,14 +102,14 @@ module _ (program : FlowProgram) (input : List ℕ) (sound : State → Type 0)
     where
       each : (b : Base) → OwnersGone (flow_typing program).table (content (flow_typing program) empty_memory [] (loc_of b))
       each (OfVariable f x) o gone =
-          (let no : true ≡ false = sym gone ∙ fresh_whole (default (flow_typing program).table (object_at (flow_typing program) x).of) o in cc)
+          (let no : true ≡ false = sym gone ∙ fresh_whole (default (flow_typing program).table (object_at (flow_typing program) x).of) o in absurd (true≢false no))
       each (OfCell zero) o gone = cc
       each (OfCell (suc k)) o gone = cc
 
       none : OnlyOwners (flow_typing program) empty_memory
       none = (
         each,
-        λ f x o gone. (let no : true ≡ false = sym gone ∙ fresh_whole (default (flow_typing program).table (object_at (flow_typing program) x).of) o in cc),
+        λ f x o gone. (let no : true ≡ false = sym gone ∙ fresh_whole (default (flow_typing program).table (object_at (flow_typing program) x).of) o in absurd (true≢false no)),
       )
 
   runs_same : (main k : ℕ) → SameOutcome (run_of program main input k) (null_run_of program main input k)

@@ -1,6 +1,7 @@
 -- Scalar expressions, the indexes of names and the actuals of scalar formals give the same in memories
 -- that agree.
 use Rattle.std.proofs.Common.{◌≡◌, refl, sym, ap, ◌∙◌, subst, inl, inr, ℕ, Bool, true, false, not, ◌&&◌, List, [], ◌∷◌, ◌++◌, drop, get_or, ◌+◌, ℤ, ◌-ℤ◌, int_le, unsigned_abs, Option, Some, None, if◌then◌else◌}
+use Rattle.std.proofs.lemmas.Bool.{false≢true}
 use Rattle.spark_base.specs.declared.position.Pos.{Pos}
 use Rattle.place_names.specs.declared.act.Act.TheVariants as act
 use Rattle.place_names.specs.declared.act.Mode.TheVariants as mode
@@ -99,10 +100,10 @@ module _ (h : Here) where
 scalar_owns : (s : Shape) (f : ℕ → Bool) → is_scalar (view_of s) ≡ true → owns_of f s ≡ false
 scalar_owns (shape.Whole a b) f e = refl
 scalar_owns (shape.Listed l a b) f e = refl
-scalar_owns (shape.Access d c n) f e = cc
-scalar_owns (shape.Fields cs) f e = cc
-scalar_owns (shape.Elements a b el) f e = cc
-scalar_owns (shape.Same of) f e = cc
+scalar_owns (shape.Access d c n) f e = absurd (false≢true e)
+scalar_owns (shape.Fields cs) f e = absurd (false≢true e)
+scalar_owns (shape.Elements a b el) f e = absurd (false≢true e)
+scalar_owns (shape.Same of) f e = absurd (false≢true e)
 
 -- ---- names and expressions
 

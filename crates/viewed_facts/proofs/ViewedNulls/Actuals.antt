@@ -70,12 +70,14 @@ use Rattle.viewed_steps.proofs.Called.{shown_given}
 use Rattle.viewed_steps.proofs.Reading.{index_reads}
 use Rattle.soundness.specs.ViewedSoundness.Holds.{is_given}
 use Rattle.std.proofs.Common.{◌||◌}
+use Rattle.std.proofs.lemmas.Bool.{false≢true, true≢false}
 use Rattle.spark_base.specs.declared.position.Pos.{Pos}
 use Rattle.machine.specs.Memory as memory
 use Rattle.machine.specs.Words.{fits_type}
 use Rattle.soundness.proofs.ViewedSoundness.Outcomes.{named_plain}
 use Rattle.soundness.specs.Ready.{root_of}
 use Rattle.typed_tree.specs.Trees as typed
+use Rattle.viewed_facts.proofs.Constructors.{is_in_mode}
 
 -- A name that goes through an access value has steps.
 some_selectors : (s : Typing) (t u : ℕ) (path : TypedTree) → Leads s t path u → goes_through_none path ≡ false → selectors path ≡ [] → ⊥
@@ -162,7 +164,7 @@ module _ (h : Here) (sees : ℕ → Bool) (seeing : Seeing h.typing sees) (settl
       nothing_past z past =
           let none : has_deref (ways.sels_of (way_along way (Object (OfVariable (home h.typing h.frame y) y)))) ≡ false =
           ap has_deref (goes.sels (Object (OfVariable (home h.typing h.frame y) y))) ∙ selectors_direct path direct in
-          let no : true ≡ false = sym (past_deref z (way_along way (Object (OfVariable (home h.typing h.frame y) y))) past) ∙ none in cc
+          let no : true ≡ false = sym (past_deref z (way_along way (Object (OfVariable (home h.typing h.frame y) y))) past) ∙ none in absurd (true≢false no)
 
   -- and one that an owner leads to, through access values
   through_finds : (on : List (List machine.Word)) (y u : ℕ) (path : TypedTree) (way : List run.Step)
@@ -231,7 +233,7 @@ module _ (h : Here) (sees : ℕ → Bool) (seeing : Seeing h.typing sees) (settl
 
       by_kind : (b : Bool) → b ≡ false
           → SameTo h.typing (followed_by (if b then viewed h e (at before) else value h e (at before)) last) (followed_by (if b then viewed h e n' else value h e n') last)
-      by_kind true e = cc
+      by_kind true e = absurd (true≢false e)
       by_kind false is =
           simply h.typing (value h e (at before)) (value h e n') last last copied (λ ws n n'' now. by_test ws n n'' now (fits_type h.typing.table (type_of h x) ws))
 
@@ -354,16 +356,16 @@ module _ (h : Here) (sees : ℕ → Bool) (seeing : Seeing h.typing sees) (settl
   is_spared : (mode_of : Mode) (owning access : Bool) (x : ℕ) (e : TypedTree) (formals : List ℕ) (rest : TypedTree) (known : List Fact) (done : List PlaceName)
       → (object_at h.typing x).mode ≡ mode_of → IsKnown known done (x ∷ formals) (More e rest) → AllowsAll known (acts (actual_act (passing_by mode_of owning access) e)) → IsSpared x mode_of e
   is_spared mode.InOut owning access x (Name p y path u) formals rest known done is (inl spares) allowed =
-      (λ many. spared_whole h.typing facts x y u p path formals rest known done owning access (λ never. (let no : mode.InOut ≡ mode.In = sym is ∙ never in cc)) spares allowed.0)
+      (λ many. spared_whole h.typing facts x y u p path formals rest known done owning access (λ never. (let no : mode.InOut ≡ mode.In = sym is ∙ never in absurd (false≢true (ap is_in_mode no)))) spares allowed.0)
   is_spared mode.InOut owning access x (Name p y path u) formals rest known done is (inr plain) allowed =
-      (λ many. absurd (let never : mode.InOut ≡ mode.In = sym is ∙ plain x (inl refl) in cc))
+      (λ many. absurd (let never : mode.InOut ≡ mode.In = sym is ∙ plain x (inl refl) in absurd (false≢true (ap is_in_mode never))))
   is_spared mode_of owning access x e formals rest known done is spares allowed = tt
 
   is_known_on : (x : ℕ) (e : TypedTree) (formals : List ℕ) (rest : TypedTree) (known : List Fact) (done : List PlaceName) → IsKnown known done (x ∷ formals) (More e rest)
       → IsKnown (after (acts (actual_act (way_for x) e)) known) (done_on (object_at h.typing x).mode (written e) done) formals rest
   is_known_on x e formals rest known done (inl spares) =
       inl (spares_on h.typing facts (object_at h.typing x).mode (is_owning h.typing.table (object_at h.typing x).of) (access_for x) x e formals rest known done
-      (λ is never. (let no : mode.Out ≡ mode.In = sym is ∙ never in cc)) spares)
+      (λ is never. (let no : mode.Out ≡ mode.In = sym is ∙ never in absurd (false≢true (ap is_in_mode no)))) spares)
   is_known_on x e formals rest known done (inr plain) = inr (λ y has. plain y (inr has))
 
   -- They are read under the facts before the call; the acts of those that are copied back come after them.

@@ -1,8 +1,9 @@
 -- A name that may be rooted in a borrower or observer leads to the same place in memories that agree.
 use Rattle.std.proofs.Common.{◌≡◌, refl, sym, ap, ◌∙◌, subst, map, inl, inr, ℕ, Bool, true, false, List, [], ◌∷◌, get_or, arith, if◌then◌else◌, ◌||◌, ◌++◌, not}
+use Rattle.std.proofs.lemmas.Bool.{false≢true}
 use Rattle.place_names.specs.declared.fact.Fact.{Fact}
 use Rattle.type_definitions.specs.declared.table.Shape.TheVariants as shape
-use Rattle.type_definitions.specs.Types.{shape_of, view_of as view_of_shape}
+use Rattle.type_definitions.specs.Types.{shape_of, view_of as view_of_shape, is_nil}
 use Rattle.flow_paths.specs.Objects.{Typing, object_at, designated, designated_of, is_anonymous, view_of}
 use Rattle.machine.specs.Words as machine
 use Rattle.machine.specs.Memory as memory
@@ -40,6 +41,9 @@ use Rattle.viewed_facts.proofs.ViewedNulls.Led.{owners_same}
 use Rattle.soundness.proofs.Joined.{trunk_part}
 use Rattle.soundness.proofs.ViewedSoundness.Walks.{owners_rooted, component_spot, element_spot, one_slot as one_there}
 use Rattle.viewed_steps.proofs.Views.{AreAccess, view_cases}
+
+named_is : (d e : ℕ) (c b q : Bool) → shape.Access d c true ≡ shape.Access e b q → q ≡ true
+named_is d e c b q z = cc
 
 module _ (h : Here) (sees : ℕ → Bool) (seeing : Seeing h.typing sees) (settled : IsSettled h.typing.table) (hands : List Waiting) (leaks : List Leak) (m : Memory) (waits : List (List machine.Word))
     (other : Around (home h.typing h.frame)) (facts : List Fact) (v : Views) (kept : Kept h.typing m hands)
@@ -316,7 +320,7 @@ module _ (h : Here) (sees : ℕ → Bool) (seeing : Seeing h.typing sees) (settl
 
         view_slots : (x : ℕ) → is_view s x ≡ true → NoneGone (slots_of s m (variable_place h x))
         view_slots = view_none
-    formal_itself x t (step ∷ way) formal is starts = cc
+    formal_itself x t (step ∷ way) formal is starts = absurd (false≢true (ap is_nil is))
 
     pub access_found : (x t d : ℕ) (c : Bool) (way : List run.Step) → Starts s.table (object_at s x).of way t → shape_of s.table t ≡ shape.Access d c true
         → IsOpen x (way_along way (variable x)) → OpensWhole x (way_along way (variable x))
@@ -325,9 +329,6 @@ module _ (h : Here) (sees : ℕ → Bool) (seeing : Seeing h.typing sees) (settl
         let there = name_walked h sees seeing settled hands leaks m waits other facts v kept viewed holds alone live x t way starts opens in
         by_bundle (is_bundle s x) refl there
       where
-        named_is : (d e : ℕ) (c b q : Bool) → shape.Access d c true ≡ shape.Access e b q → q ≡ true
-        named_is d e c b q z = cc
-
         u : Way
         u = way_along way (variable x)
 
@@ -384,7 +385,7 @@ module _ (h : Here) (sees : ℕ → Bool) (seeing : Seeing h.typing sees) (settl
         (is, ((l, spot, of, spot_whole s settled m hands only kept k l spot (whole k l spot reaches of)), in_owner k l spot (live w l (owners l reaches) reaches)))
       where
         by_owner : (b : Bool) → not b ≡ true → b ≡ false
-        by_owner true e = cc
+        by_owner true e = absurd (false≢true e)
         by_owner false e = refl
 
         in_owner : (k : Place) (l : Loc) → Spot s m hands k l → (content s m hands (trunk l)).owns ≡ true

@@ -2,6 +2,7 @@
 use Rattle.soundness.specs.ViewedSoundness.Holds.{is_view}
 use Rattle.viewed_steps.proofs.Left.{cells_same}
 use Rattle.std.proofs.Common.{◌≡◌, refl, sym, ap, ◌∙◌, subst, ◌⊎◌, inl, inr, ℕ, suc, false, List, [], ◌∷◌, ◌++◌, length, Some, true, Bool}
+use Rattle.std.proofs.lemmas.Bool.{false≢true, true≢false}
 use Rattle.place_names.specs.declared.fact.Fact.{Fact}
 use Rattle.spark_base.specs.Lists.{Has}
 use Rattle.flow_paths.specs.Objects.{Typing, object_at}
@@ -38,6 +39,10 @@ use Rattle.machine.specs.Memory as memory
 use Rattle.viewed_steps.proofs.Shown.{HasCells, then_cells, taken_cells, one_stands}
 use Rattle.viewed_steps.proofs.Lodged.{cell_live}
 use Rattle.soundness.proofs.Steps.{no_leaf}
+use Rattle.viewed_facts.proofs.Constructors.{is_of_variable_base, is_value_passed}
+
+same_object : (f y g x : ℕ) → memory.OfVariable f y ≡ memory.OfVariable g x → y ≡ x
+same_object f y g x e = cc
 
 -- A place in a variable isn't in a formal that owns nothing.
 in_owner : (s : Typing) (f : ℕ) (k : Place) (to : Way) (inside : IsInside s f k to) → (g x : ℕ) → k.base ≡ memory.OfVariable g x → is_view_formal s x ≡ false
@@ -46,11 +51,8 @@ in_owner s f k to inside g x at = elim inside.stands [
   | inr cell ↦ absurd (no_object cell.0 g x (sym cell.2 ∙ at))
 ]
   where
-    same_object : (f y g x : ℕ) → memory.OfVariable f y ≡ memory.OfVariable g x → y ≡ x
-    same_object f y g x e = cc
-
     no_object : (n g x : ℕ) → memory.OfCell n ≡ memory.OfVariable g x → ⊥
-    no_object n g x e = cc
+    no_object n g x e = absurd (false≢true (ap is_of_variable_base e))
 
 -- Of a place nothing is gone, where nothing says so of its way and what goes on from it.
 pub inside_wholly : (s : Typing) (settled : IsSettled s.table) (hands : List Waiting) (leaks : List Leak) (f depth : ℕ) (v : Views)
@@ -77,7 +79,7 @@ module _ (s : Typing) (sees : ℕ → Bool) (settled : IsSettled s.table) (own_l
   spot_wholly : (leaks : List Leak) (k : Place) (m : Memory) → IsPlainSpot s sees settled own_law in_formals hands leaks m k → Kept s m hands → IsWholly s k m
   spot_wholly leaks k m plain typed only = (
     spot_whole s settled m hands only typed k plain.loc plain.spot (plain_whole s settled m hands k plain.loc plain.spot (λ p. no_leaf s.table settled k.of plain.scalar p)),
-    moved_only s settled m hands only typed k plain.loc plain.spot (λ p leaf f x is. (let no : true ≡ false = sym leaf ∙ no_leaf s.table settled k.of plain.scalar p in cc)),
+    moved_only s settled m hands only typed k plain.loc plain.spot (λ p leaf f x is. (let no : true ≡ false = sym leaf ∙ no_leaf s.table settled k.of plain.scalar p in absurd (true≢false no))),
   )
 
   abbrev Reached : List Leak → Memory → Type 0
@@ -92,10 +94,10 @@ module _ (s : Typing) (sees : ℕ → Bool) (settled : IsSettled s.table) (own_l
   plain_wholly leaks x (Value ws) before m plain typed there = tt
   plain_wholly leaks x (From k) before m (inl (scalar, plain)) typed there = spot_wholly leaks k m (laid_there leaks m (From k) plain typed there) typed
   plain_wholly leaks x (To k) before m (inl (scalar, plain)) typed there = (λ only. (spot_wholly leaks k m (laid_there leaks m (To k) plain typed there) typed only).1)
-  plain_wholly leaks x (From k) before m (inr (inl (shown, z, is, fits))) typed there = (let never : From k ≡ Value (z ∷ []) = is in cc)
-  plain_wholly leaks x (To k) before m (inr (inl (shown, z, is, fits))) typed there = (let never : To k ≡ Value (z ∷ []) = is in cc)
-  plain_wholly leaks x (From k) before m (inr (inr (kind, ws, is, fit))) typed there = (let never : From k ≡ Value ws = is in cc)
-  plain_wholly leaks x (To k) before m (inr (inr (kind, ws, is, fit))) typed there = (let never : To k ≡ Value ws = is in cc)
+  plain_wholly leaks x (From k) before m (inr (inl (shown, z, is, fits))) typed there = (let never : From k ≡ Value (z ∷ []) = is in absurd (false≢true (ap is_value_passed never)))
+  plain_wholly leaks x (To k) before m (inr (inl (shown, z, is, fits))) typed there = (let never : To k ≡ Value (z ∷ []) = is in absurd (false≢true (ap is_value_passed never)))
+  plain_wholly leaks x (From k) before m (inr (inr (kind, ws, is, fit))) typed there = (let never : From k ≡ Value ws = is in absurd (false≢true (ap is_value_passed never)))
+  plain_wholly leaks x (To k) before m (inr (inr (kind, ws, is, fit))) typed there = (let never : To k ≡ Value ws = is in absurd (false≢true (ap is_value_passed never)))
 
   abbrev StandIn : (Way → Type 0) → List Leak → Memory → Type 0
   StandIn other leaks m = OwnersStand (home s depth) v facts other (seen s m hands leaks)

@@ -1,6 +1,7 @@
 -- The sources of borrowers and observers give the same in memories that agree: what a view gets was
 -- looked at, so it isn't gone.
 use Rattle.std.proofs.Common.{◌≡◌, refl, sym, ap, ◌∙◌, subst, inl, inr, ℕ, Bool, true, false, List, [], ◌∷◌, ◌++◌, length, Some, if◌then◌else◌}
+use Rattle.std.proofs.lemmas.Bool.{false≢true}
 use Rattle.spark_base.specs.declared.position.Pos.{Pos}
 use Rattle.place_names.specs.declared.act.Act.{Act}
 use Rattle.place_names.specs.declared.act.Act.TheVariants as act
@@ -58,7 +59,7 @@ source_of s want q y u path view (inr (lead, inl same)) =
     let sh = view_shape (shape_of s.table want) view in (sh.0, sh.1, sh.2, lead, same ∙ sh.3)
 source_of s want q y u path view (inr (lead, inr scalar)) =
     let sh = view_shape (shape_of s.table want) view in
-    absurd (let no : false ≡ true = sym (ap (λ z. is_scalar (view_of_shape z)) sh.3) ∙ scalar.1 in cc)
+    absurd (let no : false ≡ true = sym (ap (λ z. is_scalar (view_of_shape z)) sh.3) ∙ scalar.1 in absurd (false≢true no))
 
 module _ (t : Turn) (sees : ℕ → Bool) (seeing : Seeing (typing t) sees) (settled : IsSettled (typing t).table) (own_law : OwnsByShape (typing t).table) (other : Around (home (typing t) (length t.outer)))
     (alone : (w : Way) → IsNear (length t.outer) w → other.gone w → ⊥) (in_formals : AreAccess (typing t)) (v : Views)

@@ -2,6 +2,7 @@
 -- say no more of what is passed for formals of mode `out` that it was moved; but no other actual overlaps that.
 use Rattle.std.proofs.Common.{◌≡◌, refl, sym, ap, subst, ◌⊎◌, inl, inr, ℕ, Bool, true, false, not, ◌==◌, eqb-true, List, [], ◌∷◌, Option, Some, None}
 use Rattle.std.specs.List.{filter}
+use Rattle.std.proofs.lemmas.Bool.{false≢true}
 use Rattle.spark_base.specs.Lists.{Has}
 use Rattle.spark_base.proofs.Lists.{Has-append_left, Has-append_right, Has-filter_passes}
 use Rattle.spark_base.specs.declared.position.Pos.{Pos}
@@ -36,13 +37,13 @@ use Rattle.viewed_steps.proofs.Passed.{passed_unlent, passed_unmoved, first_apar
 
 equal_same : (s t : Sel) → is_equal s t ≡ true → s ≡ t
 equal_same (Field i) (Field j) e = ap Field (eqb-true i j e)
-equal_same (Field i) Elem e = cc
-equal_same (Field i) Deref e = cc
-equal_same Elem (Field j) e = cc
+equal_same (Field i) Elem e = absurd (false≢true e)
+equal_same (Field i) Deref e = absurd (false≢true e)
+equal_same Elem (Field j) e = absurd (false≢true e)
 equal_same Elem Elem e = refl
-equal_same Elem Deref e = cc
-equal_same Deref (Field j) e = cc
-equal_same Deref Elem e = cc
+equal_same Elem Deref e = absurd (false≢true e)
+equal_same Deref (Field j) e = absurd (false≢true e)
+equal_same Deref Elem e = absurd (false≢true e)
 equal_same Deref Deref e = refl
 
 begins_along : (a b c : List Sel) → begins a b ≡ true → agree_along b c ≡ true → agree_along a c ≡ true

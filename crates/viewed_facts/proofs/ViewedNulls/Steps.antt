@@ -61,6 +61,7 @@ use Rattle.flow_paths.specs.Views.{traversed_formal}
 use Rattle.flow_paths.specs.Objects.{Passing, passing, traverses}
 use Rattle.soundness.proofs.Points.{flow_at}
 use Rattle.std.proofs.Common.{map}
+use Rattle.std.proofs.lemmas.Bool.{false≢true, true≢false}
 use Rattle.viewed_steps.proofs.CallBegins as call_begins
 use Rattle.viewed_steps.proofs.Passed.{apart_or}
 use Rattle.place_names.specs.Reports.{Report}
@@ -90,6 +91,7 @@ use Rattle.soundness.proofs.Scalars.{acts_append}
 use Rattle.soundness.proofs.OwnedLoans.Alone.{alone_viewed}
 use Rattle.viewed_steps.specs.Seeing.{sees_in}
 use Rattle.viewed_steps.proofs.Sees.{sees_seeing}
+use Rattle.viewed_facts.proofs.Constructors.{is_call_instruction, is_finish_instruction, is_hold_instruction}
 
 -- whether the scope of an object ends
 end_or : (i : Instruction) → ((x : ℕ) × (i ≡ EndScope x)) ⊎ ((x : ℕ) → i ≡ EndScope x → ⊥)
@@ -157,14 +159,14 @@ module _ (table : Table) (typed : TypedProgram) (effects : Effects) (input : Lis
         (standing.facts_are table typed effects input ready state top [] [] named p frames of_sub at_point path) viewed_before)
       where
         none_some : (w : Way) → None ≡ Some w → ⊥
-        none_some w e = cc
+        none_some w e = absurd (false≢true (ap is_some e))
 
     abbrev FirstGoal : Instruction → Type 0
     FirstGoal i = SameStep first_turn (turn first_turn i) (turn (twin first_turn n) i)
 
     declares : (x : ℕ) (v : TypedTree) → p.instr ≡ Declare x v → has_call v ≡ false → FirstGoal p.instr
     declares x v e none =
-        let no_call : IsNoCall p.instr = (λ k actuals result is. (let no : Declare x v ≡ Call k actuals result = sym e ∙ is in cc)) in
+        let no_call : IsNoCall p.instr = (λ k actuals result is. (let no : Declare x v ≡ Call k actuals result = sym e ∙ is in absurd (false≢true (ap is_call_instruction no)))) in
         let no_end : (y : ℕ) → p.instr ≡ EndScope y → ⊥ = (λ y is. (let no : Declare x v ≡ EndScope y = sym e ∙ is in cc)) in
         own_instructions.each_same table typed effects input ready state top.frame [] named p nowhere alone_first views facts_first _
         (ready.orderly.points named (standing.named_in table typed effects input ready state top [] [] named p frames of_sub at_point) p
@@ -174,7 +176,7 @@ module _ (table : Table) (typed : TypedProgram) (effects : Effects) (input : Lis
           kept = kept;
           holds = all_held s sees in_formals 0 views state.memory (λ y k view bare at. holds.held y k (λ fading. no_end fading.0 fading.1) view bare at) holds.only holds.owners holds.own holds.taken holds.parts;
         }) only n agrees p.instr refl no_call
-        (λ is. (let no : Declare x v ≡ Finish = sym e ∙ is in cc)) (λ w is. absurd (let no : Declare x v ≡ Hold w = sym e ∙ is in cc))
+        (λ is. (let no : Declare x v ≡ Finish = sym e ∙ is in absurd (false≢true (ap is_finish_instruction no)))) (λ w is. absurd (let no : Declare x v ≡ Hold w = sym e ∙ is in absurd (false≢true (ap is_hold_instruction no))))
         (standing.fine table typed effects input ready state top [] [] named p frames of_sub at_point)
         (subst (λ i. TakesScalars s i) (sym e) (gives_plainly s v (inl none)))
         (subst (λ i. Takes (taken i) (start first_turn).waits (start first_turn).waits) (sym e) (no_takes v none (start first_turn).waits))
@@ -291,7 +293,7 @@ module _ (table : Table) (typed : TypedProgram) (effects : Effects) (input : Lis
           compares_there.0 (subst (AllowsAll facts_now) same allowed) (subst (AllKeep (is_fixed s sees)) same keep)
         where
           given_there : (of : ℕ) (e : TypedTree) → is_anonymous (full s.table of) ≡ false → Source s of e → Gives s of e
-          given_there of e owner (inl view) = absurd (let no : true ≡ false = sym view.0 ∙ owner in cc)
+          given_there of e owner (inl view) = absurd (let no : true ≡ false = sym view.0 ∙ owner in absurd (true≢false no))
           given_there of e owner (inr gives) = gives
 
       -- what a traversal function returns

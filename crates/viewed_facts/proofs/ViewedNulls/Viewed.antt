@@ -1,5 +1,6 @@
 -- Names and expressions in programs with borrowers and observers behave as instructions ask.
 use Rattle.std.proofs.Common.{◌≡◌, refl, sym, ap, ◌∙◌, subst, inl, ℕ, Bool, true, false, List, [], ◌∷◌}
+use Rattle.std.proofs.lemmas.Bool.{true≢false}
 use Rattle.place_names.specs.declared.act.Act.TheVariants as act
 use Rattle.place_names.specs.declared.fact.Fact.{Fact}
 use Rattle.place_names.specs.declared.rule.Loan.TheVariants.{Borrowed}
@@ -190,7 +191,7 @@ module _ (h : Here) (sees : ℕ → Bool) (seeing : Seeing h.typing sees) (settl
         nothing_past : (z : Way) → Past z (way_along way (variable x)) → ⊥
         nothing_past z past =
             let none : has_deref (ways.sels_of (way_along way (variable x))) ≡ false = ap has_deref (goes.sels (variable x)) ∙ selectors_direct steps direct in
-            let no : true ≡ false = sym (past_deref z (way_along way (variable x)) past) ∙ none in cc
+            let no : true ≡ false = sym (past_deref z (way_along way (variable x)) past) ∙ none in absurd (true≢false no)
 
         spot : Spot h.typing m hands (variable_place h x) (OfRoot (OfVariable (home h.typing h.frame x) x))
         spot = record { base = refl; made = tt; at = refl; there = refl; of = inl refl }
