@@ -53,10 +53,6 @@ module _ {R : Type 0} (Means : R → Heap → Type 0) (m : Kept R) (low high : �
           whole = subst (λ x. is_broken x ≡ false) (number_is true within (slots m whole.ghosts)) whole.whole;
         }))
 
-    pub number_known_as : (x : ℤ) → is_between low high v ≡ true → Whole Means m (item_at low high i q) → x ≡ v
-        → Knows Means m (λ s. is_broken (stored s q (sort.Int ∷ []) (x ∷ [])) ≡ false)
-    number_known_as x within whole same = subst (λ i. Knows Means m (λ s. is_broken (stored s q (sort.Int ∷ []) (i ∷ [])) ≡ false)) (sym same) (number_known within whole)
-
     pub number_done : (n : Kept R) (a : ℕ) → is_between low high v ≡ true → Changes Means m (λ s. stored s q (sort.Int ∷ []) (v ∷ [])) n → a ≡ end
         → Done Means m (item_at low high i q) (Ok a) n
     number_done n a within changes same =
@@ -67,11 +63,6 @@ module _ {R : Type 0} (Means : R → Heap → Type 0) (m : Kept R) (low high : �
               let d = kept_done.done g stands (subst (λ x. is_broken x ≡ false) e whole) in
               record { after = d.after; is = e ∙ d.is; shows = d.shows };
         })
-
-    pub number_done_as : (n : Kept R) (a : ℕ) (x : ℤ) → is_between low high v ≡ true → Changes Means m (λ s. stored s q (sort.Int ∷ []) (x ∷ [])) n → x ≡ v → a ≡ end
-        → Done Means m (item_at low high i q) (Ok a) n
-    number_done_as n a x within changes same ended =
-        number_done n a within (subst (λ i. Changes Means m (λ s. stored s q (sort.Int ∷ []) (i ∷ [])) n) same changes) ended
 
 module _ {R : Type 0} (Means : R → Heap → Type 0) (m : Kept R) (p : Place) (bytes : List ℕ) (at : ℕ) (low high : ℤ) where
   abbrev read_item : Slots → Spot → Got (With ℕ)

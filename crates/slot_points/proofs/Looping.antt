@@ -65,22 +65,6 @@ module _ {R : Type 0} (Means : R → Heap → Type 0) where
         then_done Means m n k value_put (loop_words counter loop) (λ s. stored_never s (in_stack s at) [] (v ∷ [])) tt first_put
         (changed_done Means n k (λ s. put_words s counter loop) (λ s. only) (λ s. stored_never s (in_stack s counter) [] loop) tt second_put (λ s t. refl))
 
-  -- the same of a word that is the value
-  module _ (m : Kept R) (at counter : ℕ) (v : ℤ) (loop : List ℤ) (x : ℤ) (same : x ≡ v) where
-    pub loop_value_as : Whole Means m (with_loop at counter v loop) → Knows Means m (λ s. is_broken (put_words s at (x ∷ [])) ≡ false)
-    loop_value_as is = subst (λ i. Knows Means m (λ s. is_broken (put_words s at (i ∷ [])) ≡ false)) (sym same) (loop_value m at counter v loop is)
-
-    put_as : (n : Kept R) → Changes Means m (λ s. put_words s at (x ∷ [])) n → Changes Means m (λ s. put_words s at (v ∷ [])) n
-    put_as n changes = subst (λ i. Changes Means m (λ s. put_words s at (i ∷ [])) n) same changes
-
-    pub loop_next_as : (n : Kept R) → Whole Means m (with_loop at counter v loop) → Changes Means m (λ s. put_words s at (x ∷ [])) n
-        → Knows Means n (λ s. is_broken (put_words s counter loop) ≡ false)
-    loop_next_as n is changes = loop_next m at counter v loop n is (put_as n changes)
-
-    pub loop_done_as : (n k : Kept R) → Changes Means m (λ s. put_words s at (x ∷ [])) n → Changes Means n (λ s. put_words s counter loop) k
-        → Done Means m (with_loop at counter v loop) (Ok tt) k
-    loop_done_as n k first_put second_put = loop_done m at counter v loop n k (put_as n first_put) second_put
-
   -- ---- a start
 
   module _ (m : Kept R) (at counter : ℕ) (first_value last a b : ℤ) where
@@ -110,21 +94,6 @@ module _ {R : Type 0} (Means : R → Heap → Type 0) where
             shows = d.shows;
           };
     }
-
-  -- the same of words that are the bounds
-  module _ (m : Kept R) (at counter : ℕ) (first_value last a b x y : ℤ) (same_a : x ≡ a) (same_b : y ≡ b) where
-    abbrev loop_at : ℤ → ℤ → Slots → Got (With (Unit {0}))
-    loop_at a b = with_loop at counter a (a ∷ b ∷ pos 1 ∷ [])
-
-    pub begin_known_as : Whole Means m (begun_with at counter first_value last a b) → is_refused first_value last a b ≡ false → Whole Means m (with_loop at counter x (x ∷ y ∷ pos 1 ∷ []))
-    begin_known_as is goes =
-        subst (λ i. Whole Means m (loop_at i y)) (sym same_a) (subst (λ i. Whole Means m (loop_at a i)) (sym same_b) (begin_known m at counter first_value last a b is goes))
-
-    pub begin_done_as : (n : Kept R) → is_refused first_value last a b ≡ false → Done Means m (with_loop at counter x (x ∷ y ∷ pos 1 ∷ [])) (Ok tt) n
-        → Done Means m (begun_with at counter first_value last a b) (Ok tt) n
-    begin_done_as n goes done =
-        begin_done m at counter first_value last a b n goes
-        (subst (λ i. Done Means m (loop_at a i) (Ok tt) n) same_b (subst (λ i. Done Means m (loop_at i y) (Ok tt) n) same_a done))
 
   module _ (m : Kept R) (at counter : ℕ) (low high : Code) (first_value last : ℤ) where
     abbrev high_bound : Slots → ℤ → Got (With (Unit {0}))

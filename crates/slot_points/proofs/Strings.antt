@@ -15,7 +15,6 @@ use Rattle.code_rows.specs.declared.range.Range.{Range}
 use Rattle.code_rows.specs.declared.point.Text.{Text}
 use Rattle.code_rows.specs.declared.rows.Rows.{Rows}
 use Rattle.code_rows.specs.declared.stop.Stop as declared
-use Rattle.code_rows.specs.declared.stop.Stop.TheVariants as stop
 use Rattle.code_rows.specs.Stops.{stop_of}
 use Rattle.code_rows.specs.Points.{text_of, is_text_there, AreSound}
 use Rattle.code_rows.proofs.Grown.{and_first, and_second}
@@ -54,9 +53,6 @@ after_both : (old more : List ℕ) (g : Got (List ℕ)) → after (old ++ more) 
 after_both old more (Given rest) = ap (λ xs. Given xs) (append_assoc old more rest)
 after_both old more (Stops s) = refl
 after_both old more Broken = refl
-
-after_same : (a b : Got (List ℕ)) (old : List ℕ) → a ≡ b → after old a ≡ after old b
-after_same a b old e = ap (λ g. after old g) e
 
 stops_after : (s : Stop) (old : List ℕ) (g : Got (List ℕ)) → after old g ≡ Stops s → g ≡ Stops s
 stops_after s old (Given more) e = absurd (let never : Given (old ++ more) ≡ Stops s = e in cc)
@@ -192,9 +188,6 @@ sound_texts rows r sound =
 -- ---- a string as a whole
 
 module _ {R : Type 0} (Means : R → Heap → Type 0) (m : Kept R) (table : Table) (pieces : List Piece) (line : Bool) where
-  pub memory_added : {U : Type 0} (f : Slots → Got (List ℕ)) (old new : List ℕ) → Added {U = U} Means m f (Err stop.Memory) old new
-  memory_added f old new = record { added = λ g stands whole no. absurd (no refl) }
-
   pub output_stops : {U V : Type 0} (ts : List Piece) → ts ≡ pieces → (e : declared.Stop) (before bytes old new : List ℕ) → Added {U = U} Means m (text_in table ts) (Err e) before bytes
       → Added {U = V} Means m (written table pieces line) (Err e) old new
   output_stops ts same e before bytes old new is = record {
@@ -204,17 +197,3 @@ module _ {R : Type 0} (Means : R → Heap → Type 0) (m : Kept R) (table : Tabl
         first_stops (text table s pieces) (λ bytes. Given (bytes ++ line_end line)) (stop_of e)
         (λ there. sym same_text ∙ is.added g stands (ap is_broken same_text ∙ there) no) whole;
   }
-
-  pub output_done : {U V : Type 0} (u : U) (v : V) (bytes more old new : List ℕ) → Added Means m (text_in table pieces) (Ok u) [] bytes → more ≡ bytes ++ line_end line → new ≡ old ++ more
-      → Added Means m (written table pieces line) (Ok v) old new
-  output_done u v bytes more old new is ended put = record {
-    added = λ g stands whole.
-        let s : Slots = slots m g in
-        let there : text table s pieces ≡ Given bytes = sym (none_before (text table s pieces)) ∙ is.added g stands (first_whole (text table s pieces) (λ bytes. Given (bytes ++ line_end line)) whole) in
-        ap (λ (x : Got (List ℕ)). after old (and_then x (λ bytes. Given (bytes ++ line_end line)))) there ∙ ap (λ xs. Given (old ++ xs)) (sym ended) ∙ ap Given (sym put);
-  }
-    where
-      none_before : (g : Got (List ℕ)) → after [] g ≡ g
-      none_before (Given more) = refl
-      none_before (Stops s) = refl
-      none_before Broken = refl

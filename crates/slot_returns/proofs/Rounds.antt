@@ -1,5 +1,5 @@
 -- Formals that are copied back one after the other.
-use Rattle.std.proofs.Common.{◌≡◌, ◌≢◌, ℕ, zero, suc, arith, ◌+◌, ◌<◌, Bool, true, false, List, [], ◌∷◌, Ok, Err, Result, length, drop, get_or, map, refl, sym, ap, subst, ◌∙◌}
+use Rattle.std.proofs.Common.{◌≡◌, ◌≢◌, false, List, [], ◌∷◌, Ok, Err, refl, sym, ap, subst, ◌∙◌}
 use Rattle.type_definitions.specs.Types.{Table}
 use Rattle.slot_heap.specs.Heaps.{Heap}
 use Rattle.run_codes.specs.Flat.{Got, Given, Stops, Broken, is_broken}
@@ -8,8 +8,6 @@ use Rattle.code_rows.specs.declared.stop.Stop.{Stop}
 use Rattle.code_rows.specs.declared.stop.Stop.TheVariants as stop
 use Rattle.code_rows.specs.Stops.{stop_of}
 use Rattle.handled_runs.specs.Slots.{Slots}
-use Rattle.slot_frames.specs.declared.rows.Return.{Return as Row}
-use Rattle.slot_frames.specs.Frames.{return_of}
 use Rattle.slot_memory.specs.Memory.{Kept, Ghosts, Stands, Shows, Knows, slots, ghosts_of}
 use Rattle.slot_returns.specs.Backs.{copied, IsStored, IsCopied, IsStopped, Copies, Copying, Copied, Stopped, Missing, on_copied, all_copied, CanCopy, ComesTo, Comes, CopiesAll}
 
@@ -71,18 +69,3 @@ module _ {R : Type 0} (Means : R → Heap → Type 0) (before : Kept R) (table :
 
   pub round_end : {U : Type 0} (u : U) (now : Kept R) → Round Means before table all [] now → CopiesAll {U = U} Means before table all (Ok u) now
   round_end u now turn = record { comes = λ g stands whole. turn.round g stands whole }
-
--- ---- rows
-
-rest_at : (xs : List Row) (i : ℕ) (d : Row) → i < length xs → drop i xs ≡ get_or xs i d ∷ drop (suc i) xs
-rest_at [] i d below = absurd (omega (arith, below))
-rest_at (x ∷ xs) zero d below = refl
-rest_at (x ∷ xs) (suc i) d below = rest_at xs i d (omega (arith, below))
-
-pub returns_at : (xs : List Row) (i : ℕ) (r : Row) → i < length xs → get_or xs i r ≡ r
-    → map return_of (drop i xs) ≡ return_of r ∷ map return_of (drop (i + 1) xs)
-returns_at xs i r below is =
-    let next : suc i ≡ i + 1 = omega arith in
-    ap (map return_of) (rest_at xs i r below)
-    ∙ ap (λ (z : Row). return_of z ∷ map return_of (drop (suc i) xs)) is
-    ∙ ap (λ (n : ℕ). return_of r ∷ map return_of (drop n xs)) next

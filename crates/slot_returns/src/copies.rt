@@ -1,10 +1,10 @@
 //! What is copied back when a call ends.
-ghost use Rattle.std.specs.Prelude.{◌≡◌, ◌+◌, false, OnErr, IfOk, IsErrOf, map};
+ghost use Rattle.std.specs.Prelude.{◌≡◌, ◌+◌, false, OnErr, IfOk, IsErrOf};
 ghost use Rattle.run_codes.specs.Flat.{InStack, is_broken};
 ghost use Rattle.slot_memory.specs.Memory.{Knows, elsewhere};
 ghost use Rattle.slot_memory.specs.Spots.{spot_of};
 ghost use Rattle.slot_frames.specs.Frames.{return_of};
-ghost use Rattle.slot_returns.specs.Backs.{copied, Copies, CanCopy, CopiesAll};
+ghost use Rattle.slot_returns.specs.Backs.{copied, Copies};
 
 use code_rows::{Exception, Stop};
 use slot_frames::Return;
@@ -43,21 +43,4 @@ pub fn copy_one<R: Store>(
         return Err(Stop::Raises(Exception::ConstraintError));
     }
     hand.store(table, memory, back.to.same(), back.of, 0)
-}
-
-/// The formals are copied back in order.
-pub fn copy_back<R: Store>(
-    table: &TypeTable,
-    memory: &mut Memory<R>,
-    hand: &mut Hand,
-    returns: &[Return],
-) -> Result<(), Stop>
-    requires { CanCopy R.Means memory.old table.now (map return_of returns.now) }
-    ensures copied { CopiesAll R.Means memory.old table.now (map return_of returns.now) result memory.new }
-    ensures elsewhere { elsewhere memory.new ≡ elsewhere memory.old }
-{
-    'returns: for i in 0..returns.len() {
-        copy_one(table, memory, hand, returns[i])?;
-    }
-    Ok(())
 }
