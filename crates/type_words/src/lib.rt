@@ -9,6 +9,7 @@
 mod defaults;
 mod kinds;
 mod offsets;
+mod repeats;
 mod spans;
 
 pub use defaults::push_defaults;
