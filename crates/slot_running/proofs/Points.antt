@@ -1,5 +1,5 @@
 -- The step of a point as a turn of a run.
-use Rattle.std.proofs.Common.{◌≡◌, ◌-◌, ◌+◌, ℕ, true, false, Ok, Err, Some, None, refl}
+use Rattle.std.proofs.Common.{◌≡◌, ◌-◌, ◌+◌, ◌∙◌, ℕ, true, false, Ok, Err, Some, None, refl}
 use Rattle.type_definitions.specs.Types.{Table}
 use Rattle.slot_heap.specs.Heaps.{Heap}
 use Rattle.code_rows.specs.declared.point.Point.{Point as PointRow}
@@ -7,13 +7,14 @@ use Rattle.code_rows.specs.declared.codes.Codes.{Codes}
 use Rattle.code_rows.specs.Points.{point_of}
 use Rattle.run_codes.specs.Codes.{Point}
 use Rattle.run_results.specs.declared.ran.Ending.TheVariants as ending
-use Rattle.slot_memory.specs.Memory.{IsKnown}
+use Rattle.slot_memory.specs.Memory.{Kept, IsKnown}
+use Rattle.slot_memory.specs.Given.{CanGive, IsGivenUp}
 use Rattle.slot_runs.specs.Turns.{Setting}
 use Rattle.slot_turns.specs.declared.halt.Halt.{Halt}
 use Rattle.slot_turns.specs.declared.overs.Over.{Over}
-use Rattle.slot_turns.specs.Steps.{DoneAt}
+use Rattle.slot_turns.specs.Steps.{turn_at, DoneAt}
 use Rattle.slot_turns.specs.Overs.{IsCounted}
-use Rattle.slot_turns.proofs.Ended.{ended_over, halts_over, counted_freed, not_memory}
+use Rattle.slot_turns.proofs.Ended.{ended_over, can_give, halts_over, counted_freed, not_memory}
 use Rattle.slot_steps.specs.slot_parts.declared.parts.Parts.{Parts}
 use Rattle.slot_steps.specs.slot_parts.Stages.{between_of, setting_of, IsAt}
 use Rattle.slot_steps.specs.slot_parts.Steps.{StepsOf}
@@ -48,14 +49,21 @@ module _ {R : Type 0} (Means : R → Heap → Type 0) (codes : Codes) (table : T
     lent = is.steps.lent;
   }
 
-  -- It is over where the point raises.
-  pub halt_turn : (h : Halt) (made freed : ℕ) (over : Over) → StepsOf Means codes table point (Err h) old new → made ≡ old.memory.heap.made
-      → freed ≡ old.memory.heap.freed + (old.memory.heap.made - made) → IsCounted h point.pos made freed over
-      → IsPointTurn Means codes table point (Some over) old new
-  halt_turn h made freed over is made_is freed_is counted = record {
+  -- It is over where the point raises, and the cells that it made are given up.
+  pub halt_gives : (h : Halt) (made freed : ℕ) (over : Over) → StepsOf Means codes table point (Err h) old new → made ≡ old.memory.heap.made → IsCounted h point.pos made freed over
+      → CanGive Means new.memory.heap made
+  halt_gives h made freed over is same counted =
+      let g = at.can.ghosts in
+      can_give Means (turn_at c p (between_of old) g) (DoneAt c p (between_of old) g) h (between_of old) (between_of new) made same
+      (is.steps.steps g at.can.stands at.can.fine (not_memory h.stop point.pos over.ending counted.ending))
+
+  pub halt_turn : (h : Halt) (made freed : ℕ) (over : Over) (m : Kept R) → StepsOf Means codes table point (Err h) old new → made ≡ old.memory.heap.made
+      → freed ≡ old.memory.heap.freed + (old.memory.heap.made - made) → IsCounted h point.pos made freed over → IsGivenUp Means new.memory.heap made m.heap
+      → IsPointTurn Means codes table point (Some over) old (record new { memory = m })
+  halt_turn h made freed over m is made_is freed_is counted given = record {
     turns = λ g stands fine.
-        halts_over Means c p point.pos (between_of old) (between_of new) g h made freed over refl (is.steps.steps g stands fine) made_is
+        halts_over Means c p point.pos (between_of old) (between_of new) (between_of (record new { memory = m })) g h made freed over refl (is.steps.steps g stands fine) given refl refl made_is
         (counted_freed old.memory.heap.freed old.memory.heap.made made freed made_is freed_is) counted;
     kept = tt;
-    lent = is.steps.lent (not_memory h.stop point.pos over.ending counted.ending);
+    lent = given.lent ∙ is.steps.lent (not_memory h.stop point.pos over.ending counted.ending);
   }

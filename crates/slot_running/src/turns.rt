@@ -60,7 +60,11 @@ fn turn_point<R: Store>(
     match step_point(alloc, codes, table, parts, passing, point, k) {
         Ok(true) => Ok(None),
         Ok(false) => Ok(Some(ended(parts))),
-        Err(halt) => Ok(Some(stopped(halt, point.pos, made, freed)?)),
+        Err(halt) => {
+            let over = stopped(halt, point.pos, made, freed)?;
+            parts.memory.give_up(made);
+            Ok(Some(over))
+        }
     }
 }
 
