@@ -1,19 +1,22 @@
 //! The next step of a run.
-ghost use Rattle.std.specs.Prelude.{◌≡◌, ◌<◌, slice_get, Some, None, IfOk, IsTrue};
+ghost use Rattle.std.specs.Prelude.{◌≡◌, ◌≢◌, ◌<◌, slice_get, Some, None, IfOk, IsTrue};
 ghost use Rattle.code_rows.specs.Points.{program_of, point_of, is_point_there, IsWhole};
+ghost use Rattle.code_rows.specs.declared.stop.Stop.TheVariants as stop;
 ghost use Rattle.slot_memory.specs.Memory.{IsKnown};
+ghost use Rattle.slot_memory.specs.Given.{CanGive};
 ghost use Rattle.slot_entries.specs.Entries.{stacked_words};
 ghost use Rattle.slot_goings.specs.Groups.{group_of};
 ghost use Rattle.slot_steps.specs.slot_parts.Stages.{IsAt};
 ghost use Rattle.slot_running.specs.Runs.{AreKept, CanTurn, CanTurns, IsTurn, AreTurns};
-ghost use Rattle.slot_running.specs.Points.{IsPointTurn};
+ghost use Rattle.slot_running.specs.Points.{IsHalted, IsPointTurn};
 
 use code_rows::{Codes, Point};
 use run_results::Ending;
 use slot_goings::{Group, grouped};
 use slot_heap::Store;
 use slot_steps::{Parts, Passing, step_point, step_words};
-use slot_turns::{Over, point_at, stopped, take};
+use slot_turns::{Halt, Over, point_at, stopped, take};
+use spark_base::Pos;
 use std::alloc::{AllocError, Global};
 use type_table::TypeTable;
 
@@ -42,6 +45,24 @@ pub(crate) fn ended<R: Store>(parts: &Parts<R>) -> Over
     }
 }
 
+/// The run is over where a point stops, before which there were so many cells, of which so many were
+/// freed: those that it made are given up.
+#[inline(never)]
+fn halted<R: Store>(
+    parts: &mut Parts<R>,
+    halt: Halt,
+    pos: Pos,
+    made: u64,
+    freed: u64,
+) -> Result<Over, AllocError>
+    requires { halt.stop ≢ stop.Memory → CanGive R.Means parts.old.memory.heap made }
+    ensures { IfOk result (λ over. IsHalted R.Means halt pos made freed over parts.old parts.new) }
+{
+    let over = stopped(halt, pos, made, freed)?;
+    parts.memory.give_up(made);
+    Ok(over)
+}
+
 /// The step of a point.
 fn turn_point<R: Store>(
     alloc: Global,
@@ -60,11 +81,7 @@ fn turn_point<R: Store>(
     match step_point(alloc, codes, table, parts, passing, point, k) {
         Ok(true) => Ok(None),
         Ok(false) => Ok(Some(ended(parts))),
-        Err(halt) => {
-            let over = stopped(halt, point.pos, made, freed)?;
-            parts.memory.give_up(made);
-            Ok(Some(over))
-        }
+        Err(halt) => Ok(Some(halted(parts, halt, point.pos, made, freed)?)),
     }
 }
 
@@ -85,7 +102,7 @@ fn turn_word<R: Store>(
     let freed = parts.memory.freed_with(made);
     match step_words(codes, table, parts, point, k) {
         Ok(()) => Ok(None),
-        Err(halt) => Ok(Some(stopped(halt, point.pos, made, freed)?)),
+        Err(halt) => Ok(Some(halted(parts, halt, point.pos, made, freed)?)),
     }
 }
 
