@@ -1,4 +1,5 @@
 //! What is at hand while a call is made.
+ghost use Rattle.std.specs.Prelude.{◌≡◌, []};
 
 use run_values::Kind;
 use slot_formals::Pass;
@@ -23,7 +24,11 @@ impl Drop for Passing {
 
 impl Passing {
     /// Nothing.
-    pub fn new(alloc: Global) -> Passing {
+    pub fn new(alloc: Global) -> Passing
+        ensures passes { result.passes.items ≡ [] }
+        ensures formals { result.formals.items ≡ [] }
+        ensures kinds { result.kinds.items ≡ [] }
+    {
         Passing {
             passes: Vec::new(alloc),
             formals: Vec::new(alloc),

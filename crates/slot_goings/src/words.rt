@@ -12,6 +12,7 @@ use slot_memory::Memory;
 use slot_points::{choose, next_turn, put, put_pointer, start_loop, store, test};
 
 /// A scalar value within bounds is put at an offset in the frame.
+#[inline(always)]
 #[tactic(auto, using(crate::proofs::Changed::words_rules))]
 fn put_scalar<R: Store>(
     rows: &Rows,
@@ -34,6 +35,7 @@ fn put_scalar<R: Store>(
 }
 
 /// An access value that is looked at is put at an offset in the frame.
+#[inline(always)]
 #[tactic(auto, using(crate::proofs::Changed::words_rules))]
 fn put_access<R: Store>(
     rows: &Rows,
@@ -54,6 +56,7 @@ fn put_access<R: Store>(
 }
 
 /// A scalar value within bounds is stored at a place.
+#[inline(always)]
 #[tactic(auto, using(crate::proofs::Changed::words_rules))]
 fn store_scalar<R: Store>(
     rows: &Rows,
@@ -77,6 +80,7 @@ fn store_scalar<R: Store>(
 }
 
 /// A condition leads to one of two points.
+#[inline(always)]
 #[tactic(auto, using(crate::proofs::Changed::words_rules))]
 fn test_condition<R: Store>(
     rows: &Rows,
@@ -93,6 +97,7 @@ fn test_condition<R: Store>(
 }
 
 /// A value leads to the first choice that has it.
+#[inline(always)]
 #[tactic(auto, using(crate::proofs::Changed::words_rules))]
 fn choose_choice<R: Store>(
     rows: &Rows,
@@ -108,6 +113,7 @@ fn choose_choice<R: Store>(
 }
 
 /// A `for` loop starts.
+#[inline(always)]
 #[tactic(auto, using(crate::proofs::Changed::words_rules))]
 fn start<R: Store>(
     rows: &Rows,
@@ -131,6 +137,7 @@ fn start<R: Store>(
 }
 
 /// The next turn of a `for` loop, or its end.
+#[inline(always)]
 #[tactic(auto, using(crate::proofs::Changed::words_rules))]
 fn turn_loop<R: Store>(
     rows: &Rows,
@@ -151,6 +158,7 @@ fn turn_loop<R: Store>(
 }
 
 /// A point that stores one word at most: where it leads.
+#[inline(always)]
 #[tactic(auto, using(crate::proofs::Changed::words_rules, crate::proofs::Changed::no_change, crate::proofs::Changed::go_on))]
 pub fn change_words<R: Store>(rows: &Rows, memory: &mut Memory<R>, does: &Does) -> Result<u32, Stop>
     requires there { IsTrue (is_does_there rows.now does.now) }

@@ -26,6 +26,7 @@ keep_same Means c m n numbers store same means keep = record {
   sized = λ h k is. keep.sized h k (sym (same.sizes h) ∙ is);
   numbered = keep.numbered;
   counted = omega (arith, keep.counted, same.cells);
+  within = keep.within;
   slots = omega (arith, keep.slots, ap length same.slots);
   few = keep.few;
 }
@@ -76,6 +77,13 @@ row_made numbers row h x same j =
     (λ (other : j ≡ h → ⊥). rw (ne_eqb j h other) (same j ∙ sym (get_or-set_other (padded row h) h j x 0 other ∙ pad_zero row (h + 1 - length row) j)))
     (cases_eq j h)
 
+row_within : (numbers : ℕ → ℕ) (h k n j : ℕ) → n ≡ suc k → ((i : ℕ) → numbers i ≤ k) → row_with numbers h (suc k) j ≤ n
+row_within numbers h k n j is less =
+    ⊎_elim
+    (λ (e : j ≡ h). rw (eq-eqb j h e) (omega (arith, is)))
+    (λ (other : j ≡ h → ⊥). let old = less j in rw (ne_eqb j h other) (omega (arith, is, old)))
+    (cases_eq j h)
+
 slots_made : (m : Heap) (n : ℕ) → length (with_slot n m) ≤ suc (length m.slots)
 slots_made m n =
     elim (live_count n m.cells == slot_count n m.slots) as (λ b. length (if b then n ∷ m.slots else m.slots) ≤ suc (length m.slots)) [
@@ -93,6 +101,7 @@ keep_made Means c n m numbers h vs small short few new means lengths row made fr
   sized = sized;
   numbered = λ j. row_made numbers c.numbers h (suc c.made) keep.numbered j ∙ ap (λ l. get_or l j 0) (sym row);
   counted = omega (arith, keep.counted, made, freed);
+  within = λ j. row_within numbers h c.made n.made j made keep.within;
   slots = omega (arith, keep.slots, made, slots_made m (length vs));
   few = omega (arith, few, made);
 }
@@ -150,6 +159,7 @@ keep_freed Means c n m numbers h ws live means lengths row made freed keep = rec
   sized = λ j k is. (let P : List ℕ → Type 0 = λ l. IsSized l j k in subst P (sym lengths) (keep.sized j k (size_without m.cells h j k keep.once is)));
   numbered = λ j. keep.numbered j ∙ ap (λ l. get_or l j 0) (sym row);
   counted = omega (arith, keep.counted, made, freed, without_long m.cells h ws live);
+  within = λ j. (let old = keep.within j in omega (arith, old, made));
   slots = omega (arith, keep.slots, made);
   few = omega (arith, keep.few, made);
 }
@@ -164,6 +174,7 @@ keep_none Means store lent means = record {
   sized = λ j k is. cc;
   numbered = λ j. refl;
   counted = omega arith;
+  within = λ h. omega arith;
   slots = omega arith;
   few = omega arith;
 }

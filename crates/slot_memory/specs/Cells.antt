@@ -37,6 +37,7 @@ pub record Keep {R : Type 0} (Means : R → Heap → Type 0) (c : Cells R) (heap
   pub sized : (h n : ℕ) → size_at heap.cells h ≡ Some n → IsSized c.lengths h n
   pub numbered : (h : ℕ) → numbers h ≡ get_or c.numbers h 0
   pub counted : c.freed + length heap.cells ≤ c.made
+  pub within : (h : ℕ) → numbers h ≤ c.made
   pub slots : length heap.slots ≤ c.made
   pub few : c.made ≤ most_cells
 

@@ -164,6 +164,7 @@ impl<'s, R: Store> Memory<'s, R> {
     }
 
     /// Puts a word at an offset in the frame.
+    #[inline(always)]
     pub fn put(&mut self, at: u32, word: i64)
         requires { is_broken (found (slice_get self.old.stack (self.old.base + at))) ≡ false }
         ensures { self.new ≡ record self.old { stack = set self.old.stack (self.old.base + at) word } }

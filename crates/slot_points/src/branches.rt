@@ -20,6 +20,7 @@ fn led(word: i64, holds: u32, fails: u32) -> u32
 }
 
 /// Where a condition leads.
+#[inline(always)]
 pub fn test<R: Store>(
     nodes: &Nodes,
     memory: &Memory<R>,

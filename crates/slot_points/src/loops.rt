@@ -137,6 +137,7 @@ fn put_turn<R: Store>(
 
 /// The next turn of a loop: whether there is one. A loop that ends leaves its parameter without a
 /// value.
+#[inline(always)]
 pub fn next_turn<R: Store>(
     memory: &mut Memory<R>,
     at: u32,

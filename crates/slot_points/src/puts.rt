@@ -14,6 +14,7 @@ use slot_words::{evaluate, operand};
 use word_operators::within;
 
 /// Puts a word at an offset in the frame.
+#[inline(always)]
 pub(crate) fn put_word<R: Store>(memory: &mut Memory<R>, at: u32, word: i64)
     requires { Knows R.Means memory.old (λ s. is_broken (put_words s at (word ∷ [])) ≡ false) }
     ensures put { Changes R.Means memory.old (λ s. put_words s at (word ∷ [])) memory.new }
@@ -23,6 +24,7 @@ pub(crate) fn put_word<R: Store>(memory: &mut Memory<R>, at: u32, word: i64)
 }
 
 /// A scalar value within bounds is put at an offset in the frame.
+#[inline(always)]
 pub fn put<R: Store>(
     nodes: &Nodes,
     memory: &mut Memory<R>,
@@ -43,6 +45,7 @@ pub fn put<R: Store>(
 }
 
 /// An access value that is looked at is put at an offset in the frame.
+#[inline(always)]
 pub fn put_pointer<R: Store>(
     nodes: &Nodes,
     memory: &mut Memory<R>,

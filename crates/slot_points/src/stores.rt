@@ -13,6 +13,7 @@ use slot_words::{evaluate, spot};
 use word_operators::within;
 
 /// A scalar value within bounds is stored at a place, which is found after it.
+#[inline(always)]
 pub fn store<R: Store>(
     nodes: &Nodes,
     memory: &mut Memory<R>,

@@ -1,6 +1,7 @@
 -- The formals of functions are of mode `in`.
 use Rattle.std.proofs.Common.{◌≡◌, refl, sym, ap, ◌∙◌, subst, inl, inr, ℕ, suc, ◌+◌, Bool, true, false, not, ◌&&◌, List, [], ◌∷◌, ◌++◌, map, flat_map, get_or, nat_eq, arith, Option, Some, None, is_some}
 use Rattle.std.specs.List.{position_or_len}
+use Rattle.std.proofs.lemmas.Bool.{false≢true}
 use Rattle.spark_base.specs.Lists.{Has}
 use Rattle.spark_base.proofs.Lists.{Has-append_cases, Has-append_left, Has-append_right}
 use Rattle.place_names.specs.declared.act.Mode.{Mode}
@@ -73,7 +74,7 @@ module _ (s : Site) (h : Home) (a : ℕ) (c : Context) (r : Option ℕ) where
 
 has_result : (known : Known) (d t : ℕ) (result : Code) → same_result known (Some t) result ≡ true → is_some (result_indicated known d result) ≡ true
 has_result known d t (More i rest) e = refl
-has_result known d t result e = cc
+has_result known d t result e = absurd (false≢true e)
 
 front_taken : (s : Site) (h : Home) (a : ℕ) (c : Context) (front : Code) (t x : ℕ) → front_faults c front ≡ [] → agrees c.known front ≡ true
     → (profile_of (entry_of c.known (front_number front))).result ≡ Some t → Has (flat_map (formal_numbers s) (front_formals front)) x

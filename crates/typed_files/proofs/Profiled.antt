@@ -4,7 +4,7 @@ use Rattle.std.specs.Prelude.{flat_map, is_some}
 use Rattle.std.specs.List.{AllByRecursion, position_or_len}
 use Rattle.std.specs.Cmp.Lexicographic.{pointwise}
 use Rattle.std.specs.Char.{to_ascii_lowercase}
-use Rattle.std.proofs.lemmas.Bool.{eqb-true, eq-eqb}
+use Rattle.std.proofs.lemmas.Bool.{eqb-true, eq-eqb, false≢true}
 use Rattle.spark_base.specs.Lists.{Has}
 use Rattle.spark_base.proofs.Lists.{Has-append_left, Has-append_right, Has-map}
 use Rattle.place_names.specs.declared.act.Mode.{Mode}
@@ -139,7 +139,7 @@ mode_is : (m n : Mode) → same_mode m n ≡ true → n ≡ m
 mode_is mode.In mode.In e = refl
 mode_is mode.Out mode.Out e = refl
 mode_is mode.InOut mode.InOut e = refl
-mode_is m n e = cc
+mode_is m n e = absurd (false≢true e)
 
 -- Names of two lists of formals that are the same are apart in one of them if so they are in the other.
 module _ (table : Table) where
@@ -410,7 +410,7 @@ module _ (p : Program) (formed : IsTrue (all_formed p.units)) (orderly : IsOrder
       (λ gs make same. fit_groups false rest declared.2 typed.1 gs make same) fs make same
   fit_groups first (More group rest) declared typed fs make same = fit_groups false rest declared typed.1 fs make same
   fit_groups first formals declared typed [] make same = tt
-  fit_groups first formals declared typed (f ∷ fs) make same = cc
+  fit_groups first formals declared typed (f ∷ fs) make same = absurd (false≢true same)
 
   ids_declared : (m : Mode) (ids : Code) (h : Home) (a : ℕ) → ((o : DeclaredObject) → Has (map (object_of h a m) (code_items ids)) o → Has all o) → AllDeclared m ids
   ids_declared m (More d rest) h a into =
@@ -540,7 +540,7 @@ module _ (p : Program) (formed : IsTrue (all_formed p.units)) (orderly : IsOrder
   traverses_as n t k same formals (More (Anonymous at constant m) rest) is none agree anonymous own =
       subst (λ (z : Known). is_anonymous (full z.table n) ≡ true) (sym same) (subst (λ u. is_anonymous (full table u) ≡ true) own anonymous)
   traverses_as n t k same formals (More i rest) is none agree anonymous own = absurd is
-  traverses_as n t k same formals result is none agree anonymous own = cc
+  traverses_as n t k same formals result is none agree anonymous own = absurd (false≢true agree)
 
   goes_through : (front : Code) → IsGoodFront known all front → (profile : Profile) → entry_of known (front_number front) ≡ entry.Subprogram profile → (r : Option ℕ) → r ≡ profile.result
       → traverses table r ≡ true → (o : ℕ) (rest : List ℕ) → flat_map (formal_numbers s) (front_formals front) ≡ o ∷ rest → is_scalar (full table (object_at y o).of) ≡ false

@@ -79,6 +79,7 @@ pub mod Operands
 pub mod Alone
 pub mod Within
 pub mod Taking
+pub mod ShortCircuits
 pub mod Results
 pub mod Giving
 pub mod ScopeEnds

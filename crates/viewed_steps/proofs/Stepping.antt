@@ -31,7 +31,7 @@ use Rattle.viewed_steps.proofs.Innermost as innermost
 use Rattle.viewed_steps.proofs.Turned as turned
 use Rattle.viewed_steps.proofs.Within as holding
 use Rattle.viewed_steps.proofs.Taking as taking
-use Rattle.viewed_steps.proofs.Results as results
+use Rattle.viewed_steps.proofs.ShortCircuits as short_circuits
 use Rattle.viewed_steps.proofs.Giving as giving
 use Rattle.viewed_steps.proofs.ScopeEnds as scopes
 use Rattle.viewed_steps.proofs.CallEnds as ends
@@ -77,7 +77,7 @@ module _ (table : Table) (typed : TypedProgram) (effects : Effects) (input : Lis
     by_instruction : (i : Instruction) → p.instr ≡ i → Along (turn main_turn i)
     by_instruction Finish is = ends.ends_call table typed effects input ready state top below more_frames rest named p frames deep stages running awaiting of_sub at_point path views viewed_before kept scope holds placed_before above is
     by_instruction (Call n actuals result) is = call_enters.calls_it table typed effects input ready state top below more_frames rest named p frames deep stages running awaiting of_sub at_point path views viewed_before kept scope holds placed_before above n actuals result is
-    by_instruction (Evaluate temporary e op) is = results.operand_step table typed effects input ready state top below more_frames rest named p frames deep stages running awaiting of_sub at_point path views viewed_before kept scope holds placed_before above temporary e op is
+    by_instruction (Evaluate temporary e op) is = short_circuits.operand_step table typed effects input ready state top below more_frames rest named p frames deep stages running awaiting of_sub at_point path views viewed_before kept scope holds placed_before above temporary e op is
     by_instruction (Hold (More e last)) is = giving.return_step table typed effects input ready state top below more_frames rest named p frames deep stages running awaiting of_sub at_point path views viewed_before kept scope holds placed_before above e last is
     by_instruction (EndScope y) is = scopes.ends_scope table typed effects input ready state top below more_frames rest named p frames deep stages running awaiting of_sub at_point path views viewed_before kept scope holds placed_before above y is
     by_instruction i is = subst (λ z. Along (turn main_turn z)) is (elim taken_there [

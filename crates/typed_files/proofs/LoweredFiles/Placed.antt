@@ -3,6 +3,7 @@
 use Rattle.std.proofs.Common.{◌≡◌, refl, sym, ap, ◌∙◌, subst, inl, inr, ℕ, zero, suc, ◌+◌, ◌<◌, ◌≤◌, true, false, not, ◌&&◌, List, [], ◌∷◌, ◌++◌, map, length, get_or, arith, if◌then◌else◌}
 use Rattle.std.specs.Prelude.{flat_map, is_some, reverse}
 use Rattle.std.specs.List.{AllByRecursion}
+use Rattle.std.proofs.lemmas.Bool.{false≢true}
 use Rattle.spark_base.specs.Lists.{Has}
 use Rattle.spark_base.proofs.Lists.{Has-append_left, Has-append_right, Has-append_cases, Has-map, Has-map_from}
 use Rattle.type_definitions.specs.Types.{Table}
@@ -62,7 +63,7 @@ no_parameters (typed.More a rest) x only has = elim (Has-append_cases (parameter
   | inr later ↦ no_parameters rest x (and_second (declares_only a) (declares_only rest) only) later
 ]
 no_parameters typed.NoMore x only has = has
-no_parameters c x only has = cc
+no_parameters c x only has = absurd (false≢true only)
 
 -- ---- rooms
 

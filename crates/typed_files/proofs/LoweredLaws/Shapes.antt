@@ -1,6 +1,6 @@
 -- Types that agree have definitions of one form, and words of one sort.
 use Rattle.std.proofs.Common.{◌≡◌, refl, sym, ap, ◌∙◌, subst, inl, inr, ℕ, Bool, true, false, ◌&&◌, ◌||◌, List, [], ◌∷◌, length, nat_eq, nat_lt, Some, arith, lt-ltb}
-use Rattle.std.proofs.lemmas.Bool.{eq-eqb}
+use Rattle.std.proofs.lemmas.Bool.{eq-eqb, false≢true}
 use Rattle.std.specs.Prelude.{◌<◌}
 use Rattle.type_definitions.specs.declared.table.Shape.{Shape}
 use Rattle.type_definitions.specs.declared.table.Shape.TheVariants as shape
@@ -20,24 +20,24 @@ IsScalarOf z so = ⊥
 
 pub counted_is : (z : Shape) → counts z ≡ true → IsScalarOf z Whole
 counted_is (shape.Whole a b) e = refl
-counted_is z e = cc
+counted_is z e = absurd (false≢true e)
 
 pub listed_is : (z : Shape) → lists z ≡ true → IsScalarOf z Position
 listed_is (shape.Listed k a b) e = refl
-listed_is z e = cc
+listed_is z e = absurd (false≢true e)
 
 pub counted_of : (z : Shape) (so : Sort) → counts z ≡ true → IsScalarOf z so → so ≡ Whole
 counted_of (shape.Whole a b) so e is = is
-counted_of z so e is = cc
+counted_of z so e is = absurd (false≢true e)
 
 pub listed_of : (z : Shape) (so : Sort) → lists z ≡ true → IsScalarOf z so → so ≡ Position
 listed_of (shape.Listed k a b) so e is = is
-listed_of z so e is = cc
+listed_of z so e is = absurd (false≢true e)
 
 pub scalar_is : (z : Shape) → is_scalar (view_of z) ≡ true → (so : Sort) × IsScalarOf z so
 scalar_is (shape.Whole a b) e = (Whole, refl)
 scalar_is (shape.Listed k a b) e = (Position, refl)
-scalar_is z e = cc
+scalar_is z e = absurd (false≢true e)
 
 pub scalar_view : (z : Shape) (so : Sort) → IsScalarOf z so → is_scalar (view_of z) ≡ true
 scalar_view (shape.Whole a b) so is = refl
@@ -72,16 +72,16 @@ no_elements z so is e = absurd is
 kind_scalar : (a b : Shape) (so : Sort) → same_kind a b ≡ true → IsScalarOf b so → IsScalarOf a so
 kind_scalar (shape.Whole u v) (shape.Whole w x) so e is = is
 kind_scalar (shape.Listed k u v) (shape.Listed l w x) so e is = is
-kind_scalar (shape.Whole u v) b so e is = cc
-kind_scalar (shape.Listed k u v) b so e is = cc
-kind_scalar a b so e is = cc
+kind_scalar (shape.Whole u v) b so e is = absurd (false≢true e)
+kind_scalar (shape.Listed k u v) b so e is = absurd (false≢true e)
+kind_scalar a b so e is = absurd (false≢true e)
 
 kind_sym : (a b : Shape) → same_kind a b ≡ true → same_kind b a ≡ true
 kind_sym (shape.Whole u v) (shape.Whole w x) e = refl
 kind_sym (shape.Listed k u v) (shape.Listed l w x) e = refl
-kind_sym (shape.Whole u v) b e = cc
-kind_sym (shape.Listed k u v) b e = cc
-kind_sym a b e = cc
+kind_sym (shape.Whole u v) b e = absurd (false≢true e)
+kind_sym (shape.Listed k u v) b e = absurd (false≢true e)
+kind_sym a b e = absurd (false≢true e)
 
 pub agree_sym : (table : Table) (t u : ℕ) → Agree table t u → Agree table u t
 agree_sym table t u (inl e) = inl (sym e)
@@ -95,7 +95,7 @@ agree_scalar table t u so (inr e) is = kind_scalar (shape_of table t) (shape_of 
 kind_composite : (a b : Shape) → same_kind a b ≡ true → is_record a || is_array a ≡ true → ⊥
 kind_composite (shape.Whole u v) b e f = cc
 kind_composite (shape.Listed k u v) b e f = cc
-kind_composite a b e f = cc
+kind_composite a b e f = absurd (false≢true e)
 
 pub agree_composite : (table : Table) (t u : ℕ) → Agree table t u → is_record (shape_of table t) || is_array (shape_of table t) ≡ true → is_composite (shape_of table u) ≡ true
 agree_composite table t u (inl e) f = subst (λ z. is_record z || is_array z ≡ true) (one_shape table t u e) f
@@ -125,9 +125,9 @@ sorts_same table (x ∷ a) = both_true _ _ (sort_same table x) (sorts_same table
 kind_sorts : (f : ℕ → List Sort) (a b : Shape) → same_kind a b ≡ true → sorts_of f a ≡ sorts_of f b
 kind_sorts f (shape.Whole u v) (shape.Whole w x) e = refl
 kind_sorts f (shape.Listed k u v) (shape.Listed l w x) e = refl
-kind_sorts f (shape.Whole u v) b e = cc
-kind_sorts f (shape.Listed k u v) b e = cc
-kind_sorts f a b e = cc
+kind_sorts f (shape.Whole u v) b e = absurd (false≢true e)
+kind_sorts f (shape.Listed k u v) b e = absurd (false≢true e)
+kind_sorts f a b e = absurd (false≢true e)
 
 pub same_target : (table : Table) (d t : ℕ) → Agree table d t → same_designated table d t ≡ true
 same_target table d t (inl e) = either_left _ _ (subst (λ z. nat_eq (meant_type table d) z ≡ true) e (nat_same (meant_type table d)))

@@ -1,6 +1,7 @@
 -- The step of a point is lowered.
 use Rattle.std.proofs.Common.{◌≡◌, refl, sym, ap, ◌∙◌, subst, inl, inr, ℕ, zero, suc, ◌+◌, ◌<◌, Bool, true, false, not, List, [], ◌∷◌, ◌++◌, length, lt-ltb, arith, Option, Some, None, if◌then◌else◌}
 use Rattle.std.specs.Prelude.{option_and_then, slice_get, nat_lt, is_some, ℤ}
+use Rattle.std.proofs.lemmas.Bool.{false≢true}
 use Rattle.spark_base.specs.Lists.{Has}
 use Rattle.spark_base.proofs.Lists.{Has-append_left, Has-append_right}
 use Rattle.typed_tree.specs.declared.node.ShortCircuit.{ShortCircuit}
@@ -54,7 +55,7 @@ own_is false true e = cc
 
 counted_shape : (z : Shape) → counts z ≡ true → (low : ℤ) × (high : ℤ) × (z ≡ shape.Whole low high)
 counted_shape (shape.Whole low high) e = (low, high, refl)
-counted_shape z e = cc
+counted_shape z e = absurd (false≢true e)
 
 -- ---- codes of a sort
 
