@@ -41,10 +41,10 @@ use Rattle.run_points.specs.Outcomes.{GivesAlike}
 use Rattle.run_points.specs.Turns.{HasTypes}
 use Rattle.run_points.specs.Frames.{HasFrames}
 use Rattle.run_points.proofs.LoweredRuns.{lowered_gives}
-use Rattle.tested_files.specs.RunTables.Calls.{CallsStand}
-use Rattle.tested_files.proofs.RunTables.Programs.{program_table, program_parts, program_truth}
-use Rattle.tested_files.proofs.RunTables.Entered.{can_enter}
-use Rattle.tested_files.proofs.RunTables.Frames.{has_frames}
+use Rattle.accepted_runs.specs.TestedFiles.RunTables.Calls.{CallsStand}
+use Rattle.accepted_runs.proofs.TestedFiles.RunTables.Programs.{program_table, program_parts, program_truth}
+use Rattle.accepted_runs.proofs.TestedFiles.RunTables.Entered.{can_enter}
+use Rattle.accepted_runs.proofs.TestedFiles.RunTables.Frames.{has_frames}
 
 -- The table of what is laid out is that of the types.
 same_table : (table : Table) (typed : TypedProgram) → (flow_program table typed).table ≡ table

@@ -12,10 +12,10 @@ use Rattle.flow_paths.specs.Laid.{FlowSub, FlowProgram}
 use Rattle.flow_paths.specs.Effects.{path_points}
 use Rattle.flow_paths.specs.Reports.{AreReports}
 use Rattle.flow_paths.specs.Paths.{PathPoint, path_point, ControlPath, begins, goes_on, acts_along, facts_before, facts_within}
-use Rattle.fact_laws.specs.Allowed.{ArePathsAllowed}
-use Rattle.fact_laws.specs.Apart.{AreApart}
-use Rattle.fact_laws.proofs.Accepted.{accepted_allows}
-use Rattle.fact_laws.proofs.Apart.{effect_apart}
+use Rattle.soundness.specs.FactLaws.Allowed.{ArePathsAllowed}
+use Rattle.soundness.specs.FactLaws.Apart.{AreApart}
+use Rattle.soundness.proofs.FactLaws.Accepted.{accepted_allows}
+use Rattle.soundness.proofs.FactLaws.Apart.{effect_apart}
 
 abbrev acts_of : List Placed → List Act
 acts_of placed = map (λ (p : Placed). p.act) placed

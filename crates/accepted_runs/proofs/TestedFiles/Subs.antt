@@ -7,10 +7,10 @@ use Rattle.flow_paths.specs.Laid.{FlowProgram, flow_program}
 use Rattle.machine.specs.States.{sub_of}
 use Rattle.order_laws.specs.ReadyLaws.InOrder.{IsSub}
 use Rattle.run_ready.specs.Tests.{ascend}
-use Rattle.tested_files.specs.RunTables.Calls.{CallsStand}
-use Rattle.tested_files.specs.RunTables.Entered.{CanEnter}
-use Rattle.tested_files.specs.Tested.{IsTested}
-use Rattle.tested_files.proofs.RunTables.Frames.{in_list, nth_there, sub_is, first_formals, rest_long, called}
+use Rattle.accepted_runs.specs.TestedFiles.RunTables.Calls.{CallsStand}
+use Rattle.accepted_runs.specs.TestedFiles.RunTables.Entered.{CanEnter}
+use Rattle.accepted_runs.specs.TestedFiles.Tested.{IsTested}
+use Rattle.accepted_runs.proofs.TestedFiles.RunTables.Frames.{in_list, nth_there, sub_is, first_formals, rest_long, called}
 
 is_there : (subs : List TypedSub) (n : ℕ) (sub : TypedSub) → IsSub subs n sub → Has subs sub
 is_there subs n sub is = subst (λ l. Has l sub) (sym is.2) (in_list is.0 is.1 sub)

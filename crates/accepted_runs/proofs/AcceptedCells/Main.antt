@@ -26,8 +26,8 @@ use Rattle.accepted_runs.proofs.Views.{passed_ready}
 use Rattle.accepted_runs.proofs.Kept.{accepted_passed, has_main}
 use Rattle.accepted_runs.specs.AcceptedLowered.Runs.{IsRunnable}
 use Rattle.accepted_runs.proofs.AcceptedLowered.Runnable.{passed_runnable}
-use Rattle.recycled_cells.specs.Cells.{RunsLeaveCells}
-use Rattle.recycled_cells.proofs.Ready.{ready_leaves}
+use Rattle.recycled_runs.specs.RecycledCells.Cells.{RunsLeaveCells}
+use Rattle.recycled_runs.proofs.RecycledCells.Ready.{ready_leaves}
 
 -- However the program is laid out in rows.
 pub passed_leaves : (texts : List (List ℕ)) (trees : List (List SourceUnit)) (effects : Effects) → Passes texts trees effects → HasMain trees

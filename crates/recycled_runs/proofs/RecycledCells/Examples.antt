@@ -5,7 +5,7 @@ use Rattle.run_values.specs.declared.value.Value.TheVariants as value
 use Rattle.machine.specs.Words.{Word, Int, Null, Cell}
 use Rattle.machine.specs.Memory.{Slot, HeapCell}
 use Rattle.slot_heap.specs.Heaps.{Heap, words_at}
-use Rattle.recycled_cells.specs.Cells.{handled_slot, IsThere, IsBack, HasCells}
+use Rattle.recycled_runs.specs.RecycledCells.Cells.{handled_slot, IsThere, IsBack, HasCells}
 
 abbrev there : Word → Slot
 there w = record { word = w; gone = false }

@@ -7,7 +7,7 @@ use Rattle.flow_paths.specs.declared.report.Effects.{Effects}
 use Rattle.flow_paths.specs.Laid.{FlowSub, FlowProgram}
 use Rattle.flow_paths.specs.Effects.{path_points}
 use Rattle.flow_paths.specs.Reports.{AreReports, on_paths}
-use Rattle.fact_laws.specs.Allowed.{ArePathsAllowed}
+use Rattle.soundness.specs.FactLaws.Allowed.{ArePathsAllowed}
 
 none_found : (o : Option Forbidden) → ((found : Forbidden) → o ≡ Some found → ⊥) → o ≡ None
 none_found None never = refl

@@ -20,7 +20,7 @@ use Rattle.order_laws.specs.Written.{is_unit}
 use Rattle.order_laws.proofs.Mains.{main_unit, main_at}
 use Rattle.order_laws.proofs.Parts.{number_of, part_numbers_once, part_numbers_within, part_object}
 use Rattle.order_laws.proofs.Units.{IsLocal, IsBodyOf, units_of, body_objects}
-use Rattle.tested_files.specs.RunTables.Entered.{CanEnter}
+use Rattle.accepted_runs.specs.TestedFiles.RunTables.Entered.{CanEnter}
 
 first_once : (xs ys : List ℕ) → Once (xs ++ ys) → Once xs
 first_once [] ys once = tt

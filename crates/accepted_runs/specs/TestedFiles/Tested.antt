@@ -4,7 +4,7 @@ use Rattle.flow_paths.specs.Laid.{FlowProgram}
 use Rattle.machine.specs.States.{sub_of}
 use Rattle.run_points.specs.Frames.{IsCallable}
 use Rattle.run_ready.specs.Tests.{ascend}
-use Rattle.tested_files.specs.RunTables.Calls.{CallsStand}
+use Rattle.accepted_runs.specs.TestedFiles.RunTables.Calls.{CallsStand}
 
 -- All subprograms but the first one may be called, and the formals of each ascend.
 pub record IsTested (program : FlowProgram) : Type 0 where

@@ -14,8 +14,8 @@ use Rattle.place_names.specs.Names.{Name, extend, is_equal, agree_along, overlap
 use Rattle.place_names.specs.Facts.{adds, removes, effect, facts_behind, facts_after}
 use Rattle.place_names.specs.Rules.{forbids, forbidden_if, moved_or_lent, moved_or_borrowed}
 use Rattle.place_names.proofs.Names.{both_parts, both_true, overlaps-sym}
-use Rattle.fact_laws.specs.Allowed.{AreAllowed}
-use Rattle.fact_laws.specs.Apart.{clashes, AreApart}
+use Rattle.soundness.specs.FactLaws.Allowed.{AreAllowed}
+use Rattle.soundness.specs.FactLaws.Apart.{clashes, AreApart}
 
 -- ---- parts of places
 

@@ -20,7 +20,7 @@ use Rattle.machine.specs.States.{no_sub}
 use Rattle.machine.specs.Run.{no_point}
 use Rattle.run_points.specs.Frames.{IsCallable}
 use Rattle.run_ready.specs.Tests.{ascend, is_outside, is_called, call_stands, sub_calls, sub_enters, subs_enter, main_fits, frames_fit}
-use Rattle.tested_files.specs.Tested.{IsTested}
+use Rattle.accepted_runs.specs.TestedFiles.Tested.{IsTested}
 
 is_less : (a b : ℕ) → a < b → nat_lt a b ≡ true
 is_less a b lt = grind (arith, lt)

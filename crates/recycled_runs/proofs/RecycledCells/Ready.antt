@@ -22,9 +22,9 @@ use Rattle.handled_steps.specs.States as handled
 use Rattle.handled_steps.specs.Runs.{NeverTraps, RunOf}
 use Rattle.recycled_runs.proofs.Checks.{leaks_live}
 use Rattle.recycled_runs.proofs.Owns.{owns_names}
-use Rattle.recycled_cells.specs.Cells.{LeavesCells}
-use Rattle.recycled_cells.proofs.Ended.{CopiesNone}
-use Rattle.recycled_cells.proofs.Runs.{leaves}
+use Rattle.recycled_runs.specs.RecycledCells.Cells.{LeavesCells}
+use Rattle.recycled_runs.proofs.RecycledCells.Ended.{CopiesNone}
+use Rattle.recycled_runs.proofs.RecycledCells.Runs.{leaves}
 
 module _ (table : Table) (typed : TypedProgram) (effects : Effects) (input : List ℕ) (ready : IsReady table typed effects)
     (compared : AreCompared (flow_program table typed)) where

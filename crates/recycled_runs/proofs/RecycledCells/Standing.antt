@@ -16,7 +16,7 @@ use Rattle.run_codes.specs.Flat.{Flat, kind_of, word_of, words_in, gone_from}
 use Rattle.run_codes.specs.Related.{types, SlotStands, AllStand, AllKinds, CellStands, HaveCells}
 use Rattle.viewed_facts.proofs.NullPlaces.Lists.{pair_same}
 use Rattle.viewed_facts.specs.NullPlaces.Agrees.{Pairwise, AgreeSlot, AgreeSlots, AgreeCell}
-use Rattle.recycled_cells.specs.Cells.{handled_word, handled_slot, IsThere, IsBack, HasCells}
+use Rattle.recycled_runs.specs.RecycledCells.Cells.{handled_word, handled_slot, IsThere, IsBack, HasCells}
 
 -- ---- lists
 

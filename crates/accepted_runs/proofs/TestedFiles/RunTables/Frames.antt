@@ -17,8 +17,8 @@ use Rattle.machine.specs.States.{no_sub, sub_of}
 use Rattle.scope_laws.specs.Code.{Once}
 use Rattle.order_laws.specs.ReadyLaws.InOrder.{IsSub}
 use Rattle.run_points.specs.Frames.{AreDifferent, IsCallable, HasFrames}
-use Rattle.tested_files.specs.RunTables.Calls.{CallsStand}
-use Rattle.tested_files.specs.RunTables.Entered.{CanEnter}
+use Rattle.accepted_runs.specs.TestedFiles.RunTables.Calls.{CallsStand}
+use Rattle.accepted_runs.specs.TestedFiles.RunTables.Entered.{CanEnter}
 
 -- ---- numbers that stand once
 

@@ -49,11 +49,11 @@ use Rattle.recycled_runs.proofs.Keeps.{IsNull, null_cleared, null_empty}
 use Rattle.recycled_runs.proofs.Clear.{NoneGone, cleared_kept, clear_start}
 use Rattle.recycled_runs.proofs.Runs.{LeaksLive}
 use Rattle.recycled_runs.proofs.Starts.{start_only, start_words, start_none, starts_stacked}
-use Rattle.recycled_cells.specs.Cells.{HasCells, LeavesCells}
-use Rattle.recycled_cells.proofs.Ended.{CopiesNone, StepLeaves, step_leaves}
-use Rattle.recycled_cells.proofs.Kept.{Leaves}
-use Rattle.recycled_cells.proofs.Kept as kept
-use Rattle.recycled_cells.proofs.Standing.{has_cells, agree_cells, left_cells}
+use Rattle.recycled_runs.specs.RecycledCells.Cells.{HasCells, LeavesCells}
+use Rattle.recycled_runs.proofs.RecycledCells.Ended.{CopiesNone, StepLeaves, step_leaves}
+use Rattle.recycled_runs.proofs.RecycledCells.Kept.{Leaves}
+use Rattle.recycled_runs.proofs.RecycledCells.Kept as kept
+use Rattle.recycled_runs.proofs.RecycledCells.Standing.{has_cells, agree_cells, left_cells}
 
 -- ---- what is copied back
 

@@ -32,14 +32,14 @@ use Rattle.sound_files.proofs.Once.{files_once}
 use Rattle.sound_files.proofs.Written.{files_written}
 use Rattle.table_laws.specs.Ranks.{IsFit}
 use Rattle.run_ready.specs.Tests.{IsReady}
-use Rattle.tested_files.proofs.RunTables.Programs.{small, program_listed}
-use Rattle.tested_files.proofs.RunTables.Entered.{can_enter}
-use Rattle.tested_files.proofs.RunTables.Runs.{files_calls}
-use Rattle.tested_files.proofs.Fit.{finite_fit}
-use Rattle.tested_files.proofs.Formals.{formals_ascend}
-use Rattle.tested_files.specs.Tested.{IsTested}
-use Rattle.tested_files.proofs.Subs.{flow_tested}
-use Rattle.tested_files.proofs.Rows.{rows_tested}
+use Rattle.accepted_runs.proofs.TestedFiles.RunTables.Programs.{small, program_listed}
+use Rattle.accepted_runs.proofs.TestedFiles.RunTables.Entered.{can_enter}
+use Rattle.accepted_runs.proofs.TestedFiles.RunTables.Runs.{files_calls}
+use Rattle.accepted_runs.proofs.TestedFiles.Fit.{finite_fit}
+use Rattle.accepted_runs.proofs.TestedFiles.Formals.{formals_ascend}
+use Rattle.accepted_runs.specs.TestedFiles.Tested.{IsTested}
+use Rattle.accepted_runs.proofs.TestedFiles.Subs.{flow_tested}
+use Rattle.accepted_runs.proofs.TestedFiles.Rows.{rows_tested}
 
 -- The table of resolved code that declares in order is fit.
 pub program_fit : (p : Program) → IsTrue (all_formed p.units) → IsOrderly p → type_fault p ≡ None → IsFit (known_of p).table
