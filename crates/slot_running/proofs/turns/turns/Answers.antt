@@ -21,12 +21,12 @@ pub turn-requires-clause-there : goal.turn-requires-clause-there
 turn-requires-clause-there g c =
     subst (λ (f : Frame). slice_get (program_of c.args.codes.now).points f.next ≡ Some (point_of c.args.codes.now c.point_at-point.result.now)) c.frame.ensures c.point_at-point.ensures.point
 
-pub turn_words-requires-clause-can : goal.turn_words-requires-clause-can
-turn_words-requires-clause-can g c =
+pub words_turn-requires-clause-can : goal.words_turn-requires-clause-can
+words_turn-requires-clause-can g c =
     can_now g.R.Store.Means c.args.codes.now c.args.table.now c.args.limit c.args.parts.now c.requires.can c.steps.made c.steps.parts c.steps-test.true c.steps.invariant.0
 
-pub turn_words-requires-clause-there : goal.turn_words-requires-clause-there
-turn_words-requires-clause-there g c =
+pub words_turn-requires-clause-there : goal.words_turn-requires-clause-there
+words_turn-requires-clause-there g c =
     subst (λ (f : Frame). slice_get (program_of c.args.codes.now).points f.next ≡ Some (point_of c.args.codes.now c.point_at-point.result.now)) c.frame.ensures c.point_at-point.ensures.point
 
 pub returns-then-not-stores_words : goal.returns-then-not-stores_words
@@ -37,8 +37,8 @@ returns-then-not-stores_words g c =
 pub returns-in-Some : goal.returns-in-Some
 returns-in-Some g c =
     last_made g.R.Store.Means c.args.codes.now c.args.table.now c.args.limit c.args.parts.now c.requires.can c.steps.made c.steps.parts c.steps-test.true c.steps.invariant.0
-    (Some c.in-Some.over) c.turn_words.new.parts c.steps.invariant.2
-    (subst (λ o. IsTurn g.R.Store.Means c.args.codes.now c.args.table.now o c.steps.parts c.turn_words.new.parts) c.in-Some.is c.in_ok-over-2.ensures)
+    (Some c.in-Some.over) c.words_turn.new.parts c.steps.invariant.2
+    (subst (λ o. IsTurn g.R.Store.Means c.args.codes.now c.args.table.now o c.steps.parts c.words_turn.new.parts) c.in-Some.is c.in_ok-over-2.ensures)
 
 pub steps-init : goal.steps-init
 steps-init g c =
@@ -47,8 +47,8 @@ steps-init g c =
 pub steps-preserved : goal.steps-preserved
 steps-preserved g c =
     let below = c.steps-test.true in
-    let t = subst (λ o. IsTurn g.R.Store.Means c.args.codes.now c.args.table.now o c.steps.parts c.turn_words.new.parts) c.in-None.is c.in_ok-over-2.ensures in (
-      one_more g.R.Store.Means c.args.codes.now c.args.table.now c.args.limit c.args.parts.now c.requires.can c.steps.made c.steps.parts below c.steps.invariant.0 None c.turn_words.new.parts t,
+    let t = subst (λ o. IsTurn g.R.Store.Means c.args.codes.now c.args.table.now o c.steps.parts c.words_turn.new.parts) c.in-None.is c.in_ok-over-2.ensures in (
+      one_more g.R.Store.Means c.args.codes.now c.args.table.now c.args.limit c.args.parts.now c.requires.can c.steps.made c.steps.parts below c.steps.invariant.0 None c.words_turn.new.parts t,
       t.kept,
       t.lent ∙ c.steps.invariant.2,
       omega (arith, below),
