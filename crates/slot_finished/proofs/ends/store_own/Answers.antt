@@ -33,8 +33,8 @@ returns-in_err-copy_one-clause-memory g c =
     let P : List Return → Type 0 = λ l. Round g.R.Store.Means c.args.memory.now c.args.table.now all l c.returns.memory in
     let err : c.from_residual.result ≡ Err c.in_err-copy_one.field-0.0 = search rules in
     let memory =
-        round_stops g.R.Store.Means c.args.memory.now c.args.table.now all (return_of c.back.result) (returns_from c.args.frames.now (c.returns.i + 1))
-        c.returns.memory c.copy_one.new.memory c.in_err-copy_one.field-0.0 c.requires (subst P left c.returns.invariant.turn) c.in_err-copy_one.ensures.copied in
+    round_stops g.R.Store.Means c.args.memory.now c.args.table.now all (return_of c.back.result) (returns_from c.args.frames.now (c.returns.i + 1))
+    c.returns.memory c.copy_one.new.memory c.in_err-copy_one.field-0.0 c.requires (subst P left c.returns.invariant.turn) c.in_err-copy_one.ensures.copied in
     let Q : Result (Unit {0}) Stop → Type 0 = λ r. OnErr r (IsErrOf r stop.Memory) in
     subst Q (sym err) (ap Err memory)
 
