@@ -28,6 +28,32 @@
 //! `check` accepts, with a main procedure, are ready, and pass the tests before a run
 //! (`AcceptedLowered`). So what such a run gives is what the machine's run gives, or memory is out
 //! (`specs/AcceptedRecycled/Runs.antt`, `proofs/AcceptedRecycled/Main.antt`). Nothing here runs.
+//!
+//! # Tested files
+//!
+//! Programs of parsed files pass the tests of `run_ready`: laws.
+//!
+//! Of files that break no rule of names and of typing the table of types is fit (`Fit`), the formals of
+//! each subprogram ascend (`Formals`), and what is called is there (`Subs`, `Rows` in
+//! `proofs/TestedFiles`). Nothing here runs.
+//!
+//! ## Run tables
+//!
+//! What programs without a fault of typing give to runs: laws.
+//!
+//! The sorts of the words of a type are those of its whole definition, and access values stand at its access
+//! offsets (`Runs`). The main procedure and what is called are as frames that enter ask (`Frames` in
+//! `proofs/TestedFiles/RunTables`). Nothing here runs.
+//!
+//! # Accepted cells
+//!
+//! The runs of what `check` accepts leave the cells of the machine's last state in a heap that uses
+//! its slots again: laws, for readers.
+//!
+//! `RecycledCells` of `recycled_runs` says what that means, and has the law for programs that are
+//! ready. Those that `check` accepts, with a main procedure, are ready, and pass the tests before a
+//! run (`AcceptedLowered`). So it is for these, however the program is laid out in rows
+//! (`proofs/AcceptedCells/Main.antt`). Nothing here runs.
 #![tactic(auto)]
 
-pub use tested_files::lower_ready;
+pub use run_ready::lower_ready;
