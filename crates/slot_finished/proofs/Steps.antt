@@ -31,6 +31,7 @@ use Rattle.slot_returns.proofs.Turns.{on_copying, copied_back_is}
 use Rattle.slot_turns.specs.declared.halt.Halt.{Halt}
 use Rattle.slot_turns.specs.Betweens.{Between, stage_of, IsBetween, StandAt}
 use Rattle.slot_turns.specs.Steps.{turn_at, DoneAt, GoesOn, IsEnded, Halts, Steps, CanDo}
+use Rattle.slot_turns.proofs.Made.{none_here}
 use Rattle.slot_finished.specs.Ends.{IsFinished}
 
 -- ---- lists
@@ -236,9 +237,8 @@ module _ {R : Type 0} (Means : R → Heap → Type 0) (c : Setting) (p : Point) 
       made = ap (λ (m : Kept R). m.heap.made) (sym is.same) ∙ sym made;
       output = output;
       leaks = leaks;
-      ghosts = g;
       stands = subst (λ m. Stands Means m g) (sym is.same) stands.memory;
-      slots = refl;
+      since = none_here Means c p old g stands;
     }
 
   -- ---- the step
