@@ -214,7 +214,7 @@ module _ {R : Type 0} (Means : R → Heap → Type 0) (c : Setting) (p : Point) 
             leaks = sym leaks;
             made = sym (ap (λ (m : Kept R). m.heap.made) is.left.memory);
             freed = sym (ap (λ (m : Kept R). m.heap.freed) is.left.memory);
-            slots = refl;
+            heap = refl;
           }
 
     -- It stops.
