@@ -87,7 +87,7 @@ fn turn_point<R: Store>(
 
 /// The step of a point that stores one word at most.
 #[inline(always)]
-fn turn_word<R: Store>(
+fn words_point<R: Store>(
     codes: &Codes,
     table: &TypeTable,
     parts: &mut Parts<R>,
@@ -131,7 +131,7 @@ fn turn<R: Store>(
 
 /// The next step, at a point that stores one word at most.
 #[inline(always)]
-fn turn_words<R: Store>(
+fn words_turn<R: Store>(
     codes: &Codes,
     table: &TypeTable,
     parts: &mut Parts<R>,
@@ -146,12 +146,13 @@ fn turn_words<R: Store>(
     ensures { IfOk result (λ over. IsTurn R.Means codes.now table.now over parts.old parts.new) }
 {
     match take(codes, &mut parts.memory, &parts.frames, point.takes) {
-        Some(k) => turn_word(codes, table, parts, point, k),
+        Some(k) => words_point(codes, table, parts, point, k),
         None => Err(AllocError),
     }
 }
 
-/// Makes at most so many steps: while they store one word at most, and one more.
+/// Makes at most so many steps, but at least one: those of points that store one word at most, and one
+/// of another point.
 pub(crate) fn turns<R: Store>(
     alloc: Global,
     codes: &Codes,
@@ -173,7 +174,7 @@ pub(crate) fn turns<R: Store>(
             let over = turn(alloc, codes, table, parts, passing, point)?;
             return Ok((made + 1, over));
         }
-        match turn_words(codes, table, parts, point)? {
+        match words_turn(codes, table, parts, point)? {
             Some(over) => return Ok((made + 1, Some(over))),
             None => made += 1,
         }

@@ -1,5 +1,5 @@
 use Rattle.slot_running.proofs.Points.{known_at, on_turn, halt_gives, halt_turn}
-use Rattle.slot_running.proofs.turns.turn_word.Goals as goal
+use Rattle.slot_running.proofs.turns.words_point.Goals as goal
 
 pub freed_with-freed-requires : goal.freed_with-freed-requires
 freed_with-freed-requires g c =
