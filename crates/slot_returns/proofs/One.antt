@@ -124,7 +124,7 @@ module _ {R : Type 0} (Means : R → Heap → Type 0) (m : Kept R) (table : Tabl
     (
       known.1.0,
       first_whole (fitting table r m.base m.stack) (stored (slots m known.0) r.to (kinds table r.of))
-      (ap is_broken (sym (copied_fits table r (slots m known.0))) ∙ known.1.1),
+          (ap is_broken (sym (copied_fits table r (slots m known.0))) ∙ known.1.1),
     ),
   )
 

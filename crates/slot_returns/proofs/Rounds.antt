@@ -91,11 +91,11 @@ module _ {R : Type 0} (Means : R → Heap → Type 0) (before : Kept R) (table :
   pub round_stops : (r : Return) (rest : List Return) (now next : Kept R) (x : Stop) → CanStore Means before table all → Round Means before table all (r ∷ rest) now
       → Copies {U = Unit {0}} Means now (copied table r) (Err x) next → x ≡ stop.Memory
   round_stops r rest now next x can turn copies = never_memory x (λ other.
-    let whole = copied_there (all_copied table all (slots before can.ghosts)) can.after can.is in
-    let a = turn.round can.ghosts can.stands whole in
-    let stops = (copies other).stops (ghosts_of a.after) a.shows.0 (left_whole r rest now can.ghosts whole a) in
-    copied_or_stopped (all_copied table all (slots before can.ghosts)) can.after a.after (stop_of x) can.is
-    (a.is ∙ ap (λ y. on_copied a.after y (all_copied table rest)) (ap (copied table r) (sym a.shows.1) ∙ stops)))
+      let whole = copied_there (all_copied table all (slots before can.ghosts)) can.after can.is in
+      let a = turn.round can.ghosts can.stands whole in
+      let stops = (copies other).stops (ghosts_of a.after) a.shows.0 (left_whole r rest now can.ghosts whole a) in
+      copied_or_stopped (all_copied table all (slots before can.ghosts)) can.after a.after (stop_of x) can.is
+      (a.is ∙ ap (λ y. on_copied a.after y (all_copied table rest)) (ap (copied table r) (sym a.shows.1) ∙ stops)))
 
   pub round_end : (now : Kept R) → Round Means before table all [] now → StoresAll Means before table all now
   round_end now turn = record { stored = λ g stands whole. turn.round g stands whole }

@@ -3,7 +3,7 @@ use Rattle.slot_memory.specs.Memory.{elsewhere}
 use Rattle.slot_frames.specs.Parts.{own_returns}
 use Rattle.slot_returns.proofs.Rounds.{Round}
 use Rattle.slot_finished.proofs.Backs.{returns_from}
-use Rattle.slot_finished.proofs.ends.copy_own.Given as goal
+use Rattle.slot_finished.proofs.ends.store_own.Given as goal
 
 abbrev pub invariant-returns : goal.invariant-returns
 invariant-returns g l = record {
