@@ -13,7 +13,7 @@ use Rattle.handled_runs.specs.Fits.{are_slot_words}
 use Rattle.handled_runs.specs.Slots.{Slots, front}
 use Rattle.handled_runs.specs.Changes.{with_stack, with_heap, written_all, slot_values, cell_stored, stored}
 use Rattle.handled_steps.specs.States.{given_up}
-use Rattle.slot_returns.specs.Backs.{copied, fitting, IsBelow, Copying, Copied, Stopped, Missing, on_copied, all_copied, StopsAt}
+use Rattle.slot_returns.specs.Backs.{copied, fitting, IsBelow, Copying, Missing, on_copied, all_copied, StopsAt}
 use Rattle.slot_returns.proofs.One.{stored_given, first_whole, copied_fits}
 
 -- ---- a store

@@ -3,14 +3,14 @@ use Rattle.std.proofs.Common.{◌≡◌, ◌≢◌, false, List, [], ◌∷◌, 
 use Rattle.std.specs.Prelude.{OnOk, OnErr, IsErrOf}
 use Rattle.type_definitions.specs.Types.{Table}
 use Rattle.slot_heap.specs.Heaps.{Heap}
-use Rattle.run_codes.specs.Flat.{Given, Stops, Stop as Why, is_broken}
+use Rattle.run_codes.specs.Flat.{Stop as Why, is_broken}
 use Rattle.run_codes.specs.Points.{Return}
 use Rattle.code_rows.specs.declared.stop.Stop.{Stop}
 use Rattle.code_rows.specs.declared.stop.Stop.TheVariants as stop
 use Rattle.code_rows.specs.Stops.{stop_of}
 use Rattle.handled_runs.specs.Slots.{Slots}
-use Rattle.slot_memory.specs.Memory.{Kept, Ghosts, Stands, Shows, Knows, slots, ghosts_of}
-use Rattle.slot_returns.specs.Backs.{copied, fitting, IsStored, IsCopied, IsStopped, Copies, IsFit, Checks, Copying, Copied, Stopped, Missing, on_copied, all_copied, CanCopy, CanStore, ComesTo, StoresAll, StopsAt, ChecksAll, IsHalted, Comes, CopiesAll}
+use Rattle.slot_memory.specs.Memory.{Kept, Ghosts, Stands, Knows, slots, ghosts_of}
+use Rattle.slot_returns.specs.Backs.{copied, fitting, Copies, IsFit, Checks, Copying, Copied, Stopped, Missing, on_copied, all_copied, CanCopy, CanStore, ComesTo, StoresAll, ChecksAll, CopiesAll}
 use Rattle.slot_returns.proofs.Checked.{first_there, Reaches, reaches_first, reaches_whole, reaches_next, reaches_stop}
 
 -- ---- they are checked

@@ -122,7 +122,7 @@ units_aligned s n c (u ∷ us) none =
 
 first_sub : (s sub : TypedSub) (subs : List TypedSub) → IsSub (s ∷ subs) 0 sub → s ≡ sub
 first_sub s sub subs ([], rest, is, long) = ap (λ subs. get_or subs 0 s) is
-first_sub s sub subs (x ∷ front, rest, is, long) = absurd (false≢true (ap (nat_eq 0) long))
+first_sub s sub subs (x ∷ front, rest, is, long) = cc
 
 tails : (s x : TypedSub) (xs ys : List TypedSub) → s ∷ xs ≡ x ∷ ys → xs ≡ ys
 tails s x xs ys e = cc
@@ -131,7 +131,7 @@ less : (a b : ℕ) → suc a ≡ suc b → a ≡ b
 less a b e = cc
 
 later_sub : (s sub : TypedSub) (subs : List TypedSub) (k : ℕ) → IsSub (s ∷ subs) (suc k) sub → IsSub subs k sub
-later_sub s sub subs k ([], rest, is, long) = absurd (true≢false (ap (nat_eq 0) long))
+later_sub s sub subs k ([], rest, is, long) = cc
 later_sub s sub subs k (x ∷ front, rest, is, long) = (front, rest, tails s x subs (front ++ sub ∷ rest) is, less (length front) k long)
 
 suc_is : (n : ℕ) → 1 + n ≡ suc n

@@ -1,7 +1,6 @@
-use Rattle.std.proofs.Common.{◌≡◌, ◌-◌, ℕ, Err, List, [], ◌∷◌, length, sym, subst, ◌∙◌, rules, Result}
+use Rattle.std.proofs.Common.{◌≡◌, ◌-◌, Ok, Err, List, length, sym, subst, rules, Result}
 use Rattle.run_codes.specs.Points.{Return}
 use Rattle.code_rows.specs.declared.stop.Stop.{Stop}
-use Rattle.slot_memory.specs.Memory.{Kept}
 use Rattle.slot_frames.specs.Frames.{return_of}
 use Rattle.slot_frames.specs.Parts.{own_returns}
 use Rattle.slot_returns.specs.Backs.{CanCopy, CopiesAll}
@@ -11,22 +10,22 @@ use Rattle.slot_finished.proofs.ends.copy_own.Goals as goal
 
 pub returns-then-count-eq0-clause-copied : goal.returns-then-count-eq0-clause-copied
 returns-then-count-eq0-clause-copied g c =
-    let none : length c.args.frames.now.returns - c.frame.result.returns ≡ 0 = search rules in
-    let P : List Return → Type 0 = λ l. CopiesAll g.R.Store.Means c.args.memory.now c.args.table.now l _ c.args.memory.now in
-    subst P (sym (none_own c.args.frames.now c.frame.result c.frame.ensures none)) (none_copied g.R.Store.Means c.args.memory.now c.args.table.now (tt {0}))
+    let none : length c.args.frames.now.returns - c.frame-first.result.returns ≡ 0 = search rules in
+    let P : List Return → Type 0 = λ l. CopiesAll g.R.Store.Means c.args.memory.now c.args.table.now l (Ok (tt {0})) c.args.memory.now in
+    subst P (sym (none_own c.args.frames.now c.frame-first.result c.frame-first.ensures none)) (none_copied g.R.Store.Means c.args.memory.now c.args.table.now (tt {0}))
 
 pub copy_one-requires : goal.copy_one-requires
 copy_one-requires g c =
-    let one : length c.args.frames.now.returns - c.frame.result.returns ≡ 1 = search rules in
+    let one : length c.args.frames.now.returns - c.frame-first.result.returns ≡ 1 = search rules in
     let P : List Return → Type 0 = λ l. CanCopy g.R.Store.Means c.args.memory.now c.args.table.now l in
     one_can g.R.Store.Means c.args.memory.now c.args.table.now (return_of c.back.result)
-    (subst P (one_own c.args.frames.now c.frame.result c.back.result c.frame.ensures c.back.ensures one) c.requires)
+    (subst P (one_own c.args.frames.now c.frame-first.result c.back.result c.frame-first.ensures c.back.ensures one) c.requires)
 
 pub returns-then-count-eq1-clause-copied : goal.returns-then-count-eq1-clause-copied
 returns-then-count-eq1-clause-copied g c =
-    let one : length c.args.frames.now.returns - c.frame.result.returns ≡ 1 = search rules in
+    let one : length c.args.frames.now.returns - c.frame-first.result.returns ≡ 1 = search rules in
     let P : List Return → Type 0 = λ l. CopiesAll g.R.Store.Means c.args.memory.now c.args.table.now l c.copy_one.result c.copy_one.new.memory in
-    subst P (sym (one_own c.args.frames.now c.frame.result c.back.result c.frame.ensures c.back.ensures one))
+    subst P (sym (one_own c.args.frames.now c.frame-first.result c.back.result c.frame-first.ensures c.back.ensures one))
     (one_alone g.R.Store.Means c.args.memory.now c.args.table.now (return_of c.back.result) c.copy_one.result c.copy_one.new.memory c.copy_one.ensures.copied)
 
 pub returns-in_err-check_own-clause-copied : goal.returns-in_err-check_own-clause-copied

@@ -1,4 +1,3 @@
-use Rattle.std.proofs.Common.{◌≡◌}
 use Rattle.slot_frames.specs.Frames.{return_of}
 use Rattle.slot_returns.proofs.One.{one_copied}
 use Rattle.slot_returns.proofs.copies.copy_one.Goals as goal
