@@ -48,3 +48,5 @@ pub mod Checks
 pub mod Owns
 -- the law for these
 pub mod Ready
+-- what a run leaves in such a heap
+pub mod RecycledCells

@@ -16,6 +16,8 @@ use Rattle.handled_runs.specs.Leaks.{leaks_at}
 use Rattle.machine.specs.Words.{access_offsets}
 use Rattle.handled_steps.specs.States.{Outcome, Goes, Fails, Turn, start, halted, on_got, with_frame, frame_of}
 use Rattle.handled_steps.specs.Steps.{Passing, Passes, Stopping, Failing, PassesAll, CallsSub, on_settled, out_leaks, with_formal, with_formals, begins, begun_with, entered}
+use Rattle.made_cells.specs.Since.{Since, PassedSince}
+use Rattle.made_cells.proofs.Actuals.{all_since}
 use Rattle.slot_frames.specs.declared.rows.Frame.{Frame}
 use Rattle.slot_frames.specs.Frames.{return_of, frames_in}
 use Rattle.slot_frames.specs.Parts.{all_held, outside}
@@ -203,6 +205,20 @@ module _ (table : Table) (sub : Sub) (words : ℕ) (actuals : List Actual) (s : 
 
 stopping_are : (x y : Stop) (s u : Slots) → Stopping x s ≡ Stopping y u → (x ≡ y) × (s ≡ u)
 stopping_are x y s u is = ((let e : Stopping x s ≡ Stopping y u = is in cc), (let e : Stopping x s ≡ Stopping y u = is in cc))
+
+-- The cells of before are there where an actual stops, and where there is no room.
+pub tested_since : (table : Table) (sub : Sub) (words : ℕ) (actuals : List Actual) (s : Slots) (x : Stop) (here : Slots) → Since s s
+    → PassesTested table sub words actuals s (Stopping x here) → Since s here
+tested_since table sub words actuals s x here none (g, may, is) = by g (all_since s table actuals s g none may) is
+  where
+    room : (b : Bool) (qs : List Passed) (u : Slots) → Since s u → Stopping x here ≡ (if b then Passes qs u else Stopping (Raises StorageError) u) → Since s here
+    room true qs u since same = absurd (let never : Stopping x here ≡ Passes qs u = same in cc)
+    room false qs u since same = subst (Since s) (sym (stopping_are x (Raises StorageError) here u same).1) since
+
+    by : (g : Passing) → PassedSince s g → Stopping x here ≡ on_passes g (tested sub words) → Since s here
+    by (Passes qs u) since is = room (has_room sub words) qs u since is
+    by (Stopping y u) since is = subst (Since s) (sym (stopping_are x y here u is).1) since
+    by Failing since is = absurd (let never : Stopping x here ≡ Failing = is in cc)
 
 module _ (t : Turn) (sub : ℕ) (n : Option ℕ) (actuals : List Actual) (words : ℕ) (count : frames_words (t.frame ∷ t.outer) ≡ words) where
   abbrev row : Sub

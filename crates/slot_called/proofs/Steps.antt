@@ -27,8 +27,9 @@ use Rattle.slot_held.proofs.Laws.{settled_moves}
 use Rattle.slot_turns.specs.declared.halt.Halt.{Halt}
 use Rattle.slot_turns.specs.Betweens.{Between, stage_of, IsBetween, StandAt}
 use Rattle.slot_turns.specs.Steps.{turn_at, DoneAt, GoesOn, Halts, Steps, CanDo}
+use Rattle.slot_turns.proofs.Made.{since_here, none_yet}
 use Rattle.slot_called.specs.Calls.{PassesTested, CanCall, Callable, IsCalled, Calling}
-use Rattle.slot_called.proofs.Parts.{words_right, rows_right, Entered, entered_framed, enters_by, enters_to, passed_with, stops_with, fails_with, enters_with}
+use Rattle.slot_called.proofs.Parts.{words_right, rows_right, Entered, entered_framed, enters_by, enters_to, passed_with, stops_with, fails_with, enters_with, tested_since}
 
 module _ {R : Type 0} (Means : R → Heap → Type 0) (c : Setting) (p : Point) (k : ℕ) (old : Between R) (sub : ℕ) (actuals : List Actual) (n : Option ℕ)
     (does : p.does ≡ Call sub actuals n) (between : IsBetween old) (latest : AreLatest old.stacked p.takes k) (taken : old.kept.taken ≡ word_at old.stacked.waits k (length old.kept.waits))
@@ -180,9 +181,8 @@ module _ {R : Type 0} (Means : R → Heap → Type 0) (c : Setting) (p : Point) 
       made = sym (ap (λ (x : Slots). x.made) is.shows.1) ∙ sym made;
       output = output;
       leaks = leaks;
-      ghosts = ghosts_of is.after;
       stands = is.shows.0;
-      slots = refl;
+      since = since_here Means c p old g is.after (tested_since c.table row words actuals (slots old.kept g) (stop_of h.stop) is.after (none_yet Means c p old g stands) is.may);
     }
 
   -- ---- the step

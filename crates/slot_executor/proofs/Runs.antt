@@ -8,12 +8,13 @@ use Rattle.machine.specs.Run.{Run, run}
 use Rattle.laid_program.specs.declared.laid.Laid.{Laid}
 use Rattle.laid_program.specs.Programs.{program_of}
 use Rattle.type_definitions.specs.Types.{Table}
+use Rattle.slot_heap.specs.Heaps.{Heap, no_heap}
 use Rattle.spark_base.specs.declared.position.Pos.{Pos}
 use Rattle.run_codes.specs.Programs.{Program, lowered_program}
 use Rattle.run_codes.specs.Points.{Frame, Ran, ran_of, is_declaring}
 use Rattle.handled_steps.specs.States.{State, Outcome, Goes, Ends, Wants, Fails}
 use Rattle.handled_steps.specs.Steps.{Within}
-use Rattle.handled_steps.specs.Runs.{RunsWithin, ran_with, state_at_start}
+use Rattle.handled_steps.specs.Runs.{RunsWithin, RunOf, ran_with, state_at_start}
 use Rattle.run_results.specs.declared.ran.Ran.{Ran as RanRow}
 use Rattle.run_results.specs.Results.{ending_of, IsRun}
 use Rattle.run_results.specs.Lines.{leak_lines}
@@ -22,7 +23,7 @@ use Rattle.slot_runs.specs.Tellings.{Sinks, HaveFronts}
 use Rattle.slot_runs.specs.Answers.{EndsWith, IsWritten, IsCut, CanRun, CanStart, Writes, Cuts}
 use Rattle.slot_runs.proofs.Owed.{had_more}
 use Rattle.longer_runs.proofs.Runs.{run_begins}
-use Rattle.slot_executor.specs.Executes.{HasSlots, IsExecuted, IsLeft, IsSame, AreSame, fits, setting_of, start_of, IsUnfit, IsStarted}
+use Rattle.slot_executor.specs.Executes.{HasSlots, IsExecuted, MayEnd, IsLeft, IsSame, AreSame, fits, setting_of, start_of, IsUnfit, IsStarted}
 
 -- ---- the state at the start
 
@@ -31,7 +32,7 @@ record StartsWith (s : State) : Type 0 where
   steps : s.steps ≡ 0
   output : s.output ≡ []
   leaks : s.leaks ≡ []
-  slots : s.memory.heap.slots ≡ []
+  heap : s.memory.heap ≡ no_heap
   made : s.memory.made ≡ 0
   freed : s.memory.freed ≡ 0
 
@@ -48,12 +49,12 @@ has_frame table p false = by p.main
     by (Some n) = (_, _, refl)
 
 starts : (table : Table) (p : Program) (declares : Bool) → StartsWith (state_at_start table p declares)
-starts table p true = record { steps = refl; output = refl; leaks = refl; slots = refl; made = refl; freed = refl }
+starts table p true = record { steps = refl; output = refl; leaks = refl; heap = refl; made = refl; freed = refl }
 starts table p false = by p.main
   where
     by : (main : Option ℕ) → StartsWith (state_at_start table (record p { main = main }) false)
-    by None = record { steps = refl; output = refl; leaks = refl; slots = refl; made = refl; freed = refl }
-    by (Some n) = record { steps = refl; output = refl; leaks = refl; slots = refl; made = refl; freed = refl }
+    by None = record { steps = refl; output = refl; leaks = refl; heap = refl; made = refl; freed = refl }
+    by (Some n) = record { steps = refl; output = refl; leaks = refl; heap = refl; made = refl; freed = refl }
 
 -- ---- runs within a stack
 
@@ -68,11 +69,16 @@ none_fits fit table p declares at input n is =
 
 -- ---- the slots at the end
 
-slots_at : (x : Run) (r : Outcome) (slots : List ℕ) → IsSame x r → EndsWith slots r → HasSlots x slots
-slots_at x (Ends e s) slots same ends = subst (HasSlots x) ends same.slots
-slots_at x (Goes s) slots same ends = absurd ends
-slots_at x Wants slots same ends = absurd ends
-slots_at x Fails slots same ends = absurd ends
+slots_at : (x : Run) (r : Outcome) (heap : Heap) → IsSame x r → EndsWith heap r → HasSlots x heap.slots
+slots_at x (Ends e s) heap same ends = subst (λ (h : Heap). HasSlots x h.slots) ends same.slots
+slots_at x (Goes s) heap same ends = absurd ends
+slots_at x Wants heap same ends = absurd ends
+slots_at x Fails heap same ends = absurd ends
+
+-- The heap has the slots that the machine's run needs.
+pub end_slots : (program : FlowProgram) (input : List ℕ) (n : ℕ) (heap : Heap) → AreSame program input → MayEnd program input n heap → HasSlots (run program input n) heap.slots
+end_slots program input n heap same is =
+    slots_at (run program input n) is.outcome heap (same is.points is.lowered is.main is.has n is.outcome is.comes) is.heap
 
 -- ---- first frames that fit
 
@@ -100,13 +106,21 @@ module _ (program : FlowProgram) (input : List ℕ) (same : AreSame program inpu
         lines = subst (λ (r : Ran). Appends old.lines new.lines (leak_lines files r.leaks)) one is.lines;
       }
 
-  -- What is left has the slots that the machine's run needs.
+  -- What is left has the heap of an outcome.
   run_left : (files : List (List ℕ)) (ran : RanRow) (old new : Sinks) (Left : Inside → Type 0) → IsWritten files (Moments n) Left ran old new
-      → IsLeft (run program input n) Left
+      → IsLeft program input n Left
   run_left files ran old new Left is = record {
     inside = is.inside;
     left = is.left;
-    slots = slots_at (run program input n) is.outcome is.inside.memory.heap.slots (is_same n is.outcome is.comes) is.slots;
+    ends = record {
+      points = p;
+      lowered = lowered;
+      main = main;
+      has = has;
+      outcome = is.outcome;
+      comes = within_fits (fits p main) (flow_typing program).table p (is_declaring program) (sub_of program main).pos input n is.outcome fit is.comes;
+      heap = is.heap;
+    };
   }
 
   -- A run that is cut off has fronts of what the machine's has.
@@ -154,7 +168,7 @@ module _ (laid : Laid) (c : Setting) (u : Untold) (Stands : Inside → Type 0) (
       run_executed program c.input same is.points is.lowered is.main is.has is.fit n files ran old new Left (written files ran old new Left writes)
 
   pub writes_left : (files : List (List ℕ)) (ran : RanRow) (old new : Sinks) (Left : Inside → Type 0) → Writes files n c u Stands Left ran old new
-      → IsLeft (run program c.input n) Left
+      → IsLeft program c.input n Left
   writes_left files ran old new Left writes =
       run_left program c.input same is.points is.lowered is.main is.has is.fit n files ran old new Left (written files ran old new Left writes)
 
@@ -177,16 +191,27 @@ module _ (laid : Laid) (main : ℕ) (is : IsUnfit laid main) (input : List ℕ) 
   abbrev raised : Ran
   raised = ran_with (Raised StorageError (sub_of (program_of laid) main).pos) begun
 
+  comes : RunOf (flow_typing (program_of laid)).table is.points (is_declaring (program_of laid)) (sub_of (program_of laid) main).pos main input n
+      (Ends (Raised StorageError (sub_of (program_of laid) main).pos) begun)
+  comes =
+      none_fits (fits is.points main) (flow_typing (program_of laid)).table is.points (is_declaring (program_of laid)) (sub_of (program_of laid) main).pos input n is.unfit
+
   ends_same : IsSame (run (program_of laid) input n) (Ends (Raised StorageError (sub_of (program_of laid) main).pos) begun)
-  ends_same =
-      same is.points is.lowered main is.has n (Ends (Raised StorageError (sub_of (program_of laid) main).pos) begun)
-      (none_fits (fits is.points main) (flow_typing (program_of laid)).table is.points (is_declaring (program_of laid)) (sub_of (program_of laid) main).pos input n is.unfit)
+  ends_same = same is.points is.lowered main is.has n (Ends (Raised StorageError (sub_of (program_of laid) main).pos) begun) comes
 
   no_run : raised ≡ ran_of (run (program_of laid) input n)
   no_run = ends_same.gives raised refl
 
-  pub unfit_slots : HasSlots (run (program_of laid) input n) []
-  unfit_slots = subst (HasSlots (run (program_of laid) input n)) begins.slots ends_same.slots
+  pub unfit_ends : MayEnd (program_of laid) input n no_heap
+  unfit_ends = record {
+    points = is.points;
+    lowered = is.lowered;
+    main = main;
+    has = is.has;
+    outcome = Ends (Raised StorageError (sub_of (program_of laid) main).pos) begun;
+    comes = comes;
+    heap = begins.heap;
+  }
 
   pub unfit_ran : (ran : RanRow) → ending_of ran.ending ≡ Raised StorageError (sub_of (program_of laid) main).pos → ran.steps ≡ 0 → ran.made ≡ 0 → ran.freed ≡ 0 → ran.leaked ≡ 0
       → IsRun (ran_of (run (program_of laid) input n)) ran

@@ -10,7 +10,7 @@ use Rattle.run_codes.specs.Programs.{Program, lowered_program}
 use Rattle.run_codes.specs.Points.{sub_at, is_declaring, ran_of}
 use Rattle.run_codes.specs.Points as points
 use Rattle.numbered_cells.specs.Peaks.{peak_of}
-use Rattle.slot_heap.specs.Heaps.{slot_count}
+use Rattle.slot_heap.specs.Heaps.{Heap, slot_count}
 use Rattle.handled_steps.specs.States.{State, Outcome, Ends}
 use Rattle.handled_steps.specs.Runs.{RunOf, given, state_at_start}
 use Rattle.run_results.specs.declared.ran.Ran.{Ran}
@@ -18,6 +18,7 @@ use Rattle.run_results.specs.Results.{IsRun}
 use Rattle.run_results.specs.Lines.{leak_lines}
 use Rattle.slot_runs.specs.Turns.{Setting, Untold, Inside, state_of, is_failing}
 use Rattle.slot_runs.specs.Tellings.{Sinks}
+use Rattle.slot_runs.specs.Answers.{EndsWith}
 
 -- The run has this ending and these counts; one sink got its output, and the other one its leak lines.
 pub record IsExecuted (files : List (List ℕ)) (run : Run) (ran : Ran) (old new : Sinks) : Type 0 where
@@ -83,8 +84,18 @@ pub record IsStarted (laid : Laid) (c : Setting) (u : Untold) (Stands : Inside �
 
 -- ---- what is left
 
--- It stands for an inside whose heap has the slots that the machine's run needs.
-pub record IsLeft (x : Run) (Left : Inside → Type 0) : Type 0 where
+-- The run of a program, as it is lowered, may end with this heap.
+pub record MayEnd (program : FlowProgram) (input : List ℕ) (n : ℕ) (end : Heap) : Type 0 where
+  pub points : Program
+  pub lowered : lowered_program program ≡ Some points
+  pub main : ℕ
+  pub has : program.main ≡ Some main
+  pub outcome : Outcome
+  pub comes : RunOf (flow_typing program).table points (is_declaring program) (sub_of program main).pos main input n outcome
+  pub heap : EndsWith end outcome
+
+-- What is left stands for an inside with such a heap.
+pub record IsLeft (program : FlowProgram) (input : List ℕ) (n : ℕ) (Left : Inside → Type 0) : Type 0 where
   pub inside : Inside
   pub left : Left inside
-  pub slots : HasSlots x inside.memory.heap.slots
+  pub ends : MayEnd program input n inside.memory.heap

@@ -27,7 +27,7 @@ pub fn run_started<S: Stepping, K: Sink>(
     requires same { AreSame (program_of laid.now) (S.setting run.old).input }
     ensures executed { IfOk result (λ ran. IsExecuted (map string_bytes laid.now.names.items) (run_of (program_of laid.now) (S.setting run.old).input steps) ran
         (record { output = K.written out.old; lines = K.written err.old }) (record { output = K.written out.new; lines = K.written err.new })) }
-    ensures left { IfOk result (λ ran. IsLeft (run_of (program_of laid.now) (S.setting run.old).input steps) (S.Stands run.new)) }
+    ensures left { IfOk result (λ ran. IsLeft (program_of laid.now) (S.setting run.old).input steps (S.Stands run.new)) }
     ensures lent { OnOk result (S.lent run.new ≡ S.lent run.old) }
     ensures fronts { OnErr result (HaveFronts (map string_bytes laid.now.names.items)
         (record { output = K.written out.old; lines = K.written err.old }) (record { output = K.written out.new; lines = K.written err.new })

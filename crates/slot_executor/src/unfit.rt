@@ -3,9 +3,10 @@ ghost use Rattle.std.specs.Prelude.{◌≡◌, ◌≢◌, [], Err, IfOk, IfSome}
 ghost use Rattle.machine.specs.States.{sub_of};
 ghost use Rattle.machine.specs.Run.{run};
 ghost use Rattle.laid_program.specs.Programs.{program_of};
+ghost use Rattle.slot_heap.specs.Heaps.{no_heap};
 ghost use Rattle.run_codes.specs.Points.{ran_of};
 ghost use Rattle.run_results.specs.Results.{IsRun};
-ghost use Rattle.slot_executor.specs.Executes.{HasSlots, IsUnfit, AreSame};
+ghost use Rattle.slot_executor.specs.Executes.{IsUnfit, MayEnd, AreSame};
 
 use code_rows::Exception;
 use laid_program::Laid;
@@ -29,7 +30,7 @@ pub fn run_unfit(laid: &Laid, input: &[u8], steps: u64, main: u32) -> Result<Ran
     ensures ran { IfOk result (λ ran. IsRun (ran_of (run (program_of laid.now) input.now steps)) ran) }
     ensures output { (run (program_of laid.now) input.now steps).output ≡ [] }
     ensures leaks { (run (program_of laid.now) input.now steps).leaks ≡ [] }
-    ensures slots { HasSlots (run (program_of laid.now) input.now steps) [] }
+    ensures ends { MayEnd (program_of laid.now) input.now steps no_heap }
     ensures memory { result ≢ Err ExecFault.WriteFault }
 {
     let Some(pos) = position(laid, main) else {

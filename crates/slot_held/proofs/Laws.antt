@@ -7,7 +7,7 @@ use Rattle.run_values.specs.declared.value.Value.{Value}
 use Rattle.machine.specs.States.{Leak}
 use Rattle.slot_heap.specs.Heaps.{Heap, words_at}
 use Rattle.run_codes.specs.Codes.{Point, Fill}
-use Rattle.run_codes.specs.Flat.{Got, Given, Stops, Broken, Spot, InStack, InCell, and_then, is_broken, spliced, have_kinds, are_pointers}
+use Rattle.run_codes.specs.Flat.{Got, Given, Stops, Broken, Stop as Reason, Spot, InStack, InCell, and_then, is_broken, spliced, have_kinds, are_pointers}
 use Rattle.run_codes.specs.Programs.{Program}
 use Rattle.run_codes.specs.Points.{Held, given_to}
 use Rattle.run_codes.specs.Points as points
@@ -22,6 +22,8 @@ use Rattle.handled_runs.specs.Values.{Gives, Ends, Fills}
 use Rattle.handled_steps.specs.States.{State, Outcome, Goes, Fails, Turn, start, waiting, counted, halted, on_got}
 use Rattle.handled_steps.specs.Steps as steps
 use Rattle.handled_steps.specs.Steps.{After, on_settled}
+use Rattle.made_cells.specs.Since.{Since}
+use Rattle.made_cells.proofs.Values.{none_since, fill_since}
 use Rattle.slot_memory.specs.Memory.{Kept, Ghosts, Stands, Shows, Elsewhere, slots, ghosts_of}
 use Rattle.slot_frames.specs.Stacks.{Stacked}
 use Rattle.slot_frames.specs.Frames.{word_at, IsStacked, AreLatest}
@@ -115,14 +117,21 @@ module _ {R : Type 0} (Means : R → Heap → Type 0) (table : Table) (program :
   pub can_hold : Holdable Means (taking r k) table v
   can_hold = record { ghosts = r.ghosts; stands = stands; fills = fills_here; settles = settles_here }
 
+  -- Until it stops, the cells of before are there.
+  held_since : (x : Reason) (s : Slots) → Fills table v (slots (taking r k) r.ghosts) (Ends x s) → Since (turn_of table program p r).state.memory s
+  held_since x s may =
+      let before : Slots = (turn_of table program p r).state.memory in
+      fill_since before table v (slots (taking r k) r.ghosts) (Ends x s) (none_since before (slots (taking r k) r.ghosts) refl refl refl stands.cells.within) may
+
   -- What stops it.
   pub held_halts : {U : Type 0} (x : Stop) (kept : Kept R) (stacked : Stacked) → x ≢ stop.Memory → Holding {U = U} Means (taking r k) table v (Err x) r.stacked k of n kept stacked
-      → (s : Slots) × steps.Holds (turn_of table program p r) v of (next_of n) (halted (turn_of table program p r) (stop_of x) s) × Shows Means kept s
+      → (s : Slots) × steps.Holds (turn_of table program p r) v of (next_of n) (halted (turn_of table program p r) (stop_of x) s) × Shows Means kept s × Since (turn_of table program p r).state.memory s
   held_halts x kept stacked other holds =
       let ended = holds.holds r.ghosts stands fills_here settles_here other in (
         ended.after,
         hold_halts (turn_of table program p r) v of n fine x ended.after (subst (λ s. Fills table v s (Ends (stop_of x) ended.after)) (sym start_here) ended.may),
         ended.shows,
+        held_since (stop_of x) ended.after ended.may,
       )
 
 -- ---- what was moved is gone

@@ -103,7 +103,7 @@ module _ {R : Type 0} (Means : R → Heap → Type 0) (codes : Codes) (table : T
     steps = record {
       steps = λ g stands fine other.
           let x = halts other g stands fine in
-          record { memory = x.after; comes = x.comes; made = x.made; output = output; leaks = ap leaks_of leaks; ghosts = ghosts_of x.after; stands = x.shows.0; slots = refl };
+          record { memory = x.after; comes = x.comes; made = x.made; output = output; leaks = ap leaks_of leaks; stands = x.shows.0; since = x.since };
       lent = lent;
     };
     left = tt;

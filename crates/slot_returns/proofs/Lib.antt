@@ -1,5 +1,7 @@
 -- one formal
 pub mod One
+-- formals that are checked
+pub mod Checked
 -- formals one after the other
 pub mod Rounds
 -- what the step does

@@ -4,3 +4,5 @@ pub mod Points
 pub mod Turned
 -- what a run stands for
 pub mod Runs
+-- turns one after the other
+pub mod Made

@@ -9,7 +9,8 @@ use Rattle.slot_heap.specs.Heaps.{Heap}
 use Rattle.run_results.specs.Results.{leaks_of}
 use Rattle.slot_memory.specs.Memory.{Kept, IsKnown}
 use Rattle.slot_frames.specs.Stacks.{Stacked}
-use Rattle.slot_runs.specs.Turns.{Inside, CanStep, Turns, Still}
+use Rattle.slot_runs.specs.Turns.{Inside, Still}
+use Rattle.slot_runs.specs.Goings.{IsGoing, LeadsOn}
 use Rattle.slot_runs.specs.declared.stepping.Turn.{Turn}
 use Rattle.slot_runs.specs.declared.stepping.Turn.TheVariants as turn
 use Rattle.slot_entries.specs.Entries.{stacked_words}
@@ -21,7 +22,7 @@ use Rattle.slot_turns.proofs.Turned.{over_rests}
 use Rattle.slot_steps.specs.slot_parts.declared.parts.Parts.{Parts}
 use Rattle.slot_steps.specs.slot_parts.Stages.{between_of, setting_of}
 use Rattle.slot_steps.specs.slot_parts.Begins.{IsBegun}
-use Rattle.slot_running.specs.Runs.{Running, running_lent, running_setting, running_untold, RunStands, AreKept, IsAtStart, CanTurn, IsTurn}
+use Rattle.slot_running.specs.Runs.{Running, running_lent, running_setting, running_untold, RunStands, AreKept, IsAtStart, CanTurns, AreTurns}
 
 -- ---- the start
 
@@ -41,48 +42,48 @@ starts_kept Means table program lent input declares p is = ((is.ghosts, is.stand
 
 -- ---- steps
 
-module _ {R : Type 0} (Means : R → Heap → Type 0) (codes : Codes) (table : Table) (input : List ℕ) (old : Parts R) where
+module _ {R : Type 0} (Means : R → Heap → Type 0) (codes : Codes) (table : Table) (input : List ℕ) (limit : ℕ) (old : Parts R) where
   -- A run of which a step can be made isn't over.
   abbrev CanRun : Option Over → Type 0
-  CanRun over = CanStep (setting_of codes table input) (untold_of (between_of old)) (StandsWith Means over input (between_of old))
+  CanRun over = IsGoing (setting_of codes table input) limit (untold_of (between_of old)) (StandsWith Means over input (between_of old))
 
-  pub kept_words : (over : Option Over) → CanRun over → AreKept Means over old → old.words ≡ stacked_words old.frames
-  kept_words None can kept = kept.1
-  kept_words (Some over) can kept = absurd (over_rests Means over (between_of old) can.inside can.stands can.running)
+  pub kept_now : (over : Option Over) → CanRun over → AreKept Means over old → AreKept Means None old
+  kept_now None can kept = kept
+  kept_now (Some over) can kept = absurd (over_rests Means over (between_of old) can.under.inside can.under.stands can.under.running)
 
-  pub can_turn : (over : Option Over) → CanRun over → CanTurn Means codes table old
-  can_turn None can =
-      let P : List ℕ → Type 0 = λ i. CanStep (setting_of codes table i) (untold_of (between_of old)) (IsInside Means (between_of old) i) in
-      subst P (sym can.stands.bytes) can
-  can_turn (Some over) can = absurd (over_rests Means over (between_of old) can.inside can.stands can.running)
+  pub can_turns : (over : Option Over) → CanRun over → CanTurns Means codes table limit old
+  can_turns None can =
+      let P : List ℕ → Type 0 = λ i. IsGoing (setting_of codes table i) limit (untold_of (between_of old)) (IsInside Means (between_of old) i) in
+      subst P (sym can.under.stands.bytes) can
+  can_turns (Some over) can = absurd (over_rests Means over (between_of old) can.under.inside can.under.stands can.under.running)
 
-  module _ (new : Parts R) where
-    turned_here : (bytes : old.memory.input ≡ input) (next : Option Over) → IsTurn Means codes table next old new
-        → Turns (setting_of codes table input) (untold_of (between_of old)) (IsInside Means (between_of old) input)
-        (turned next) (untold_of (between_of new)) (StandsWith Means next input (between_of new))
-    turned_here bytes next is =
+  module _ (made : ℕ) (new : Parts R) where
+    led_here : (bytes : old.memory.input ≡ input) (next : Option Over) → AreTurns Means codes table limit made next old new
+        → LeadsOn (setting_of codes table input) limit (untold_of (between_of old)) (IsInside Means (between_of old) input)
+        made (turned next) (untold_of (between_of new)) (StandsWith Means next input (between_of new))
+    led_here bytes next are =
         let P : List ℕ → Type 0 =
-        λ i. Turns (setting_of codes table i) (untold_of (between_of old)) (IsInside Means (between_of old) i)
-        (turned next) (untold_of (between_of new)) (StandsWith Means next i (between_of new)) in
-        subst P bytes is.turns
+        λ i. LeadsOn (setting_of codes table i) limit (untold_of (between_of old)) (IsInside Means (between_of old) i)
+        made (turned next) (untold_of (between_of new)) (StandsWith Means next i (between_of new)) in
+        subst P bytes are.led
 
     -- It goes on.
-    pub run_on : (over : Option Over) → CanRun over → IsTurn Means codes table None old new
-        → Turns (setting_of codes table input) (untold_of (between_of old)) (StandsWith Means over input (between_of old))
-        (turned None) (untold_of (between_of new)) (StandsWith Means over input (between_of new))
-    run_on None can is = turned_here can.stands.bytes None is
-    run_on (Some over) can is = absurd (over_rests Means over (between_of old) can.inside can.stands can.running)
+    pub run_on : (over : Option Over) → CanRun over → AreTurns Means codes table limit made None old new
+        → LeadsOn (setting_of codes table input) limit (untold_of (between_of old)) (StandsWith Means over input (between_of old))
+        made (turned None) (untold_of (between_of new)) (StandsWith Means over input (between_of new))
+    run_on None can are = led_here can.under.stands.bytes None are
+    run_on (Some over) can are = absurd (over_rests Means over (between_of old) can.under.inside can.under.stands can.under.running)
 
-    pub run_kept : (over : Option Over) → CanRun over → IsTurn Means codes table None old new → AreKept Means over new
-    run_kept None can is = is.kept
-    run_kept (Some over) can is = tt
+    pub run_kept : (over : Option Over) → CanRun over → AreTurns Means codes table limit made None old new → AreKept Means over new
+    run_kept None can are = are.kept
+    run_kept (Some over) can are = tt
 
     -- It is over.
-    pub run_over : (over : Option Over) (last : Over) → CanRun over → IsTurn Means codes table (Some last) old new
-        → Turns (setting_of codes table input) (untold_of (between_of old)) (StandsWith Means over input (between_of old))
-        (turned (Some last)) (untold_of (between_of new)) (StandsWith Means (Some last) input (between_of new))
-    run_over None last can is = turned_here can.stands.bytes (Some last) is
-    run_over (Some over) last can is = absurd (over_rests Means over (between_of old) can.inside can.stands can.running)
+    pub run_over : (over : Option Over) (last : Over) → CanRun over → AreTurns Means codes table limit made (Some last) old new
+        → LeadsOn (setting_of codes table input) limit (untold_of (between_of old)) (StandsWith Means over input (between_of old))
+        made (turned (Some last)) (untold_of (between_of new)) (StandsWith Means (Some last) input (between_of new))
+    run_over None last can are = led_here can.under.stands.bytes (Some last) are
+    run_over (Some over) last can are = absurd (over_rests Means over (between_of old) can.under.inside can.under.stands can.under.running)
 
 -- ---- a run with its view
 
@@ -90,40 +91,41 @@ abbrev view : {R : Type 0} → Codes → Table → List ℕ → Parts R → Opti
 view codes table input p over = record { codes = codes; table = table; input = input; between = between_of p; over = over }
 
 module _ {R : Type 0} (Means : R → Heap → Type 0) (r : Running R) (codes : Codes) (table : Table) (input : List ℕ) (p : Parts R) (over : Option Over)
-    (is : view codes table input p over ≡ r) (can : CanStep (running_setting r) (running_untold r) (RunStands Means r)) where
-  can_here : CanRun Means codes table input p over
-  can_here = subst (λ x. CanStep (running_setting x) (running_untold x) (RunStands Means x)) (sym is) can
+    (is : view codes table input p over ≡ r) (limit : ℕ) (can : IsGoing (running_setting r) limit (running_untold r) (RunStands Means r)) where
+  can_here : CanRun Means codes table input limit p over
+  can_here = subst (λ x. IsGoing (running_setting x) limit (running_untold x) (RunStands Means x)) (sym is) can
 
-  pub step_words : AreKept Means over p → p.words ≡ stacked_words p.frames
-  step_words kept = kept_words Means codes table input p over can_here kept
+  pub steps_kept : AreKept Means over p → AreKept Means None p
+  steps_kept kept = kept_now Means codes table input limit p over can_here kept
 
-  pub step_can : CanTurn Means codes table p
-  step_can = can_turn Means codes table input p over can_here
+  pub steps_can : CanTurns Means codes table limit p
+  steps_can = can_turns Means codes table input limit p over can_here
 
-  module _ (new : Parts R) where
-    abbrev Turning : Turn → Option Over → Type 0
-    Turning t last =
-        Turns (running_setting r) (running_untold r) (RunStands Means r) t (running_untold (view codes table input new last)) (RunStands Means (view codes table input new last))
+  module _ (made : ℕ) (new : Parts R) where
+    abbrev Leading : Turn → Option Over → Type 0
+    Leading t last =
+        LeadsOn (running_setting r) limit (running_untold r) (RunStands Means r) made t (running_untold (view codes table input new last)) (RunStands Means (view codes table input new last))
 
-    pub step_on : IsTurn Means codes table None p new → Turning turn.On over
-    step_on turned_is =
+    pub steps_on : AreTurns Means codes table limit made None p new → Leading turn.On over
+    steps_on are =
         let P : Running R → Type 0 =
-        λ x. Turns (running_setting x) (running_untold x) (RunStands Means x) turn.On (running_untold (view codes table input new over)) (RunStands Means (view codes table input new over)) in
-        subst P is (run_on Means codes table input p new over can_here turned_is)
+        λ x. LeadsOn (running_setting x) limit (running_untold x) (RunStands Means x)
+        made turn.On (running_untold (view codes table input new over)) (RunStands Means (view codes table input new over)) in
+        subst P is (run_on Means codes table input limit p made new over can_here are)
 
-    pub step_kept : IsTurn Means codes table None p new → AreKept Means over new
-    step_kept turned_is = run_kept Means codes table input p new over can_here turned_is
+    pub steps_left : AreTurns Means codes table limit made None p new → AreKept Means over new
+    steps_left are = run_kept Means codes table input limit p made new over can_here are
 
-    pub step_over : (last : Over) → IsTurn Means codes table (Some last) p new → Turning (turn.Ends last.ending) (Some last)
-    step_over last turned_is =
+    pub steps_over : (last : Over) → AreTurns Means codes table limit made (Some last) p new → Leading (turn.Ends last.ending) (Some last)
+    steps_over last are =
         let P : Running R → Type 0 =
-        λ x. Turns (running_setting x) (running_untold x) (RunStands Means x) (turn.Ends last.ending)
-        (running_untold (view codes table input new (Some last))) (RunStands Means (view codes table input new (Some last))) in
-        subst P is (run_over Means codes table input p new over last can_here turned_is)
+        λ x. LeadsOn (running_setting x) limit (running_untold x) (RunStands Means x)
+        made (turn.Ends last.ending) (running_untold (view codes table input new (Some last))) (RunStands Means (view codes table input new (Some last))) in
+        subst P is (run_over Means codes table input limit p made new over last can_here are)
 
   -- The store is the one that was lent by the same reference.
-  pub step_lent : (next : Option Over) (new : Parts R) → IsTurn Means codes table next p new → new.memory.heap.lent ≡ running_lent r
-  step_lent next new turned_is = turned_is.lent ∙ ap (λ (x : Running R). running_lent x) is
+  pub steps_lent : (next : Option Over) (made : ℕ) (new : Parts R) → AreTurns Means codes table limit made next p new → new.memory.heap.lent ≡ running_lent r
+  steps_lent next made new are = are.lent ∙ ap (λ (x : Running R). running_lent x) is
 
 -- ---- what was told
 

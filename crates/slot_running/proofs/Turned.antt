@@ -41,13 +41,13 @@ module _ {R : Type 0} (Means : R → Heap → Type 0) (c : Setting) (p : Point) 
       let here : NeverFails (OneStep c (state_of r)) = subst (λ y. NeverFails (OneStep c (runs.state_of (untold_of old) y))) at.is fine in
       let done : NeverFails (DoneAt c p (taking old k) at.ghosts) = done_fine c r p k there at.bytes latest here in
       let is = comes at.ghosts (taking_stands Means old k at.ghosts at.stands) done in
-      let m = record (slots old.kept at.ghosts) { heap = is.heap; made = over.made; freed = over.freed } in
+      let m = record (slots old.kept at.ghosts) { heap = is.state.memory.heap; made = over.made; freed = over.freed } in
       subst P (sym at.is) (record {
         state = is.state;
         comes = step_is c r p k (Ends (ending_of over.ending) is.state) there at.bytes latest is.comes;
         inside = record { memory = m; frames = []; at = 0 };
         stands = record { frames = refl; made = refl; freed = refl; means = is.means };
-        seen = record { output = is.output; leaks = is.leaks; made = is.made; freed = is.freed; slots = is.slots };
+        seen = record { output = is.output; leaks = is.leaks; made = is.made; freed = is.freed; heap = refl };
       })
 
 -- ---- the next point

@@ -1,5 +1,5 @@
 -- A run between two steps: what it stands for, and what a turn of it comes to.
-use Rattle.std.specs.Prelude.{◌≡◌, ℕ, Bool, List, Option, Some, None}
+use Rattle.std.specs.Prelude.{◌≡◌, ◌<◌, ◌≤◌, ℕ, Bool, List, Option, Some, None}
 use Rattle.type_definitions.specs.Types.{Table}
 use Rattle.code_rows.specs.declared.codes.Codes.{Codes}
 use Rattle.run_codes.specs.Programs.{Program}
@@ -7,6 +7,7 @@ use Rattle.slot_heap.specs.Heaps.{Heap}
 use Rattle.handled_steps.specs.Runs.{state_at_start}
 use Rattle.slot_memory.specs.Memory.{IsKnown}
 use Rattle.slot_runs.specs.Turns.{Setting, Untold, Inside, CanStep, Turns, state_of}
+use Rattle.slot_runs.specs.Goings.{IsGoing, LeadsOn}
 use Rattle.slot_entries.specs.Entries.{stacked_words}
 use Rattle.slot_turns.specs.declared.overs.Over.{Over}
 use Rattle.slot_turns.specs.Betweens.{Between, untold_of}
@@ -61,5 +62,26 @@ pub record IsTurn {R : Type 0} (Means : R → Heap → Type 0) (codes : Codes) (
   pub turns :
       Turns (setting_of codes table old.memory.input) (untold_of (between_of old)) (IsInside Means (between_of old) old.memory.input)
       (turned over) (untold_of (between_of new)) (StandsWith Means over old.memory.input (between_of new))
+  pub kept : AreKept Means over new
+  pub lent : new.memory.heap.lent ≡ old.memory.heap.lent
+
+-- ---- turns one after the other
+
+-- No outcome fails within so many steps.
+abbrev pub CanTurns : {R : Type 0} → (R → Heap → Type 0) → Codes → Table → (limit : ℕ) → Parts R → Type 0
+CanTurns Means codes table limit p =
+    IsGoing (setting_of codes table p.memory.input) limit (untold_of (between_of p)) (IsInside Means (between_of p) p.memory.input)
+
+-- So many steps lead from some parts to others, where the run goes on or is over.
+abbrev pub LeadsTo : {R : Type 0} → (R → Heap → Type 0) → Codes → Table → (limit made : ℕ) → Option Over → (old new : Parts R) → Type 0
+LeadsTo Means codes table limit made over old new =
+    LeadsOn (setting_of codes table old.memory.input) limit (untold_of (between_of old)) (IsInside Means (between_of old) old.memory.input)
+    made (turned over) (untold_of (between_of new)) (StandsWith Means over old.memory.input (between_of new))
+
+-- At least one is made.
+pub record AreTurns {R : Type 0} (Means : R → Heap → Type 0) (codes : Codes) (table : Table) (limit made : ℕ) (over : Option Over) (old new : Parts R) : Type 0 where
+  pub some : 0 < made
+  pub few : made ≤ limit
+  pub led : LeadsTo Means codes table limit made over old new
   pub kept : AreKept Means over new
   pub lent : new.memory.heap.lent ≡ old.memory.heap.lent

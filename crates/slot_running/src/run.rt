@@ -4,7 +4,7 @@ ghost use Rattle.code_rows.specs.Points.{program_of, IsWhole};
 ghost use Rattle.slot_heap.specs.Heaps.{no_heap};
 ghost use Rattle.slot_running.specs.Runs.{IsAtStart, RunStands, running_lent, running_setting, running_untold};
 
-use crate::turns::{ended, turn};
+use crate::turns::{ended, turns};
 use code_rows::Codes;
 use run_results::{Ending, Leak};
 use slot_heap::Store;
@@ -117,19 +117,20 @@ impl<'r, R: Store> Stepping for Run<'r, R> {
 
     ghost Stands = { RunStands R.Means };
 
-    fn step(&mut self) -> Result<Turn, AllocError> {
+    fn steps(&mut self, limit: u64) -> Result<(u64, Turn), AllocError> {
         let alloc = self.alloc;
-        match turn(
+        match turns(
             alloc,
             &self.codes,
             self.table,
             &mut self.parts,
             &mut self.passing,
+            limit,
         ) {
-            Ok(None) => Ok(Turn::On),
-            Ok(Some(over)) => {
+            Ok((made, None)) => Ok((made, Turn::On)),
+            Ok((made, Some(over))) => {
                 self.over = Some(over);
-                Ok(Turn::Ends(over.ending))
+                Ok((made, Turn::Ends(over.ending)))
             }
             Err(fault) => {
                 self.over = Some(given_up());

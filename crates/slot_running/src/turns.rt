@@ -1,19 +1,34 @@
 //! The next step of a run.
-ghost use Rattle.std.specs.Prelude.{◌≡◌, IfOk};
-ghost use Rattle.code_rows.specs.Points.{IsWhole};
+ghost use Rattle.std.specs.Prelude.{◌≡◌, ◌≢◌, ◌<◌, slice_get, Some, None, IfOk, IsTrue};
+ghost use Rattle.code_rows.specs.Points.{program_of, point_of, is_point_there, IsWhole};
+ghost use Rattle.code_rows.specs.declared.stop.Stop.TheVariants as stop;
 ghost use Rattle.slot_memory.specs.Memory.{IsKnown};
+ghost use Rattle.slot_memory.specs.Given.{CanGive};
 ghost use Rattle.slot_entries.specs.Entries.{stacked_words};
+ghost use Rattle.slot_goings.specs.Groups.{group_of};
 ghost use Rattle.slot_steps.specs.slot_parts.Stages.{IsAt};
-ghost use Rattle.slot_running.specs.Runs.{CanTurn, IsTurn};
-ghost use Rattle.slot_running.specs.Points.{IsPointTurn};
+ghost use Rattle.slot_running.specs.Runs.{AreKept, CanTurn, CanTurns, IsTurn, AreTurns};
+ghost use Rattle.slot_running.specs.Points.{IsHalted, IsPointTurn};
 
 use code_rows::{Codes, Point};
 use run_results::Ending;
+use slot_goings::{Group, grouped};
 use slot_heap::Store;
-use slot_steps::{Parts, Passing, step_point};
-use slot_turns::{Over, point_at, stopped, take};
+use slot_steps::{Parts, Passing, step_point, step_words};
+use slot_turns::{Halt, Over, point_at, stopped, take};
+use spark_base::Pos;
 use std::alloc::{AllocError, Global};
 use type_table::TypeTable;
+
+/// Whether a point stores one word at most.
+fn stores_words(point: &Point) -> bool
+    ensures { IsTrue result → group_of point.now.does ≡ Group.Words }
+{
+    match grouped(point.does) {
+        Group::Words => true,
+        _ => false,
+    }
+}
 
 /// The run is over after the end of the main procedure.
 pub(crate) fn ended<R: Store>(parts: &Parts<R>) -> Over
@@ -28,6 +43,24 @@ pub(crate) fn ended<R: Store>(parts: &Parts<R>) -> Over
         made,
         freed: parts.memory.freed_with(made),
     }
+}
+
+/// The run is over where a point stops, before which there were so many cells, of which so many were
+/// freed: those that it made are given up.
+#[inline(never)]
+fn halted<R: Store>(
+    parts: &mut Parts<R>,
+    halt: Halt,
+    pos: Pos,
+    made: u64,
+    freed: u64,
+) -> Result<Over, AllocError>
+    requires { halt.stop ≢ stop.Memory → CanGive R.Means parts.old.memory.heap made }
+    ensures { IfOk result (λ over. IsHalted R.Means halt pos made freed over parts.old parts.new) }
+{
+    let over = stopped(halt, pos, made, freed)?;
+    parts.memory.give_up(made);
+    Ok(over)
 }
 
 /// The step of a point.
@@ -48,26 +81,103 @@ fn turn_point<R: Store>(
     match step_point(alloc, codes, table, parts, passing, point, k) {
         Ok(true) => Ok(None),
         Ok(false) => Ok(Some(ended(parts))),
-        Err(halt) => Ok(Some(stopped(halt, point.pos, made, freed)?)),
+        Err(halt) => Ok(Some(halted(parts, halt, point.pos, made, freed)?)),
     }
 }
 
-/// The next step. Where it can't be made for want of memory, nothing is told.
-pub(crate) fn turn<R: Store>(
+/// The step of a point that stores one word at most.
+#[inline(always)]
+fn words_point<R: Store>(
+    codes: &Codes,
+    table: &TypeTable,
+    parts: &mut Parts<R>,
+    point: &Point,
+    k: usize,
+) -> Result<Option<Over>, AllocError>
+    requires at { IsAt R.Means codes.now table.now point.now k parts.old }
+    requires group { group_of point.now.does ≡ Group.Words }
+    ensures { IfOk result (λ over. IsPointTurn R.Means codes.now table.now point.now over parts.old parts.new) }
+{
+    let made = parts.memory.made();
+    let freed = parts.memory.freed_with(made);
+    match step_words(codes, table, parts, point, k) {
+        Ok(()) => Ok(None),
+        Err(halt) => Ok(Some(halted(parts, halt, point.pos, made, freed)?)),
+    }
+}
+
+/// The next step, at a point. Where it can't be made for want of memory, nothing is told.
+#[inline(never)]
+fn turn<R: Store>(
     alloc: Global,
     codes: &Codes,
     table: &TypeTable,
     parts: &mut Parts<R>,
     passing: &mut Passing,
+    point: &Point,
 ) -> Result<Option<Over>, AllocError>
     requires whole { IsWhole codes.now }
     requires words { parts.old.words ≡ stacked_words parts.old.frames }
     requires can { CanTurn R.Means codes.now table.now parts.old }
+    requires there { slice_get (program_of codes.now).points parts.old.frames.frame.next ≡ Some (point_of codes.now point.now) }
+    requires sound { IsTrue (is_point_there codes.now point.now) }
     ensures { IfOk result (λ over. IsTurn R.Means codes.now table.now over parts.old parts.new) }
 {
-    let point = point_at(codes, parts.frames.frame().next);
     match take(codes, &mut parts.memory, &parts.frames, point.takes) {
         Some(k) => turn_point(alloc, codes, table, parts, passing, point, k),
         None => Err(AllocError),
     }
+}
+
+/// The next step, at a point that stores one word at most.
+#[inline(always)]
+fn words_turn<R: Store>(
+    codes: &Codes,
+    table: &TypeTable,
+    parts: &mut Parts<R>,
+    point: &Point,
+) -> Result<Option<Over>, AllocError>
+    requires whole { IsWhole codes.now }
+    requires words { parts.old.words ≡ stacked_words parts.old.frames }
+    requires can { CanTurn R.Means codes.now table.now parts.old }
+    requires there { slice_get (program_of codes.now).points parts.old.frames.frame.next ≡ Some (point_of codes.now point.now) }
+    requires sound { IsTrue (is_point_there codes.now point.now) }
+    requires group { group_of point.now.does ≡ Group.Words }
+    ensures { IfOk result (λ over. IsTurn R.Means codes.now table.now over parts.old parts.new) }
+{
+    match take(codes, &mut parts.memory, &parts.frames, point.takes) {
+        Some(k) => words_point(codes, table, parts, point, k),
+        None => Err(AllocError),
+    }
+}
+
+/// Makes at most so many steps, but at least one: those of points that store one word at most, and one
+/// of another point.
+pub(crate) fn turns<R: Store>(
+    alloc: Global,
+    codes: &Codes,
+    table: &TypeTable,
+    parts: &mut Parts<R>,
+    passing: &mut Passing,
+    limit: u64,
+) -> Result<(u64, Option<Over>), AllocError>
+    requires some { 0 < limit }
+    requires whole { IsWhole codes.now }
+    requires kept { AreKept R.Means None parts.old }
+    requires can { CanTurns R.Means codes.now table.now limit parts.old }
+    ensures { IfOk result (λ made. AreTurns R.Means codes.now table.now limit made.0 made.1 parts.old parts.new) }
+{
+    let mut made = 0u64;
+    'steps: while made < limit {
+        let point = point_at(codes, parts.frames.frame().next);
+        if !stores_words(point) {
+            let over = turn(alloc, codes, table, parts, passing, point)?;
+            return Ok((made + 1, over));
+        }
+        match words_turn(codes, table, parts, point)? {
+            Some(over) => return Ok((made + 1, Some(over))),
+            None => made += 1,
+        }
+    }
+    Ok((made, None))
 }

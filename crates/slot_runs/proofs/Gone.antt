@@ -3,12 +3,13 @@ use Rattle.std.proofs.Common.{◌≡◌, ℕ, ◌+◌, ◌-◌, ◌<◌, ◌≤�
 use Rattle.handled_steps.specs.States.{State}
 use Rattle.run_results.specs.declared.ran.Ending.{Ending as EndingRow}
 use Rattle.run_results.specs.Results.{ending_of}
+use Rattle.slot_runs.specs.declared.stepping.Turn.{Turn}
 use Rattle.slot_runs.specs.declared.stepping.Turn.TheVariants as turn
 use Rattle.slot_runs.specs.Turns.{Setting, Untold, Inside, SomeSteps, NeverFails, CanStep, Turns}
 use Rattle.slot_runs.specs.Tellings.{Sinks}
 use Rattle.slot_runs.specs.Underway.{IsUnderway}
 use Rattle.slot_runs.specs.Answers.{IsOver}
-use Rattle.slot_runs.specs.Goings.{IsGoing, LeadsOn}
+use Rattle.slot_runs.specs.Goings.{IsGoing, Comes, LeadsOn}
 use Rattle.slot_runs.proofs.Kept.{step_there, step_on, step_ends}
 
 none_made : (steps : ℕ) → steps ≡ steps + 0
@@ -53,6 +54,39 @@ can_step c limit made u v S T below is led =
       running = h.running;
       there = step_there is.files c is.start is.now is.lines is.leaked is.first (is.steps + limit) (is.steps + made) v T (still_below is.steps made limit below) h is.there;
     }
+
+-- ---- steps after steps
+
+rest_made : (steps made limit : ℕ) → made ≤ limit → (steps + made) + (limit - made) ≡ steps + limit
+rest_made steps made limit few = omega (arith, few)
+
+all_more : (steps made more : ℕ) → (steps + made) + more ≡ steps + (made + more)
+all_more steps made more = omega arith
+
+-- Within the rest of a limit they lead on where they lead from where the first ones led.
+pub leads_on : (c : Setting) (limit made more : ℕ) (u v w : Untold) (S T X : Inside → Type 0) (last : Turn) → made ≤ limit → LeadsOn c limit u S made turn.On v T
+    → LeadsOn c (limit - made) v T more last w X → LeadsOn c limit u S (made + more) last w X
+leads_on c limit made more u v w S T X last few led next = λ files start now lines leaked first steps not is.
+    let all = rest_made steps made limit few in
+    let there : NeverFails (SomeSteps ((steps + made) + (limit - made)) c first) = subst (λ n. NeverFails (SomeSteps n c first)) (sym all) not in
+    subst (λ n. Comes last files c start now lines leaked first (steps + limit) n w X) (all_more steps made more)
+    (subst (λ n. Comes last files c start now lines leaked first n ((steps + made) + more) w X) all
+    (next files start now lines leaked first (steps + made) there (led files start now lines leaked first steps not is)))
+
+-- The rest of the steps can be made.
+pub going_on : (c : Setting) (limit made : ℕ) (u v : Untold) (S T : Inside → Type 0) → made ≤ limit → IsGoing c limit u S → LeadsOn c limit u S made turn.On v T
+    → IsGoing c (limit - made) v T
+going_on c limit made u v S T few is led = record {
+  files = is.files;
+  start = is.start;
+  now = is.now;
+  lines = is.lines;
+  leaked = is.leaked;
+  first = is.first;
+  steps = is.steps + made;
+  under = led is.files is.start is.now is.lines is.leaked is.first is.steps is.there is.under;
+  there = subst (λ n. NeverFails (SomeSteps n c is.first)) (sym (rest_made is.steps made limit few)) is.there;
+}
 
 -- ---- of a run within a limit
 

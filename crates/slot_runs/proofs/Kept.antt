@@ -127,7 +127,7 @@ ends files c start now lines leaked first n steps u v S T e is end =
       inside = end.inside;
       stands = end.stands;
       gives = ap (λ s. Some (ran_with (ending_of e) s)) w.2 ∙ ap Some (seen_same (ending_of e) q end.state (state_of v end.inside) end.seen);
-      slots = ap (λ (s : State). s.memory.heap.slots) w.2 ∙ end.seen.slots;
+      heap = ap (λ (s : State). s.memory.heap) w.2 ∙ end.seen.heap;
     }
 
 -- No step is left.
@@ -142,7 +142,7 @@ spent files c start now lines leaked first steps u S is = record {
   inside = is.inside;
   stands = is.stands;
   gives = ap (λ s. Some (ran_with Spent s)) is.same;
-  slots = ap (λ (s : State). s.memory.heap.slots) is.same;
+  heap = ap (λ (s : State). s.memory.heap) is.same;
 }
 
 -- ---- tellings
@@ -221,7 +221,7 @@ answered files c start old new lines all leaked count first most e steps made fr
       lines = owed_all start.lines new.lines (leak_lines files (p.leaks ++ u.leaks)) (owed_written start.lines old.lines new.lines all (leak_lines files (p.leaks ++ u.leaks)) (subst (λ l. Owes start.lines old.lines l (leak_lines files (p.leaks ++ u.leaks))) (sym more) told) written);
       inside = is.inside;
       left = stands;
-      slots = is.slots;
+      heap = is.heap;
     }
 
 -- ---- numbers of steps

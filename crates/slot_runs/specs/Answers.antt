@@ -3,6 +3,7 @@ use Rattle.std.specs.Prelude.{◌≡◌, ◌≤◌, ℕ, List, Some}
 use Rattle.std.specs.Io.KnownBytes.{Appends}
 use Rattle.machine.specs.States.{Ending}
 use Rattle.run_codes.specs.Points as points
+use Rattle.handled_runs.specs.slot_heap.Heaps.{Heap}
 use Rattle.handled_steps.specs.States.{State, Outcome, Ends}
 use Rattle.handled_steps.specs.Runs.{given, ran_with}
 use Rattle.run_results.specs.declared.ran.Ran.{Ran}
@@ -12,10 +13,10 @@ use Rattle.slot_runs.specs.Pasts.{Past, since}
 use Rattle.slot_runs.specs.Turns.{Setting, Untold, Inside, state_of, IsRunning, SomeSteps, NeverFails}
 use Rattle.slot_runs.specs.Tellings.{Sinks, IsTold, HaveFronts}
 
--- The run ends, and its heap has these slots then.
-abbrev pub EndsWith : List ℕ → Outcome → Type 0
-EndsWith slots (Ends e s) = s.memory.heap.slots ≡ slots
-EndsWith slots _ = ⊥
+-- The run ends, and this is its heap then.
+abbrev pub EndsWith : Heap → Outcome → Type 0
+EndsWith heap (Ends e s) = s.memory.heap ≡ heap
+EndsWith heap _ = ⊥
 
 -- Within so many steps from a first state an outcome may come that is this ending after so many steps, with a state of
 -- which some was told.
@@ -30,10 +31,10 @@ pub record IsOver
   pub inside : Inside
   pub stands : Stands inside
   pub gives : given outcome ≡ Some (ran_with e (since past (state_of u inside)))
-  pub slots : EndsWith inside.memory.heap.slots outcome
+  pub heap : EndsWith inside.memory.heap outcome
 
 -- An outcome may come that is this run; one sink got its output, and the other one its leak lines. What is left of it
--- stands for an inside with the slots of the outcome.
+-- stands for an inside with the heap of the outcome.
 pub record IsWritten (files : List (List ℕ)) (Whole : Outcome → Type 0) (Left : Inside → Type 0) (ran : Ran) (old new : Sinks) : Type 0 where
   pub outcome : Outcome
   pub comes : Whole outcome
@@ -44,7 +45,7 @@ pub record IsWritten (files : List (List ℕ)) (Whole : Outcome → Type 0) (Lef
   pub lines : Appends old.lines new.lines (leak_lines files run.leaks)
   pub inside : Inside
   pub left : Left inside
-  pub slots : EndsWith inside.memory.heap.slots outcome
+  pub heap : EndsWith inside.memory.heap outcome
 
 -- No answer is given. The sinks have fronts of the output and of the leak lines that the run may have within some
 -- budget up to the limit.

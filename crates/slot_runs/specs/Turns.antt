@@ -67,13 +67,13 @@ NeverFails Comes = (r : Outcome) → Comes r → is_failing r ≡ false
 abbrev pub bare : State → State
 bare s = record (plain s) { steps = 0 }
 
--- What is seen of a run that ends: its output, its leaks, the counts of its cells and the slots of its heap.
+-- What is seen of a run that ends: its output, its leaks, the counts of its cells and its heap.
 pub record IsSeen (s g : State) : Type 0 where
   pub output : s.output ≡ g.output
   pub leaks : s.leaks ≡ g.leaks
   pub made : s.memory.made ≡ g.memory.made
   pub freed : s.memory.freed ≡ g.memory.freed
-  pub slots : s.memory.heap.slots ≡ g.memory.heap.slots
+  pub heap : s.memory.heap ≡ g.memory.heap
 
 -- It may go on with a state, which the run stands for then.
 pub record GoesOn (Comes : Outcome → Type 0) (u : Untold) (Stands : Inside → Type 0) : Type 0 where

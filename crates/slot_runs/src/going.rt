@@ -14,7 +14,7 @@ fn is_to_tell<S: Stepping>(run: &S) -> bool {
 }
 
 /// Makes at most so many steps, until one ends the run or something is to be told: how many, and what
-/// the last one came to. The loop calls nothing of the sinks, so that the step is a part of it.
+/// the last one came to. The loop calls nothing of the sinks, so that the steps are a part of it.
 #[inline(never)]
 pub(crate) fn go<S: Stepping>(run: &mut S, limit: u64) -> Result<(u64, Turn), AllocError>
     requires some { 0 < limit }
@@ -26,13 +26,12 @@ pub(crate) fn go<S: Stepping>(run: &mut S, limit: u64) -> Result<(u64, Turn), Al
     ensures led { IfOk result (λ made. LeadsOn (S.setting run.old) limit (S.untold run.old) (S.Stands run.old) made.0 made.1 (S.untold run.new) (S.Stands run.new)) }
 {
     let mut made = 0u64;
-    'steps: while made < limit {
-        match run.step() {
-            Ok(Turn::On) => {}
-            Ok(Turn::Ends(ending)) => return Ok((made + 1, Turn::Ends(ending))),
+    'rounds: while made < limit {
+        match run.steps(limit - made) {
+            Ok((more, Turn::On)) => made += more,
+            Ok((more, Turn::Ends(ending))) => return Ok((made + more, Turn::Ends(ending))),
             Err(fault) => return Err(fault),
         }
-        made += 1;
         if is_to_tell(run) {
             return Ok((made, Turn::On));
         }

@@ -1,7 +1,8 @@
 //! What a run asks of its steps.
-ghost use Rattle.std.specs.Prelude.{◌≡◌, [], ℕ, IfOk, OnOk};
+ghost use Rattle.std.specs.Prelude.{◌≡◌, ◌<◌, ◌≤◌, [], ℕ, IfOk, OnOk};
 ghost use Rattle.run_results.specs.Results.{leaks_of};
-ghost use Rattle.slot_runs.specs.Turns.{Setting, Untold, Inside, Still, CanStep, Turns};
+ghost use Rattle.slot_runs.specs.Turns.{Setting, Untold, Inside, Still};
+ghost use Rattle.slot_runs.specs.Goings.{IsGoing, LeadsOn};
 
 use run_results::{Ending, Leak};
 use std::alloc::AllocError;
@@ -30,12 +31,16 @@ pub trait Stepping {
     /// cells isn't said, so there may be more than one.
     ghost Stands: { Self → Inside → Type 0 };
 
-    /// Makes the next step: one of its outcomes that may come.
-    fn step(&mut self) -> Result<Turn, AllocError>
-        requires known { CanStep (setting self.old) (untold self.old) (Stands self.old) }
+    /// Makes at most so many steps, but at least one: how many, and what the last one came to. Each of
+    /// them is one of the outcomes that may come.
+    fn steps(&mut self, limit: u64) -> Result<(u64, Turn), AllocError>
+        requires some { 0 < limit }
+        requires going { IsGoing (setting self.old) limit (untold self.old) (Stands self.old) }
         ensures setting { setting self.new ≡ setting self.old }
         ensures lent { OnOk result (lent self.new ≡ lent self.old) }
-        ensures turned { IfOk result (λ turn. Turns (setting self.old) (untold self.old) (Stands self.old) turn (untold self.new) (Stands self.new)) };
+        ensures some { IfOk result (λ made. 0 < made.0) }
+        ensures few { IfOk result (λ made. made.0 ≤ limit) }
+        ensures led { IfOk result (λ made. LeadsOn (setting self.old) limit (untold self.old) (Stands self.old) made.0 made.1 (untold self.new) (Stands self.new)) };
 
     /// The output that wasn't taken yet.
     fn output(&self) -> &[u8]

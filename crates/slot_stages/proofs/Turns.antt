@@ -57,21 +57,3 @@ turns_on c r s t Stands step same stands = record {
   same = same;
   running = (running s, outside s.stacked s.kept.waits, frames_are s);
 }
-
--- ---- what stops it
-
--- What is seen of a state that a step leaves which stops.
-pub given_up_seen : {R : Type 0} (r s : Stage R) (m : Slots) → s.output ≡ r.output → s.leaks ≡ r.leaks → s.kept.heap.made ≡ m.made
-    → s.kept.heap.freed ≡ r.kept.heap.freed + (m.made - r.kept.heap.made) → s.ghosts.heap.slots ≡ m.heap.slots
-    → IsSeen (counted (record (state_of r) { memory = given_up (state_of r).memory m })) (state_of s)
-given_up_seen r s m output leaks made freed slots = record { output = sym output; leaks = sym leaks; made = sym made; freed = sym freed; slots = sym slots }
-
--- It raises an exception, and ends the run. What is left of it is another memory.
-pub turns_raised : {R : Type 0} (c : Setting) (r s : Stage R) (p : Point) (e : Exception) (m : Slots) (ending : EndingRow) (Stands : Inside → Type 0)
-    → OneStep c (state_of r) (halted (turn_of c.table c.program p r) (Raises e) m) → ending_of ending ≡ Raised e p.pos
-    → IsSeen (counted (record (state_of r) { memory = given_up (state_of r).memory m })) (state_of s) → Stands (inside_of s)
-    → IsEnded (OneStep c (state_of r)) ending (untold_of s) Stands
-turns_raised c r s p e m ending Stands step is seen stands =
-    let t : State = counted (record (state_of r) { memory = given_up (state_of r).memory m }) in
-    let P : Ending → Type 0 = λ k. OneStep c (state_of r) (Ends k t) in
-    record { state = t; comes = subst P (sym is) step; inside = inside_of s; stands = stands; seen = seen }

@@ -17,6 +17,7 @@ use Rattle.slot_memory.specs.Memory.{Ghosts, slots}
 use Rattle.slot_runs.specs.Turns.{Setting}
 use Rattle.slot_turns.specs.Betweens.{StandAt}
 use Rattle.slot_turns.specs.Steps.{turn_at, DoneAt}
+use Rattle.slot_turns.proofs.Made.{none_here}
 use Rattle.slot_tells.specs.slot_parts.declared.parts.Parts.{Parts}
 use Rattle.slot_tells.specs.slot_parts.Stages.{between_of, setting_of, IsAt}
 use Rattle.slot_tells.specs.slot_parts.Ways.{MayHalt}
@@ -40,4 +41,10 @@ module _ {R : Type 0} (Means : R → Heap → Type 0) (codes : Codes) (table : T
 
   pub fall_halts : (made : ℕ) → made ≡ old.memory.heap.made
       → MayHalt Means t (DoneAt c p (between_of old) g) old.memory (record { stop = stop.Raises exception.ProgramError; made = made })
-  fall_halts made counted = record { after = slots old.memory g; comes = comes; made = sym counted; shows = (stands.memory, refl) }
+  fall_halts made counted = record {
+    after = slots old.memory g;
+    comes = comes;
+    made = sym counted;
+    shows = (stands.memory, refl);
+    since = none_here Means c p (between_of old) g stands;
+  }

@@ -138,4 +138,4 @@ module _ {R : Type 0} (Means : R → Heap → Type 0) (codes : Codes) (table : T
       let x = held.held_halts Means table (program_of codes) p (stage g) k of next v (stage_at Means codes table point k old at g stands) at.latest (stands_at g stands)
       (fine_at g fine) h.stop new.memory new.frames other
       (subst (λ m. Holding {U = U} Means m table v (Err h.stop) old.frames k of next new.memory new.frames) (sym (same_memory g)) holds) in
-      record { after = x.0; comes = may g (halted (here g) (stop_of h.stop) x.0) x.1; made = shown_made Means new.memory x.0 x.2 ∙ sym made; shows = x.2 })
+      record { after = x.0; comes = may g (halted (here g) (stop_of h.stop) x.0) x.1; made = shown_made Means new.memory x.0 x.2 ∙ sym made; shows = x.2; since = x.3 })

@@ -5,6 +5,7 @@ pub mod Falls
 -- results of functions
 pub mod Held
 -- points that may have leak checks
+pub mod Changed
 pub mod Values
 -- the step of a call
 pub mod Called

@@ -24,6 +24,7 @@ use Rattle.slot_entries.specs.Entries.{stacked_words}
 use Rattle.slot_turns.specs.declared.halt.Halt.{Halt}
 use Rattle.slot_turns.specs.Betweens.{StandAt}
 use Rattle.slot_turns.specs.Steps.{turn_at, DoneAt}
+use Rattle.slot_turns.proofs.Made.{since_here, none_yet}
 use Rattle.slot_goings.specs.declared.groups.Group.TheVariants as group
 use Rattle.slot_goings.specs.Groups.{group_of}
 use Rattle.slot_goings.specs.Changes.{Change, Leads, Halts, Fails, ValuesChange, CanChange, Changing}
@@ -36,6 +37,7 @@ use Rattle.slot_tells.specs.slot_parts.Goes.{IsLed}
 use Rattle.slot_tells.specs.slot_parts.Ways.{MayTell, MayHalt}
 use Rattle.slot_tells.proofs.slot_parts.Sights.{start_now, taken_below, below_by}
 use Rattle.slot_tells.proofs.slot_parts.Leads.{leads_by, tells_by}
+use Rattle.slot_steps.proofs.Changed.{change_since}
 use Rattle.slot_steps.proofs.Held.{shown_made}
 
 module _ {R : Type 0} (Means : R → Heap → Type 0) (codes : Codes) (table : Table) (point : PointRow) (k : ℕ) (old : Parts R) (at : IsAt Means codes table point k old)
@@ -81,7 +83,15 @@ module _ {R : Type 0} (Means : R → Heap → Type 0) (codes : Codes) (table : T
         → x ≢ stop.Memory → MayHalt Means t May m (record { stop = x; made = made })
     values_halt fine x made leaks m changing counted other =
         let d = changing.changes g stands.memory (fine_at fine) other in
-        record { after = d.after; comes = comes (Halts (stop_of x) d.after) d.comes; made = shown_made Means m d.after d.shows ∙ sym counted; shows = d.shows }
+        record {
+          after = d.after;
+          comes = comes (Halts (stop_of x) d.after) d.comes;
+          made = shown_made Means m d.after d.shows ∙ sym counted;
+          shows = d.shows;
+          since =
+              since_here Means c p (between_of old) g d.after
+              (change_since table codes.rows point.pos (slots old.memory g) (none_yet Means c p (between_of old) g stands) point.does (stop_of x) d.after d.comes);
+        }
 
   -- What it asks for.
   pub values_can : CanChange Means old.memory Comes

@@ -15,6 +15,7 @@ use Rattle.slot_memory.specs.Memory.{Kept, Ghosts, Shows, slots}
 use Rattle.slot_runs.specs.Turns.{Setting, NeverFails, is_failing}
 use Rattle.slot_turns.specs.Betweens.{StandAt}
 use Rattle.slot_turns.specs.Steps.{turn_at, DoneAt}
+use Rattle.slot_turns.proofs.Made.{none_here}
 use Rattle.slot_points.specs.Changing.{With, Whole, Done}
 use Rattle.slot_goings.specs.declared.groups.Group.TheVariants as group
 use Rattle.slot_goings.specs.Groups.{group_of}
@@ -78,6 +79,7 @@ module _ {R : Type 0} (Means : R → Heap → Type 0) (codes : Codes) (table : T
           comes = subst (λ x. May (on_got t (slots old.memory g) x (led_on t))) d.stops comes;
           made = ap (λ (q : Kept R). q.heap.made) (sym d.same) ∙ sym counted;
           shows = subst (λ q. Shows Means q (slots old.memory g)) (sym d.same) (stands.memory, refl);
+          since = none_here Means c p (between_of old) g stands;
         }
 
   -- What it asks for.

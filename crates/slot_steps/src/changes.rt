@@ -12,7 +12,8 @@ use slot_turns::Halt;
 use type_table::TypeTable;
 
 /// A point that stores one word at most.
-pub(crate) fn step_words<R: Store>(
+#[inline(always)]
+pub fn step_words<R: Store>(
     codes: &Codes,
     table: &TypeTable,
     parts: &mut Parts<R>,

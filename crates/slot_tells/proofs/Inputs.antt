@@ -27,6 +27,7 @@ use Rattle.slot_stages.specs.Leads.{LeadsTo}
 use Rattle.slot_stages.proofs.Leads.{IsLed as IsLedStage, led_stage, led_on}
 use Rattle.slot_turns.specs.Betweens.{Between, stage_of, StandAt}
 use Rattle.slot_turns.specs.Steps.{turn_at, DoneAt, GoesOn}
+use Rattle.slot_turns.proofs.Made.{none_here}
 use Rattle.slot_parts.proofs.slot_leads.Led.{led_stands, led_between, led_bytes}
 use Rattle.slot_points.specs.Changing.{Whole, With, IsDone, Done}
 use Rattle.slot_points.specs.Steps.{item_read}
@@ -201,9 +202,8 @@ module _ {R : Type 0} (Means : R → Heap → Type 0) (codes : Codes) (table : T
             made = sym counted;
             output = output;
             leaks = ap leaks_of leaks;
-            ghosts = g;
             stands = subst (λ m. Stands Means m g) (sym (memory ∙ d.same)) stands.memory;
-            slots = refl;
+            since = none_here Means c p (between_of old) g stands;
           };
       lent = λ other. ap (λ (x : Kept R). x.heap.lent) (memory ∙ (done.done at.can.ghosts at.can.stands.memory (item_fine at.can.ghosts at.can.stands at.can.fine) other).same);
     };

@@ -23,6 +23,7 @@ use Rattle.slot_stages.specs.Leads.{LeadsTo}
 use Rattle.slot_stages.proofs.Leads.{led_stage, led_on, writing_on}
 use Rattle.slot_turns.specs.Betweens.{stage_of, StandAt}
 use Rattle.slot_turns.specs.Steps.{turn_at, DoneAt}
+use Rattle.slot_turns.proofs.Made.{none_here}
 use Rattle.slot_parts.proofs.slot_leads.Led.{led_stands, led_between, led_bytes}
 use Rattle.slot_points.specs.Changing.{Whole, Added}
 use Rattle.slot_points.specs.Steps.{line_end, text_in, written}
@@ -161,9 +162,8 @@ module _ {R : Type 0} (Means : R → Heap → Type 0) (codes : Codes) (table : T
             made = sym counted;
             output = output;
             leaks = ap leaks_of leaks;
-            ghosts = g;
             stands = subst (λ m. Stands Means m g) (sym same) stands.memory;
-            slots = refl;
+            since = none_here Means c p (between_of old) g stands;
           };
       lent = λ other. ap (λ (m : Kept R). m.heap.lent) same;
     };

@@ -29,6 +29,7 @@ use Rattle.slot_held.specs.Holds.{number_before}
 use Rattle.slot_held.proofs.Rights.{right_on, right_is}
 use Rattle.slot_turns.specs.Betweens.{stage_of, StandAt}
 use Rattle.slot_turns.specs.Steps.{turn_at, DoneAt, GoesOn}
+use Rattle.slot_turns.proofs.Made.{none_here}
 use Rattle.slot_points.specs.Steps.{decided_by}
 use Rattle.slot_points.proofs.Points.{evaluate_left_is}
 use Rattle.slot_parts.specs.declared.parts.Parts.{Parts}
@@ -171,9 +172,8 @@ module _ {R : Type 0} (Means : R → Heap → Type 0) (codes : Codes) (table : T
               made = sym counted;
               output = output;
               leaks = ap leaks_of leaks;
-              ghosts = g;
               stands = subst (λ m. Stands Means m g) (sym same) stands.memory;
-              slots = refl;
+              since = none_here Means c p (between_of old) g stands;
             };
         lent = λ other. ap (λ (m : Kept R). m.heap.lent) same;
       };
@@ -244,9 +244,8 @@ module _ {R : Type 0} (Means : R → Heap → Type 0) (codes : Codes) (table : T
               made = sym counted;
               output = output;
               leaks = ap leaks_of leaks;
-              ghosts = g;
               stands = subst (λ m. Stands Means m g) (sym same) stands.memory;
-              slots = refl;
+              since = none_here Means c p (between_of old) g stands;
             };
         lent = λ other. ap (λ (m : Kept R). m.heap.lent) same;
       };

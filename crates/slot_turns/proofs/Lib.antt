@@ -2,3 +2,5 @@
 pub mod Turned
 -- how a run ends
 pub mod Ended
+-- what a step has made so far
+pub mod Made

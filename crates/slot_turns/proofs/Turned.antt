@@ -92,13 +92,13 @@ module _ {R : Type 0} (Means : R → Heap → Type 0) (c : Setting) (p : Point) 
           turns_on c (stage_of old g) s is.state (IsInside Means new c.input) (step_is c (stage_of old g) p k (Goes is.state) there same latest is.comes) is.same
           (record { ghosts = is.ghosts; between = between; stands = is.stands; bytes = input; is = refl })
       by g same (Some over) is =
-          let m = record (slots old.kept g) { heap = is.heap; made = over.made; freed = over.freed } in
+          let m = record (slots old.kept g) { heap = is.state.memory.heap; made = over.made; freed = over.freed } in
           record {
             state = is.state;
             comes = step_is c (stage_of old g) p k (Ends (ending_of over.ending) is.state) there same latest is.comes;
             inside = record { memory = m; frames = []; at = 0 };
             stands = record { frames = refl; made = refl; freed = refl; means = is.means };
-            seen = record { output = is.output; leaks = is.leaks; made = is.made; freed = is.freed; slots = is.slots };
+            seen = record { output = is.output; leaks = is.leaks; made = is.made; freed = is.freed; heap = refl };
           }
 
 -- A run that is over runs no more.

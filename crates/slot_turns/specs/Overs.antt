@@ -24,8 +24,7 @@ pub record IsCounted (h : Halt) (p : Pos) (cells gone : ℕ) (over : Over) : Typ
   pub made : over.made ≡ h.made
   pub freed : over.freed ≡ gone + (h.made - cells)
 
--- The run may end so, with so many cells made and freed, and that is what wasn't told of it. Its store means a heap with
--- the same slots.
+-- The run may end so, with so many cells made and freed, and that is what wasn't told of it. Its store means the heap.
 pub record IsOver {R : Type 0} (Means : R → Heap → Type 0) (May : Outcome → Type 0) (over : Over) (new : Between R) : Type 0 where
   pub state : State
   pub comes : May (Ends (ending_of over.ending) state)
@@ -33,9 +32,7 @@ pub record IsOver {R : Type 0} (Means : R → Heap → Type 0) (May : Outcome �
   pub leaks : state.leaks ≡ new.leaks
   pub made : state.memory.made ≡ over.made
   pub freed : state.memory.freed ≡ over.freed
-  pub heap : Heap
-  pub means : Means new.kept.heap.store heap
-  pub slots : state.memory.heap.slots ≡ heap.slots
+  pub means : Means new.kept.heap.store state.memory.heap
 
 -- The run goes on, or is over.
 abbrev pub TurnsTo : {R : Type 0} → (R → Heap → Type 0) → (Outcome → Type 0) → Option Over → Between R → Type 0

@@ -8,7 +8,8 @@ use Rattle.code_rows.specs.Stops.{stop_of}
 use Rattle.handled_runs.specs.Slots.{Slots}
 use Rattle.handled_steps.specs.States.{State, Outcome, Goes, Ends, Turn, halted}
 use Rattle.handled_steps.specs.Steps.{Done}
-use Rattle.slot_memory.specs.Memory.{Ghosts, Stands}
+use Rattle.made_cells.specs.Since.{Since}
+use Rattle.slot_memory.specs.Memory.{Ghosts, Stands, ghosts_of}
 use Rattle.slot_runs.specs.Turns.{Setting, NeverFails, bare}
 use Rattle.slot_stages.specs.Stages.{state_of, turn_of}
 use Rattle.slot_turns.specs.declared.halt.Halt.{Halt}
@@ -39,19 +40,18 @@ pub record IsEnded {R : Type 0} (Means : R → Heap → Type 0) (May : Outcome �
   pub leaks : state.leaks ≡ new.leaks
   pub made : state.memory.made ≡ new.kept.heap.made
   pub freed : state.memory.freed ≡ new.kept.heap.freed
-  pub slots : state.memory.heap.slots ≡ ghosts.heap.slots
+  pub heap : state.memory.heap ≡ ghosts.heap
 
--- It may stop, with so many cells made. What wasn't told before stays, and the memory stands for some slots of the same
--- sizes.
+-- It may stop, with so many cells made. What wasn't told before stays, and the cells of before are there, beside those
+-- that were made since.
 pub record Halts {R : Type 0} (Means : R → Heap → Type 0) (t : Turn) (May : Outcome → Type 0) (h : Halt) (old new : Between R) : Type 0 where
   pub memory : Slots
   pub comes : May (halted t (stop_of h.stop) memory)
   pub made : memory.made ≡ h.made
   pub output : new.output ≡ old.output
   pub leaks : new.leaks ≡ old.leaks
-  pub ghosts : Ghosts
-  pub stands : Stands Means new.kept ghosts
-  pub slots : memory.heap.slots ≡ ghosts.heap.slots
+  pub stands : Stands Means new.kept (ghosts_of memory)
+  pub since : Since t.state.memory memory
 
 -- The run goes on, or ends. Nothing is said where there is too little memory.
 abbrev pub ComesTo : {R : Type 0} → (R → Heap → Type 0) → Turn → (Outcome → Type 0) → Result Bool Halt → Between R → Between R → Type 0

@@ -1,3 +1,5 @@
+-- what the rules on facts say together of accepted programs
+pub mod FactLaws
 pub mod Constructors
 -- places, the ways that names take to them, and who owns what
 pub mod OwnedWays

@@ -13,8 +13,8 @@ use Rattle.flow_paths.specs.Laid.{FlowSub, FlowProgram}
 use Rattle.flow_paths.specs.Effects.{path_points}
 use Rattle.flow_paths.specs.Reports.{AreReports}
 use Rattle.flow_paths.specs.Paths.{PathPoint, path_point, ControlPath, acts_at, acts_along, facts_before, facts_within}
-use Rattle.fact_laws.specs.Allowed.{ArePathsAllowed}
-use Rattle.fact_laws.proofs.Accepted.{accepted_allows}
+use Rattle.soundness.specs.FactLaws.Allowed.{ArePathsAllowed}
+use Rattle.soundness.proofs.FactLaws.Accepted.{accepted_allows}
 use Rattle.soundness.specs.OwnedWays.Ways.{after, AllowsAll}
 use Rattle.soundness.proofs.Scalars.{acts}
 

@@ -1,3 +1,5 @@
+-- what the rules on facts say together of accepted programs
+pub mod FactLaws
 -- places, the ways that names take to them, and who owns what
 pub mod OwnedWays
 -- where the parts of a type stand among its words

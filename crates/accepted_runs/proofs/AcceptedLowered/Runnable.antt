@@ -8,7 +8,7 @@ use Rattle.laid_program.specs.Programs.{program_of}
 use Rattle.program_check.specs.Sources.{flow_of}
 use Rattle.run_codes.specs.Programs.{lowered_program}
 use Rattle.run_ready.specs.Tests.{IsReady}
-use Rattle.tested_files.proofs.Main.{parsed_ready}
+use Rattle.accepted_runs.proofs.TestedFiles.Main.{parsed_ready}
 use Rattle.accepted_runs.specs.Passed.{Passes}
 use Rattle.accepted_runs.proofs.Parsed.{are_parsed}
 use Rattle.accepted_runs.specs.AcceptedLowered.Runs.{IsRunnable}

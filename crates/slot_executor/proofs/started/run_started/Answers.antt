@@ -39,8 +39,7 @@ pub returns-clause-left : goal.returns-clause-left
 returns-clause-left g c =
     let old : Sinks = record { output = g.K.Sink.written c.args.out.now; lines = g.K.Sink.written c.args.err.now } in
     let new : Sinks = record { output = g.K.Sink.written c.run_whole.new.out; lines = g.K.Sink.written c.run_whole.new.err } in
-    let whole : Run = run (program_of c.args.laid.now) (g.S.Stepping.setting c.args.run.now).input c.args.steps in
-    if_ok {Q = λ ran. IsLeft whole (g.S.Stepping.Stands c.run_whole.new.run)} c.run_whole.result
+    if_ok {Q = λ ran. IsLeft (program_of c.args.laid.now) (g.S.Stepping.setting c.args.run.now).input c.args.steps (g.S.Stepping.Stands c.run_whole.new.run)} c.run_whole.result
     (λ ran written. writes_left c.args.laid.now (g.S.Stepping.setting c.args.run.now) (g.S.Stepping.untold c.args.run.now) (g.S.Stepping.Stands c.args.run.now) c.requires.started c.requires.same c.args.steps
     (map string_bytes c.deref.result.now) ran old new (g.S.Stepping.Stands c.run_whole.new.run) written)
     c.run_whole.ensures.written

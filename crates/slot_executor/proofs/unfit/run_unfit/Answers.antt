@@ -2,7 +2,7 @@ use Rattle.std.proofs.Common.{refl, ap}
 use Rattle.spark_base.specs.declared.position.Pos.{Pos}
 use Rattle.machine.specs.Evaluate.{StorageError}
 use Rattle.machine.specs.States.{Raised}
-use Rattle.slot_executor.proofs.Runs.{unfit_ran, unfit_output, unfit_leaks, unfit_slots}
+use Rattle.slot_executor.proofs.Runs.{unfit_ran, unfit_output, unfit_leaks, unfit_ends}
 use Rattle.slot_executor.proofs.unfit.run_unfit.Goals as goal
 
 pub returns-in_default-clause-output : goal.returns-in_default-clause-output
@@ -20,8 +20,8 @@ returns-clause-output c = unfit_output c.args.laid.now c.args.main c.requires.un
 pub returns-clause-leaks : goal.returns-clause-leaks
 returns-clause-leaks c = unfit_leaks c.args.laid.now c.args.main c.requires.unfit c.args.input.now c.requires.same c.args.steps
 
-pub returns-in_default-clause-slots : goal.returns-in_default-clause-slots
-returns-in_default-clause-slots c = unfit_slots c.args.laid.now c.args.main c.requires.unfit c.args.input.now c.requires.same c.args.steps
+pub returns-in_default-clause-ends : goal.returns-in_default-clause-ends
+returns-in_default-clause-ends c = unfit_ends c.args.laid.now c.args.main c.requires.unfit c.args.input.now c.requires.same c.args.steps
 
-pub returns-clause-slots : goal.returns-clause-slots
-returns-clause-slots c = unfit_slots c.args.laid.now c.args.main c.requires.unfit c.args.input.now c.requires.same c.args.steps
+pub returns-clause-ends : goal.returns-clause-ends
+returns-clause-ends c = unfit_ends c.args.laid.now c.args.main c.requires.unfit c.args.input.now c.requires.same c.args.steps

@@ -1,45 +1,44 @@
-use Rattle.std.proofs.Common.{refl, sym, subst, ◌∙◌, arith}
+use Rattle.std.proofs.Common.{◌-◌, refl, sym, subst, ◌∙◌, arith}
 use Rattle.slot_runs.specs.declared.stepping.Turn.TheVariants as turn
-use Rattle.slot_runs.specs.Turns.{CanStep, Turns}
-use Rattle.slot_runs.proofs.Gone.{stays, one_on, one_ends, can_step}
+use Rattle.slot_runs.specs.Goings.{IsGoing, LeadsOn}
+use Rattle.slot_runs.proofs.Gone.{stays, leads_on, going_on}
 use Rattle.slot_runs.proofs.going.go.Goals as goal
 
-pub steps-init : goal.steps-init
-steps-init g c = (stays (g.S.Stepping.setting c.args.run.now) c.args.limit (g.S.Stepping.untold c.args.run.now) (g.S.Stepping.Stands c.args.run.now), refl, omega arith, refl)
+pub rounds-init : goal.rounds-init
+rounds-init g c = (stays (g.S.Stepping.setting c.args.run.now) c.args.limit (g.S.Stepping.untold c.args.run.now) (g.S.Stepping.Stands c.args.run.now), refl, omega arith, refl)
 
-pub step-requires : goal.step-requires
-step-requires g c = record {
-  known =
-      subst (λ s. CanStep s (g.S.Stepping.untold c.steps.run) (g.S.Stepping.Stands c.steps.run)) (sym c.steps.invariant.1)
-      (can_step (g.S.Stepping.setting c.args.run.now) c.args.limit c.steps.made (g.S.Stepping.untold c.args.run.now) (g.S.Stepping.untold c.steps.run)
-      (g.S.Stepping.Stands c.args.run.now) (g.S.Stepping.Stands c.steps.run) c.steps-test.true c.requires.going c.steps.invariant.0);
-}
+pub steps-requires-clause-going : goal.steps-requires-clause-going
+steps-requires-clause-going g c =
+    subst (λ s. IsGoing s (c.args.limit - c.rounds.made) (g.S.Stepping.untold c.rounds.run) (g.S.Stepping.Stands c.rounds.run)) (sym c.rounds.invariant.1)
+    (going_on (g.S.Stepping.setting c.args.run.now) c.args.limit c.rounds.made (g.S.Stepping.untold c.args.run.now) (g.S.Stepping.untold c.rounds.run)
+    (g.S.Stepping.Stands c.args.run.now) (g.S.Stepping.Stands c.rounds.run) c.rounds.invariant.2 c.requires.going c.rounds.invariant.0)
 
-pub steps-preserved : goal.steps-preserved
-steps-preserved g c =
-    let on =
-    subst (λ s. Turns s (g.S.Stepping.untold c.steps.run) (g.S.Stepping.Stands c.steps.run) turn.On (g.S.Stepping.untold c.step.new.self) (g.S.Stepping.Stands c.step.new.self)) c.steps.invariant.1
-    (subst (λ t. Turns (g.S.Stepping.setting c.steps.run) (g.S.Stepping.untold c.steps.run) (g.S.Stepping.Stands c.steps.run) t (g.S.Stepping.untold c.step.new.self) (g.S.Stepping.Stands c.step.new.self)) c.in-Ok-On.field-0-is c.in-Ok-On.ensures.turned) in
-    let below = c.steps-test.true in (
-      one_on (g.S.Stepping.setting c.args.run.now) c.args.limit c.steps.made (g.S.Stepping.untold c.args.run.now) (g.S.Stepping.untold c.steps.run) (g.S.Stepping.untold c.step.new.self)
-          (g.S.Stepping.Stands c.args.run.now) (g.S.Stepping.Stands c.steps.run) (g.S.Stepping.Stands c.step.new.self) below c.steps.invariant.0 on,
-      c.step.ensures.setting ∙ c.steps.invariant.1,
-      omega (arith, below),
-      c.in-Ok-On.ensures.lent ∙ c.steps.invariant.3,
+pub rounds-preserved : goal.rounds-preserved
+rounds-preserved g c =
+    let more =
+    subst (λ s. LeadsOn s (c.args.limit - c.rounds.made) (g.S.Stepping.untold c.rounds.run) (g.S.Stepping.Stands c.rounds.run) c.in-Ok-default-On.more turn.On (g.S.Stepping.untold c.steps.new.self) (g.S.Stepping.Stands c.steps.new.self)) c.rounds.invariant.1
+    (subst (λ t. LeadsOn (g.S.Stepping.setting c.rounds.run) (c.args.limit - c.rounds.made) (g.S.Stepping.untold c.rounds.run) (g.S.Stepping.Stands c.rounds.run) c.in-Ok-default-On.more t (g.S.Stepping.untold c.steps.new.self) (g.S.Stepping.Stands c.steps.new.self)) c.in-Ok-default-On.field-0-1-is c.in-Ok-default-On.ensures.led) in
+    let below = c.rounds-test.true in
+    let few = c.in-Ok-default-On.ensures.few in (
+      leads_on (g.S.Stepping.setting c.args.run.now) c.args.limit c.rounds.made c.in-Ok-default-On.more (g.S.Stepping.untold c.args.run.now) (g.S.Stepping.untold c.rounds.run) (g.S.Stepping.untold c.steps.new.self)
+          (g.S.Stepping.Stands c.args.run.now) (g.S.Stepping.Stands c.rounds.run) (g.S.Stepping.Stands c.steps.new.self) turn.On c.rounds.invariant.2 c.rounds.invariant.0 more,
+      c.in-Ok-default-On.ensures.setting ∙ c.rounds.invariant.1,
+      omega (arith, below, few),
+      c.in-Ok-default-On.ensures.lent ∙ c.rounds.invariant.3,
     )
 
 pub returns-then-is_to_tell-clause-led : goal.returns-then-is_to_tell-clause-led
 returns-then-is_to_tell-clause-led g c =
-    let on =
-    subst (λ s. Turns s (g.S.Stepping.untold c.steps.run) (g.S.Stepping.Stands c.steps.run) turn.On (g.S.Stepping.untold c.step.new.self) (g.S.Stepping.Stands c.step.new.self)) c.steps.invariant.1
-    (subst (λ t. Turns (g.S.Stepping.setting c.steps.run) (g.S.Stepping.untold c.steps.run) (g.S.Stepping.Stands c.steps.run) t (g.S.Stepping.untold c.step.new.self) (g.S.Stepping.Stands c.step.new.self)) c.in-Ok-On.field-0-is c.in-Ok-On.ensures.turned) in
-    one_on (g.S.Stepping.setting c.args.run.now) c.args.limit c.steps.made (g.S.Stepping.untold c.args.run.now) (g.S.Stepping.untold c.steps.run) (g.S.Stepping.untold c.step.new.self)
-    (g.S.Stepping.Stands c.args.run.now) (g.S.Stepping.Stands c.steps.run) (g.S.Stepping.Stands c.step.new.self) c.steps-test.true c.steps.invariant.0 on
+    let more =
+    subst (λ s. LeadsOn s (c.args.limit - c.rounds.made) (g.S.Stepping.untold c.rounds.run) (g.S.Stepping.Stands c.rounds.run) c.in-Ok-default-On.more turn.On (g.S.Stepping.untold c.steps.new.self) (g.S.Stepping.Stands c.steps.new.self)) c.rounds.invariant.1
+    (subst (λ t. LeadsOn (g.S.Stepping.setting c.rounds.run) (c.args.limit - c.rounds.made) (g.S.Stepping.untold c.rounds.run) (g.S.Stepping.Stands c.rounds.run) c.in-Ok-default-On.more t (g.S.Stepping.untold c.steps.new.self) (g.S.Stepping.Stands c.steps.new.self)) c.in-Ok-default-On.field-0-1-is c.in-Ok-default-On.ensures.led) in
+    leads_on (g.S.Stepping.setting c.args.run.now) c.args.limit c.rounds.made c.in-Ok-default-On.more (g.S.Stepping.untold c.args.run.now) (g.S.Stepping.untold c.rounds.run) (g.S.Stepping.untold c.steps.new.self)
+    (g.S.Stepping.Stands c.args.run.now) (g.S.Stepping.Stands c.rounds.run) (g.S.Stepping.Stands c.steps.new.self) turn.On c.rounds.invariant.2 c.rounds.invariant.0 more
 
-pub returns-in-Ok-Ends-clause-led : goal.returns-in-Ok-Ends-clause-led
-returns-in-Ok-Ends-clause-led g c =
-    let on =
-    subst (λ s. Turns s (g.S.Stepping.untold c.steps.run) (g.S.Stepping.Stands c.steps.run) (turn.Ends c.in-Ok-Ends.ending) (g.S.Stepping.untold c.step.new.self) (g.S.Stepping.Stands c.step.new.self)) c.steps.invariant.1
-    (subst (λ t. Turns (g.S.Stepping.setting c.steps.run) (g.S.Stepping.untold c.steps.run) (g.S.Stepping.Stands c.steps.run) t (g.S.Stepping.untold c.step.new.self) (g.S.Stepping.Stands c.step.new.self)) c.in-Ok-Ends.field-0-is c.in-Ok-Ends.ensures.turned) in
-    one_ends (g.S.Stepping.setting c.args.run.now) c.args.limit c.steps.made (g.S.Stepping.untold c.args.run.now) (g.S.Stepping.untold c.steps.run) (g.S.Stepping.untold c.step.new.self)
-    (g.S.Stepping.Stands c.args.run.now) (g.S.Stepping.Stands c.steps.run) (g.S.Stepping.Stands c.step.new.self) c.in-Ok-Ends.ending c.steps-test.true c.steps.invariant.0 on
+pub returns-in-Ok-default-Ends-clause-led : goal.returns-in-Ok-default-Ends-clause-led
+returns-in-Ok-default-Ends-clause-led g c =
+    let more =
+    subst (λ s. LeadsOn s (c.args.limit - c.rounds.made) (g.S.Stepping.untold c.rounds.run) (g.S.Stepping.Stands c.rounds.run) c.in-Ok-default-Ends.more (turn.Ends c.in-Ok-default-Ends.ending) (g.S.Stepping.untold c.steps.new.self) (g.S.Stepping.Stands c.steps.new.self)) c.rounds.invariant.1
+    (subst (λ t. LeadsOn (g.S.Stepping.setting c.rounds.run) (c.args.limit - c.rounds.made) (g.S.Stepping.untold c.rounds.run) (g.S.Stepping.Stands c.rounds.run) c.in-Ok-default-Ends.more t (g.S.Stepping.untold c.steps.new.self) (g.S.Stepping.Stands c.steps.new.self)) c.in-Ok-default-Ends.field-0-1-is c.in-Ok-default-Ends.ensures.led) in
+    leads_on (g.S.Stepping.setting c.args.run.now) c.args.limit c.rounds.made c.in-Ok-default-Ends.more (g.S.Stepping.untold c.args.run.now) (g.S.Stepping.untold c.rounds.run) (g.S.Stepping.untold c.steps.new.self)
+    (g.S.Stepping.Stands c.args.run.now) (g.S.Stepping.Stands c.rounds.run) (g.S.Stepping.Stands c.steps.new.self) (turn.Ends c.in-Ok-default-Ends.ending) c.rounds.invariant.2 c.rounds.invariant.0 more

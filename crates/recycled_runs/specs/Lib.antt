@@ -1,0 +1,2 @@
+-- what a run leaves in such a heap
+pub mod RecycledCells
