@@ -1,13 +1,19 @@
 -- What the next step is, and what it comes to.
-use Rattle.std.proofs.Common.{◌≡◌, ℕ, Bool, List, sym, subst, Option, Some}
+use Rattle.std.proofs.Common.{◌≡◌, ℕ, ◌+◌, ◌-◌, Bool, List, sym, subst, Option, Some}
 use Rattle.std.specs.Prelude.{slice_get}
+use Rattle.machine.specs.Evaluate.{Exception}
+use Rattle.machine.specs.States.{Ending, Raised}
 use Rattle.run_codes.specs.Codes.{Point}
+use Rattle.run_codes.specs.Flat.{Raises}
 use Rattle.run_codes.specs.Points.{Frame}
-use Rattle.handled_steps.specs.States.{State, Outcome, Goes, Turn, are_taken}
+use Rattle.handled_runs.specs.Slots.{Slots}
+use Rattle.handled_steps.specs.States.{State, Outcome, Goes, Ends, Turn, are_taken, counted, given_up, halted}
 use Rattle.handled_steps.specs.Steps.{Done, Turned, SteppedAt, Stepped}
 use Rattle.slot_frames.specs.Frames.{AreLatest}
 use Rattle.slot_frames.specs.Parts.{outside}
-use Rattle.slot_runs.specs.Turns.{Setting, Untold, Inside, OneStep, NeverFails, GoesOn, bare}
+use Rattle.run_results.specs.declared.ran.Ending.{Ending as EndingRow}
+use Rattle.run_results.specs.Results.{ending_of}
+use Rattle.slot_runs.specs.Turns.{Setting, Untold, Inside, OneStep, NeverFails, GoesOn, IsEnded, IsSeen, bare}
 use Rattle.slot_stages.specs.Stages.{Stage, state_of, running, turn_of}
 use Rattle.slot_stages.proofs.Sights.{frames_are, are_there}
 
