@@ -86,6 +86,27 @@ def a_file_that_grows(program, folder):
     return answer, (0, b"accepted\n", b"")
 
 
+def a_plain_file_that_grows(program, folder):
+    """It grows past the limit while it is read. Either its end was seen before that, or it is too large."""
+    name = folder / "p.adb"
+    name.write_bytes(MAIN + b" " * (LIMIT - 65_536 - len(MAIN)))
+    over = threading.Event()
+
+    def write():
+        with open(name, "ab", buffering=0) as grown:
+            for _ in range(32):
+                if not over.is_set():
+                    grown.write(b" " * 4_096)
+
+    writer = threading.Thread(target=write)
+    writer.start()
+    answer = asked(program, ["check", "p.adb"], folder)
+    over.set()
+    writer.join()
+    accepted = (0, b"accepted\n", b"")
+    return answer, accepted if answer == accepted else (2, b"", b"p.adb:1:1: S1 sources too large\n")
+
+
 def a_name_with_blanks(program, folder):
     name = "my main.adb"
     (folder / name).write_bytes(REPORTED)
@@ -198,6 +219,7 @@ TRIED = [
     a_file_without_end,
     a_link_to_itself,
     a_file_that_grows,
+    a_plain_file_that_grows,
     a_name_with_blanks,
     a_name_beyond_ascii,
     a_name_in_no_code,

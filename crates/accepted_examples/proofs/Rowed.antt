@@ -29,7 +29,7 @@ use Rattle.program_check.specs.Sources.{flow_of}
 use Rattle.settled_types.specs.FilePositions.Texts.{AreParsed}
 use Rattle.settled_types.proofs.FilePositions.Cuts.{cut_in_order}
 use Rattle.order_laws.specs.Orderly.{typed_of}
-use Rattle.viewed_files.proofs.Files.{parsed_called_sound}
+use Rattle.accepted_runs.proofs.ViewedFiles.Files.{parsed_called_sound}
 use Rattle.accepted_runs.proofs.Runs.{RunsAreSound}
 use Rattle.accepted_examples.proofs.Naming.{naming}
 use Rattle.accepted_examples.proofs.Typing.{typing}

@@ -1,3 +1,5 @@
+-- borrowers and observers of files are in order
+pub mod ViewedFiles
 pub mod Parsed
 -- what holds of runs
 pub mod Runs

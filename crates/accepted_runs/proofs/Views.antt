@@ -8,7 +8,7 @@ use Rattle.flow_paths.specs.declared.report.Effects.{Effects}
 use Rattle.order_laws.specs.Orderly.{typed_of}
 use Rattle.viewed_steps.specs.Ready.{IsReady}
 use Rattle.viewed_steps.proofs.Main.{ready_sound}
-use Rattle.viewed_files.proofs.Files.{parsed_called_ready}
+use Rattle.accepted_runs.proofs.ViewedFiles.Files.{parsed_called_ready}
 use Rattle.accepted_runs.specs.Passed.{Passes}
 use Rattle.accepted_runs.proofs.Parsed.{are_parsed}
 use Rattle.accepted_runs.proofs.Runs.{RunsAreSound}

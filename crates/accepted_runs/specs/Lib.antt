@@ -1,3 +1,5 @@
+-- borrowers and observers of files are in order
+pub mod ViewedFiles
 pub mod Passed
 pub mod Mains
 pub mod Headline

@@ -3,7 +3,7 @@
 //!
 //! Texts pass if their tokens spell sources, and the program breaks no rule of names and of types
 //! and no limit, and there are no reports (`specs/Passed.antt`). The files are parsed then, as
-//! `settled_types` has it (`proofs/Parsed.antt`). So the laws of `viewed_files` speak of such texts
+//! `settled_types` has it (`proofs/Parsed.antt`). So the laws of `ViewedFiles` speak of such texts
 //! (`proofs/Views.antt`), and so do those of `viewed_facts` (`proofs/ViewFacts.antt`) and of
 //! `viewed_facts` (`proofs/ViewNulls.antt`), where there is a main procedure (`specs/Mains.antt`).
 //! Of one run `specs/Headline.antt` has it all (`proofs/Headline.antt`). The type of an accepted
@@ -54,6 +54,30 @@
 //! ready. Those that `check` accepts, with a main procedure, are ready, and pass the tests before a
 //! run (`AcceptedLowered`). So it is for these, however the program is laid out in rows
 //! (`proofs/AcceptedCells/Main.antt`). Nothing here runs.
+//!
+//! # Viewed files
+//!
+//! Borrowers and observers of files are in order, and the runs of accepted files with them are
+//! sound. Definitions and laws, for readers.
+//!
+//! `ViewLaws` says what is asked of a program (`AreViewsInOrder`). Here it is proved of files that
+//! break no rule. Objects and scopes have the numbers of their places in the text
+//! (`specs/ViewedFiles/Places.antt`, `proofs/ViewedFiles/Placed.antt`), and so have those of each body
+//! (`Laid`, `Bodies`); so code is layered (`Layers`). Typing has it that sources of views are
+//! names or calls, and that views are variables of subprograms (`Sources`, `Walked`, `Units`, for
+//! `specs/ViewedFiles/Sources.antt`; `Roots`). What is named was declared before, so sources are older
+//! (`Joined`). What is stored as a view is a variable (`Stored`), and what traversal functions give
+//! is taken by views (`Traversals`). Actuals that are copied back to are names of what formals may
+//! hold (`Passed`). `Main` joins this, and `Files` has the law on runs. Nothing here runs.
+//!
+//! ## View laws
+//!
+//! What an accepted program with borrowers and observers gives to soundness: definitions and laws, for
+//! readers.
+//!
+//! What acts move is rooted in an object that the instruction names, whose scope ends at a point; and
+//! by rule V1 no act changes what is named through an object that only sees (`Fixed`).
+//! Nothing here runs.
 #![tactic(auto)]
 
 pub use run_ready::lower_ready;

@@ -18,7 +18,7 @@
 //! nothing in it speaks of points, paths or facts. Of such a program: the package objects are
 //! declared one by one (`proofs/ReadyLaws/Elaborated.antt`), no return comes after another one
 //! (`Returned`), what typed calls pass stays within what it names (`Actuals`), and its scopes are
-//! as `specs/ReadyLaws/Ready.antt` of `soundness` asks (`Ready`). `viewed_files` says when it is
+//! as `specs/ReadyLaws/Ready.antt` of `soundness` asks (`Ready`). `ViewedFiles` says when it is
 //! ready. Nothing here runs.
 //!
 //! # Package values

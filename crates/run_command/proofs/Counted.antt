@@ -4,11 +4,12 @@ use Rattle.std.specs.Prelude.{filter, sum_by}
 use Rattle.std.proofs.lemmas.List.Sums.{sum_by-cons}
 use Rattle.std.proofs.lemmas.Bool.{cases_eq}
 use Rattle.std.proofs.lemmas.Bool.Decides.{nat_tests}
+use Rattle.flow_paths.specs.Laid.{FlowProgram}
 use Rattle.machine.specs.Memory.{Peak}
-use Rattle.machine.specs.Run.{Run}
+use Rattle.machine.specs.Run.{run}
 use Rattle.numbered_cells.specs.Peaks.{peak_of}
 use Rattle.slot_heap.specs.Heaps.{Heap, Knows, Always, slot_count}
-use Rattle.slot_executor.specs.Executes.{HasSlots}
+use Rattle.slot_execute.specs.Left.{LeavesHeap}
 use Rattle.run_command.specs.Counts.{each_once, sizes_of, slots_of}
 
 -- ---- how often a size stands among slots, added up over sizes
@@ -84,6 +85,7 @@ slots_counted peaks slots are =
     few k some = let same = are k in grind arith
 
 -- The slots of a store that means what a run leaves.
-pub slots_known : {S : Type 0} (Means : S → Heap → Type 0) (s : S) (r : Run) (count : ℕ) → Knows Means s (λ m. HasSlots r m.slots)
-    → Always Means s (λ m. count ≡ length m.slots) → count ≡ slots_of r.peaks
-slots_known Means s r count known is = is known.0 known.1.0 ∙ slots_counted r.peaks known.0.slots known.1.1
+pub slots_known : {S : Type 0} (Means : S → Heap → Type 0) (s : S) (program : FlowProgram) (input : List ℕ) (steps count : ℕ)
+    → Knows Means s (LeavesHeap program input steps) → Always Means s (λ m. count ≡ length m.slots) → count ≡ slots_of (run program input steps).peaks
+slots_known Means s program input steps count known is =
+    is known.0 known.1.0 ∙ slots_counted (run program input steps).peaks known.0.slots known.1.1.slots

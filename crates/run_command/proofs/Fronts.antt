@@ -8,7 +8,7 @@ use Rattle.spark_base.specs.Outside.{AppendsPrefix}
 use Rattle.flow_paths.specs.Laid.{FlowProgram}
 use Rattle.machine.specs.Run.{Run, run}
 use Rattle.slot_heap.specs.Heaps.{Heap, no_heap, Knows}
-use Rattle.slot_executor.specs.Executes.{HasSlots}
+use Rattle.slot_execute.specs.Left.{LeavesHeap}
 use Rattle.run_results.specs.Lines.{leak_lines}
 use Rattle.run_results.proofs.Fronts.{none_front, all_front, front_more, front_after}
 use Rattle.run_codes.specs.Points.{ran_of}
@@ -116,14 +116,14 @@ refused_front files program budget stats left found out err new_err within is fr
 -- All of the input was read.
 pub read_left : {S : Type 0} (Means : S → Heap → Type 0) (store : S) (program : FlowProgram) (budget : ℕ) (left : Option (List ℕ)) (found : Option (Vec ℕ Global))
     (text : Vec ℕ Global) (input : List ℕ) → IfSome left (λ bytes. IsWithin bytes INPUT_BYTES found) → found ≡ Some text → input ≡ text.items
-    → Knows Means store (λ m. HasSlots (run program input budget) m.slots)
+    → Knows Means store (LeavesHeap program input budget)
     → (bytes : List ℕ) → left ≡ Some bytes → Knows Means store (IsLeftBy (run_made program bytes budget))
 read_left Means store program budget left found text input within is read known bytes has =
     let w : IsWithin bytes INPUT_BYTES (Some text) =
     subst (λ f. IsWithin bytes INPUT_BYTES f) is (subst (λ l. IfSome l (λ bytes. IsWithin bytes INPUT_BYTES found)) has within) in
     subst (λ (b : Bool). Knows Means store (IsLeftBy (if b then Some (record { program = program; input = bytes; budget = budget }) else None)))
     (sym (few (length bytes) INPUT_BYTES w.1))
-    (subst (λ all. Knows Means store (λ m. HasSlots (run program all budget) m.slots)) (read ∙ w.0) known)
+    (subst (λ all. Knows Means store (LeavesHeap program all budget)) (read ∙ w.0) known)
 
 -- There is too much of it.
 pub refused_left : {S : Type 0} (Means : S → Heap → Type 0) (store : S) (program : FlowProgram) (budget : ℕ) (left : Option (List ℕ)) (found : Option (Vec ℕ Global))

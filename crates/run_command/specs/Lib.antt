@@ -7,6 +7,5 @@ pub mod Runs
 -- what the functions inside promise each other
 pub mod Inputs
 pub mod Faults
--- libraries that the crates above name through this one
+-- a library that the crates above name through this one
 pub use Rattle.slot_execute.specs as slot_execute
-pub use Rattle.slot_executor.specs as slot_executor

@@ -5,7 +5,7 @@ ghost use Rattle.spark_base.specs.Outside.{Rose, AppendsPrefix};
 ghost use Rattle.laid_program.specs.Programs.{program_of};
 ghost use Rattle.machine.specs.Run.{run};
 ghost use Rattle.slot_heap.specs.Heaps.{Knows, no_heap};
-ghost use Rattle.slot_executor.specs.Executes.{HasSlots};
+ghost use Rattle.slot_execute.specs.Left.{LeavesHeap};
 ghost use Rattle.run_command.specs.Answers.{Grows, Tells, TellsFront};
 ghost use Rattle.run_command.specs.Runs.{IsEnded, run_answer, told, too_large_line};
 ghost use Rattle.run_command.specs.Stores.{IsLeftBy, run_made};
@@ -43,7 +43,7 @@ fn run_on<R: Store, K: Sink>(
         (TellsFront (told (map string_bytes program.now.laid.names.items) steps stats (run (program_of program.now.laid) input.now steps))
         (K.written out.old) (K.written out.new) (K.written err.old) (K.written err.new)) }
     ensures ended { IfOk result IsEnded }
-    ensures slots { IfOk result (λ status. Knows R.Means store.new (λ m. HasSlots (run (program_of program.now.laid) input.now steps) m.slots)) }
+    ensures left { IfOk result (λ status. Knows R.Means store.new (LeavesHeap (program_of program.now.laid) input.now steps)) }
     ensures write { result ≡ Err RunFault.Write → Rose (K.faults out.old) (K.faults out.new) ⊎ Rose (K.faults err.old) (K.faults err.new) }
     ensures no_read { result ≢ Err RunFault.Read }
     ensures no_fault { result ≢ Err RunFault.Write → (K.faults out.new ≡ K.faults out.old) × (K.faults err.new ≡ K.faults err.old) }

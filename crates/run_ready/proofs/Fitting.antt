@@ -10,7 +10,7 @@ use Rattle.type_definitions.specs.declared.table.Shape.{Shape}
 use Rattle.type_definitions.specs.declared.table.Shape.TheVariants as shape
 use Rattle.type_definitions.specs.Types.{Table, info_found, words}
 use Rattle.type_ranks.specs.Ranks.{component_parts, shape_parts, parent_parts, parts, AreRanks}
-use Rattle.table_laws.specs.Ranks.{rank, is_below, shape_all, parent_all, is_ranked, is_plain, fits, IsFit}
+use Rattle.settled_types.specs.TableLaws.Ranks.{rank, is_below, shape_all, parent_all, is_ranked, is_plain, fits, IsFit}
 
 never : false ≡ true → ⊥
 never is = cc

@@ -7,10 +7,10 @@ use Rattle.laid_program.specs.declared.laid.Laid.{Laid}
 use Rattle.laid_program.specs.Layouts.{IsLayout}
 use Rattle.laid_program.specs.Programs.{program_of}
 use Rattle.run_points.specs.Turns.{HasTypes}
-use Rattle.table_laws.specs.Bounds.{HasBounds}
-use Rattle.table_laws.specs.Ranks.{IsFit}
-use Rattle.table_laws.proofs.Gathers.{has_bounds}
-use Rattle.table_laws.proofs.Fit.{fit_table, fit_parts, fit_truth}
+use Rattle.settled_types.specs.TableLaws.Bounds.{HasBounds}
+use Rattle.settled_types.specs.TableLaws.Ranks.{IsFit}
+use Rattle.settled_types.proofs.TableLaws.Gathers.{has_bounds}
+use Rattle.settled_types.proofs.TableLaws.Fit.{fit_table, fit_parts, fit_truth}
 
 -- The table is that of the types of some code.
 bounds_of : (program : FlowProgram) → IsLayout program → HasBounds program.table

@@ -9,7 +9,7 @@ use Rattle.flow_paths.specs.declared.point.Point.{Point}
 use Rattle.flow_paths.specs.declared.point.LaidSub.{LaidSub}
 use Rattle.flow_paths.specs.Objects.{is_state}
 use Rattle.laid_program.specs.declared.laid.Laid.{Laid}
-use Rattle.table_laws.specs.Ranks.{IsFit}
+use Rattle.settled_types.specs.TableLaws.Ranks.{IsFit}
 
 -- Each is greater than those before it; the first one is not below this bound.
 abbrev pub ascend : ℕ → List ℕ → Bool

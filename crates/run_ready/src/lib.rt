@@ -4,7 +4,7 @@
 //! where what the laws on runs ask of a program holds: `HasTypes` and `HasFrames` of `run_points`.
 //! That it holds of the program of texts follows from where identifiers stand, by laws that stand
 //! far above this crate (`accepted_runs`). So it is tested here: that no type has itself in it (by
-//! ranks, `specs/Ranks.antt` of `table_laws`), that formals are different and belong to no package,
+//! ranks, `specs/TableLaws/Ranks.antt` of `settled_types`), that formals are different and belong to no package,
 //! and that what is called has points (`specs/Tests.antt`). `is_ready` tells whether a program
 //! passes: for one that does (`IsReady`) it says so, unless there is too little memory. A program
 //! that fails a test gives `Memory`.

@@ -3,8 +3,8 @@ ghost use Rattle.std.specs.Prelude.{◌≡◌, ◌<◌, ℕ, IfOk, IsTrue, lengt
 ghost use Rattle.std.specs.List.{list_all};
 ghost use Rattle.type_definitions.specs.Types.{shape_found, full};
 ghost use Rattle.type_definitions.specs.Entries.{boolean};
-ghost use Rattle.table_laws.specs.Ranks as spec;
-ghost use Rattle.table_laws.specs.Ranks.{shape_all, parent_all, is_same_as, is_listed, fits, IsFit};
+ghost use Rattle.settled_types.specs.TableLaws.Ranks as spec;
+ghost use Rattle.settled_types.specs.TableLaws.Ranks.{shape_all, parent_all, is_same_as, is_listed, fits, IsFit};
 
 use std::alloc::{AllocError, Global};
 use type_definitions::{Component, Info, Shape, View};

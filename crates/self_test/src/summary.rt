@@ -3,7 +3,7 @@ ghost use Rattle.std.specs.Prelude.{◌≡◌, ◌≢◌, [], Err, IfOk, IsSome}
 ghost use Rattle.spark_base.specs.MemSinks.{plain_bytes};
 ghost use Rattle.laid_program.specs.Programs.{program_of};
 ghost use Rattle.slot_heap.specs.Heaps.{Knows, no_heap};
-ghost use Rattle.run_command.specs.slot_executor.Executes.{HasSlots};
+ghost use Rattle.run_command.specs.slot_execute.Left.{LeavesHeap};
 ghost use Rattle.self_test.specs.Runs.{HasCounts, run_of};
 ghost use Rattle.self_test.specs.Summaries.{test_line};
 
@@ -27,7 +27,7 @@ fn run_in_memory<R: Store>(
     requires empty { plain_bytes out.old ≡ [] }
     ensures run { IfOk result (HasCounts (run_of program.now.laid)) }
     ensures output { IfOk result (λ _. plain_bytes out.new ≡ (run_of program.now.laid).output) }
-    ensures slots { IfOk result (λ _. Knows R.Means store.new (λ m. HasSlots (run_of program.now.laid) m.slots)) }
+    ensures left { IfOk result (λ _. Knows R.Means store.new (LeavesHeap (program_of program.now.laid) [] STEPS)) }
     ensures memory { result ≢ Err ExecFault.WriteFault }
 {
     let mut lines = PlainSink::new(alloc);
@@ -46,7 +46,7 @@ pub fn self_test<R: Store>(
     requires main { IsSome program.now.laid.main }
     requires store { R.Means store.old no_heap }
     ensures line { IfOk result (λ line. line.items ≡ test_line number (program_of program.now.laid)) }
-    ensures slots { IfOk result (λ _. Knows R.Means store.new (λ m. HasSlots (run_of program.now.laid) m.slots)) }
+    ensures left { IfOk result (λ _. Knows R.Means store.new (LeavesHeap (program_of program.now.laid) [] STEPS)) }
     ensures memory { result ≢ Err ExecFault.WriteFault }
 {
     let mut out = PlainSink::new(alloc);

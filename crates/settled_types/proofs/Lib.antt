@@ -21,3 +21,5 @@ pub mod NamedFiles
 pub mod AnonymousTypes
 -- types that are read while declarations are gathered are those that are read at last
 pub mod SteadyTypes
+-- tables of types that are fit for runs
+pub mod TableLaws

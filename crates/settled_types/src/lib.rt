@@ -90,4 +90,13 @@
 //! `proofs/SteadyTypes/Moves.antt` has what both turns make of entries, side by side, `Rows` the
 //! rows, `Walk` the code of a unit, and `Main` all units. So each name leads from type to type in a
 //! loop's range as it does at last; `sound_files` says that of names. Nothing here runs.
+//!
+//! # Table laws
+//!
+//! Tables of types that are fit for runs: definitions and laws.
+//!
+//! Where types have ranks, each a higher one than what it is made of, no type has itself in it
+//! (`specs/TableLaws/Ranks.antt`, `proofs/TableLaws/Ranked.antt`). Then the sorts of the words of a type are those of its whole
+//! definition, and access values stand at its access offsets (`Tables`). The low bounds of the
+//! types of any program are values of Integer (`Gathers`). Nothing here runs.
 #![tactic(auto)]

@@ -2,7 +2,8 @@
 pub mod Codes
 -- what may come of runs
 pub mod Same
--- where runs start
+-- where runs start, and what they leave
 pub mod Started
+pub mod Left
 -- runs without a step
 pub mod NoSteps

@@ -1,8 +1,8 @@
 -- Where the runs of a program start.
 use Rattle.std.proofs.Common.{◌≡◌, ℕ, List, Bool, true, false, Option, Some, None, Result, Ok, Err, sym, ap, subst, ◌∙◌}
 use Rattle.std.specs.Prelude.{IfOk, OnOk}
-use Rattle.flow_paths.specs.Laid.{flow_typing}
-use Rattle.machine.specs.Run.{Run, main_of}
+use Rattle.flow_paths.specs.Laid.{FlowProgram, flow_typing}
+use Rattle.machine.specs.Run.{main_of}
 use Rattle.laid_program.specs.declared.laid.Laid.{Laid}
 use Rattle.laid_program.specs.Programs as laid_programs
 use Rattle.run_codes.specs.Points.{is_declaring}
@@ -10,7 +10,7 @@ use Rattle.code_rows.specs.declared.codes.Codes.{Codes}
 use Rattle.code_rows.specs.Points.{program_of}
 use Rattle.slot_heap.specs.Heaps.{Heap, Knows}
 use Rattle.handled_steps.specs.Runs.{state_at_start}
-use Rattle.slot_executor.specs.Executes.{HasSlots, IsLeft, IsStarted, IsUnfit, fits, setting_of}
+use Rattle.slot_executor.specs.Executes.{MayEnd, IsLeft, IsStarted, IsUnfit, fits, setting_of}
 use Rattle.slot_runs.specs.Turns.{Setting, Inside}
 use Rattle.slot_turns.specs.declared.overs.Over.{Over}
 use Rattle.slot_turns.specs.Runs.{StandsWith}
@@ -25,20 +25,20 @@ left_means {R} Means r x = by r.over
     by None is = subst (λ (y : Inside). Means r.between.kept.heap.store y.memory.heap) (sym is.is) is.stands.memory.cells.means
     by (Some over) is = is.means
 
--- So it has the slots that are left.
-pub left_slots : {R : Type 0} (Means : R → Heap → Type 0) (x : Run) (r : Running R) (store : R) → store ≡ r.between.kept.heap.store → IsLeft x (RunStands Means r)
-    → Knows Means store (λ m. HasSlots x m.slots)
-left_slots Means x r store same is =
-    subst (λ s. Knows Means s (λ m. HasSlots x m.slots)) (sym same) (is.inside.memory.heap, (left_means Means r is.inside is.left, is.slots))
+-- So that is a heap with which a run may end.
+left_heap : {R : Type 0} (Means : R → Heap → Type 0) (program : FlowProgram) (input : List ℕ) (n : ℕ) (r : Running R) (store : R) → store ≡ r.between.kept.heap.store
+    → IsLeft program input n (RunStands Means r) → Knows Means store (MayEnd program input n)
+left_heap Means program input n r store same is =
+    subst (λ s. Knows Means s (MayEnd program input n)) (sym same) (is.inside.memory.heap, (left_means Means r is.inside is.left, is.ends))
 
 -- What is left of a run, and the store that it gives back, where that was lent by the same reference.
-pub fitting_slots : {R A E : Type 0} (Means : R → Heap → Type 0) (x : List ℕ → Run) (input : List ℕ) (old new : Running R) (reference : ℕ) (store : R) (r : Result A E)
+pub fitting_left : {R A E : Type 0} (Means : R → Heap → Type 0) (program : FlowProgram) (input : List ℕ) (n : ℕ) (old new : Running R) (reference : ℕ) (store : R) (r : Result A E)
     → (running_lent new ≡ reference → store ≡ new.between.kept.heap.store) → running_lent old ≡ reference → old.input ≡ input
-    → IfOk r (λ a. IsLeft (x old.input) (RunStands Means new)) → OnOk r (running_lent new ≡ running_lent old)
-    → IfOk r (λ a. Knows Means store (λ m. HasSlots (x input) m.slots))
-fitting_slots Means x input old new reference store (Ok a) same first is left lent =
-    left_slots Means (x input) new store (same (lent ∙ first)) (subst (λ bytes. IsLeft (x bytes) (RunStands Means new)) is left)
-fitting_slots Means x input old new reference store (Err e) same first is left lent = tt
+    → IfOk r (λ a. IsLeft program old.input n (RunStands Means new)) → OnOk r (running_lent new ≡ running_lent old)
+    → IfOk r (λ a. Knows Means store (MayEnd program input n))
+fitting_left Means program input n old new reference store (Ok a) same first is left lent =
+    left_heap Means program input n new store (same (lent ∙ first)) (subst (λ bytes. IsLeft program bytes n (RunStands Means new)) is left)
+fitting_left Means program input n old new reference store (Err e) same first is left lent = tt
 
 module _ (laid : Laid) (codes : Codes) (ready : IsReady laid codes) where
   -- The first frames fit, and a run is made.

@@ -6,9 +6,10 @@ ghost use Rattle.laid_program.specs.Programs.{program_of};
 ghost use Rattle.code_rows.specs.Points.{program_of as rows_program};
 ghost use Rattle.slot_heap.specs.Heaps.{no_heap, Knows};
 ghost use Rattle.slot_runs.specs.Tellings.{HaveFronts};
-ghost use Rattle.slot_executor.specs.Executes.{IsExecuted, AreSame, HasSlots, fits as fits_first};
+ghost use Rattle.slot_executor.specs.Executes.{IsExecuted, AreSame, MayEnd, fits as fits_first};
 ghost use Rattle.accepted_runs.specs.Headline.{IsSoundRun};
 ghost use Rattle.slot_execute.specs.Executes.{IsReady};
+ghost use Rattle.slot_execute.specs.Left.{LeavesHeap};
 
 use crate::starts::{fits, is_declaring};
 use accepted_runs::lower_ready;
@@ -39,7 +40,7 @@ fn run_fitting<R: Store, K: Sink>(
     requires store { R.Means store.old no_heap }
     ensures executed { IfOk result (λ ran. IsExecuted (map string_bytes laid.now.names.items) (run (program_of laid.now) input.now steps) ran
         (record { output = K.written out.old; lines = K.written err.old }) (record { output = K.written out.new; lines = K.written err.new })) }
-    ensures slots { IfOk result (λ ran. Knows R.Means store.new (λ m. HasSlots (run (program_of laid.now) input.now steps) m.slots)) }
+    ensures left { IfOk result (λ ran. Knows R.Means store.new (MayEnd (program_of laid.now) input.now steps)) }
     ensures fronts { OnErr result (HaveFronts (map string_bytes laid.now.names.items)
         (record { output = K.written out.old; lines = K.written err.old }) (record { output = K.written out.new; lines = K.written err.new })
         (run (program_of laid.now) input.now steps).output (run (program_of laid.now) input.now steps).leaks) }
@@ -77,7 +78,7 @@ fn run_codes<R: Store, K: Sink>(
     requires store { R.Means store.old no_heap }
     ensures executed { IfOk result (λ ran. IsExecuted (map string_bytes laid.now.names.items) (run (program_of laid.now) input.now steps) ran
         (record { output = K.written out.old; lines = K.written err.old }) (record { output = K.written out.new; lines = K.written err.new })) }
-    ensures slots { IfOk result (λ ran. Knows R.Means store.new (λ m. HasSlots (run (program_of laid.now) input.now steps) m.slots)) }
+    ensures left { IfOk result (λ ran. Knows R.Means store.new (MayEnd (program_of laid.now) input.now steps)) }
     ensures fronts { OnErr result (HaveFronts (map string_bytes laid.now.names.items)
         (record { output = K.written out.old; lines = K.written err.old }) (record { output = K.written out.new; lines = K.written err.new })
         (run (program_of laid.now) input.now steps).output (run (program_of laid.now) input.now steps).leaks) }
@@ -97,8 +98,9 @@ fn run_codes<R: Store, K: Sink>(
 /// Runs an accepted program with a main procedure on an input, in so many steps at most. Its output
 /// goes to `out`, and its leak lines go to `err`. Where a write fails, nothing more is written; then,
 /// and out of memory, each sink has a front of its bytes. The run is sound. The store has neither a
-/// live handle nor a slot before it; after it there are as many slots of each size as cells of this
-/// size were live at once.
+/// live handle nor a slot before it. After it there are as many slots of each size as cells of this
+/// size were live at once, and the live handles stand one to one for the cells that were made and not
+/// freed, with their words.
 pub fn execute<R: Store, K: Sink>(
     alloc: Global,
     program: &AcceptedProgram,
@@ -115,7 +117,7 @@ pub fn execute<R: Store, K: Sink>(
     ensures sound { ∥ IsSoundRun (program_of program.now.laid) input.now ∥₁ }
     ensures executed { IfOk result (λ ran. IsExecuted (map string_bytes program.now.laid.names.items) (run (program_of program.now.laid) input.now steps) ran
         (record { output = K.written out.old; lines = K.written err.old }) (record { output = K.written out.new; lines = K.written err.new })) }
-    ensures slots { IfOk result (λ ran. Knows R.Means store.new (λ m. HasSlots (run (program_of program.now.laid) input.now steps) m.slots)) }
+    ensures left { IfOk result (λ ran. Knows R.Means store.new (LeavesHeap (program_of program.now.laid) input.now steps)) }
     ensures fronts { OnErr result (HaveFronts (map string_bytes program.now.laid.names.items)
         (record { output = K.written out.old; lines = K.written err.old }) (record { output = K.written out.new; lines = K.written err.new })
         (run (program_of program.now.laid) input.now steps).output (run (program_of program.now.laid) input.now steps).leaks) }

@@ -1,5 +1,5 @@
 -- The formals of the frame that runs, copied back one after the other.
-use Rattle.std.proofs.Common.{◌≡◌, ℕ, zero, suc, ◌+◌, ◌≤◌, List, [], ◌∷◌, map, length, drop, refl, sym, ap, ◌∙◌, arith, Some, Option}
+use Rattle.std.proofs.Common.{◌≡◌, ℕ, zero, suc, ◌+◌, ◌-◌, ◌≤◌, List, [], ◌∷◌, map, length, drop, refl, sym, ap, ◌∙◌, arith, Some, Option}
 use Rattle.std.specs.Prelude.{slice_get}
 use Rattle.std.proofs.lemmas.List.{length-map, drop_all}
 use Rattle.run_codes.specs.Points.{Return}
@@ -39,3 +39,11 @@ returns_next s i r is = row_next s.returns i r is
 -- No more.
 pub returns_end : (s : Stacked) (i : ℕ) → length s.returns ≤ i → returns_from s i ≡ []
 returns_end s i le = drop_all i (map return_of s.returns) (omega (arith, le, length-map s.returns return_of))
+
+-- There is none.
+pub none_own : (s : Stacked) (f : Frame) → f ≡ s.frame → length s.returns - f.returns ≡ 0 → own_returns s ≡ []
+none_own s f is none = own_from s f is ∙ returns_end s f.returns (omega (arith, none))
+
+-- There is one.
+pub one_own : (s : Stacked) (f : Frame) (r : Row) → f ≡ s.frame → slice_get s.returns f.returns ≡ Some r → length s.returns - f.returns ≡ 1 → own_returns s ≡ return_of r ∷ []
+one_own s f r is there one = own_from s f is ∙ returns_next s f.returns r there ∙ ap (λ l. return_of r ∷ l) (returns_end s (f.returns + 1) (omega (arith, one)))

@@ -1,18 +1,19 @@
 -- The step at the end of a subprogram is the one of its definition.
 use Rattle.std.proofs.Common.{◌≡◌, ◌≢◌, ◌≤◌, ◌<◌, ◌+◌, ℕ, Bool, true, false, ◌&&◌, nat_le, List, [], ◌∷◌, ◌++◌, length, take, drop, refl, sym, ap, subst, ◌∙◌, arith, IsTrue, Option, Some, None, ℤ, Ok, Err, if◌then◌else◌}
 use Rattle.type_definitions.specs.Types.{Table}
+use Rattle.machine.specs.States.{Raised, Trapped}
 use Rattle.run_values.specs.declared.value.Value.{Value}
 use Rattle.run_values.specs.declared.value.Kind.{Kind}
 use Rattle.slot_heap.specs.Heaps.{Heap, words_at}
 use Rattle.run_codes.specs.Codes.{Point, Does, Finish}
-use Rattle.run_codes.specs.Flat.{Got, Given, Stops, Broken, Spot, InStack, InCell, and_then, constraint, kinds, have_kinds, spliced}
+use Rattle.run_codes.specs.Flat.{Got, Given, Stops, Broken, Stop, Raises, Traps, Memory, Spot, InStack, InCell, and_then, constraint, kinds, have_kinds, spliced}
 use Rattle.run_codes.specs.Points.{Return, fits}
 use Rattle.code_rows.specs.declared.stop.Stop.TheVariants as stop
 use Rattle.code_rows.specs.Stops.{stop_of}
 use Rattle.handled_runs.specs.Fits.{are_slot_words}
 use Rattle.handled_runs.specs.Slots.{Slots, held}
 use Rattle.handled_runs.specs.Changes.{with_stack, with_heap, written_all, slot_values, cell_stored, stored}
-use Rattle.handled_steps.specs.States.{Outcome, Goes, Fails, Turn, start, halted}
+use Rattle.handled_steps.specs.States.{Outcome, Goes, Ends, Fails, Turn, start, counted, given_up, halted}
 use Rattle.handled_steps.specs.Steps.{Done, in_stack, copied_back, returned, finish}
 use Rattle.slot_memory.specs.Memory.{Kept, Ghosts, Stands, Elsewhere, slots, ghosts_of}
 use Rattle.slot_frames.specs.declared.rows.Frame.{Frame}
@@ -25,11 +26,12 @@ use Rattle.slot_stages.proofs.Sights.{start_is}
 use Rattle.slot_stages.proofs.Frames.{leaves}
 use Rattle.slot_stages.proofs.Calls.{cut_kept, finishes_on}
 use Rattle.slot_stages.proofs.Mains.{ended, finishes_main}
-use Rattle.slot_returns.specs.Backs.{copied, Copying, Copied, Stopped, Missing, on_copied, all_copied, CanCopy, ComesTo, CopiesAll}
+use Rattle.slot_returns.specs.Backs.{copied, Copying, Copied, Stopped, Missing, on_copied, all_copied, CanCopy, ComesTo, IsHalted, CopiesAll}
 use Rattle.slot_returns.proofs.Turns.{on_copying, copied_back_is}
 use Rattle.slot_turns.specs.declared.halt.Halt.{Halt}
 use Rattle.slot_turns.specs.Betweens.{Between, stage_of, IsBetween, StandAt}
 use Rattle.slot_turns.specs.Steps.{turn_at, DoneAt, GoesOn, IsEnded, Halts, Steps, CanDo}
+use Rattle.slot_turns.proofs.Made.{none_here}
 use Rattle.slot_finished.specs.Ends.{IsFinished}
 
 -- ---- lists
@@ -93,6 +95,12 @@ all_moves table (r ∷ rest) s t is = by (λ u more. all_moves table rest u t mo
     by on (Given u) first is = on u is ∙ copied_moves table r s u first
     by on (Stops x) first is = absurd (let never : Stopped x s ≡ Copied t = is in cc)
     by on Broken first is = absurd (let never : Missing ≡ Copied t = is in cc)
+
+-- A step that ends leaves the same.
+halts_alike : (t : Turn) (x : Stop) (a b : Slots) → ((s : Slots) → given_up s a ≡ given_up s b) → halted t x a ≡ halted t x b
+halts_alike t (Raises e) a b same = ap (λ m. Ends (Raised e t.point.pos) (counted (record t.state { memory = m }))) (same t.state.memory)
+halts_alike t (Traps e) a b same = ap (λ m. Ends (Trapped e t.point.pos) (counted (record t.state { memory = m }))) (same t.state.memory)
+halts_alike t Memory a b same = refl
 
 -- ---- the step
 
@@ -217,18 +225,20 @@ module _ {R : Type 0} (Means : R → Heap → Type 0) (c : Setting) (p : Point) 
             heap = refl;
           }
 
-    -- It stops.
+    -- It stops, and nothing was copied back.
     finish_halts : (h : Halt) (new : Between R) → h.made ≡ new.kept.heap.made → new.output ≡ old.output → new.leaks ≡ old.leaks
-        → ComesTo Means (parts g) (Stopped (stop_of h.stop)) new.kept → Halts Means (here g) (May g) h old new
+        → IsHalted old.kept c.table returns g h.stop new.kept → Halts Means (here g) (May g) h old new
     finish_halts h new made output leaks is = record {
-      memory = is.after;
-      comes = may_finish g (halted (here g) (stop_of h.stop) is.after) (copying g stands (ends g) ∙ ap (λ x. on_copying (here g) x (ends g)) is.is);
-      made = sym (ap (λ (x : Slots). x.made) is.shows.1) ∙ sym made;
+      memory = slots old.kept g;
+      comes =
+          may_finish g (halted (here g) (stop_of h.stop) (slots old.kept g))
+          (copying g stands (ends g) ∙ ap (λ x. on_copying (here g) x (ends g)) is.stops.is
+          ∙ halts_alike (here g) (stop_of h.stop) is.stops.after (slots old.kept g) is.stops.left);
+      made = ap (λ (m : Kept R). m.heap.made) (sym is.same) ∙ sym made;
       output = output;
       leaks = leaks;
-      ghosts = ghosts_of is.after;
-      stands = is.shows.0;
-      slots = refl;
+      stands = subst (λ m. Stands Means m g) (sym is.same) stands.memory;
+      since = none_here Means c p old g stands;
     }
 
   -- ---- the step

@@ -16,7 +16,7 @@ pub record IsFinished {R : Type 0} (Means : R → Heap → Type 0) (before : Kep
   pub same : elsewhere kept ≡ elsewhere before
   pub left : IsLeft others kept now frames stacked
 
--- What stops is a formal that is copied back.
+-- What stops is a formal that doesn't fit, and nothing is changed then.
 abbrev pub Finishes : {R : Type 0} → (R → Heap → Type 0) → Kept R → Table → List Return → Result Bool Stop → Stacked → Kept R → Stacked → Type 0
 Finishes Means before table returns (Ok others) frames now stacked = IsFinished Means before table returns others frames now stacked
 Finishes Means before table returns (Err x) frames now stacked = CopiesAll {U = Unit {0}} Means before table returns (Err x) now

@@ -101,6 +101,7 @@ impl Hand {
     pub fn push(&mut self, word: i64) -> Result<(), Stop>
         ensures pushed { OnOk result (self.new ≡ self.old ++ word ∷ []) }
         ensures memory { OnErr result (IsErrOf result Stop.Memory) }
+        ensures unchanged { OnErr result (self.new ≡ self.old) }
     {
         self.words.push(word)?;
         Ok(())
@@ -156,6 +157,7 @@ impl Hand {
         requires whole { Knows R.Means memory.old (λ s. is_broken (stored s (spot_of spot) (kinds table.now of) (drop from self.old)) ≡ false) }
         ensures stored { OnOk result (Changes R.Means memory.old (λ s. stored s (spot_of spot) (kinds table.now of) (drop from self.old)) memory.new) }
         ensures memory { OnErr result (IsErrOf result Stop.Memory) }
+        ensures unchanged { OnErr result (memory.new ≡ memory.old) }
         ensures elsewhere { elsewhere memory.new ≡ elsewhere memory.old }
         ensures hand { self.new ≡ self.old }
     {

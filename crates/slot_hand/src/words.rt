@@ -62,6 +62,7 @@ pub fn push_leak<R: Store>(
 ) -> Result<(), Stop>
     ensures pushed { OnOk result (Always R.Means memory.now (λ s. leaks_of leaks.new.items ≡ leaks_of leaks.old.items ++ leak s.numbers pos word)) }
     ensures memory { OnErr result (IsErrOf result Stop.Memory) }
+    ensures unchanged { OnErr result (leaks.new.items ≡ leaks.old.items) }
 {
     if let Some(number) = memory.number_of(word) {
         leaks.push(Leak { number, pos })?;

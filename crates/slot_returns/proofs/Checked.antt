@@ -1,5 +1,5 @@
 -- Formals that are checked before one is stored.
-use Rattle.std.proofs.Common.{◌≡◌, ◌≢◌, ◌≤◌, ℕ, zero, suc, ◌+◌, ◌++◌, Bool, true, false, ◌&&◌, Option, None, Some, List, [], ◌∷◌, take, drop, length, length-append, append_assoc, nat_le, refl, sym, ap, subst, ◌∙◌, arith, ℤ, if◌then◌else◌}
+use Rattle.std.proofs.Common.{◌≡◌, ◌≢◌, ◌≤◌, ℕ, zero, suc, ◌+◌, ◌++◌, Bool, true, false, ◌&&◌, Option, None, Some, List, [], ◌∷◌, take, drop, length, length-append, nat_le, refl, sym, ap, subst, ◌∙◌, arith, ℤ, if◌then◌else◌}
 use Rattle.std.proofs.lemmas.Bool.Decides.{nat_tests}
 use Rattle.std.proofs.lemmas.List.{drop-drop}
 use Rattle.std.proofs.lemmas.Slice.{drop-append-drop}
@@ -13,7 +13,7 @@ use Rattle.handled_runs.specs.Fits.{are_slot_words}
 use Rattle.handled_runs.specs.Slots.{Slots, front}
 use Rattle.handled_runs.specs.Changes.{with_stack, with_heap, written_all, slot_values, cell_stored, stored}
 use Rattle.handled_steps.specs.States.{given_up}
-use Rattle.slot_returns.specs.Backs.{copied, fitting, IsBelow, Copying, Copied, Stopped, Missing, on_copied, all_copied, StopsAt}
+use Rattle.slot_returns.specs.Backs.{copied, fitting, IsBelow, Copying, Missing, on_copied, all_copied, StopsAt}
 use Rattle.slot_returns.proofs.One.{stored_given, first_whole, copied_fits}
 
 -- ---- a store
@@ -25,8 +25,7 @@ written_slots m h o (v ∷ vs) = written_slots (written m h o v) h (suc o) vs
 -- A store below an index changes nothing from there on.
 spliced_below : (n base : ℕ) (zs stack : List ℤ) → n + length zs ≤ base → n + length zs ≤ length stack → drop base (spliced n zs stack) ≡ drop base stack
 spliced_below n base zs stack below within =
-    ap (drop base) (sym (append_assoc (take n stack) zs (drop (n + length zs) stack)))
-    ∙ drop-append-drop (n + length zs) stack (take n stack ++ zs) base below (count n zs stack within)
+    drop-append-drop (n + length zs) stack (take n stack ++ zs) base below (count n zs stack within)
   where
     count : (n : ℕ) (zs stack : List ℤ) → n + length zs ≤ length stack → length (take n stack ++ zs) ≡ n + length zs
     count n zs stack within = length-append (take n stack) zs ∙ ap (λ k. k + length zs) (first n stack (omega (arith, within)))

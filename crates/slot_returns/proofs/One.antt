@@ -1,5 +1,5 @@
 -- What is copied back to one place.
-use Rattle.std.proofs.Common.{◌≡◌, ◌≢◌, ℕ, ◌+◌, ◌++◌, Bool, true, false, ◌&&◌, Option, None, Some, List, [], ◌∷◌, Ok, Err, Result, drop, length, nat_le, refl, sym, ap, subst, ◌∙◌, ℤ, if◌then◌else◌}
+use Rattle.std.proofs.Common.{◌≡◌, ◌≢◌, ℕ, ◌+◌, ◌++◌, Bool, true, false, ◌&&◌, Option, None, Some, List, [], Ok, Err, Result, drop, length, nat_le, refl, sym, ap, subst, ◌∙◌, ℤ, if◌then◌else◌}
 use Rattle.std.specs.Prelude.{OnOk, OnErr, IsErrOf}
 use Rattle.type_definitions.specs.Types.{Table}
 use Rattle.run_values.specs.declared.value.Value.{Value}
@@ -14,10 +14,10 @@ use Rattle.handled_runs.specs.Fits.{are_slot_words}
 use Rattle.handled_runs.specs.Slots.{Slots, front, held}
 use Rattle.handled_runs.specs.Changes.{with_stack, with_heap, written_all, slot_values, cell_stored, stored}
 use Rattle.handled_steps.specs.Steps.{in_stack}
-use Rattle.slot_memory.specs.Memory.{Kept, Ghosts, Stands, Knows, Always, Changes, slots}
+use Rattle.slot_memory.specs.Memory.{Kept, Ghosts, Knows, Always, Changes, slots}
 use Rattle.slot_memory.specs.Answers.{Appends}
 use Rattle.slot_memory.proofs.OfKinds.{never, tested}
-use Rattle.slot_returns.specs.Backs.{copied, fitting, IsStored, IsCopied, IsStopped, Copies}
+use Rattle.slot_returns.specs.Backs.{copied, fitting, IsStopped, Copies}
 
 -- ---- what is stored is given where it isn't broken
 
@@ -124,7 +124,7 @@ module _ {R : Type 0} (Means : R → Heap → Type 0) (m : Kept R) (table : Tabl
     (
       known.1.0,
       first_whole (fitting table r m.base m.stack) (stored (slots m known.0) r.to (kinds table r.of))
-      (ap is_broken (sym (copied_fits table r (slots m known.0))) ∙ known.1.1),
+          (ap is_broken (sym (copied_fits table r (slots m known.0))) ∙ known.1.1),
     ),
   )
 

@@ -3,14 +3,14 @@ use Rattle.std.proofs.Common.{◌≡◌, ◌≢◌, false, List, [], ◌∷◌, 
 use Rattle.std.specs.Prelude.{OnOk, OnErr, IsErrOf}
 use Rattle.type_definitions.specs.Types.{Table}
 use Rattle.slot_heap.specs.Heaps.{Heap}
-use Rattle.run_codes.specs.Flat.{Given, Stops, Stop as Why, is_broken}
+use Rattle.run_codes.specs.Flat.{Stop as Why, is_broken}
 use Rattle.run_codes.specs.Points.{Return}
 use Rattle.code_rows.specs.declared.stop.Stop.{Stop}
 use Rattle.code_rows.specs.declared.stop.Stop.TheVariants as stop
 use Rattle.code_rows.specs.Stops.{stop_of}
 use Rattle.handled_runs.specs.Slots.{Slots}
-use Rattle.slot_memory.specs.Memory.{Kept, Ghosts, Stands, Shows, Knows, slots, ghosts_of}
-use Rattle.slot_returns.specs.Backs.{copied, fitting, IsStored, IsCopied, IsStopped, Copies, IsFit, Checks, Copying, Copied, Stopped, Missing, on_copied, all_copied, CanCopy, CanStore, ComesTo, StoresAll, StopsAt, ChecksAll, IsHalted, Comes, CopiesAll}
+use Rattle.slot_memory.specs.Memory.{Kept, Ghosts, Stands, Knows, slots, ghosts_of}
+use Rattle.slot_returns.specs.Backs.{copied, fitting, Copies, IsFit, Checks, Copying, Copied, Stopped, Missing, on_copied, all_copied, CanCopy, CanStore, ComesTo, StoresAll, ChecksAll, CopiesAll}
 use Rattle.slot_returns.proofs.Checked.{first_there, Reaches, reaches_first, reaches_whole, reaches_next, reaches_stop}
 
 -- ---- they are checked
@@ -91,11 +91,11 @@ module _ {R : Type 0} (Means : R → Heap → Type 0) (before : Kept R) (table :
   pub round_stops : (r : Return) (rest : List Return) (now next : Kept R) (x : Stop) → CanStore Means before table all → Round Means before table all (r ∷ rest) now
       → Copies {U = Unit {0}} Means now (copied table r) (Err x) next → x ≡ stop.Memory
   round_stops r rest now next x can turn copies = never_memory x (λ other.
-    let whole = copied_there (all_copied table all (slots before can.ghosts)) can.after can.is in
-    let a = turn.round can.ghosts can.stands whole in
-    let stops = (copies other).stops (ghosts_of a.after) a.shows.0 (left_whole r rest now can.ghosts whole a) in
-    copied_or_stopped (all_copied table all (slots before can.ghosts)) can.after a.after (stop_of x) can.is
-    (a.is ∙ ap (λ y. on_copied a.after y (all_copied table rest)) (ap (copied table r) (sym a.shows.1) ∙ stops)))
+      let whole = copied_there (all_copied table all (slots before can.ghosts)) can.after can.is in
+      let a = turn.round can.ghosts can.stands whole in
+      let stops = (copies other).stops (ghosts_of a.after) a.shows.0 (left_whole r rest now can.ghosts whole a) in
+      copied_or_stopped (all_copied table all (slots before can.ghosts)) can.after a.after (stop_of x) can.is
+      (a.is ∙ ap (λ y. on_copied a.after y (all_copied table rest)) (ap (copied table r) (sym a.shows.1) ∙ stops)))
 
   pub round_end : (now : Kept R) → Round Means before table all [] now → StoresAll Means before table all now
   round_end now turn = record { stored = λ g stands whole. turn.round g stands whole }

@@ -1,6 +1,6 @@
 -- What is copied back is what the step of a call's end copies back.
-use Rattle.std.proofs.Common.{◌≡◌, Bool, true, false, List, [], ◌∷◌, refl, sym, ap, ◌∙◌, ℤ, if◌then◌else◌}
-use Rattle.run_codes.specs.Flat.{Got, Given, Stops, Broken, Stop, and_then, constraint, kinds}
+use Rattle.std.proofs.Common.{◌≡◌, Bool, true, false, List, [], ◌∷◌, refl, ◌∙◌, ℤ, if◌then◌else◌}
+use Rattle.run_codes.specs.Flat.{Got, Given, Stops, Broken, and_then, constraint, kinds}
 use Rattle.run_codes.specs.Points.{Return, fits}
 use Rattle.handled_runs.specs.Slots.{Slots, held}
 use Rattle.handled_runs.specs.Changes.{stored}

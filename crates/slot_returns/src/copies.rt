@@ -59,14 +59,14 @@ pub fn check_one<R: Store>(
     table: &TypeTable,
     memory: &Memory<R>,
     hand: &mut Hand,
-    back: Return,
+    formal: Return,
 ) -> Result<(), Stop>
-    requires { Knows R.Means memory.now (λ s. is_broken (fitting table.now (return_of back) s.base s.stack) ≡ false) }
-    ensures { Checks table.now (return_of back) memory.now.base memory.now.stack result }
+    requires { Knows R.Means memory.now (λ s. is_broken (fitting table.now (return_of formal) s.base s.stack) ≡ false) }
+    ensures { Checks table.now (return_of formal) memory.now.base memory.now.stack result }
 {
-    take_one(table, memory, hand, back)?;
+    take_one(table, memory, hand, formal)?;
     // no call copies back into its own frame
-    if !is_below(back.to.same(), hand.len(), memory.base()) {
+    if !is_below(formal.to.same(), hand.len(), memory.base()) {
         return Err(Stop::Memory);
     }
     Ok(())

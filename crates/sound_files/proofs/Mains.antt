@@ -1,6 +1,6 @@
 -- The main procedure of a program without a fault of typing has no formals.
-use Rattle.std.proofs.Common.{◌≡◌, refl, sym, ap, ◌∙◌, subst, inl, inr, ℕ, suc, ◌+◌, Bool, true, false, ◌&&◌, nat_eq, List, [], ◌∷◌, ◌++◌, map, length, arith, Some, None}
-use Rattle.std.proofs.lemmas.Bool.{false≢true}
+use Rattle.std.proofs.Common.{◌≡◌, refl, sym, ap, ◌∙◌, subst, inl, inr, ℕ, suc, ◌+◌, Bool, true, false, ◌&&◌, nat_eq, List, [], ◌∷◌, ◌++◌, map, length, get_or, arith, Some, None}
+use Rattle.std.proofs.lemmas.Bool.{false≢true, true≢false}
 use Rattle.std.specs.Prelude.{flat_map}
 use Rattle.std.specs.List.{position_or_len}
 use Rattle.spark_base.specs.Lists.{Has}
@@ -8,7 +8,7 @@ use Rattle.spark_base.specs.declared.position.Pos.{Pos}
 use Rattle.resolved_tree.specs.Trees.{Code, Front, Formals, SubBody, PackageBody, NoMore, More, code_items, Program}
 use Rattle.type_definitions.specs.declared.table.FormalInfo.{FormalInfo}
 use Rattle.type_definitions.specs.declared.table.Known.{Known}
-use Rattle.type_definitions.specs.Types.{Table}
+use Rattle.type_definitions.specs.Types.{Table, is_nil}
 use Rattle.type_definitions.specs.Names.{Context}
 use Rattle.type_definitions.specs.Faults.{demand}
 use Rattle.type_definitions.specs.Entries.{entry_of}
@@ -31,26 +31,26 @@ use Rattle.order_laws.proofs.Parts.{either, same_number, number_here, number_lat
 
 none_same : (table : Table) (gs : List FormalInfo) → same_formals table [] gs ≡ true → gs ≡ []
 none_same table [] e = refl
-none_same table (g ∷ gs) e = cc
+none_same table (g ∷ gs) e = absurd (false≢true e)
 
 same_none : (table : Table) (fs : List FormalInfo) → same_formals table fs [] ≡ true → fs ≡ []
 same_none table [] e = refl
-same_none table (f ∷ fs) e = cc
+same_none table (f ∷ fs) e = absurd (false≢true e)
 
 abbrev formals_in : Known → ℕ → List FormalInfo
 formals_in known d = (profile_of (entry_of known d)).formals
 
 nothing_front : (a b : List FormalInfo) → a ++ b ≡ [] → a ≡ []
 nothing_front [] b e = refl
-nothing_front (x ∷ a) b e = cc
+nothing_front (x ∷ a) b e = absurd (false≢true (ap is_nil e))
 
 nothing_behind : (a b : List FormalInfo) → a ++ b ≡ [] → b ≡ []
 nothing_behind [] b e = e
-nothing_behind (x ∷ a) b e = cc
+nothing_behind (x ∷ a) b e = absurd (false≢true (ap is_nil e))
 
 both : (a b : List ℕ) → a ≡ [] → b ≡ [] → a ++ b ≡ []
 both [] b e f = f
-both (x ∷ a) b e f = cc
+both (x ∷ a) b e f = absurd (false≢true (ap is_nil e))
 
 -- Where nothing is gathered of formals, none has a number.
 each_none : (s : Site) (known : Known) (first : Bool) (formals : Code) → formal_infos known first formals ≡ [] → flat_map (formal_numbers s) (code_items formals) ≡ []
@@ -62,7 +62,7 @@ each_none s known first (More group rest) none =
     group_none (Formals ids m of) e = ids_none ids e
       where
         ids_none : (ids : Code) → formal_groups known first (Formals ids m of) ≡ [] → map (λ d. object_number s (declared_number d)) (code_items ids) ≡ []
-        ids_none (More d ids) e = cc
+        ids_none (More d ids) e = absurd (false≢true (ap is_nil e))
         ids_none ids e = refl
     group_none group e = refl
 each_none s known first formals none = refl
@@ -121,7 +121,7 @@ units_aligned s n c (u ∷ us) none =
     (units_aligned s (n + scope_count u) c us (λ v has. none v (inr has)))
 
 first_sub : (s sub : TypedSub) (subs : List TypedSub) → IsSub (s ∷ subs) 0 sub → s ≡ sub
-first_sub s sub subs ([], rest, is, long) = cc
+first_sub s sub subs ([], rest, is, long) = ap (λ subs. get_or subs 0 s) is
 first_sub s sub subs (x ∷ front, rest, is, long) = cc
 
 tails : (s x : TypedSub) (xs ys : List TypedSub) → s ∷ xs ≡ x ∷ ys → xs ≡ ys
@@ -140,8 +140,8 @@ suc_is n = omega arith
 -- The first body of a declaration without formals has none.
 aligned_at : (known : Known) (ds : List ℕ) (subs : List TypedSub) → Aligned known ds subs → (d : ℕ) (sub : TypedSub) → IsSub subs (position_or_len (nat_eq d) ds) sub
     → formals_in known d ≡ [] → sub.formals ≡ []
-aligned_at known [] [] h d sub ([], rest, is, long) none = cc
-aligned_at known [] [] h d sub (x ∷ front, rest, is, long) none = cc
+aligned_at known [] [] h d sub ([], rest, is, long) none = absurd (true≢false (ap is_nil is))
+aligned_at known [] [] h d sub (x ∷ front, rest, is, long) none = absurd (true≢false (ap is_nil is))
 aligned_at known [] (s ∷ subs) h d sub stands none = absurd h
 aligned_at known (e ∷ ds) [] h d sub stands none = absurd h
 aligned_at known (e ∷ ds) (s ∷ subs) h d sub stands none = elim (either (nat_eq d e)) [

@@ -47,7 +47,7 @@ pub record DeliversFront (stored : List (List ℕ × List ℕ)) (input : List �
 abbrev pub DeliversNoMore : (stored : List (List ℕ × List ℕ)) (input : List ℕ) (words : List (List ℕ)) (out new_out err new_err : Option (List ℕ)) → Type 0
 DeliversNoMore stored input words out new_out err new_err = (answer : Answer) → Product stored input words answer → TellsFront answer out new_out err new_err
 
--- The store has the slots that the one run leaves that is defined; or none is, and it has neither cells nor slots.
+-- The store has the slots and the cells that the one run leaves that is defined; or none is, and it has neither.
 pub record Leaves (stored : List (List ℕ × List ℕ)) (input : List ℕ) (words : List (List ℕ)) (Means : Heap → Type 0) : Type 0 where
   pub ran : Option Running
   pub made : Makes stored input (command_of words) ran

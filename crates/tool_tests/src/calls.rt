@@ -54,16 +54,17 @@ fn numbers(alloc: Global, count: u32) -> Result<Vec<u8>, AllocError> {
     Ok(text)
 }
 
-/// What `run f.adb` does with so many numbers as its input, where a call of the outside fails, or
+/// What a command does with so many numbers as its input, where a call of the outside fails, or
 /// the call of the input with this number.
 fn response_to(
     alloc: Global,
+    line: &str,
     text: &[u8],
     count: u32,
     faults: Faults,
     fails: u64,
 ) -> Result<Response, AllocError> {
-    let words = words_of(alloc, "run f.adb")?;
+    let words = words_of(alloc, line)?;
     let text = Vec::from_slice(alloc, text)?;
     let stored = vec![in alloc; (String::from_str(alloc, "f.adb")?, text)]?;
     let mut input = MemSource::new(numbers(alloc, count)?, Vec::from_slice(alloc, &[fails])?);
@@ -74,29 +75,38 @@ fn response_to(
 /// the second one.
 fn failing(
     alloc: Global,
+    line: &str,
     text: &[u8],
     count: u32,
     what: u8,
     number: u64,
 ) -> Result<Response, AllocError> {
     match what {
-        0 => response_to(alloc, text, count, (number, NONE, NONE), NONE),
-        1 => response_to(alloc, text, count, NO_FAULTS, number),
-        2 => response_to(alloc, text, count, (NONE, number, NONE), NONE),
-        _ => response_to(alloc, text, count, (NONE, NONE, number), NONE),
+        0 => response_to(alloc, line, text, count, (number, NONE, NONE), NONE),
+        1 => response_to(alloc, line, text, count, NO_FAULTS, number),
+        2 => response_to(alloc, line, text, count, (NONE, number, NONE), NONE),
+        _ => response_to(alloc, line, text, count, (NONE, NONE, number), NONE),
     }
 }
 
-/// Whether the answer is that of a failed call: no byte where something was read, and where
-/// something was written both outputs hold prefixes of the whole.
-fn is_of_fault(response: &Response, whole: &Response, what: u8) -> bool {
-    if what < 2 {
-        response.is("", "", 7)
-    } else {
-        response.status == 8
-            && whole.out.bytes().starts_with(response.out.bytes())
-            && whole.err.bytes().starts_with(response.err.bytes())
+/// Whether the answer is that of a failed call with this number. Where something was read, no output
+/// was called. Where something was written, both outputs hold prefixes of the whole, and neither was
+/// called again: the other one was called so often before.
+fn is_of_fault(response: &Response, whole: &Response, what: u8, number: u64, others: u64) -> bool {
+    let calls = number.saturating_add(1);
+    let called = (response.out.calls(), response.err.calls());
+    match what {
+        0 | 1 => response.is("", "", 7) && called == (0, 0),
+        2 => is_cut(response, whole) && called == (calls, others),
+        _ => is_cut(response, whole) && called == (others, calls),
     }
+}
+
+/// Whether the status is 8, and both outputs hold prefixes of the whole.
+fn is_cut(response: &Response, whole: &Response) -> bool {
+    response.status == 8
+        && whole.out.bytes().starts_with(response.out.bytes())
+        && whole.err.bytes().starts_with(response.err.bytes())
 }
 
 /// Whether the answer is that of a run without a fault.
@@ -108,21 +118,21 @@ fn is_whole(response: &Response, whole: &Response) -> bool {
 
 /// Lets each of the calls that are made fail, and then the one after them, which makes no
 /// difference. The number of the first call where the answer is another is told.
-fn first_wrong(
-    alloc: Global,
-    text: &[u8],
-    count: u32,
-    what: u8,
-    made: u64,
-) -> Result<Option<u64>, AllocError> {
-    let whole = response_to(alloc, text, count, NO_FAULTS, NONE)?;
+fn first_wrong(alloc: Global, row: &Row) -> Result<Option<u64>, AllocError> {
+    let (line, text, count, what, made, others) = *row;
+    let text = text.as_bytes();
+    let whole = response_to(alloc, line, text, count, NO_FAULTS, NONE)?;
     for number in 0..made {
-        let response = failing(alloc, text, count, what, number)?;
-        if !is_of_fault(&response, &whole, what) {
+        let response = failing(alloc, line, text, count, what, number)?;
+        let before = match others.get(number as usize) {
+            Some(calls) => *calls,
+            None => 0,
+        };
+        if !is_of_fault(&response, &whole, what, number, before) {
             return Ok(Some(number));
         }
     }
-    let response = failing(alloc, text, count, what, made)?;
+    let response = failing(alloc, line, text, count, what, made)?;
     Ok(if is_whole(&response, &whole) {
         None
     } else {
@@ -130,25 +140,39 @@ fn first_wrong(
     })
 }
 
-/// Each row: a program, how many numbers are its input, what is called, and how often: the files
-/// (0), the input (1), the first output (2) or the second one (3).
-const CALLS: [(&str, u32, u8, u64); 8] = [
-    (SUMS, 1_000, 0, 3),
-    (SUMS, 1_000, 1, 2),
-    (SUMS, 1_000, 2, 1),
-    (SUMS, 1_000, 3, 0),
-    (LOSES, 3_000, 0, 3),
-    (LOSES, 3_000, 1, 2),
-    (LOSES, 3_000, 2, 3),
-    (LOSES, 3_000, 3, 2),
+const RUN: &str = "run f.adb";
+
+const STATS: &str = "run --stats f.adb";
+
+/// A command, a program, how many numbers are its input, what is called, and how often: the files
+/// (0), the input (1), the first output (2) or the second one (3). For each of these calls, how often
+/// the other output is called before it.
+type Row = (&'static str, &'static str, u32, u8, u64, [u64; 3]);
+
+/// The lines of `LOSES` have 57 to 60 bytes, and its leak lines 26 to 29. Once there are 65,536 of
+/// them, they are written: the output in the turns 1,111 and 2,204, the leak lines in the turn 2,300,
+/// and the rest of both at the end, that of the output first.
+const CALLS: [Row; 12] = [
+    (RUN, SUMS, 1_000, 0, 3, [0, 0, 0]),
+    (RUN, SUMS, 1_000, 1, 2, [0, 0, 0]),
+    (RUN, SUMS, 1_000, 2, 1, [0, 0, 0]),
+    (RUN, SUMS, 1_000, 3, 0, [0, 0, 0]),
+    (STATS, SUMS, 1_000, 0, 3, [0, 0, 0]),
+    (STATS, SUMS, 1_000, 1, 2, [0, 0, 0]),
+    (STATS, SUMS, 1_000, 2, 1, [0, 0, 0]),
+    (STATS, SUMS, 1_000, 3, 1, [1, 0, 0]),
+    (RUN, LOSES, 3_000, 0, 3, [0, 0, 0]),
+    (RUN, LOSES, 3_000, 1, 2, [0, 0, 0]),
+    (RUN, LOSES, 3_000, 2, 3, [0, 0, 1]),
+    (RUN, LOSES, 3_000, 3, 2, [2, 3, 0]),
 ];
 
 #[test]
 fn each_call_fails(rt: HostRuntime) -> Result<(), Fail> {
     for row in &CALLS {
-        let (text, count, what, made) = *row;
-        let wrong = first_wrong(rt.alloc(), text.as_bytes(), count, what, made)?;
-        assert!(rt; wrong.is_none(), "{what} {made}");
+        let (line, _, _, what, made, _) = *row;
+        let wrong = first_wrong(rt.alloc(), row)?;
+        assert!(rt; wrong.is_none(), "{line} {what} {made}");
     }
     Ok(())
 }
@@ -159,11 +183,11 @@ fn files_that_are_cut_short(rt: HostRuntime) -> Result<(), Fail> {
     let alloc = rt.alloc();
     let text = SUMS.as_bytes();
     for end in 0..text.len() {
-        let response = response_to(alloc, &text[..end], 3, NO_FAULTS, NONE)?;
+        let response = response_to(alloc, RUN, &text[..end], 3, NO_FAULTS, NONE)?;
         assert!(rt; response.status == 2, "{end}");
         assert!(rt; response.out.bytes().is_empty(), "{end}");
     }
-    let response = response_to(alloc, text, 3, NO_FAULTS, NONE)?;
+    let response = response_to(alloc, RUN, text, 3, NO_FAULTS, NONE)?;
     assert!(rt; response.is(" 6\n", "", 0));
     Ok(())
 }

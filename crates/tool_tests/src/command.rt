@@ -2,8 +2,9 @@
 ghost use Rattle.std.specs.Prelude.{◌≡◌, IfOk, map, string_bytes};
 ghost use Rattle.slot_heap.specs.Heaps.{no_heap};
 
+use crate::called::Called;
 use slot_heap::Store;
-use spark_base::{MemFiles, MemSink, MemSource};
+use spark_base::{MemFiles, MemSource};
 use spark_tool::run_tool;
 use std::alloc::{AllocError, Global};
 use word_heap::WordStore;
@@ -19,8 +20,8 @@ pub(crate) const NO_FAULTS: Faults = (NONE, NONE, NONE);
 /// How the tool responded: its status, and what it wrote to both outputs.
 #[derive(Drop)]
 pub(crate) struct Response {
-    pub(crate) out: MemSink,
-    pub(crate) err: MemSink,
+    pub(crate) out: Called,
+    pub(crate) err: Called,
     pub(crate) status: u8,
 }
 
@@ -50,11 +51,6 @@ fn copied(alloc: Global, words: &[String]) -> Result<Vec<String>, AllocError>
         copies.push(word.clone()?)?;
     }
     Ok(copies)
-}
-
-/// A sink whose call with this number fails.
-fn sink(alloc: Global, fails: u64) -> Result<MemSink, AllocError> {
-    Ok(MemSink::new(alloc, Vec::from_slice(alloc, &[fails])?))
 }
 
 /// What the words do over these files, without input.
@@ -91,8 +87,8 @@ pub(crate) fn run_over<R: Store>(
 ) -> Result<Response, AllocError>
     requires { R.Means store.old no_heap }
 {
-    let mut out = sink(alloc, faults.1)?;
-    let mut err = sink(alloc, faults.2)?;
+    let mut out = Called::new(alloc, faults.1)?;
+    let mut err = Called::new(alloc, faults.2)?;
     let fails = Vec::from_slice(alloc, &[faults.0])?;
     let mut files = MemFiles::new(copied(alloc, words)?, stored, fails);
     let status = run_tool(alloc, words, &mut files, input, store, &mut out, &mut err);

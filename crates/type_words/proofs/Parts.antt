@@ -302,18 +302,6 @@ fields_words_next f cs c i old lt is =
     append_assoc old (map untagged (f c.of)) (fields_words f (drop (i + 1) cs))
     ∙ ap (λ l. old ++ l) (sym (ap (fields_words f) (drop_more cs i c lt) ∙ ap (λ (d : Component). map untagged (f d.of) ++ fields_words f (drop (i + 1) cs)) (sym is)))
 
-pub repeated_kinds_next : (count i : ℕ) (l old : List Kind) → i < count → (old ++ l) ++ repeated_kinds (count - (i + 1)) l ≡ old ++ repeated_kinds (count - i) l
-repeated_kinds_next count i l old lt = append_assoc old l (repeated_kinds (count - (i + 1)) l) ∙ ap (λ n. old ++ repeated_kinds n l) (sym (next count i lt))
-  where
-    next : (count i : ℕ) → i < count → count - i ≡ suc (count - (i + 1))
-    next count i lt = omega arith
-
-pub repeated_words_next : (count i : ℕ) (l old : List ℤ) → i < count → (old ++ l) ++ repeated (count - (i + 1)) l ≡ old ++ repeated (count - i) l
-repeated_words_next count i l old lt = append_assoc old l (repeated (count - (i + 1)) l) ∙ ap (λ n. old ++ repeated n l) (sym (next count i lt))
-  where
-    next : (count i : ℕ) → i < count → count - i ≡ suc (count - (i + 1))
-    next count i lt = omega arith
-
 pub parts_next : (table : Table) (t i : ℕ) (parts : List (List Sel)) (part : List Sel) (old : List ℕ) → i < length parts → part ≡ get_or parts i part
     → (old ++ offsets_from table 0 t part) ++ all_offsets table t (drop (i + 1) parts) ≡ old ++ all_offsets table t (drop i parts)
 parts_next table t i parts part old lt is =

@@ -12,6 +12,11 @@ use Rattle.machine.specs.Words.{Word, offsets}
 use Rattle.machine.specs.Typed.{Sort}
 use Rattle.run_codes.specs.Flat.{kind_of, untagged, repeated}
 
+-- Items so many times.
+abbrev pub copies : {A : Type 0} → ℕ → List A → List A
+copies zero items = []
+copies (suc n) items = items ++ copies n items
+
 -- The kinds of the words of a definition, from the sorts of those that it is made of.
 abbrev pub fields_kinds : (ℕ → List Sort) → List Component → List Kind
 fields_kinds sorts [] = []

@@ -6,6 +6,7 @@ ghost use Rattle.machine.specs.Words.{default_within};
 ghost use Rattle.run_codes.specs.Flat.{untagged, default_words, repeated};
 ghost use Rattle.type_words.specs.Parts.{fields_words, shape_words};
 
+use crate::repeats::repeat;
 use crate::spans::span;
 use std::alloc::AllocError;
 use type_definitions::{Component, Shape};
@@ -34,7 +35,7 @@ fn push_fields(
 
 /// Appends the words of so many elements without a value.
 #[cycle(defaults)]
-#[tactic(auto, using(crate::proofs::Parts::repeated_words_next, crate::proofs::Parts::no_repeated_words))]
+#[tactic(auto, using(crate::proofs::Parts::no_repeated_words))]
 fn push_elements(
     table: &TypeTable,
     room: usize,
@@ -45,13 +46,15 @@ fn push_elements(
     requires { room ≤ length table.now }
     ensures { OnOk result (words.new.items ≡ words.old.items ++ repeated count (map untagged (default_within room table.now element))) }
 {
+    if count == 0 {
+        return Ok(());
+    }
     if table.words(element) == 0 {
         return Ok(());
     }
-    'elements: for _element in 0..count {
-        push_within(table, room, element, words)?;
-    }
-    Ok(())
+    let first = words.len();
+    push_within(table, room, element, words)?;
+    repeat(words, first, count - 1)
 }
 
 /// Appends the words of an object without a value, of a type that is nested no deeper than there is

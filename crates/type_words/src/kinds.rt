@@ -5,6 +5,7 @@ ghost use Rattle.machine.specs.Typed.{sorts_within};
 ghost use Rattle.run_codes.specs.Flat.{kind_of, kinds as kinds_of};
 ghost use Rattle.type_words.specs.Parts.{fields_kinds, repeated_kinds, shape_kinds};
 
+use crate::repeats::repeat;
 use crate::spans::span;
 use run_values::Kind;
 use std::alloc::AllocError;
@@ -31,7 +32,7 @@ fn push_fields(
 
 /// Appends the kinds of the words of so many elements.
 #[cycle(kinds)]
-#[tactic(auto, using(crate::proofs::Parts::repeated_kinds_next, crate::proofs::Parts::no_repeated_kinds))]
+#[tactic(auto, using(crate::proofs::Parts::no_repeated_kinds))]
 fn push_elements(
     table: &TypeTable,
     room: usize,
@@ -42,13 +43,15 @@ fn push_elements(
     requires { room ≤ length table.now }
     ensures { OnOk result (kinds.new.items ≡ kinds.old.items ++ repeated_kinds count (map kind_of (sorts_within room table.now element))) }
 {
+    if count == 0 {
+        return Ok(());
+    }
     if table.words(element) == 0 {
         return Ok(());
     }
-    'elements: for _element in 0..count {
-        push_within(table, room, element, kinds)?;
-    }
-    Ok(())
+    let first = kinds.len();
+    push_within(table, room, element, kinds)?;
+    repeat(kinds, first, count - 1)
 }
 
 /// Appends the kinds of the words of a type, whose definition is nested no deeper than there is room.

@@ -14,7 +14,7 @@ use Rattle.type_settled.specs.Reach.{holds}
 use Rattle.type_settled.specs.Rings.{IsPart}
 use Rattle.settled_types.specs.Wholes.{written, AreFinite}
 use Rattle.settled_types.proofs.Ringless.{depth, depth_past, lower, itself}
-use Rattle.table_laws.specs.Ranks.{rank, is_below, shape_all, parent_all, is_ranked, is_same_as, is_plain, fits, is_listed, IsFit}
+use Rattle.settled_types.specs.TableLaws.Ranks.{rank, is_below, shape_all, parent_all, is_ranked, is_same_as, is_plain, fits, is_listed, IsFit}
 
 is_less : (a b : ℕ) → a < b → nat_lt a b ≡ true
 is_less a b lt = grind (arith, lt)

@@ -30,7 +30,7 @@ use Rattle.order_laws.specs.Orderly.{typed_of}
 use Rattle.order_laws.proofs.Faults.{units_faultless}
 use Rattle.sound_files.proofs.Once.{files_once}
 use Rattle.sound_files.proofs.Written.{files_written}
-use Rattle.table_laws.specs.Ranks.{IsFit}
+use Rattle.settled_types.specs.TableLaws.Ranks.{IsFit}
 use Rattle.run_ready.specs.Tests.{IsReady}
 use Rattle.accepted_runs.proofs.TestedFiles.RunTables.Programs.{small, program_listed}
 use Rattle.accepted_runs.proofs.TestedFiles.RunTables.Entered.{can_enter}

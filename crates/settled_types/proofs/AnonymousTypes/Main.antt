@@ -3,7 +3,7 @@
 use Rattle.std.proofs.Common.{◌≡◌, ◌⊎◌, inl, inr, refl, sym, ap, ◌∙◌, subst, ℕ, ◌<◌, Bool, true, false, not, ◌&&◌, ◌||◌, List, [], ◌∷◌, ◌++◌, flat_map, arith, Option, Some, None, true≢false, IsTrue}
 use Rattle.std.specs.Prelude.{slice_get, is_some}
 use Rattle.std.specs.List.{AllByRecursion}
-use Rattle.std.proofs.lemmas.Bool.{cases_lt}
+use Rattle.std.proofs.lemmas.Bool.{cases_lt, false≢true}
 use Rattle.spark_base.specs.Lists.{Has}
 use Rattle.spark_base.specs.declared.position.Pos.{Pos}
 use Rattle.place_names.specs.declared.act.Mode.{Mode}
@@ -160,11 +160,11 @@ module _ (p : Program) (formed : IsTrue (all_formed p.units)) (are : IsOrderly p
   own_result k named n t (More (Plain m) rest) is anonymous = absurd (never (marked k m) t (named m) (some_same (marked k m) t is) anonymous)
   own_result k named n t (More (Anonymous at constant m) rest) is anonymous = (sym (some_same n t is), refl)
   own_result k named n t (More i rest) is anonymous = absurd (never integer t (inl (omega arith)) (some_same integer t is) anonymous)
-  own_result k named n t result is anonymous = cc
+  own_result k named n t result is anonymous = absurd (false≢true (ap is_some is))
 
   own_profile : (d t : ℕ) (k : Known) (front : Code) → AreNamed k → front_number front ≡ d → (profile k front).result ≡ Some t → is_anonymous (full table t) ≡ true → t ≡ d
   own_profile d t k (Front x formals result) named number is anonymous = (own_result k named (declared_number x) t result is anonymous).0 ∙ number
-  own_profile d t k front named number is anonymous = cc
+  own_profile d t k front named number is anonymous = absurd (false≢true (ap is_some is))
 
   -- The anonymous type of a subprogram's result has the number of the subprogram.
   pub result_own : (d t : ℕ) (q : Profile) → entry_of known d ≡ entry.Subprogram q → q.result ≡ Some t → is_anonymous (full table t) ≡ true → t ≡ d

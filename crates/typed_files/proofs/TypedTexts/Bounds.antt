@@ -22,7 +22,7 @@ use Rattle.type_definitions.specs.Statics.{value, value_as}
 use Rattle.type_definitions.specs.Statements.{known_value}
 use Rattle.type_definitions.specs.Whole.{predefined_types, predefined_entries, at_first, outside, gather_units, known_from, known_of}
 use Rattle.type_definitions.specs.Gathered.{gather, each, declared_number, declared_pos, with_entry, with_info, with_type, own_info, texts, natural_of, indicated, with_indication, awaited_info, defined, is_asked, are_static_bounds, bound_pair, whole_bounds, array_bounds, with_literals, with_definition, full_info, constrained_shape, subtype_info, meant_by, with_object, object_info, constant_value, with_number, number_info, initial_value, plain_object, with_formal, with_formal_group, with_formals, with_result, with_front, with_body_front, profile, is_subprogram, front_number, parameter_type, in_subprogram, in_visible, in_hidden, instance_type}
-use Rattle.table_laws.proofs.Statics.{IsWhole, IsWholeEntry, value_whole, known_whole, as_whole}
+use Rattle.settled_types.proofs.TableLaws.Statics.{IsWhole, IsWholeEntry, value_whole, known_whole, as_whole}
 use Rattle.typed_files.specs.TypedRuns.Bounds.{HaveBounds}
 use Rattle.typed_files.specs.TypedTexts.Literals.{id_count, defined_count, literal_count}
 

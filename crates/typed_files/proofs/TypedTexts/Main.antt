@@ -24,7 +24,7 @@ use Rattle.typed_laws.proofs.Sound.{stays}
 use Rattle.typed_laws.specs.TypedPoints.Code.{AreEvaluated}
 use Rattle.typed_laws.proofs.TypedPoints.Main.{all_fine}
 use Rattle.run_codes.specs.Related.{IsTable}
-use Rattle.table_laws.proofs.Tables.{is_table}
+use Rattle.settled_types.proofs.TableLaws.Tables.{is_table}
 use Rattle.typed_laws.specs.TypedSteps.Steps.{IsTypedStep, AreTyped, AreCounted}
 use Rattle.typed_files.specs.TypedRuns.Code.{IsTypedUse, IsTypedCode}
 use Rattle.typed_files.specs.TypedRuns.Meant.{typed_in, laid_in, typing_laid, IsMeantText}

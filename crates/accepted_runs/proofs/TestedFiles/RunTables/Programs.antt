@@ -14,9 +14,9 @@ use Rattle.settled_types.proofs.GatheredLaws.Main.{are_types}
 use Rattle.machine.specs.Typed.{Position, sorts}
 use Rattle.run_codes.specs.Related.{IsTable}
 use Rattle.run_fills.specs.Filled.{HasParts}
-use Rattle.table_laws.specs.Ranks.{is_listed}
-use Rattle.table_laws.proofs.Gathers.{has_bounds}
-use Rattle.table_laws.proofs.Tables.{is_table, has_parts, truth_sorts}
+use Rattle.settled_types.specs.TableLaws.Ranks.{is_listed}
+use Rattle.settled_types.proofs.TableLaws.Gathers.{has_bounds}
+use Rattle.settled_types.proofs.TableLaws.Tables.{is_table, has_parts, truth_sorts}
 
 module _ (p : Program) (formed : IsTrue (all_formed p.units)) (orderly : IsOrderly p) (none : type_fault p ≡ None) where
   pub small : (t : ℕ) → words (known_of p).table t ≤ 65536

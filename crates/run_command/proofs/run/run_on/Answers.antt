@@ -34,7 +34,7 @@ returns-in_err-write_all-clause-front g c =
     let old : Sinks = record { output = g.K.Sink.written c.args.out.now; lines = g.K.Sink.written c.args.err.now } in
     let now : Sinks = record { output = g.K.Sink.written c.execute.new.out; lines = g.K.Sink.written c.execute.new.err } in
     let counted : c.slots-slots.result ≡ slots_of r.peaks =
-    slots_known g.R.Store.Means c.execute.new.store r c.slots-slots.result c.in_ok-ran.ensures.slots c.slots-slots.ensures in
+    slots_known g.R.Store.Means c.execute.new.store (program_of c.args.program.now.laid) c.args.input.now c.args.steps c.slots-slots.result c.in_ok-ran.ensures.left c.slots-slots.ensures in
     let line : c.deref.result.now
     ≡ ending_line files c.args.steps (ending_of c.in_ok-ran.ran.ending)
     ++ asked_line c.args.stats c.in_ok-ran.ran.steps c.in_ok-ran.ran.made c.in_ok-ran.ran.freed c.in_ok-ran.ran.leaked c.slots-slots.result = search rules in
@@ -49,7 +49,7 @@ returns-clause-told g c =
     let old : Sinks = record { output = g.K.Sink.written c.args.out.now; lines = g.K.Sink.written c.args.err.now } in
     let now : Sinks = record { output = g.K.Sink.written c.execute.new.out; lines = g.K.Sink.written c.execute.new.err } in
     let counted : c.slots-slots.result ≡ slots_of r.peaks =
-    slots_known g.R.Store.Means c.execute.new.store r c.slots-slots.result c.in_ok-ran.ensures.slots c.slots-slots.ensures in
+    slots_known g.R.Store.Means c.execute.new.store (program_of c.args.program.now.laid) c.args.input.now c.args.steps c.slots-slots.result c.in_ok-ran.ensures.left c.slots-slots.ensures in
     let line : c.deref.result.now
     ≡ ending_line files c.args.steps (ending_of c.in_ok-ran.ran.ending)
     ++ asked_line c.args.stats c.in_ok-ran.ran.steps c.in_ok-ran.ran.made c.in_ok-ran.ran.freed c.in_ok-ran.ran.leaked c.slots-slots.result = search rules in

@@ -20,7 +20,7 @@ returns-in_err-refuse_input-in-None-clause-front g c =
 pub returns-in_ok-run_on-in-Some-clause-left : goal.returns-in_ok-run_on-in-Some-clause-left
 returns-in_ok-run_on-in-Some-clause-left g c =
     read_left g.R.Store.Means c.run_on.new.store (program_of c.args.program.now.laid) c.args.steps (g.S.Source.left c.args.input.now)
-    c.in_ok-text.field-0 c.in-Some.text c.deref.result.now c.in_ok-text.ensures.bytes c.in-Some.is c.deref.ensures.value c.in_ok-run_on-in-Some.ensures.slots
+    c.in_ok-text.field-0 c.in-Some.text c.deref.result.now c.in_ok-text.ensures.bytes c.in-Some.is c.deref.ensures.value c.in_ok-run_on-in-Some.ensures.left
 
 pub returns-in_ok-refuse_input-in-None-clause-left : goal.returns-in_ok-refuse_input-in-None-clause-left
 returns-in_ok-refuse_input-in-None-clause-left g c =

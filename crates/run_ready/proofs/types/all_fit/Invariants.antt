@@ -1,5 +1,5 @@
 use Rattle.std.proofs.Common.{◌≡◌, ◌<◌, ℕ, true, slice_get}
-use Rattle.table_laws.specs.Ranks.{fits}
+use Rattle.settled_types.specs.TableLaws.Ranks.{fits}
 use Rattle.run_ready.proofs.types.all_fit.Given as goal
 
 abbrev pub invariant-types : goal.invariant-types

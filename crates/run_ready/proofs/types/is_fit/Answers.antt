@@ -1,7 +1,7 @@
 use Rattle.std.proofs.Common.{◌≡◌, ◌<◌, ◌∙◌, ℕ, true, false, sym, subst, length, slice_get}
 use Rattle.type_definitions.specs.Types.{Table}
 use Rattle.type_ranks.specs.Ranks.{AreRanks}
-use Rattle.table_laws.specs.Ranks.{rank, fits}
+use Rattle.settled_types.specs.TableLaws.Ranks.{rank, fits}
 use Rattle.run_ready.proofs.Fitting.{fit_ranks, fit_by}
 use Rattle.run_ready.proofs.types.is_fit.Goals.{then-all_fit, else-all_fit}
 use Rattle.run_ready.proofs.types.is_fit.Goals as goal

@@ -3,12 +3,15 @@ use Rattle.std.specs.Prelude.{IfOk, OnErr}
 use Rattle.machine.specs.Run.{Run, run}
 use Rattle.laid_program.specs.declared.laid.Laid.{Laid}
 use Rattle.laid_program.specs.Programs.{program_of}
+use Rattle.path_check.specs.declared.accepted.AcceptedProgram.{AcceptedProgram}
 use Rattle.slot_heap.specs.Heaps.{Knows}
-use Rattle.slot_executor.specs.Executes.{AreSame, HasSlots, IsExecuted}
+use Rattle.slot_executor.specs.Executes.{AreSame, MayEnd, IsExecuted}
 use Rattle.slot_runs.specs.Tellings.{Sinks, HaveFronts}
 use Rattle.slot_runs.proofs.Owed.{none_had}
 use Rattle.accepted_runs.proofs.Kept.{accepted_soundly}
+use Rattle.accepted_runs.proofs.AcceptedCells.Main.{accepted_leaves}
 use Rattle.slot_execute.proofs.Same.{accepted_are_same}
+use Rattle.slot_execute.proofs.Left.{answer_leaves}
 use Rattle.slot_execute.proofs.programs.execute.Goals as goal
 
 pub returns-in_default-clause-fronts : goal.returns-in_default-clause-fronts
@@ -45,7 +48,11 @@ returns-clause-fronts g c =
     subst (λ (l : Laid). OnErr c.run_codes.result (HaveFronts (map string_bytes l.names.items) old new (whole l).output (whole l).leaks))
     c.laid-laid.ensures.value c.run_codes.ensures.fronts
 
-pub returns-clause-slots : goal.returns-clause-slots
-returns-clause-slots g c =
-    subst (λ (l : Laid). IfOk c.run_codes.result (λ ran. Knows g.R.Store.Means c.run_codes.new.store (λ m. HasSlots (run (program_of l) c.args.input.now c.args.steps) m.slots)))
-    c.laid-laid.ensures.value c.run_codes.ensures.slots
+-- the slots and the cells of the machine's run are left
+pub returns-clause-left : goal.returns-clause-left
+returns-clause-left g c =
+    let a : AcceptedProgram = c.args.program.now in
+    answer_leaves (program_of a.laid) c.args.input.now c.args.steps (accepted_are_same a c.requires.main c.args.input.now) (accepted_leaves a c.requires.main)
+    g.R.Store.Means c.run_codes.new.store c.run_codes.result
+    (subst (λ (l : Laid). IfOk c.run_codes.result (λ ran. Knows g.R.Store.Means c.run_codes.new.store (MayEnd (program_of l) c.args.input.now c.args.steps)))
+    c.laid-laid.ensures.value c.run_codes.ensures.left)

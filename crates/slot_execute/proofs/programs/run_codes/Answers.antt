@@ -5,7 +5,7 @@ use Rattle.slot_heap.specs.Heaps.{Knows, no_heap}
 use Rattle.slot_runs.specs.Tellings.{Sinks}
 use Rattle.slot_runs.proofs.Kept.{if_ok, for_err}
 use Rattle.slot_runs.proofs.Owed.{none_had}
-use Rattle.slot_executor.specs.Executes.{HasSlots, IsExecuted}
+use Rattle.slot_executor.specs.Executes.{MayEnd, IsExecuted}
 use Rattle.slot_execute.proofs.Started.{unfit}
 use Rattle.slot_execute.proofs.NoSteps.{none_executed}
 use Rattle.slot_execute.proofs.programs.run_codes.Goals as goal
@@ -26,9 +26,8 @@ pub returns-then-not-fits-clause-fronts : goal.returns-then-not-fits-clause-fron
 returns-then-not-fits-clause-fronts g c =
     for_err _ (none_had _ (record { output = g.K.Sink.written c.args.out.now; lines = g.K.Sink.written c.args.err.now }) _ _)
 
-pub returns-then-not-fits-clause-slots : goal.returns-then-not-fits-clause-slots
-returns-then-not-fits-clause-slots g c =
-    let whole : Run = run (program_of c.args.laid.now) c.args.input.now c.args.steps in
-    if_ok {Q = λ ran. Knows g.R.Store.Means c.args.store.now (λ m. HasSlots whole m.slots)} c.run_unfit.result
-    (λ ran is. (no_heap, (c.requires.store, c.run_unfit.ensures.slots)))
+pub returns-then-not-fits-clause-left : goal.returns-then-not-fits-clause-left
+returns-then-not-fits-clause-left g c =
+    if_ok {Q = λ ran. Knows g.R.Store.Means c.args.store.now (MayEnd (program_of c.args.laid.now) c.args.input.now c.args.steps)} c.run_unfit.result
+    (λ ran is. (no_heap, (c.requires.store, c.run_unfit.ensures.ends)))
     c.run_unfit.ensures.ran

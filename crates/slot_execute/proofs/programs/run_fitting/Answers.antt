@@ -6,7 +6,7 @@ use Rattle.slot_runs.specs.Turns.{Setting}
 use Rattle.slot_runs.specs.Tellings.{Sinks, HaveFronts}
 use Rattle.slot_runs.proofs.Owed.{none_had}
 use Rattle.slot_executor.specs.Executes.{AreSame, IsExecuted}
-use Rattle.slot_execute.proofs.Started.{started, fitting_slots}
+use Rattle.slot_execute.proofs.Started.{started, fitting_left}
 use Rattle.slot_execute.proofs.programs.run_fitting.Goals as goal
 
 pub run_started-ran-requires-clause-started : goal.run_started-ran-requires-clause-started
@@ -36,7 +36,7 @@ returns-clause-fronts g c =
     (ap (λ (s : Setting). s.input) c.in-Ok.ensures.setting) c.run_started-ran.ensures.fronts
 
 -- the store is given back
-pub returns-clause-slots : goal.returns-clause-slots
-returns-clause-slots g c =
-    fitting_slots g.R.Store.Means (λ bytes. run (program_of c.args.laid.now) bytes c.args.steps) c.args.input.now c.in-Ok.run' c.run_started-ran.new.run _ _ c.run_started-ran.result
+pub returns-clause-left : goal.returns-clause-left
+returns-clause-left g c =
+    fitting_left g.R.Store.Means (program_of c.args.laid.now) c.args.input.now c.args.steps c.in-Ok.run' c.run_started-ran.new.run _ _ c.run_started-ran.result
     (λ lent. search (rules, lent)) c.in-Ok.ensures.lent (ap (λ (s : Setting). s.input) c.in-Ok.ensures.setting) c.run_started-ran.ensures.left c.run_started-ran.ensures.lent

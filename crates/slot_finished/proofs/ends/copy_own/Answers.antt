@@ -1,56 +1,43 @@
-use Rattle.std.proofs.Common.{◌≡◌, ◌+◌, ◌≤◌, Err, List, length, refl, sym, subst, ◌∙◌, rules, Result}
+use Rattle.std.proofs.Common.{◌≡◌, ◌-◌, Ok, Err, List, length, sym, subst, rules, Result}
 use Rattle.run_codes.specs.Points.{Return}
 use Rattle.code_rows.specs.declared.stop.Stop.{Stop}
 use Rattle.slot_frames.specs.Frames.{return_of}
 use Rattle.slot_frames.specs.Parts.{own_returns}
-use Rattle.slot_returns.specs.Backs.{CopiesAll}
-use Rattle.slot_returns.proofs.Rounds.{Round, round_first, round_can, round_next, round_stops, round_end}
-use Rattle.slot_finished.proofs.Backs.{returns_from, own_from, returns_next, returns_end}
+use Rattle.slot_returns.specs.Backs.{CanCopy, CopiesAll}
+use Rattle.slot_returns.proofs.Rounds.{all_can, all_halted, all_stored, none_copied, one_can, one_alone}
+use Rattle.slot_finished.proofs.Backs.{none_own, one_own}
 use Rattle.slot_finished.proofs.ends.copy_own.Goals as goal
 
-pub returns-init : goal.returns-init
-returns-init g c =
-    let all : List Return = own_returns c.args.frames.now in
-    let P : List Return → Type 0 = λ l. Round g.R.Store.Means c.args.memory.now c.args.table.now all l c.args.memory.now in
-    record {
-      turn = subst P (own_from c.args.frames.now c.frame-i.result c.frame-i.ensures) (round_first g.R.Store.Means c.args.memory.now c.args.table.now all);
-      elsewhere = refl;
-    }
+pub returns-then-count-eq0-clause-copied : goal.returns-then-count-eq0-clause-copied
+returns-then-count-eq0-clause-copied g c =
+    let none : length c.args.frames.now.returns - c.frame-first.result.returns ≡ 0 = search rules in
+    let P : List Return → Type 0 = λ l. CopiesAll g.R.Store.Means c.args.memory.now c.args.table.now l (Ok (tt {0})) c.args.memory.now in
+    subst P (sym (none_own c.args.frames.now c.frame-first.result c.frame-first.ensures none)) (none_copied g.R.Store.Means c.args.memory.now c.args.table.now (tt {0}))
 
 pub copy_one-requires : goal.copy_one-requires
 copy_one-requires g c =
-    let left = returns_next c.args.frames.now c.returns.i c.back.result c.back.ensures in
-    let all : List Return = own_returns c.args.frames.now in
-    let P : List Return → Type 0 = λ l. Round g.R.Store.Means c.args.memory.now c.args.table.now all l c.returns.memory in
-    round_can g.R.Store.Means c.args.memory.now c.args.table.now all (return_of c.back.result) (returns_from c.args.frames.now (c.returns.i + 1))
-    c.returns.memory c.requires (subst P left c.returns.invariant.turn)
+    let one : length c.args.frames.now.returns - c.frame-first.result.returns ≡ 1 = search rules in
+    let P : List Return → Type 0 = λ l. CanCopy g.R.Store.Means c.args.memory.now c.args.table.now l in
+    one_can g.R.Store.Means c.args.memory.now c.args.table.now (return_of c.back.result)
+    (subst P (one_own c.args.frames.now c.frame-first.result c.back.result c.frame-first.ensures c.back.ensures one) c.requires)
 
-pub returns-in_err-copy_one-clause-copied : goal.returns-in_err-copy_one-clause-copied
-returns-in_err-copy_one-clause-copied g c =
-    let left = returns_next c.args.frames.now c.returns.i c.back.result c.back.ensures in
-    let all : List Return = own_returns c.args.frames.now in
-    let P : List Return → Type 0 = λ l. Round g.R.Store.Means c.args.memory.now c.args.table.now all l c.returns.memory in
-    let err : c.from_residual.result ≡ Err c.in_err-copy_one.field-0.0 = search rules in
-    let Q : Result (Unit {0}) Stop → Type 0 = λ r. CopiesAll g.R.Store.Means c.args.memory.now c.args.table.now all r c.copy_one.new.memory in
-    subst Q (sym err)
-    (round_stops g.R.Store.Means c.args.memory.now c.args.table.now all (Unit {0}) (return_of c.back.result) (returns_from c.args.frames.now (c.returns.i + 1))
-    c.returns.memory c.copy_one.new.memory c.in_err-copy_one.field-0.0 (subst P left c.returns.invariant.turn) c.in_err-copy_one.ensures.copied)
+pub returns-then-count-eq1-clause-copied : goal.returns-then-count-eq1-clause-copied
+returns-then-count-eq1-clause-copied g c =
+    let one : length c.args.frames.now.returns - c.frame-first.result.returns ≡ 1 = search rules in
+    let P : List Return → Type 0 = λ l. CopiesAll g.R.Store.Means c.args.memory.now c.args.table.now l c.copy_one.result c.copy_one.new.memory in
+    subst P (sym (one_own c.args.frames.now c.frame-first.result c.back.result c.frame-first.ensures c.back.ensures one))
+    (one_alone g.R.Store.Means c.args.memory.now c.args.table.now (return_of c.back.result) c.copy_one.result c.copy_one.new.memory c.copy_one.ensures.copied)
 
-pub returns-preserved : goal.returns-preserved
-returns-preserved g c =
-    let left = returns_next c.args.frames.now c.returns.i c.back.result c.back.ensures in
+pub returns-in_err-check_own-clause-copied : goal.returns-in_err-check_own-clause-copied
+returns-in_err-check_own-clause-copied g c =
     let all : List Return = own_returns c.args.frames.now in
-    let P : List Return → Type 0 = λ l. Round g.R.Store.Means c.args.memory.now c.args.table.now all l c.returns.memory in
-    record {
-      turn =
-          round_next g.R.Store.Means c.args.memory.now c.args.table.now all (return_of c.back.result) (returns_from c.args.frames.now (c.returns.i + 1))
-          c.returns.memory c.copy_one.new.memory (tt {0}) (subst P left c.returns.invariant.turn) c.in_ok-copy_one.ensures.copied;
-      elsewhere = c.in_ok-copy_one.ensures.elsewhere ∙ c.returns.invariant.elsewhere;
-    }
+    let err : c.from_residual.result ≡ Err c.in_err-check_own.field-0.0 = search rules in
+    let Q : Result (Unit {0}) Stop → Type 0 = λ r. CopiesAll g.R.Store.Means c.args.memory.now c.args.table.now all r c.args.memory.now in
+    subst Q (sym err) (all_halted g.R.Store.Means c.args.memory.now c.args.table.now all c.in_err-check_own.field-0.0 c.in_err-check_own.ensures)
+
+pub store_own-requires : goal.store_own-requires
+store_own-requires g c = all_can g.R.Store.Means c.args.memory.now c.args.table.now (own_returns c.args.frames.now) c.requires c.in_ok-check_own.ensures
 
 pub returns-clause-copied : goal.returns-clause-copied
 returns-clause-copied g c =
-    let all : List Return = own_returns c.args.frames.now in
-    let P : List Return → Type 0 = λ l. Round g.R.Store.Means c.args.memory.now c.args.table.now all l c.returns.memory in
-    let past : length c.args.frames.now.returns ≤ c.returns.i = search rules in
-    round_end g.R.Store.Means c.args.memory.now c.args.table.now all (tt {0}) c.returns.memory (subst P (returns_end c.args.frames.now c.returns.i past) c.returns.invariant.turn)
+    all_stored g.R.Store.Means c.args.memory.now c.args.table.now (own_returns c.args.frames.now) c.store_own.result c.store_own.new.memory c.store_own.ensures.stored c.store_own.ensures.memory

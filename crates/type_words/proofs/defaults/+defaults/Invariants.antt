@@ -23,8 +23,3 @@ abbrev pub invariant-push_fields-components : goal.invariant-push_fields-compone
 invariant-push_fields-components l =
     l.words.items ++ fields_words (default_within l.room l.table) (drop l.component-index l.components)
     ≡ l.initial.words.items ++ fields_words (default_within l.room l.table) l.components
-
-abbrev pub invariant-push_elements-elements : goal.invariant-push_elements-elements
-invariant-push_elements-elements l =
-    l.words.items ++ repeated (l.count - l._element) (map untagged (default_within l.room l.table l.element))
-    ≡ l.initial.words.items ++ repeated l.count (map untagged (default_within l.room l.table l.element))

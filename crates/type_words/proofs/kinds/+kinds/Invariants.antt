@@ -23,8 +23,3 @@ abbrev pub invariant-push_fields-components : goal.invariant-push_fields-compone
 invariant-push_fields-components l =
     l.kinds.items ++ fields_kinds (sorts_within l.room l.table) (drop l.component-index l.components)
     ≡ l.initial.kinds.items ++ fields_kinds (sorts_within l.room l.table) l.components
-
-abbrev pub invariant-push_elements-elements : goal.invariant-push_elements-elements
-invariant-push_elements-elements l =
-    l.kinds.items ++ repeated_kinds (l.count - l._element) (map kind_of (sorts_within l.room l.table l.element))
-    ≡ l.initial.kinds.items ++ repeated_kinds l.count (map kind_of (sorts_within l.room l.table l.element))
