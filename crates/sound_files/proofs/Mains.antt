@@ -19,7 +19,7 @@ use Rattle.type_definitions.specs.Whole.{outside, known_of, is_formless, type_fa
 use Rattle.typed_tree.specs.Expressions.{Site, object_number}
 use Rattle.typed_tree.specs.Statements.{scope_count}
 use Rattle.typed_tree.specs.Programs.{TypedSub, subs_in, placed, bodies_in, over_units, site_of, formal_numbers, front_formals, typed_program}
-use Rattle.scope_laws.proofs.Lists.{and_first}
+use Rattle.order_laws.proofs.ScopeLaws.Lists.{and_first}
 use Rattle.order_laws.specs.ReadyLaws.InOrder.{IsSub}
 use Rattle.order_laws.specs.Written.{is_procedure, is_unit, are_declarations, are_statements}
 use Rattle.order_laws.specs.Orderly.{typed_of, bodies_of}
