@@ -12,7 +12,7 @@ ghost use Rattle.slot_memory.specs.Answers.{Appends};
 ghost use Rattle.slot_hand.specs.Outcomes.{Makeable, Made};
 ghost use Rattle.slot_hand.specs.Leaks.{Finds};
 
-use crate::spots::{find_leaks, make, take_kinds, take_offsets};
+use crate::spots::{find_leak, find_leaks, make, take_kinds, take_offsets};
 use crate::words::push_repeated;
 use code_rows::Stop;
 use run_results::Leak;
@@ -23,7 +23,7 @@ use spark_base::Pos;
 use std::alloc::Global;
 use std::marker::Model;
 use type_table::TypeTable;
-use type_words::push_defaults;
+use type_words::{is_pointer, push_defaults};
 
 /// Words at hand, and room for what is worked on beside them. Contracts see the words.
 pub struct Hand {
@@ -227,8 +227,14 @@ impl Hand {
         ensures leaks { Always R.Means memory.now (λ s. is_broken (leaks_at table.now s (spot_of spot) of pos) ≡ false → Finds (leaks_at table.now s (spot_of spot) of pos) result (leaks_of leaks.old.items) (leaks_of leaks.new.items)) }
         ensures hand { self.new ≡ self.old }
     {
-        take_kinds(table, of, &mut self.kinds)?;
+        if is_pointer(table, of) {
+            return find_leak(memory, spot, pos, leaks);
+        }
         take_offsets(table, of, &mut self.offsets)?;
+        if self.offsets.is_empty() {
+            return Ok(());
+        }
+        take_kinds(table, of, &mut self.kinds)?;
         find_leaks(
             memory,
             spot,

@@ -1,5 +1,5 @@
 //! What spots with words of some kinds hold.
-ghost use Rattle.std.specs.Prelude.{◌≡◌, ◌≤◌, false, length, take, drop, OnOk, OnErr, IsErrOf};
+ghost use Rattle.std.specs.Prelude.{◌≡◌, ◌≤◌, ◌∷◌, [], false, length, take, drop, OnOk, OnErr, IsErrOf};
 ghost use Rattle.machine.specs.Words.{access_offsets};
 ghost use Rattle.run_codes.specs.Flat.{is_broken, kinds as kinds_of, Given, and_then};
 ghost use Rattle.run_results.specs.Results.{leaks_of};
@@ -10,7 +10,7 @@ ghost use Rattle.slot_memory.specs.Spots.{spot_of};
 ghost use Rattle.slot_hand.specs.Outcomes.{Makeable, Made};
 ghost use Rattle.slot_hand.specs.Leaks.{Reads, Finds};
 
-use crate::words::{push_leaks, push_values};
+use crate::words::{push_leak, push_leaks, push_values};
 use code_rows::Stop;
 use run_results::Leak;
 use run_values::{Kind, Value};
@@ -18,14 +18,19 @@ use slot_heap::Store;
 use slot_memory::{Memory, Spot};
 use spark_base::Pos;
 use type_table::TypeTable;
-use type_words::{push_access_offsets, push_kinds};
+use type_words::{is_pointer, push_access_offsets, push_kinds};
 
 /// The kinds of the words of a type.
+#[tactic(auto, using(crate::proofs::Checks::kinds_of_pointer))]
 pub(crate) fn take_kinds(table: &TypeTable, of: u32, kinds: &mut Vec<Kind>) -> Result<(), Stop>
     ensures kinds { OnOk result (kinds.new.items ≡ kinds_of table.now of) }
     ensures memory { OnErr result (IsErrOf result Stop.Memory) }
 {
     kinds.clear();
+    if is_pointer(table, of) {
+        kinds.push(Kind::Access)?;
+        return Ok(());
+    }
     push_kinds(table, of, kinds)?;
     Ok(())
 }
@@ -76,6 +81,20 @@ pub(crate) fn make<R: Store>(
     words.truncate(from);
     words.push(word)?;
     Ok(())
+}
+
+/// Appends the failed leak check of the access value at a spot.
+pub(crate) fn find_leak<R: Store>(
+    memory: &Memory<R>,
+    spot: Spot,
+    pos: Pos,
+    leaks: &mut Vec<Leak>,
+) -> Result<(), Stop>
+    requires { Knows R.Means memory.now (λ s. is_broken (held s (spot_of spot) (Kind.Access ∷ [])) ≡ false) }
+    ensures { Always R.Means memory.now (λ s. is_broken (held s (spot_of spot) (Kind.Access ∷ [])) ≡ false → Finds (and_then (held s (spot_of spot) (Kind.Access ∷ [])) (λ zs. Given (leaks_in s.numbers pos zs (0 ∷ [])))) result (leaks_of leaks.old.items) (leaks_of leaks.new.items)) }
+{
+    let word = memory.word_at(spot, Kind::Access);
+    push_leak(memory, word, pos, leaks)
 }
 
 /// Appends the failed leak checks of the access values at some offsets from a spot.
