@@ -17,8 +17,10 @@ import tempfile
 from concurrent.futures import ThreadPoolExecutor
 
 RUNS = pathlib.Path(__file__).resolve().parent.parent / "crates" / "spark_examples" / "data" / "runs"
-# Programs that meet a limit of `spark` or of GNAT's stack, or an item that Get reads in another way.
+# Programs that meet a limit of `spark` or of GNAT's stack, print what has no value, or have an item that
+# Get reads in another way.
 DIFFERENT = {
+    "counts_of_one_slot",
     "frames_within_the_limit",
     "item_with_a_letter",
     "no_room_for_the_main_procedure",

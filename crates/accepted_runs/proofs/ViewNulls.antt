@@ -7,7 +7,7 @@ use Rattle.typing_steps.specs.Programs.{program_of}
 use Rattle.flow_paths.specs.declared.report.Effects.{Effects}
 use Rattle.program_check.specs.Sources.{flow_of}
 use Rattle.order_laws.specs.Orderly.{typed_of}
-use Rattle.typed_files.proofs.Main.{parsed_steps}
+use Rattle.sound_files.proofs.TypedFiles.Main.{parsed_steps}
 use Rattle.viewed_facts.proofs.NullPlaces.Typed.{typed_compared}
 use Rattle.viewed_facts.proofs.ViewedNulls.Runs.{viewed_runs}
 use Rattle.accepted_runs.specs.Passed.{Passes}

@@ -12,8 +12,8 @@ use Rattle.type_definitions.specs.Gathered.{in_hidden, declared_number}
 use Rattle.typed_tree.specs.Expressions.{Site}
 use Rattle.typed_tree.specs.Statements.{scope_count}
 use Rattle.typed_tree.specs.Programs.{TypedSub, DeclaredObject, Home, objects_in, in_package, package_text, typed_sub, subs_in, placed, over_units}
-use Rattle.scope_laws.specs.Code as code
-use Rattle.scope_laws.proofs.Lists.{and_first, and_second}
+use Rattle.order_laws.specs.ScopeLaws.Code as code
+use Rattle.order_laws.proofs.ScopeLaws.Lists.{and_first, and_second}
 use Rattle.order_laws.specs.Written.{is_declaration, are_declarations, are_statements, is_body, are_parts, is_procedure, is_unit}
 use Rattle.order_laws.proofs.Numbers.{numbers, numbers_both}
 use Rattle.order_laws.proofs.Parts.{IsPart, part_none, part_both}

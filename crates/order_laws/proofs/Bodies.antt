@@ -17,9 +17,9 @@ use Rattle.typed_tree.specs.Expressions.{Site}
 use Rattle.typed_tree.specs.Statements.{scope_count, statements, typed_object, typed_call, call_of, predefined_call, typed_body}
 use Rattle.flow_paths.specs.Scopes.{is_undeclaring}
 use Rattle.flow_paths.specs.Scopes as flow
-use Rattle.scope_laws.specs.Code.{is_formed}
-use Rattle.scope_laws.specs.Code as scope
-use Rattle.scope_laws.proofs.Lists.{and_first, and_second, both_true, all_both}
+use Rattle.order_laws.specs.ScopeLaws.Code.{is_formed}
+use Rattle.order_laws.specs.ScopeLaws.Code as scope
+use Rattle.order_laws.proofs.ScopeLaws.Lists.{and_first, and_second, both_true, all_both}
 use Rattle.order_laws.specs.Written.{is_declaration, are_declarations, are_statements, is_statement, are_branches, is_branch, are_alternatives, is_alternative}
 use Rattle.order_laws.specs.Placed.{is_placed, are_placed_branches, is_placed_branch, are_placed_alternatives, is_placed_alternative}
 

@@ -11,7 +11,7 @@ use Rattle.typed_tree.specs.Expressions.{Site}
 use Rattle.typed_tree.specs.Statements.{scope_count, statements}
 use Rattle.typed_tree.specs.Programs.{DeclaredObject, Home, objects_in, in_package, package_text, placed, elaborated, over_units}
 use Rattle.flow_paths.specs.Laid.{declared_within}
-use Rattle.scope_laws.proofs.Lists.{and_first, and_second, both_true, all_both}
+use Rattle.order_laws.proofs.ScopeLaws.Lists.{and_first, and_second, both_true, all_both}
 use Rattle.order_laws.specs.ReadyLaws.InOrder.{declares_only}
 use Rattle.order_laws.specs.Written.{is_declaration, are_declarations, is_body, are_parts, is_unit}
 use Rattle.order_laws.specs.Placed.{is_placed, parameters}

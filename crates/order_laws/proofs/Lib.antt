@@ -1,3 +1,5 @@
+-- what points have in scope, and where they lead
+pub mod ScopeLaws
 -- which programs are ready, by their typed code, so that soundness speaks of their runs
 pub mod ReadyLaws
 -- typed bodies, and what the layout asks of them

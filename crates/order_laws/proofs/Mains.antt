@@ -19,7 +19,7 @@ use Rattle.type_definitions.specs.Declarations.{code_faults, body_faults, front_
 use Rattle.typed_tree.specs.Expressions.{Site, sub_number}
 use Rattle.typed_tree.specs.Statements.{scope_count}
 use Rattle.typed_tree.specs.Programs.{TypedSub, subs_in, placed, bodies_in, over_units, main_of}
-use Rattle.scope_laws.proofs.Lists.{and_second}
+use Rattle.order_laws.proofs.ScopeLaws.Lists.{and_second}
 use Rattle.order_laws.specs.ReadyLaws.InOrder.{IsSub}
 use Rattle.order_laws.specs.Written.{is_procedure}
 use Rattle.order_laws.proofs.Parts.{either, same_number, number_here, number_later}

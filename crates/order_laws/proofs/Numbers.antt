@@ -21,7 +21,7 @@ use Rattle.typed_tree.specs.Expressions.{Site, object_number, typed_expression}
 use Rattle.typed_tree.specs.Statements.{scope_count, statements, typed_object, typed_call, call_of, predefined_call, typed_range, typed_choices, typed_body}
 use Rattle.typed_tree.specs.Programs.{DeclaredObject, Home, objects_in, object_of, formals_of, formal_numbers}
 use Rattle.flow_paths.specs.Laid.{declared_within}
-use Rattle.scope_laws.proofs.Lists.{and_first, and_second}
+use Rattle.order_laws.proofs.ScopeLaws.Lists.{and_first, and_second}
 use Rattle.order_laws.specs.Written.{is_declaration, are_declarations, are_statements, is_statement, are_branches, is_branch, are_alternatives, is_alternative}
 
 -- ---- the numbers of declarations

@@ -8,7 +8,7 @@ use Rattle.spark_base.proofs.Lists.{Has-map, Has-map_from}
 use Rattle.typed_tree.specs.declared.object.Object.{Object}
 use Rattle.typed_tree.specs.Expressions.{Site, object_number}
 use Rattle.typed_tree.specs.Programs.{DeclaredObject, text_io}
-use Rattle.scope_laws.specs.Code.{Once}
+use Rattle.order_laws.specs.ScopeLaws.Code.{Once}
 use Rattle.order_laws.proofs.Numbers.{numbers}
 
 -- ---- lists of numbers

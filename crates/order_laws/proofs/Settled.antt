@@ -16,7 +16,7 @@ use Rattle.flow_paths.specs.Prep.{Setting, with_held, prep}
 use Rattle.flow_paths.specs.Layout.{Around, within_loop, within_block, with_scope, declared, ending, ends, laid, laid_branches, laid_branch, laid_whens}
 use Rattle.flow_paths.specs.Scopes.{is_temporary, leaves_silently, is_declaration, is_undeclaring, is_settled}
 use Rattle.soundness.specs.Typed.{OwnsByShape}
-use Rattle.scope_laws.proofs.Lists.{and_first, and_second, both_true}
+use Rattle.order_laws.proofs.ScopeLaws.Lists.{and_first, and_second, both_true}
 use Rattle.order_laws.specs.Placed.{is_placed, are_placed_branches, is_placed_branch, are_placed_alternatives, is_placed_alternative, parameters}
 
 -- ---- settled code

@@ -30,8 +30,8 @@ use Rattle.typed_tree.specs.Trees.{TypedTree, typed_list}
 use Rattle.typed_tree.specs.Trees as typed
 use Rattle.typed_tree.specs.Expressions.{Site, object_number, number, value_of_type, designating, element, typed_name, operands, has_name, named_value, arranged, typed_expression, typed_steps, typed_step, typed_actuals, typed_imaged, typed_first, typed_values}
 use Rattle.flow_paths.specs.Objects.{Typing, object_at}
-use Rattle.scope_laws.specs.Code.{roots}
-use Rattle.scope_laws.proofs.Lists.{and_first, and_second, both_true}
+use Rattle.order_laws.specs.ScopeLaws.Code.{roots}
+use Rattle.order_laws.proofs.ScopeLaws.Lists.{and_first, and_second, both_true}
 use Rattle.order_laws.specs.ReadyLaws.InOrder.{own_nothing}
 use Rattle.order_laws.proofs.Mains.{nothing_left, nothing_right, demanded}
 

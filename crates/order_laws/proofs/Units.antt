@@ -15,8 +15,8 @@ use Rattle.typed_tree.specs.Expressions.{Site, object_number}
 use Rattle.flow_paths.specs.Laid.{declared_within}
 use Rattle.typed_tree.specs.Statements.{scope_count, typed_body}
 use Rattle.typed_tree.specs.Programs.{TypedSub, DeclaredObject, Home, objects_in, object_of, formals_of, front_formals, local, in_package, package_text, typed_sub, subs_in, placed, over_units}
-use Rattle.scope_laws.specs.Code as code
-use Rattle.scope_laws.proofs.Lists.{and_first, and_second, all_both}
+use Rattle.order_laws.specs.ScopeLaws.Code as code
+use Rattle.order_laws.proofs.ScopeLaws.Lists.{and_first, and_second, all_both}
 use Rattle.order_laws.specs.Written.{is_declaration, are_declarations, are_statements, is_statement, are_branches, is_branch, are_alternatives, is_alternative, is_body, are_parts, is_procedure, is_unit}
 use Rattle.order_laws.proofs.Numbers.{numbers, body_same, formals_same}
 use Rattle.order_laws.proofs.Parts.{IsPart, part_whole, part_left, part_right}

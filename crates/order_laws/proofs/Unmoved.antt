@@ -28,8 +28,8 @@ use Rattle.typed_tree.specs.Statements.{scope_count, statements, typed_object}
 use Rattle.typed_tree.specs.Programs.{DeclaredObject, Home, objects_in, object_of, formals_of, front_formals, local, in_package, package_text, program_objects, text_io, site_of, placed, elaborated, elaboration, over_units, typed_program}
 use Rattle.flow_paths.specs.Objects.{Typing, object_at}
 use Rattle.flow_paths.specs.Laid.{typing_of}
-use Rattle.scope_laws.specs.Code.{roots}
-use Rattle.scope_laws.proofs.Lists.{and_first, and_second, both_true, all_both}
+use Rattle.order_laws.specs.ScopeLaws.Code.{roots}
+use Rattle.order_laws.proofs.ScopeLaws.Lists.{and_first, and_second, both_true, all_both}
 use Rattle.order_laws.specs.ReadyLaws.InOrder.{own_nothing, names_no_owner}
 use Rattle.order_laws.specs.Written.{is_declaration, are_declarations, is_body, are_parts, is_unit}
 use Rattle.order_laws.proofs.Mains.{nothing_left, nothing_right, demanded}

@@ -33,10 +33,10 @@ use Rattle.flow_paths.specs.Scopes.{is_temporary, is_settled}
 use Rattle.soundness.specs.Typed.{OwnsByShape}
 use Rattle.soundness.specs.Needed.{IsFine, AreFine}
 use Rattle.soundness.proofs.Points.{flow_at}
-use Rattle.scope_laws.specs.Code.{Once, is_formed, body_seen}
-use Rattle.scope_laws.specs.Code as code
-use Rattle.scope_laws.proofs.Lists.{and_first, all_both, all_has}
-use Rattle.scope_laws.proofs.Filled.{temporaries_of, object_before}
+use Rattle.order_laws.specs.ScopeLaws.Code.{Once, is_formed, body_seen}
+use Rattle.order_laws.specs.ScopeLaws.Code as code
+use Rattle.order_laws.proofs.ScopeLaws.Lists.{and_first, all_both, all_has}
+use Rattle.order_laws.proofs.ScopeLaws.Filled.{temporaries_of, object_before}
 use Rattle.order_laws.specs.ReadyLaws.InOrder.{IsBody, names_no_owner, IsInOrder}
 use Rattle.order_laws.proofs.ReadyLaws.Subs.{setting_from}
 use Rattle.order_laws.specs.Written.{are_declarations, are_statements, is_procedure, is_unit}

@@ -9,7 +9,7 @@ use Rattle.type_definitions.specs.Whole.{known_of}
 use Rattle.typed_tree.specs.Programs.{TypedSub, TypedProgram, DeclaredObject, program_objects, site_of, subs_in, over_units, typed_program}
 use Rattle.flow_paths.specs.Objects.{Typing, is_formal, is_package_object}
 use Rattle.flow_paths.specs.Laid.{typing_of}
-use Rattle.scope_laws.specs.Code.{Once, body_seen}
+use Rattle.order_laws.specs.ScopeLaws.Code.{Once, body_seen}
 use Rattle.order_laws.specs.Written.{is_unit}
 
 -- The typed program, its typing, and its subprograms with a body in the text.

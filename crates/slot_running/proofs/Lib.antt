@@ -6,3 +6,5 @@ pub mod Turned
 pub mod Runs
 -- turns one after the other
 pub mod Made
+-- points that take no values and store one word at most
+pub mod Idle

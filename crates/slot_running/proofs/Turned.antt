@@ -97,12 +97,6 @@ module _ {R : Type 0} (Means : R → Heap → Type 0) (codes : Codes) (table : T
         lent = is.lent;
       }
 
-      turn_is : (m : Kept R) (new : Parts R) (over : Option Over) → m ≡ taken → IsPointTurn Means codes table point over (record old { memory = m }) new
+      pub turn_is : (m : Kept R) (new : Parts R) (over : Option Over) → m ≡ taken → IsPointTurn Means codes table point over (record old { memory = m }) new
           → IsTurn Means codes table over old new
       turn_is m new over same is = turn_here new over (subst (λ m. IsPointTurn Means codes table point over (record old { memory = m }) new) same is)
-
-      -- Where a turn is made.
-      pub turn_from : {E : Type 0} (m : Kept R) (new : Parts R) → m ≡ taken → (r : Result (Option Over) E)
-          → IfOk r (λ over. IsPointTurn Means codes table point over (record old { memory = m }) new) → IfOk r (λ over. IsTurn Means codes table over old new)
-      turn_from m new same (Ok over) is = turn_is m new over same is
-      turn_from m new same (Err e) is = tt

@@ -8,6 +8,7 @@
 //! made count as freed.
 #![tactic(auto)]
 
+mod free;
 mod run;
 mod turns;
 

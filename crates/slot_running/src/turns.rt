@@ -1,34 +1,22 @@
 //! The next step of a run.
-ghost use Rattle.std.specs.Prelude.{◌≡◌, ◌≢◌, ◌<◌, slice_get, Some, None, IfOk, IsTrue};
-ghost use Rattle.code_rows.specs.Points.{program_of, point_of, is_point_there, IsWhole};
+ghost use Rattle.std.specs.Prelude.{◌≡◌, ◌≢◌, ◌<◌, None, IfOk};
+ghost use Rattle.code_rows.specs.Points.{IsWhole};
 ghost use Rattle.code_rows.specs.declared.stop.Stop.TheVariants as stop;
 ghost use Rattle.slot_memory.specs.Memory.{IsKnown};
 ghost use Rattle.slot_memory.specs.Given.{CanGive};
-ghost use Rattle.slot_entries.specs.Entries.{stacked_words};
-ghost use Rattle.slot_goings.specs.Groups.{group_of};
 ghost use Rattle.slot_steps.specs.slot_parts.Stages.{IsAt};
-ghost use Rattle.slot_running.specs.Runs.{AreKept, CanTurn, CanTurns, IsTurn, AreTurns};
+ghost use Rattle.slot_running.specs.Runs.{AreKept, CanTurns, AreTurns};
 ghost use Rattle.slot_running.specs.Points.{IsHalted, IsPointTurn};
 
+use crate::free::{Free, free_point};
 use code_rows::{Codes, Point};
 use run_results::Ending;
-use slot_goings::{Group, grouped};
 use slot_heap::Store;
-use slot_steps::{Parts, Passing, step_point, step_words};
+use slot_steps::{Parts, Passing, step_point};
 use slot_turns::{Halt, Over, point_at, stopped, take};
 use spark_base::Pos;
 use std::alloc::{AllocError, Global};
 use type_table::TypeTable;
-
-/// Whether a point stores one word at most.
-fn stores_words(point: &Point) -> bool
-    ensures { IsTrue result → group_of point.now.does ≡ Group.Words }
-{
-    match grouped(point.does) {
-        Group::Words => true,
-        _ => false,
-    }
-}
 
 /// The run is over after the end of the main procedure.
 pub(crate) fn ended<R: Store>(parts: &Parts<R>) -> Over
@@ -64,6 +52,7 @@ fn halted<R: Store>(
 }
 
 /// The step of a point.
+#[inline(never)]
 fn turn_point<R: Store>(
     alloc: Global,
     codes: &Codes,
@@ -85,74 +74,9 @@ fn turn_point<R: Store>(
     }
 }
 
-/// The step of a point that stores one word at most.
-#[inline(always)]
-fn words_point<R: Store>(
-    codes: &Codes,
-    table: &TypeTable,
-    parts: &mut Parts<R>,
-    point: &Point,
-    k: usize,
-) -> Result<Option<Over>, AllocError>
-    requires at { IsAt R.Means codes.now table.now point.now k parts.old }
-    requires group { group_of point.now.does ≡ Group.Words }
-    ensures { IfOk result (λ over. IsPointTurn R.Means codes.now table.now point.now over parts.old parts.new) }
-{
-    let made = parts.memory.made();
-    let freed = parts.memory.freed_with(made);
-    match step_words(codes, table, parts, point, k) {
-        Ok(()) => Ok(None),
-        Err(halt) => Ok(Some(halted(parts, halt, point.pos, made, freed)?)),
-    }
-}
-
-/// The next step, at a point. Where it can't be made for want of memory, nothing is told.
-#[inline(never)]
-fn turn<R: Store>(
-    alloc: Global,
-    codes: &Codes,
-    table: &TypeTable,
-    parts: &mut Parts<R>,
-    passing: &mut Passing,
-    point: &Point,
-) -> Result<Option<Over>, AllocError>
-    requires whole { IsWhole codes.now }
-    requires words { parts.old.words ≡ stacked_words parts.old.frames }
-    requires can { CanTurn R.Means codes.now table.now parts.old }
-    requires there { slice_get (program_of codes.now).points parts.old.frames.frame.next ≡ Some (point_of codes.now point.now) }
-    requires sound { IsTrue (is_point_there codes.now point.now) }
-    ensures { IfOk result (λ over. IsTurn R.Means codes.now table.now over parts.old parts.new) }
-{
-    match take(codes, &mut parts.memory, &parts.frames, point.takes) {
-        Some(k) => turn_point(alloc, codes, table, parts, passing, point, k),
-        None => Err(AllocError),
-    }
-}
-
-/// The next step, at a point that stores one word at most.
-#[inline(always)]
-fn words_turn<R: Store>(
-    codes: &Codes,
-    table: &TypeTable,
-    parts: &mut Parts<R>,
-    point: &Point,
-) -> Result<Option<Over>, AllocError>
-    requires whole { IsWhole codes.now }
-    requires words { parts.old.words ≡ stacked_words parts.old.frames }
-    requires can { CanTurn R.Means codes.now table.now parts.old }
-    requires there { slice_get (program_of codes.now).points parts.old.frames.frame.next ≡ Some (point_of codes.now point.now) }
-    requires sound { IsTrue (is_point_there codes.now point.now) }
-    requires group { group_of point.now.does ≡ Group.Words }
-    ensures { IfOk result (λ over. IsTurn R.Means codes.now table.now over parts.old parts.new) }
-{
-    match take(codes, &mut parts.memory, &parts.frames, point.takes) {
-        Some(k) => words_point(codes, table, parts, point, k),
-        None => Err(AllocError),
-    }
-}
-
-/// Makes at most so many steps, but at least one: those of points that store one word at most, and one
-/// of another point.
+/// Makes at most so many steps, but at least one: those of points that take no values and store one
+/// word at most, and one of another point or one that raises. Where a step can't be made for want of
+/// memory, nothing is told.
 pub(crate) fn turns<R: Store>(
     alloc: Global,
     codes: &Codes,
@@ -170,13 +94,16 @@ pub(crate) fn turns<R: Store>(
     let mut made = 0u64;
     'steps: while made < limit {
         let point = point_at(codes, parts.frames.frame().next);
-        if !stores_words(point) {
-            let over = turn(alloc, codes, table, parts, passing, point)?;
-            return Ok((made + 1, over));
-        }
-        match words_turn(codes, table, parts, point)? {
-            Some(over) => return Ok((made + 1, Some(over))),
-            None => made += 1,
+        let Some(k) = take(codes, &mut parts.memory, &parts.frames, point.takes) else {
+            return Err(AllocError);
+        };
+        match free_point(codes, table, parts, point, k) {
+            Free::Goes => made += 1,
+            Free::Stays => {
+                let over = turn_point(alloc, codes, table, parts, passing, point, k)?;
+                return Ok((made + 1, over));
+            }
+            Free::Fails => return Err(AllocError),
         }
     }
     Ok((made, None))

@@ -25,3 +25,5 @@ pub mod Fronts
 pub mod Owners
 -- what settled_types proves, in the words of soundness
 pub mod ReadyTypes
+-- files without a fault are typed as the machine asks, and lowered
+pub mod TypedFiles

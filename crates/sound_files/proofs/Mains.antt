@@ -1,5 +1,5 @@
 -- The main procedure of a program without a fault of typing has no formals.
-use Rattle.std.proofs.Common.{◌≡◌, refl, sym, ap, ◌∙◌, subst, inl, inr, ℕ, suc, ◌+◌, Bool, true, false, ◌&&◌, nat_eq, List, [], ◌∷◌, ◌++◌, map, length, get_or, arith, Some, None}
+use Rattle.std.proofs.Common.{◌≡◌, refl, sym, ap, ◌∙◌, subst, inl, inr, ℕ, zero, suc, ◌+◌, Bool, true, false, ◌&&◌, nat_eq, List, [], ◌∷◌, ◌++◌, map, length, get_or, arith, Some, None}
 use Rattle.std.proofs.lemmas.Bool.{false≢true, true≢false}
 use Rattle.std.specs.Prelude.{flat_map}
 use Rattle.std.specs.List.{position_or_len}
@@ -19,7 +19,7 @@ use Rattle.type_definitions.specs.Whole.{outside, known_of, is_formless, type_fa
 use Rattle.typed_tree.specs.Expressions.{Site, object_number}
 use Rattle.typed_tree.specs.Statements.{scope_count}
 use Rattle.typed_tree.specs.Programs.{TypedSub, subs_in, placed, bodies_in, over_units, site_of, formal_numbers, front_formals, typed_program}
-use Rattle.scope_laws.proofs.Lists.{and_first}
+use Rattle.order_laws.proofs.ScopeLaws.Lists.{and_first}
 use Rattle.order_laws.specs.ReadyLaws.InOrder.{IsSub}
 use Rattle.order_laws.specs.Written.{is_procedure, is_unit, are_declarations, are_statements}
 use Rattle.order_laws.specs.Orderly.{typed_of, bodies_of}
@@ -120,18 +120,30 @@ units_aligned s n c (u ∷ us) none =
     aligned_both c.known (bodies_in u) (flat_map bodies_in us) (subs_in s n u) (over_units (subs_in s) (n + scope_count u) us) (code_aligned s n c u (none u (inl refl)))
     (units_aligned s (n + scope_count u) c us (λ v has. none v (inr has)))
 
+abbrev is_zero : ℕ → Bool
+is_zero zero = true
+is_zero (suc n) = false
+
+abbrev below : ℕ → ℕ
+below zero = zero
+below (suc n) = n
+
+abbrev subs_behind : List TypedSub → List TypedSub
+subs_behind [] = []
+subs_behind (x ∷ xs) = xs
+
 first_sub : (s sub : TypedSub) (subs : List TypedSub) → IsSub (s ∷ subs) 0 sub → s ≡ sub
 first_sub s sub subs ([], rest, is, long) = ap (λ subs. get_or subs 0 s) is
-first_sub s sub subs (x ∷ front, rest, is, long) = cc
+first_sub s sub subs (x ∷ front, rest, is, long) = absurd (false≢true (ap is_zero long))
 
 tails : (s x : TypedSub) (xs ys : List TypedSub) → s ∷ xs ≡ x ∷ ys → xs ≡ ys
-tails s x xs ys e = cc
+tails s x xs ys e = ap subs_behind e
 
 less : (a b : ℕ) → suc a ≡ suc b → a ≡ b
-less a b e = cc
+less a b e = ap below e
 
 later_sub : (s sub : TypedSub) (subs : List TypedSub) (k : ℕ) → IsSub (s ∷ subs) (suc k) sub → IsSub subs k sub
-later_sub s sub subs k ([], rest, is, long) = cc
+later_sub s sub subs k ([], rest, is, long) = absurd (true≢false (ap is_zero long))
 later_sub s sub subs k (x ∷ front, rest, is, long) = (front, rest, tails s x subs (front ++ sub ∷ rest) is, less (length front) k long)
 
 suc_is : (n : ℕ) → 1 + n ≡ suc n

@@ -6,3 +6,5 @@ pub mod MeantFiles
 pub mod CalledSubs
 -- what settled_types proves, in the words of soundness
 pub mod ReadyTypes
+-- files without a fault are typed as the machine asks, and lowered
+pub mod TypedFiles

@@ -12,7 +12,7 @@ use Rattle.laid_program.specs.Programs.{program_of as laid_out}
 use Rattle.path_check.specs.declared.accepted.AcceptedProgram.{AcceptedProgram}
 use Rattle.program_check.specs.Sources.{flow_of}
 use Rattle.order_laws.specs.Orderly.{typed_of}
-use Rattle.typed_files.proofs.Main.{parsed_steps}
+use Rattle.sound_files.proofs.TypedFiles.Main.{parsed_steps}
 use Rattle.viewed_facts.proofs.NullPlaces.Typed.{typed_compared}
 use Rattle.run_points.specs.Turns.{HasTypes}
 use Rattle.run_points.specs.Frames.{HasFrames}

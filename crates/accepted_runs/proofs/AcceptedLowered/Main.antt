@@ -5,8 +5,8 @@ use Rattle.ada_tree.specs.declared.unit.SourceUnit.{SourceUnit}
 use Rattle.flow_paths.specs.declared.report.Effects.{Effects}
 use Rattle.program_check.specs.Sources.{flow_of}
 use Rattle.run_codes.specs.Programs.{lowered_program}
-use Rattle.typed_files.specs.LoweredSources.Tokens.{token_count}
-use Rattle.typed_files.proofs.LoweredSources.Main.{parsed_lowered}
+use Rattle.sound_files.specs.TypedFiles.LoweredSources.Tokens.{token_count}
+use Rattle.sound_files.proofs.TypedFiles.LoweredSources.Main.{parsed_lowered}
 use Rattle.accepted_runs.specs.Passed.{Passes}
 use Rattle.accepted_runs.proofs.Parsed.{are_parsed}
 use Rattle.accepted_runs.proofs.AcceptedLowered.Rooms.{texts_short}

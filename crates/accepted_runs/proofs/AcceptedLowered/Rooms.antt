@@ -10,7 +10,7 @@ use Rattle.ada_lexer.specs.Pieces.{first_piece}
 use Rattle.ada_lexer.specs.Positions.{first_position, next_position}
 use Rattle.ada_lexer.specs.Tokens.{Cut, CutResult, then_cut, with_piece, cut_from, tokens}
 use Rattle.source_trees.specs.Cuts.{AllTokens, with_tokens, then_files, all_tokens}
-use Rattle.typed_files.specs.LoweredSources.Tokens.{token_count}
+use Rattle.sound_files.specs.TypedFiles.LoweredSources.Tokens.{token_count}
 
 end_short : (pos : Pos) (room : ℕ) (cuts : List Cut) → cut_from 0 pos 0 [] ≡ Ok cuts → length cuts ≤ suc room
 end_short pos room cuts e = subst (λ (cs : List Cut). length cs ≤ suc room) (same cuts e) (omega arith)

@@ -10,7 +10,7 @@ use Rattle.laid_program.specs.declared.laid.Laid.{Laid}
 use Rattle.laid_program.specs.Programs.{program_of as laid_out}
 use Rattle.program_check.specs.Sources.{flow_of}
 use Rattle.order_laws.specs.Orderly.{typed_of}
-use Rattle.typed_files.proofs.Main.{parsed_steps}
+use Rattle.sound_files.proofs.TypedFiles.Main.{parsed_steps}
 use Rattle.machine.specs.States.{sub_of}
 use Rattle.machine.specs.Run.{Run, run}
 use Rattle.handled_steps.specs.States.{Outcome, Goes, Ends, Wants, Fails}

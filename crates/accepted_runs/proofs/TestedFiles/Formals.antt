@@ -9,7 +9,7 @@ use Rattle.type_definitions.specs.declared.table.Known.{Known}
 use Rattle.typed_tree.specs.Expressions.{Site, object_number}
 use Rattle.typed_tree.specs.Programs.{TypedSub, DeclaredObject, program_objects, site_of, subs_in, over_units, typed_program}
 use Rattle.flow_paths.specs.Laid.{declared_within}
-use Rattle.scope_laws.specs.Code.{Once}
+use Rattle.order_laws.specs.ScopeLaws.Code.{Once}
 use Rattle.order_laws.specs.Written.{is_unit}
 use Rattle.order_laws.proofs.Numbers.{numbers}
 use Rattle.order_laws.proofs.Parts.{number_of, number_here, number_later, IsPart}

@@ -15,7 +15,7 @@ use Rattle.typed_tree.specs.Expressions.{Site, object_number}
 use Rattle.typed_tree.specs.Statements.{scope_count}
 use Rattle.typed_tree.specs.Programs.{TypedSub, DeclaredObject, Home, objects_in, object_of, in_package, package_text, scopes_in, subs_in, placed, over_units}
 use Rattle.flow_paths.specs.Objects.{Typing}
-use Rattle.scope_laws.proofs.Lists.{and_first, and_second}
+use Rattle.order_laws.proofs.ScopeLaws.Lists.{and_first, and_second}
 use Rattle.sound_files.specs.SeenFiles.Fits.{all_numbers, scope_after, unit_scope, Fits, UnitFits, AllFit}
 use Rattle.sound_files.proofs.SeenFiles.Entries.{is_object_entry}
 use Rattle.sound_files.proofs.SeenFiles.Typed.{units_seen}

@@ -77,7 +77,7 @@ use Rattle.sound_files.specs.MeantFiles.Typed.{AreTyped}
 use Rattle.sound_files.proofs.MeantFiles.Main.{files_denote}
 use Rattle.sound_files.proofs.MeantFiles.Main as meant
 use Rattle.sound_files.proofs.MeantFiles.Codes as codes
-use Rattle.scope_laws.proofs.Lists.{and_second}
+use Rattle.order_laws.proofs.ScopeLaws.Lists.{and_second}
 use Rattle.sound_files.proofs.Laws.{table_laws, files_declared, integers_scalar, truths_scalar}
 use Rattle.sound_files.proofs.Called.{files_bodies}
 use Rattle.sound_files.proofs.Mains.{main_formless}
@@ -86,10 +86,10 @@ use Rattle.sound_files.proofs.Shared.{functions_see, formals_differ}
 use Rattle.sound_files.proofs.Declared.{declared_known, formals_apart}
 use Rattle.sound_files.proofs.Owners.{modes_there, formals_wide, main_there}
 use Rattle.sound_files.proofs.Classes.{are_answered}
-use Rattle.typed_files.specs.TypedRuns.Code.{IsTypedUse}
-use Rattle.typed_files.proofs.TypedRuns.Results.{results_there}
+use Rattle.sound_files.specs.TypedFiles.TypedRuns.Code.{IsTypedUse}
+use Rattle.sound_files.proofs.TypedFiles.TypedRuns.Results.{results_there}
 use Rattle.soundness.proofs.ViewedSoundness.Outcomes.{named_plain}
-use Rattle.typed_files.proofs.Main.{files_code, files_fine, files_steps, files_used, files_firsts, files_first}
+use Rattle.sound_files.proofs.TypedFiles.Main.{files_code, files_fine, files_steps, files_used, files_firsts, files_first}
 use Rattle.sound_files.proofs.Main.{files_orderly}
 use Rattle.viewed_steps.specs.Ready.{IsReady}
 use Rattle.viewed_steps.proofs.Main.{ready_sound}

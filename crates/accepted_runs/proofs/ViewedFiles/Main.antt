@@ -28,11 +28,11 @@ use Rattle.flow_paths.specs.Laid.{declared_within}
 use Rattle.flow_paths.specs.Layout.{declared}
 use Rattle.flow_paths.specs.Scopes.{is_within}
 use Rattle.flow_paths.specs.Views.{encloses, scope_of}
-use Rattle.scope_laws.specs.Code.{Once, roots, are_seen, is_seen, body_seen}
-use Rattle.scope_laws.proofs.Lists.{and_first, and_second, both_true, all_both, all_has, has_reverse, within_has}
+use Rattle.order_laws.specs.ScopeLaws.Code.{Once, roots, are_seen, is_seen, body_seen}
+use Rattle.order_laws.proofs.ScopeLaws.Lists.{and_first, and_second, both_true, all_both, all_has, has_reverse, within_has}
 use Rattle.typed_laws.specs.Fine.{Laws}
 use Rattle.typed_laws.specs.TypedPoints.Meant.{AreMeantUnits}
-use Rattle.scope_laws.specs.LayeredScopes.Layered.{is_older, are_of_scope, are_apart, is_layered, is_body_layered}
+use Rattle.order_laws.specs.ScopeLaws.LayeredScopes.Layered.{is_older, are_of_scope, are_apart, is_layered, is_body_layered}
 use Rattle.order_laws.specs.Orderly.{typed_of, typing_in, bodies_of}
 use Rattle.order_laws.specs.Written.{is_unit}
 use Rattle.order_laws.proofs.Bodies.{IsDeclare}

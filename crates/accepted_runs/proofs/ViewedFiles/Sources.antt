@@ -52,7 +52,7 @@ use Rattle.typed_laws.specs.TypedPoints.Meant.{AreDeclared, AreNumbers, IsMeantO
 use Rattle.typed_laws.proofs.TypedPoints.Flags.{flagged, reading_same}
 use Rattle.sound_files.specs.SeenFiles.Uses.{Uses}
 use Rattle.sound_files.specs.MeantFiles.Typed.{AreIndicated, AreOf, IsGroupTyped, AreGroupsTyped, IsFrontTyped, AreIntegers}
-use Rattle.scope_laws.proofs.Lists.{all_both, and_first, and_second}
+use Rattle.order_laws.proofs.ScopeLaws.Lists.{all_both, and_first, and_second}
 use Rattle.accepted_runs.specs.ViewedFiles.ViewLaws.InOrder.{gives_view, is_name_of, is_one_name_of, is_any, stores_name}
 use Rattle.accepted_runs.specs.ViewedFiles.Sources.{has_source, all_fit}
 

@@ -29,13 +29,13 @@ use Rattle.machine.specs.Owners.{is_in, is_in_formal}
 use Rattle.soundness.specs.Sound.{Accepted}
 use Rattle.soundness.proofs.Points.{flow_at}
 use Rattle.soundness.proofs.Typings.{Agree, flow_agrees, formal_same}
-use Rattle.scope_laws.proofs.Begun.{Begins, sub_begun, package_begun}
-use Rattle.scope_laws.specs.Code.{roots}
-use Rattle.scope_laws.specs.Order.{named_in}
-use Rattle.scope_laws.specs.Supplied.{IsKept}
-use Rattle.scope_laws.proofs.Kept.{sub_kept}
-use Rattle.scope_laws.proofs.Filled.{temporaries_of, object_before}
-use Rattle.scope_laws.proofs.Lists.{all_has, within_has}
+use Rattle.order_laws.proofs.ScopeLaws.Begun.{Begins, sub_begun, package_begun}
+use Rattle.order_laws.specs.ScopeLaws.Code.{roots}
+use Rattle.order_laws.specs.ScopeLaws.Order.{named_in}
+use Rattle.order_laws.specs.ScopeLaws.Supplied.{IsKept}
+use Rattle.order_laws.proofs.ScopeLaws.Kept.{sub_kept}
+use Rattle.order_laws.proofs.ScopeLaws.Filled.{temporaries_of, object_before}
+use Rattle.order_laws.proofs.ScopeLaws.Lists.{all_has, within_has}
 use Rattle.order_laws.specs.ReadyLaws.InOrder.{IsInOrder, AreStill, own_nothing}
 use Rattle.order_laws.proofs.ReadyLaws.Elaborated.{package_declares}
 use Rattle.order_laws.proofs.ReadyLaws.Ready.{seen_has}

@@ -14,7 +14,7 @@ use Rattle.typed_laws.specs.Fine.{Has, Leads}
 use Rattle.typed_laws.proofs.Sound.{matches}
 use Rattle.typed_laws.proofs.Agreeing.{agree_access}
 use Rattle.typed_laws.specs.TypedSteps.Steps.{Taken, ActualsTaken, IsCall}
-use Rattle.typed_files.specs.TypedRuns.Code.{IsName, NamesFirst, ArePassed, WithinSource, IsViewSource, IsTypedUse}
+use Rattle.sound_files.specs.TypedFiles.TypedRuns.Code.{IsName, NamesFirst, ArePassed, WithinSource, IsViewSource, IsTypedUse}
 use Rattle.soundness.specs.ViewedSoundness.Holds.{IsNamed, PartsAreNamed}
 use Rattle.viewed_steps.specs.Traversals.{GivesView, IsSourceName}
 

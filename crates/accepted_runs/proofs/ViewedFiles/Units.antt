@@ -19,7 +19,7 @@ use Rattle.flow_paths.specs.Objects.{Typing, Signature}
 use Rattle.typed_laws.specs.Fine.{Laws}
 use Rattle.typed_laws.proofs.Agreeing.{nil_left, nil_right}
 use Rattle.typed_laws.specs.TypedPoints.Meant.{IsMeantCode, AreMeantBodies, AreMeantObjects}
-use Rattle.scope_laws.proofs.Lists.{and_first, and_second, all_both}
+use Rattle.order_laws.proofs.ScopeLaws.Lists.{and_first, and_second, all_both}
 use Rattle.order_laws.specs.Written.{is_declaration, are_declarations, are_statements, is_body, are_parts, is_procedure, is_unit}
 use Rattle.sound_files.specs.MeantFiles.Denoted.{AreDenoted}
 use Rattle.sound_files.specs.MeantFiles.Typed.{AreTyped}

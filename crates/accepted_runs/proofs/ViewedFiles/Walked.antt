@@ -28,7 +28,7 @@ use Rattle.typed_laws.proofs.Agreeing.{nil_left, nil_right}
 use Rattle.typed_laws.specs.TypedPoints.Meant.{IsMeantCode, AreAlternatives}
 use Rattle.typed_laws.proofs.TypedPoints.Flags.{flagged}
 use Rattle.typed_laws.proofs.TypedPoints.Statements.{parameter_scalar}
-use Rattle.scope_laws.proofs.Lists.{and_first, and_second, both_true, all_both}
+use Rattle.order_laws.proofs.ScopeLaws.Lists.{and_first, and_second, both_true, all_both}
 use Rattle.order_laws.specs.Written.{is_declaration, are_declarations, are_statements, is_statement, are_branches, is_branch, are_alternatives, is_alternative}
 use Rattle.sound_files.specs.MeantFiles.Denoted.{AreDenoted}
 use Rattle.sound_files.specs.MeantFiles.Typed.{AreTyped}

@@ -5,7 +5,7 @@ use Rattle.resolved_tree.specs.Trees.{Code, SubBody}
 use Rattle.typed_tree.specs.Expressions.{Site}
 use Rattle.typed_tree.specs.Programs.{TypedSub, Home, objects_in, scopes_in, typed_sub}
 use Rattle.flow_paths.specs.Objects.{Typing}
-use Rattle.scope_laws.specs.Code.{body_seen}
+use Rattle.order_laws.specs.ScopeLaws.Code.{body_seen}
 use Rattle.order_laws.specs.Written.{are_declarations, are_statements}
 use Rattle.accepted_runs.specs.ViewedFiles.Places.{AreAt, AreAround}
 

@@ -11,7 +11,7 @@ use Rattle.flow_paths.specs.Points.{Place, PointName, row_at, NamedPoint, point,
 use Rattle.flow_paths.specs.Prep.{Setting, with_held, prep}
 use Rattle.flow_paths.specs.Layout.{Around, with_scope, declared, laid}
 use Rattle.flow_paths.specs.Laid.{around_body, elaboration_points}
-use Rattle.scope_laws.proofs.Lists.{and_first, and_second, all_both, all_one}
+use Rattle.order_laws.proofs.ScopeLaws.Lists.{and_first, and_second, all_both, all_one}
 use Rattle.order_laws.specs.ReadyLaws.InOrder.{declares_only}
 use Rattle.order_laws.specs.PackageValues.Calls.{calls_nothing}
 

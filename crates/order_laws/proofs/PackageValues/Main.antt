@@ -7,7 +7,7 @@ use Rattle.typed_tree.specs.Programs.{TypedSub, elaborated, over_units, site_of,
 use Rattle.flow_paths.specs.Points.{NamedPoint}
 use Rattle.flow_paths.specs.Laid.{unnumbered, elaboration_points, typing_of}
 use Rattle.soundness.specs.Sound.{calls_procedures}
-use Rattle.scope_laws.proofs.Lists.{all_has}
+use Rattle.order_laws.proofs.ScopeLaws.Lists.{all_has}
 use Rattle.order_laws.specs.ReadyLaws.InOrder.{declares_only, AreStill}
 use Rattle.order_laws.specs.Written.{is_unit}
 use Rattle.order_laws.specs.Orderly.{typed_of}

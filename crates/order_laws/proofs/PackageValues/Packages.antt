@@ -23,7 +23,7 @@ use Rattle.typed_tree.specs.Expressions.{Site, typed_expression, typed_optional}
 use Rattle.typed_tree.specs.Statements.{scope_count, statements, typed_object}
 use Rattle.typed_tree.specs.Programs.{site_of, placed, elaborated, elaboration, over_units}
 use Rattle.flow_paths.specs.Names.{has_call}
-use Rattle.scope_laws.proofs.Lists.{and_first, and_second, both_true, all_both}
+use Rattle.order_laws.proofs.ScopeLaws.Lists.{and_first, and_second, both_true, all_both}
 use Rattle.order_laws.specs.Written.{is_declaration, are_declarations, is_body, are_parts, is_unit}
 use Rattle.order_laws.proofs.Mains.{nothing_left, nothing_right, demanded}
 use Rattle.order_laws.specs.PackageValues.Calls.{calls_nothing}

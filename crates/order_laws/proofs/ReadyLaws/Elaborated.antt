@@ -15,8 +15,8 @@ use Rattle.flow_paths.specs.Prep.{Setting, with_held, prep}
 use Rattle.flow_paths.specs.Layout.{Around, with_scope, declared, laid}
 use Rattle.flow_paths.specs.Laid.{around_body, elaboration_points}
 use Rattle.soundness.specs.Sound.{calls_procedures}
-use Rattle.scope_laws.specs.Code.{roots}
-use Rattle.scope_laws.proofs.Lists.{and_first, and_second, all_both, all_one, all_if, all_has}
+use Rattle.order_laws.specs.ScopeLaws.Code.{roots}
+use Rattle.order_laws.proofs.ScopeLaws.Lists.{and_first, and_second, all_both, all_one, all_if, all_has}
 use Rattle.order_laws.specs.ReadyLaws.InOrder.{declares_only, own_nothing, names_no_owner}
 
 -- ---- before a use

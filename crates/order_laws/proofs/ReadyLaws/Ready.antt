@@ -26,19 +26,19 @@ use Rattle.soundness.specs.Sound.{Accepted, IsNamedSub, IsProcedure, calls_proce
 use Rattle.soundness.specs.Ready.{root_of, stored_at, AreScoped, Fills, IsSupplied, AreReturning}
 use Rattle.soundness.proofs.Points.{IsLaid, flow_at, sub_there, named_has}
 use Rattle.soundness.proofs.Typings.{Agree, flow_agrees, package_same, formal_same}
-use Rattle.scope_laws.specs.Code.{objects_of, roots, are_seen}
-use Rattle.scope_laws.specs.Order.{IsCounted, IsOrdered, named_in, IsSeen}
-use Rattle.scope_laws.specs.Returning.{IsClosing}
-use Rattle.scope_laws.proofs.Lists.{and_first, and_second, all_has, has_reverse, within_has}
-use Rattle.scope_laws.proofs.Successors.{sub_counted, has_first}
-use Rattle.scope_laws.proofs.Ordered.{sub_ordered, package_ordered}
-use Rattle.scope_laws.specs.Supplied.{IsLeft, FillsOne, IsFilling, StartsWithNone}
-use Rattle.scope_laws.specs.Supplied as scope
-use Rattle.scope_laws.proofs.Seen.{sub_seen}
-use Rattle.scope_laws.proofs.Left.{sub_left}
-use Rattle.scope_laws.proofs.Filled.{temporaries_of}
-use Rattle.scope_laws.proofs.Temporaries.{named_supplied, named_goes}
-use Rattle.scope_laws.proofs.Returning.{function_stands, function_zero}
+use Rattle.order_laws.specs.ScopeLaws.Code.{objects_of, roots, are_seen}
+use Rattle.order_laws.specs.ScopeLaws.Order.{IsCounted, IsOrdered, named_in, IsSeen}
+use Rattle.order_laws.specs.ScopeLaws.Returning.{IsClosing}
+use Rattle.order_laws.proofs.ScopeLaws.Lists.{and_first, and_second, all_has, has_reverse, within_has}
+use Rattle.order_laws.proofs.ScopeLaws.Successors.{sub_counted, has_first}
+use Rattle.order_laws.proofs.ScopeLaws.Ordered.{sub_ordered, package_ordered}
+use Rattle.order_laws.specs.ScopeLaws.Supplied.{IsLeft, FillsOne, IsFilling, StartsWithNone}
+use Rattle.order_laws.specs.ScopeLaws.Supplied as scope
+use Rattle.order_laws.proofs.ScopeLaws.Seen.{sub_seen}
+use Rattle.order_laws.proofs.ScopeLaws.Left.{sub_left}
+use Rattle.order_laws.proofs.ScopeLaws.Filled.{temporaries_of}
+use Rattle.order_laws.proofs.ScopeLaws.Temporaries.{named_supplied, named_goes}
+use Rattle.order_laws.proofs.ScopeLaws.Returning.{function_stands, function_zero}
 use Rattle.order_laws.specs.ReadyLaws.InOrder.{IsSub, IsInOrder, AreAnswered, AreStill, ArePassed}
 use Rattle.order_laws.proofs.ReadyLaws.Returned.{valued, returned_once, closing_after}
 use Rattle.order_laws.proofs.ReadyLaws.Elaborated.{Declares, package_declares}

@@ -20,8 +20,8 @@ use Rattle.machine.specs.Run.{no_point}
 use Rattle.soundness.specs.Needed.{IsFine}
 use Rattle.soundness.specs.Sound.{IsAtPoint, returns_value, has_returned}
 use Rattle.soundness.proofs.Points.{IsLaid, flow_at, point_has, point_there, path_there}
-use Rattle.scope_laws.specs.Returning.{is_return, is_finish, IsClosing, IsReturned, IsOpen, Stands, StartsAtZero, returns, closes, goes}
-use Rattle.scope_laws.proofs.Lists.{all_has}
+use Rattle.order_laws.specs.ScopeLaws.Returning.{is_return, is_finish, IsClosing, IsReturned, IsOpen, Stands, StartsAtZero, returns, closes, goes}
+use Rattle.order_laws.proofs.ScopeLaws.Lists.{all_has}
 
 -- ---- the number of a name
 

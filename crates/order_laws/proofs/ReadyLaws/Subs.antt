@@ -8,8 +8,8 @@ use Rattle.flow_paths.specs.Objects.{Typing}
 use Rattle.flow_paths.specs.Prep.{Setting}
 use Rattle.flow_paths.specs.Laid.{NamedSub, numbers_from, sub_temporaries, named_sub, named_subs, elaborated, all_named}
 use Rattle.soundness.specs.Sound.{IsNamedSub}
-use Rattle.scope_laws.specs.Code.{Once, objects_of}
-use Rattle.scope_laws.proofs.Lists.{once_right, once_apart}
+use Rattle.order_laws.specs.ScopeLaws.Code.{Once, objects_of}
+use Rattle.order_laws.proofs.ScopeLaws.Lists.{once_right, once_apart}
 use Rattle.order_laws.specs.ReadyLaws.InOrder.{IsSub}
 
 -- The temporaries of a subprogram, from a number on.

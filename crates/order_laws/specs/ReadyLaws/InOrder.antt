@@ -15,7 +15,7 @@ use Rattle.flow_paths.specs.Scopes.{is_settled, is_temporary}
 use Rattle.machine.specs.States.{sub_of}
 use Rattle.soundness.specs.Sound.{calls_procedures}
 use Rattle.soundness.specs.Ready.{AreActuals}
-use Rattle.scope_laws.specs.Code.{is_formed, Once, objects_of, roots, body_seen}
+use Rattle.order_laws.specs.ScopeLaws.Code.{is_formed, Once, objects_of, roots, body_seen}
 
 -- ---- the package objects
 

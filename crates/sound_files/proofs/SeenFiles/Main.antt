@@ -11,7 +11,7 @@ use Rattle.type_definitions.specs.Whole.{known_of}
 use Rattle.typed_tree.specs.Programs.{TypedSub, DeclaredObject, program_objects, site_of, elaboration}
 use Rattle.flow_paths.specs.Objects.{is_package_object}
 use Rattle.settled_types.specs.FilePositions.Order.{Ascends, event_positions}
-use Rattle.scope_laws.specs.Code.{Once, body_seen}
+use Rattle.order_laws.specs.ScopeLaws.Code.{Once, body_seen}
 use Rattle.order_laws.specs.Orderly.{typing_in, bodies_of}
 use Rattle.sound_files.specs.SeenFiles.Fits.{AllFit}
 use Rattle.sound_files.specs.SeenFiles.Reached.{IsObjectIn}

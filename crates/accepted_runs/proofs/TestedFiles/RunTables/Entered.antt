@@ -12,9 +12,9 @@ use Rattle.typed_tree.specs.Expressions.{Site}
 use Rattle.typed_tree.specs.Programs.{TypedSub, TypedProgram, DeclaredObject, program_objects, text_io, site_of, subs_in, elaboration, over_units, typed_program}
 use Rattle.flow_paths.specs.Objects.{Typing, is_package_object, is_state}
 use Rattle.flow_paths.specs.Laid.{typing_of, declared_within}
-use Rattle.scope_laws.specs.Code.{Once}
-use Rattle.scope_laws.specs.Code as code
-use Rattle.scope_laws.proofs.Lists.{all_has}
+use Rattle.order_laws.specs.ScopeLaws.Code.{Once}
+use Rattle.order_laws.specs.ScopeLaws.Code as code
+use Rattle.order_laws.proofs.ScopeLaws.Lists.{all_has}
 use Rattle.order_laws.specs.ReadyLaws.InOrder.{IsSub}
 use Rattle.order_laws.specs.Written.{is_unit}
 use Rattle.order_laws.proofs.Mains.{main_unit, main_at}

@@ -41,8 +41,8 @@ use Rattle.accepted_runs.specs.ViewedFiles.ViewLaws.Program.{IsPassedTo, ArePass
 use Rattle.viewed_steps.proofs.Read.{scalar_named}
 use Rattle.viewed_steps.proofs.Called.{way_to}
 use Rattle.viewed_steps.proofs.Views.{given_formal}
-use Rattle.scope_laws.specs.Code.{roots}
-use Rattle.scope_laws.specs.Order.{named_in}
+use Rattle.order_laws.specs.ScopeLaws.Code.{roots}
+use Rattle.order_laws.specs.ScopeLaws.Order.{named_in}
 use Rattle.accepted_runs.specs.ViewedFiles.ViewLaws.InOrder.{is_call, IsTraversed, NamesSource}
 
 -- ---- types

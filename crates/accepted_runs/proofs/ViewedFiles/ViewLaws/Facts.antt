@@ -38,7 +38,7 @@ use Rattle.soundness.proofs.Waited.{within_left}
 use Rattle.soundness.proofs.Passing.{signature_there}
 use Rattle.soundness.proofs.Used.{called_add_none}
 use Rattle.soundness.proofs.Waits.{drop_none}
-use Rattle.scope_laws.specs.Order.{IsOrdered, named_in}
+use Rattle.order_laws.specs.ScopeLaws.Order.{IsOrdered, named_in}
 use Rattle.soundness.specs.ViewedSoundness.Holds.{PartsAreNamed}
 use Rattle.viewed_steps.specs.Awaited.{is_held}
 use Rattle.viewed_steps.specs.Sound.{IsStoredAt}

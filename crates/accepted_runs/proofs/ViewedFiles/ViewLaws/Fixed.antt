@@ -39,7 +39,7 @@ use Rattle.soundness.specs.Sound.{goes_through_none}
 use Rattle.soundness.specs.ViewedSoundness.Holds.{is_given, is_exclusive, sees_only, is_fixed, KeepsObserved, AllKeep}
 use Rattle.viewed_steps.specs.Seeing.{sees_in}
 use Rattle.viewed_steps.proofs.Sees.{kind_seen}
-use Rattle.scope_laws.specs.Order.{named_in}
+use Rattle.order_laws.specs.ScopeLaws.Order.{named_in}
 use Rattle.accepted_runs.specs.ViewedFiles.ViewLaws.Program.{IsPassedTo, ArePassedTo, IsViewProgram}
 use Rattle.accepted_runs.proofs.ViewedFiles.ViewLaws.Calls.{IsPlainCall, IsThroughCall}
 use Rattle.viewed_steps.proofs.Followed.{is_traversing}

@@ -18,9 +18,9 @@ use Rattle.soundness.specs.Typed.{OwnsByShape}
 use Rattle.soundness.specs.Sound.{Accepted, IsNamedSub, IsRunnable}
 use Rattle.soundness.proofs.Points.{sub_there}
 use Rattle.soundness.proofs.Typings.{Agree, flow_agrees, package_same, formal_object}
-use Rattle.scope_laws.specs.Code.{objects_of}
-use Rattle.scope_laws.specs.Order.{named_in}
-use Rattle.scope_laws.proofs.Lists.{has_reverse, within_has, once_left}
+use Rattle.order_laws.specs.ScopeLaws.Code.{objects_of}
+use Rattle.order_laws.specs.ScopeLaws.Order.{named_in}
+use Rattle.order_laws.proofs.ScopeLaws.Lists.{has_reverse, within_has, once_left}
 use Rattle.order_laws.specs.ReadyLaws.InOrder.{IsSub, IsInOrder, AreAnswered, AreStill}
 use Rattle.order_laws.specs.ReadyLaws.InOrder as in_order
 use Rattle.order_laws.proofs.ReadyLaws.Subs.{setting_from, body_at, one_named}

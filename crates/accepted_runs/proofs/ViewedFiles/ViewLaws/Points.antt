@@ -35,12 +35,12 @@ use Rattle.soundness.proofs.Waits.{drop_none}
 use Rattle.typed_laws.specs.Needed.{Leads, FirstSource, IsFine}
 use Rattle.machine.specs.Owners.{is_in, is_in_formal}
 use Rattle.soundness.specs.Seen.{is_view_formal}
-use Rattle.scope_laws.proofs.Begun.{Begins, sub_begun, package_begun}
-use Rattle.scope_laws.specs.Order.{named_in}
-use Rattle.scope_laws.specs.Code.{roots}
-use Rattle.scope_laws.proofs.Lists.{all_has, within_has, and_first, and_second}
-use Rattle.scope_laws.specs.LayeredScopes.Layered.{is_older}
-use Rattle.scope_laws.specs.LayeredScopes.Points.{GoesOn, AreFading}
+use Rattle.order_laws.proofs.ScopeLaws.Begun.{Begins, sub_begun, package_begun}
+use Rattle.order_laws.specs.ScopeLaws.Order.{named_in}
+use Rattle.order_laws.specs.ScopeLaws.Code.{roots}
+use Rattle.order_laws.proofs.ScopeLaws.Lists.{all_has, within_has, and_first, and_second}
+use Rattle.order_laws.specs.ScopeLaws.LayeredScopes.Layered.{is_older}
+use Rattle.order_laws.specs.ScopeLaws.LayeredScopes.Points.{GoesOn, AreFading}
 use Rattle.order_laws.proofs.ReadyLaws.Ready.{seen_has}
 use Rattle.order_laws.proofs.ReadyLaws.Subs.{setting_from}
 use Rattle.viewed_steps.specs.Traversals.{GivesView, IsSourceName}

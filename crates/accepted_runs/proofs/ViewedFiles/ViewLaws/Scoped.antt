@@ -43,17 +43,17 @@ use Rattle.soundness.proofs.Points.{IsLaid, flow_at}
 use Rattle.soundness.proofs.Typings.{Agree, flow_agrees, instruction_same, package_same}
 use Rattle.soundness.proofs.Contents.{bool_cases}
 use Rattle.soundness.proofs.Passing.{signature_there, signature_is as signature_of}
-use Rattle.scope_laws.specs.Alone.{GivesScalar, GivesOwnless, GivesNamed, GivesSeen}
-use Rattle.scope_laws.proofs.Followed.{IsFollowed, sub_followed}
-use Rattle.scope_laws.proofs.Given.{Takes, sub_given}
-use Rattle.scope_laws.specs.Code.{roots, objects_of}
-use Rattle.scope_laws.specs.Order.{named_in, IsSeen}
-use Rattle.scope_laws.specs.Supplied.{IsLeft}
-use Rattle.scope_laws.proofs.Lists.{and_second, all_has, has_reverse}
-use Rattle.scope_laws.proofs.Filled.{temporaries_of, object_before}
-use Rattle.scope_laws.specs.LayeredScopes.Layered.{is_older}
-use Rattle.scope_laws.specs.LayeredScopes.Points.{IsAbove, AreFading}
-use Rattle.scope_laws.proofs.LayeredScopes.Layered.{sub_good}
+use Rattle.order_laws.specs.ScopeLaws.Alone.{GivesScalar, GivesOwnless, GivesNamed, GivesSeen}
+use Rattle.order_laws.proofs.ScopeLaws.Followed.{IsFollowed, sub_followed}
+use Rattle.order_laws.proofs.ScopeLaws.Given.{Takes, sub_given}
+use Rattle.order_laws.specs.ScopeLaws.Code.{roots, objects_of}
+use Rattle.order_laws.specs.ScopeLaws.Order.{named_in, IsSeen}
+use Rattle.order_laws.specs.ScopeLaws.Supplied.{IsLeft}
+use Rattle.order_laws.proofs.ScopeLaws.Lists.{and_second, all_has, has_reverse}
+use Rattle.order_laws.proofs.ScopeLaws.Filled.{temporaries_of, object_before}
+use Rattle.order_laws.specs.ScopeLaws.LayeredScopes.Layered.{is_older}
+use Rattle.order_laws.specs.ScopeLaws.LayeredScopes.Points.{IsAbove, AreFading}
+use Rattle.order_laws.proofs.ScopeLaws.LayeredScopes.Layered.{sub_good}
 use Rattle.order_laws.specs.ReadyLaws.InOrder.{names_no_owner}
 use Rattle.order_laws.proofs.ReadyLaws.Elaborated.{Declares, package_declares, owns_none}
 use Rattle.order_laws.proofs.ReadyLaws.Subs.{setting_from, IsOfBody}

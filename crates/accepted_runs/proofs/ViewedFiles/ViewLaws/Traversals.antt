@@ -19,9 +19,9 @@ use Rattle.machine.specs.Owners.{is_in}
 use Rattle.machine.specs.States.{sub_of}
 use Rattle.soundness.specs.Sound.{IsNamedSub, IsAtPoint}
 use Rattle.soundness.proofs.Points.{flow_at, one_point}
-use Rattle.scope_laws.proofs.Followed.{IsFollowed}
-use Rattle.scope_laws.proofs.Given.{Takes}
-use Rattle.scope_laws.proofs.Lists.{and_first}
+use Rattle.order_laws.proofs.ScopeLaws.Followed.{IsFollowed}
+use Rattle.order_laws.proofs.ScopeLaws.Given.{Takes}
+use Rattle.order_laws.proofs.ScopeLaws.Lists.{and_first}
 use Rattle.order_laws.proofs.ReadyLaws.Ready as ordered
 use Rattle.soundness.specs.ViewedSoundness.Holds.{is_given, IsAccess}
 use Rattle.viewed_steps.specs.Traversals.{TraversalCall, call_in, IsSeer, IsViewTaker}

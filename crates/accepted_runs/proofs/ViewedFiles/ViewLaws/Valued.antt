@@ -34,20 +34,20 @@ use Rattle.soundness.proofs.Waits.{no_waits}
 use Rattle.soundness.specs.ViewedSoundness.Taken.{GivesPlainly, type_given, types_taken, AreScalarTypes, TakesFit}
 use Rattle.soundness.proofs.ViewedSoundness.Evaluated.{gives_plainly}
 use Rattle.soundness.proofs.ViewedSoundness.Outcomes.{named_plain}
-use Rattle.scope_laws.specs.Code.{roots}
-use Rattle.scope_laws.specs.Alone.{CallsFit, CallsOnly, PassedFit, SourceFits, InstructionFits, GivesScalar, GivesOwnless, GivesNamed, GivesSeen}
-use Rattle.scope_laws.specs.Fitted.{types, types_at, Pairs, FillsFit, RightFits, IsFitted}
-use Rattle.scope_laws.specs.Supplied.{IsKept}
-use Rattle.scope_laws.specs.Order.{named_in}
-use Rattle.scope_laws.proofs.Lists.{within_has, all_has}
-use Rattle.scope_laws.proofs.Given.{Takes as TakesIt, sub_given}
-use Rattle.scope_laws.proofs.Kept.{sub_kept}
-use Rattle.scope_laws.proofs.Fitted.{sub_fit}
-use Rattle.scope_laws.proofs.Filled.{temporaries_of, object_before}
-use Rattle.scope_laws.proofs.Results.{Gives, filled_typed}
-use Rattle.scope_laws.specs.LayeredScopes.Layered.{is_older}
-use Rattle.scope_laws.specs.LayeredScopes.Points.{IsAbove}
-use Rattle.scope_laws.proofs.LayeredScopes.Layered.{sub_good}
+use Rattle.order_laws.specs.ScopeLaws.Code.{roots}
+use Rattle.order_laws.specs.ScopeLaws.Alone.{CallsFit, CallsOnly, PassedFit, SourceFits, InstructionFits, GivesScalar, GivesOwnless, GivesNamed, GivesSeen}
+use Rattle.order_laws.specs.ScopeLaws.Fitted.{types, types_at, Pairs, FillsFit, RightFits, IsFitted}
+use Rattle.order_laws.specs.ScopeLaws.Supplied.{IsKept}
+use Rattle.order_laws.specs.ScopeLaws.Order.{named_in}
+use Rattle.order_laws.proofs.ScopeLaws.Lists.{within_has, all_has}
+use Rattle.order_laws.proofs.ScopeLaws.Given.{Takes as TakesIt, sub_given}
+use Rattle.order_laws.proofs.ScopeLaws.Kept.{sub_kept}
+use Rattle.order_laws.proofs.ScopeLaws.Fitted.{sub_fit}
+use Rattle.order_laws.proofs.ScopeLaws.Filled.{temporaries_of, object_before}
+use Rattle.order_laws.proofs.ScopeLaws.Results.{Gives, filled_typed}
+use Rattle.order_laws.specs.ScopeLaws.LayeredScopes.Layered.{is_older}
+use Rattle.order_laws.specs.ScopeLaws.LayeredScopes.Points.{IsAbove}
+use Rattle.order_laws.proofs.ScopeLaws.LayeredScopes.Layered.{sub_good}
 use Rattle.order_laws.specs.ReadyLaws.InOrder.{IsBody}
 use Rattle.order_laws.proofs.ReadyLaws.Subs.{setting_from, IsOfBody, subs_of}
 use Rattle.order_laws.proofs.ReadyLaws.Ready as ordered

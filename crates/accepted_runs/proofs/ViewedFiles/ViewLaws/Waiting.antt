@@ -16,12 +16,12 @@ use Rattle.flow_paths.specs.Points.{NamedPoint}
 use Rattle.flow_paths.specs.Laid.{FlowProgram, NamedSub, elaboration_points, unnumbered, typing_of, flow_typing, flow_program, flow_named}
 use Rattle.soundness.specs.Sound.{is_temporary_object}
 use Rattle.soundness.proofs.Typings.{Agree, flow_agrees}
-use Rattle.scope_laws.specs.Order.{named_in, IsSeen}
-use Rattle.scope_laws.proofs.Alone.{code_all}
-use Rattle.scope_laws.proofs.Given.{Takes}
-use Rattle.scope_laws.proofs.Lists.{all_has, within_has}
-use Rattle.scope_laws.proofs.Lone.{IsLone, sub_lone, package_lone}
-use Rattle.scope_laws.proofs.Seen.{package_seen}
+use Rattle.order_laws.specs.ScopeLaws.Order.{named_in, IsSeen}
+use Rattle.order_laws.proofs.ScopeLaws.Alone.{code_all}
+use Rattle.order_laws.proofs.ScopeLaws.Given.{Takes}
+use Rattle.order_laws.proofs.ScopeLaws.Lists.{all_has, within_has}
+use Rattle.order_laws.proofs.ScopeLaws.Lone.{IsLone, sub_lone, package_lone}
+use Rattle.order_laws.proofs.ScopeLaws.Seen.{package_seen}
 use Rattle.order_laws.proofs.ReadyLaws.Subs.{setting_from, IsOfBody}
 use Rattle.order_laws.proofs.ReadyLaws.Ready as ordered
 use Rattle.order_laws.proofs.ReadyLaws.Ready.{seen_has}

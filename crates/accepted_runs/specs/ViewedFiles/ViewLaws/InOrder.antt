@@ -14,8 +14,8 @@ use Rattle.flow_paths.specs.Names.{first, whole}
 use Rattle.flow_paths.specs.Laid.{declared_within, typing_of}
 use Rattle.machine.specs.Owners.{is_in_formal}
 use Rattle.typed_laws.specs.Needed.{Leads}
-use Rattle.scope_laws.specs.Code.{roots, body_seen}
-use Rattle.scope_laws.specs.LayeredScopes.Layered.{is_older, is_body_layered}
+use Rattle.order_laws.specs.ScopeLaws.Code.{roots, body_seen}
+use Rattle.order_laws.specs.ScopeLaws.LayeredScopes.Layered.{is_older, is_body_layered}
 
 -- ---- what views are declared and assigned with
 

@@ -18,7 +18,7 @@ use Rattle.machine.specs.States.{sub_of}
 use Rattle.soundness.specs.Typed.{OwnsByShape}
 use Rattle.typed_laws.specs.Needed.{Matches, IsPlace}
 use Rattle.soundness.specs.Sound.{Accepted}
-use Rattle.scope_laws.specs.Alone.{ResultsFit}
+use Rattle.order_laws.specs.ScopeLaws.Alone.{ResultsFit}
 use Rattle.order_laws.specs.ReadyLaws.InOrder.{IsInOrder, AreAnswered, AreStill, ArePassed}
 use Rattle.soundness.specs.Seen.{is_view_formal}
 use Rattle.soundness.specs.ViewedSoundness.Holds.{IsAccess, PartsAreNamed, is_given, is_exclusive}
