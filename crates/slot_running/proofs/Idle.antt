@@ -1,5 +1,5 @@
 -- Points that take no values and store one word at most.
-use Rattle.std.proofs.Common.{◌≡◌, ◌≢◌, ◌+◌, ◌-◌, ℕ, List, length, take, refl, sym, ap, subst, ◌∙◌, arith, ℤ, Err}
+use Rattle.std.proofs.Common.{◌≡◌, ◌≢◌, ℕ, List, length, take, sym, ap, ◌∙◌, arith, Err}
 use Rattle.std.proofs.lemmas.List.{take_all}
 use Rattle.type_definitions.specs.Types.{Table}
 use Rattle.slot_heap.specs.Heaps.{Heap}

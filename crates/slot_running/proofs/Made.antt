@@ -1,5 +1,5 @@
 -- Turns one after the other.
-use Rattle.std.proofs.Common.{◌≡◌, ◌<◌, ◌≤◌, ◌+◌, ℕ, List, sym, subst, ◌∙◌, arith, Option, Some, None}
+use Rattle.std.proofs.Common.{◌≡◌, ◌<◌, ◌+◌, ℕ, List, sym, subst, ◌∙◌, arith, Option, Some, None}
 use Rattle.type_definitions.specs.Types.{Table}
 use Rattle.code_rows.specs.declared.codes.Codes.{Codes}
 use Rattle.slot_heap.specs.Heaps.{Heap}
@@ -10,7 +10,7 @@ use Rattle.slot_turns.specs.Betweens.{untold_of}
 use Rattle.slot_turns.specs.Runs.{IsInside, StandsWith, turned}
 use Rattle.slot_steps.specs.slot_parts.declared.parts.Parts.{Parts}
 use Rattle.slot_steps.specs.slot_parts.Stages.{between_of, setting_of}
-use Rattle.slot_running.specs.Runs.{AreKept, CanTurn, IsTurn, CanTurns, LeadsTo, AreTurns}
+use Rattle.slot_running.specs.Runs.{CanTurn, IsTurn, CanTurns, LeadsTo, AreTurns}
 
 module _ {R : Type 0} (Means : R → Heap → Type 0) (codes : Codes) (table : Table) (limit : ℕ) (first : Parts R) (can : CanTurns Means codes table limit first) where
   abbrev c : Setting
@@ -51,8 +51,3 @@ module _ {R : Type 0} (Means : R → Heap → Type 0) (codes : Codes) (table : T
         → AreTurns Means codes table limit (made + 1) over first q
     last_made over q lent is =
         record { some = omega arith; few = omega (arith, below); led = one_more over q is; kept = is.kept; lent = is.lent ∙ lent }
-
-  -- All of them are made.
-  pub all_made : (made : ℕ) (p : Parts R) → 0 < limit → limit ≤ made → made ≤ limit → LeadsTo Means codes table limit made None first p
-      → AreKept Means None p → p.memory.heap.lent ≡ first.memory.heap.lent → AreTurns Means codes table limit made None first p
-  all_made made p some all few led kept lent = record { some = omega (arith, some, all); few = few; led = led; kept = kept; lent = lent }

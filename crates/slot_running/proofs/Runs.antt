@@ -74,10 +74,6 @@ module _ {R : Type 0} (Means : R → Heap → Type 0) (codes : Codes) (table : T
     run_on None can are = led_here can.under.stands.bytes None are
     run_on (Some over) can are = absurd (over_rests Means over (between_of old) can.under.inside can.under.stands can.under.running)
 
-    pub run_kept : (over : Option Over) → CanRun over → AreTurns Means codes table limit made None old new → AreKept Means over new
-    run_kept None can are = are.kept
-    run_kept (Some over) can are = tt
-
     -- It is over.
     pub run_over : (over : Option Over) (last : Over) → CanRun over → AreTurns Means codes table limit made (Some last) old new
         → LeadsOn (setting_of codes table input) limit (untold_of (between_of old)) (StandsWith Means over input (between_of old))
@@ -112,9 +108,6 @@ module _ {R : Type 0} (Means : R → Heap → Type 0) (r : Running R) (codes : C
         λ x. LeadsOn (running_setting x) limit (running_untold x) (RunStands Means x)
         made turn.On (running_untold (view codes table input new over)) (RunStands Means (view codes table input new over)) in
         subst P is (run_on Means codes table input limit p made new over can_here are)
-
-    pub steps_left : AreTurns Means codes table limit made None p new → AreKept Means over new
-    steps_left are = run_kept Means codes table input limit p made new over can_here are
 
     pub steps_over : (last : Over) → AreTurns Means codes table limit made (Some last) p new → Leading (turn.Ends last.ending) (Some last)
     steps_over last are =

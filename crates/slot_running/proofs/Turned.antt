@@ -1,6 +1,6 @@
 -- The next step as a turn of a run.
-use Rattle.std.proofs.Common.{◌≡◌, ◌<◌, ℕ, [], length, refl, sym, subst, Option, Some, None, Result, Ok, Err}
-use Rattle.std.specs.Prelude.{slice_get, IsTrue, IfOk}
+use Rattle.std.proofs.Common.{◌≡◌, ◌<◌, ℕ, [], length, refl, sym, subst, Option, Some, None}
+use Rattle.std.specs.Prelude.{slice_get, IsTrue}
 use Rattle.type_definitions.specs.Types.{Table}
 use Rattle.slot_heap.specs.Heaps.{Heap}
 use Rattle.code_rows.specs.declared.point.Point.{Point as PointRow}

@@ -31,8 +31,11 @@ fn is_free(point: &Point) -> bool
     ensures takes { IsTrue result → point.now.takes.count ≡ 0 }
     ensures group { IsTrue result → group_of point.now.does ≡ Group.Words }
 {
+    if point.takes.count != 0 {
+        return false;
+    }
     match grouped(point.does) {
-        Group::Words => point.takes.count == 0,
+        Group::Words => true,
         _ => false,
     }
 }

@@ -28,3 +28,49 @@ take-requires-clause-range g c =
 pub take-requires-clause-stacked : goal.take-requires-clause-stacked
 take-requires-clause-stacked g c =
     (can_now g.R.Store.Means c.args.codes.now c.args.table.now c.args.limit c.args.parts.now c.requires.can c.steps.made c.steps.parts c.steps-test.true c.steps.invariant.0).stands.between.stacked
+
+pub free_point-requires : goal.free_point-requires
+free_point-requires g c =
+    let can = can_now g.R.Store.Means c.args.codes.now c.args.table.now c.args.limit c.args.parts.now c.requires.can c.steps.made c.steps.parts c.steps-test.true c.steps.invariant.0 in
+    let at : slice_get (program_of c.args.codes.now).points c.steps.parts.frames.frame.next ≡ Some (point_of c.args.codes.now c.point_at-point.result.now) =
+    subst (λ (f : Frame). slice_get (program_of c.args.codes.now).points f.next ≡ Some (point_of c.args.codes.now c.point_at-point.result.now)) c.frame.ensures c.point_at-point.ensures.point in
+    at_point g.R.Store.Means c.args.codes.now c.args.table.now c.steps.parts can c.requires.whole c.steps.invariant.1.1 c.point_at-point.result.now at c.point_at-point.ensures.there
+    c.in-Some.k c.in-Some.ensures.latest c.take.new.memory c.in-Some.ensures.taken
+
+pub steps-preserved : goal.steps-preserved
+steps-preserved g c =
+    let can = can_now g.R.Store.Means c.args.codes.now c.args.table.now c.args.limit c.args.parts.now c.requires.can c.steps.made c.steps.parts c.steps-test.true c.steps.invariant.0 in
+    let at : slice_get (program_of c.args.codes.now).points c.steps.parts.frames.frame.next ≡ Some (point_of c.args.codes.now c.point_at-point.result.now) =
+    subst (λ (f : Frame). slice_get (program_of c.args.codes.now).points f.next ≡ Some (point_of c.args.codes.now c.point_at-point.result.now)) c.frame.ensures c.point_at-point.ensures.point in
+    let t =
+    turn_is g.R.Store.Means c.args.codes.now c.args.table.now c.steps.parts can c.requires.whole c.steps.invariant.1.1 c.point_at-point.result.now at c.point_at-point.ensures.there
+    c.in-Some.k c.in-Some.ensures.latest c.take.new.memory
+    c.free_point.new.parts None c.in-Some.ensures.taken (c.in-Goes.ensures.goes refl) in
+    let below = c.steps-test.true in (
+      one_more g.R.Store.Means c.args.codes.now c.args.table.now c.args.limit c.args.parts.now c.requires.can c.steps.made c.steps.parts c.steps-test.true c.steps.invariant.0 None c.free_point.new.parts t,
+      t.kept,
+      t.lent ∙ c.steps.invariant.2,
+      omega (arith, below),
+    )
+
+pub turn_point-requires : goal.turn_point-requires
+turn_point-requires g c =
+    let can = can_now g.R.Store.Means c.args.codes.now c.args.table.now c.args.limit c.args.parts.now c.requires.can c.steps.made c.steps.parts c.steps-test.true c.steps.invariant.0 in
+    let at : slice_get (program_of c.args.codes.now).points c.steps.parts.frames.frame.next ≡ Some (point_of c.args.codes.now c.point_at-point.result.now) =
+    subst (λ (f : Frame). slice_get (program_of c.args.codes.now).points f.next ≡ Some (point_of c.args.codes.now c.point_at-point.result.now)) c.frame.ensures c.point_at-point.ensures.point in
+    subst (λ q. IsAt g.R.Store.Means c.args.codes.now c.args.table.now c.point_at-point.result.now c.in-Some.k q) (sym (c.in-Stays.ensures.stays refl))
+    (at_point g.R.Store.Means c.args.codes.now c.args.table.now c.steps.parts can c.requires.whole c.steps.invariant.1.1 c.point_at-point.result.now at c.point_at-point.ensures.there
+    c.in-Some.k c.in-Some.ensures.latest c.take.new.memory c.in-Some.ensures.taken)
+
+pub returns-in-Stays : goal.returns-in-Stays
+returns-in-Stays g c =
+    let can = can_now g.R.Store.Means c.args.codes.now c.args.table.now c.args.limit c.args.parts.now c.requires.can c.steps.made c.steps.parts c.steps-test.true c.steps.invariant.0 in
+    let at : slice_get (program_of c.args.codes.now).points c.steps.parts.frames.frame.next ≡ Some (point_of c.args.codes.now c.point_at-point.result.now) =
+    subst (λ (f : Frame). slice_get (program_of c.args.codes.now).points f.next ≡ Some (point_of c.args.codes.now c.point_at-point.result.now)) c.frame.ensures c.point_at-point.ensures.point in
+    let t =
+    turn_is g.R.Store.Means c.args.codes.now c.args.table.now c.steps.parts can c.requires.whole c.steps.invariant.1.1 c.point_at-point.result.now at c.point_at-point.ensures.there
+    c.in-Some.k c.in-Some.ensures.latest c.take.new.memory
+    c.turn_point.new.parts c.in_ok-over-in-Stays.over c.in-Some.ensures.taken
+    (subst (λ q. IsPointTurn g.R.Store.Means c.args.codes.now c.args.table.now c.point_at-point.result.now c.in_ok-over-in-Stays.over q c.turn_point.new.parts)
+    (c.in-Stays.ensures.stays refl) c.in_ok-over-in-Stays.ensures) in
+    last_made g.R.Store.Means c.args.codes.now c.args.table.now c.args.limit c.args.parts.now c.requires.can c.steps.made c.steps.parts c.steps-test.true c.steps.invariant.0 c.in_ok-over-in-Stays.over c.turn_point.new.parts c.steps.invariant.2 t
