@@ -5,12 +5,10 @@
 
 The sources are those given, or the examples of crates/spark_examples, one file each. Some of their tokens are dropped,
 doubled, exchanged, or replaced by others of the file; identifiers are replaced by identifiers, and numbers by numbers;
-lines and statements are exchanged, doubled or dropped; bytes are changed; or the text is cut. For each changed source the
-program has to end within --seconds of a processor, with a status of the command, and with the lines that this status has, each
-in the form of docs/TOOL.md. `run` gets a few lines of numbers as input, and 100,000 steps. A step may make or copy 65,536 words;
-so a run that takes longer is asked again with 1,000 steps, has to end in time then, and is counted as slow. The answers are
-counted by status and code. A source whose answer isn't well is kept in a folder that is named at the end, and the status is 1;
-slow ones are kept there, too. With one seed and one number of jobs the sources are the same each time.
+lines and statements are exchanged, doubled or dropped; bytes are changed; or the text is cut. For each changed source the program has to end within --seconds, with a
+status of the command, and with the lines that this status has, each in the form of docs/TOOL.md. `run` gets a few lines of
+numbers as input. The answers are counted by status and code. A source whose answer isn't well is kept in a folder that is
+named at the end, and the status is 1. With one seed and one number of jobs the sources are the same each time.
 """
 import argparse
 import collections
@@ -19,7 +17,6 @@ import os
 import pathlib
 import random
 import re
-import resource
 import shutil
 import signal
 import sys
@@ -36,9 +33,7 @@ SPENT = re.compile(LEAK + rb"steps spent: \d+\n")
 RESERVED = {word.encode() for word in (TOP / "docs" / "LANGUAGE.md").read_text().split("\n## Reserved words\n")[1].strip().split("\n\n")[0].split()}
 OPENERS = set(b"begin case declare else elsif end for function if is loop package procedure record then type when while with".split())
 INPUT = b"12 -7\n 2147483647\n0 1 2 3\nx 5\n"
-STEPS = ("100000", "1000")
-# how much longer the clock may go than a processor
-CLOCK = 60
+STEPS = "100000"
 
 
 # ---- changes
@@ -176,9 +171,6 @@ class Late(Exception):
     """The program had its time."""
 
 
-LATE = "no answer in time"
-
-
 def late(number, frame):
     raise Late
 
@@ -192,29 +184,16 @@ def asked(words, streams, seconds):
         os.lseek(stream, 0, os.SEEK_SET)
     actions = [(os.POSIX_SPAWN_DUP2, stream, number) for number, stream in enumerate(streams)]
     child = os.posix_spawn(words[0], words, os.environ, file_actions=actions)
-    resource.prlimit(child, resource.RLIMIT_CPU, (seconds, seconds + 1))
     try:
-        signal.setitimer(signal.ITIMER_REAL, CLOCK * seconds)
+        signal.setitimer(signal.ITIMER_REAL, seconds)
         _, status = os.waitpid(child, 0)
         signal.setitimer(signal.ITIMER_REAL, 0)
     except Late:
         os.kill(child, signal.SIGKILL)
         os.waitpid(child, 0)
         raise
-    status = os.waitstatus_to_exitcode(status)
-    if status == -signal.SIGXCPU:
-        raise Late
     out, err = (os.pread(stream, os.fstat(stream).st_size, 0) for stream in streams[1:])
-    return status, out, err
-
-
-def named(command, words, streams, seconds):
-    """The name of the answer, or None: it isn't one of the command; and what was answered."""
-    try:
-        status, out, err = asked(words, streams, seconds)
-    except Late:
-        return None, LATE
-    return told(command, status, out, err), "status %d, %r, %r" % (status, out[:200], err[:200])
+    return os.waitstatus_to_exitcode(status), out, err
 
 
 def ask(job):
@@ -228,20 +207,21 @@ def ask(job):
     signal.signal(signal.SIGALRM, late)
     pathlib.Path("input").write_bytes(INPUT)
     streams = [os.open("input", os.O_RDONLY)] + [os.open(name, os.O_RDWR | os.O_CREAT) for name in ("out", "err")]
-    asks = [[program, command, "t.adb"]] if command == "check" else [[program, command, "--steps=" + steps, "t.adb"] for steps in STEPS]
+    words = [program, command] + (["--steps=" + STEPS] if command == "run" else []) + ["t.adb"]
     for number in range(count):
         text = changed(rng, rng.choice(texts))
         pathlib.Path("t.adb").write_bytes(text)
-        name, said = named(command, asks[0], streams, seconds)
-        slow = said == LATE and len(asks) > 1
-        if slow:
-            name, said = named(command, asks[1], streams, seconds)
-        kept = "%d_%d.adb" % (seed, number)
-        if name is None or slow:
-            (pathlib.Path(folder) / kept).write_bytes(text)
+        try:
+            status, out, err = asked(words, streams, seconds)
+            name = told(command, status, out, err)
+            said = "status %d, %r, %r" % (status, out[:200], err[:200])
+        except Late:
+            name, said = None, "no answer within %d seconds" % seconds
         if name is None:
+            kept = "%d_%d.adb" % (seed, number)
+            (pathlib.Path(folder) / kept).write_bytes(text)
             wrong.append("%s: %s" % (kept, said))
-        counts["not well" if name is None else "slow, with fewer steps: " + name if slow else name] += 1
+        counts[name or "not well"] += 1
     for stream in streams:
         os.close(stream)
     os.chdir(folder)
@@ -256,7 +236,7 @@ def main():
     words.add_argument("--jobs", type=int, default=1)
     words.add_argument("--program", default=str(TOP / "crates" / "spark" / "out" / "spark"))
     words.add_argument("--command", choices=("check", "run"), default="check")
-    words.add_argument("--seconds", type=int, default=10)
+    words.add_argument("--seconds", type=float, default=10)
     words.add_argument("files", nargs="*", metavar="FILE")
     given = words.parse_args()
     seeds = given.files or sorted(map(str, (TOP / "crates" / "spark_examples" / "data").rglob("*.ad[bs]")))
@@ -273,12 +253,10 @@ def main():
         print("%9d %s" % (count, name))
     print("%9d sources, %d answers not well" % (sum(counts.values()), len(wrong)))
     if wrong:
-        print("\n".join(wrong[:20]))
-    if os.listdir(folder):
-        print("the sources are in", folder)
-    else:
-        os.rmdir(folder)
-    return 1 if wrong else 0
+        print("\n".join(wrong[:20]), "\nthe sources are in", folder)
+        return 1
+    shutil.rmtree(folder)
+    return 0
 
 
 if __name__ == "__main__":
