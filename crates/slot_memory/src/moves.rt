@@ -1,5 +1,5 @@
 //! What a point moves out of spots.
-ghost use Rattle.std.specs.Prelude.{◌≡◌, ◌++◌, false, List, map, OnOk, OnErr, IsErrOf};
+ghost use Rattle.std.specs.Prelude.{◌≡◌, ◌++◌, ◌∷◌, [], false, List, map, OnOk, OnErr, IsErrOf, IsTrue};
 ghost use Rattle.run_values.specs.declared.value.Kind as kinds;
 ghost use Rattle.run_codes.specs.Flat.{is_broken, Given};
 ghost use Rattle.handled_runs.specs.Changes.{moving, settled};
@@ -48,6 +48,25 @@ impl<'s, R: Store> Memory<'s, R> {
             Spot::Stack { index } => self.stack[index + offset as usize] = 0,
             Spot::Cell { cell, at } => self.heap.put(cell, at + offset, Kind::Access, 0),
         }
+    }
+
+    /// Whether nothing is moved.
+    #[inline(always)]
+    pub fn is_settled(&self) -> bool
+        ensures { IsTrue result → self.now.moves ≡ [] }
+    {
+        self.moves.is_empty()
+    }
+
+    /// The access value at a spot is moved out, where nothing else is: it is gone at once.
+    #[inline(always)]
+    pub fn take_out(&mut self, spot: Spot)
+        requires none { self.old.moves ≡ [] }
+        requires whole { Knows R.Means (record self.old { moves = beyond (spot_of spot) 0 ∷ [] }) (λ s. is_broken (settled s) ≡ false) }
+        ensures settled { Changes R.Means (record self.old { moves = beyond (spot_of spot) 0 ∷ [] }) settled self.new }
+        ensures elsewhere { elsewhere self.new ≡ elsewhere self.old }
+    {
+        self.clear(spot, 0);
     }
 
     /// What is moved out is gone: null stands in its place.
