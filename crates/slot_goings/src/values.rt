@@ -13,12 +13,12 @@ use slot_memory::Memory;
 use slot_places::{assign, end_scope, release};
 use slot_points::end_pointer;
 use spark_base::Pos;
-use type_table::TypeTable;
+use type_layouts::Layouts;
 
 /// A value of a type is assigned to a place.
 #[tactic(auto, using(crate::proofs::Left::values_rules))]
 fn assign_value<R: Store>(
-    table: &TypeTable,
+    table: &Layouts,
     rows: &Rows,
     memory: &mut Memory<R>,
     hand: &mut Hand,
@@ -50,7 +50,7 @@ fn assign_value<R: Store>(
 /// The access value at a place is released.
 #[tactic(auto, using(crate::proofs::Left::values_rules))]
 fn release_place<R: Store>(
-    table: &TypeTable,
+    table: &Layouts,
     rows: &Rows,
     memory: &mut Memory<R>,
     hand: &mut Hand,
@@ -76,7 +76,7 @@ fn release_place<R: Store>(
 /// The scope of an object of a named access type ends.
 #[tactic(auto, using(crate::proofs::Left::values_rules))]
 fn leave_pointer<R: Store>(
-    table: &TypeTable,
+    table: &Layouts,
     rows: &Rows,
     memory: &mut Memory<R>,
     found: &mut Vec<Leak>,
@@ -99,7 +99,7 @@ fn leave_pointer<R: Store>(
 /// The scope of an object of another type ends.
 #[tactic(auto, using(crate::proofs::Left::values_rules))]
 fn leave_scope<R: Store>(
-    table: &TypeTable,
+    table: &Layouts,
     rows: &Rows,
     memory: &mut Memory<R>,
     hand: &mut Hand,
@@ -124,7 +124,7 @@ fn leave_scope<R: Store>(
 /// `found`, where there were none.
 #[tactic(auto, using(crate::proofs::Left::no_change))]
 pub fn change_values<R: Store>(
-    table: &TypeTable,
+    table: &Layouts,
     rows: &Rows,
     memory: &mut Memory<R>,
     hand: &mut Hand,

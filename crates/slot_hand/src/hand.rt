@@ -22,7 +22,7 @@ use slot_memory::{Memory, Spot};
 use spark_base::Pos;
 use std::alloc::Global;
 use std::marker::Model;
-use type_table::TypeTable;
+use type_layouts::Layouts;
 use type_words::{is_pointer, push_defaults};
 
 /// Words at hand, and room for what is worked on beside them. Contracts see the words.
@@ -108,11 +108,11 @@ impl Hand {
     }
 
     /// Appends the words of an object of a type without a value.
-    pub fn push_default(&mut self, table: &TypeTable, of: u32) -> Result<(), Stop>
+    pub fn push_default(&mut self, table: &Layouts, of: u32) -> Result<(), Stop>
         ensures pushed { OnOk result (self.new ≡ self.old ++ default_words table.now of) }
         ensures memory { OnErr result (IsErrOf result Stop.Memory) }
     {
-        push_defaults(table, of, &mut self.words)?;
+        push_defaults(table.table(), of, &mut self.words)?;
         Ok(())
     }
 
@@ -132,7 +132,7 @@ impl Hand {
     /// Appends what a spot of a type holds.
     pub fn push_held<R: Store>(
         &mut self,
-        table: &TypeTable,
+        table: &Layouts,
         memory: &Memory<R>,
         spot: Spot,
         of: u32,
@@ -147,7 +147,7 @@ impl Hand {
     /// Stores the words at hand from an index on at a spot of a type.
     pub fn store<R: Store>(
         &mut self,
-        table: &TypeTable,
+        table: &Layouts,
         memory: &mut Memory<R>,
         spot: Spot,
         of: u32,
@@ -170,7 +170,7 @@ impl Hand {
     /// settled.
     pub fn move_out<R: Store>(
         &mut self,
-        table: &TypeTable,
+        table: &Layouts,
         memory: &mut Memory<R>,
         spot: Spot,
         of: u32,
@@ -187,7 +187,7 @@ impl Hand {
     /// The words at hand from an index on become a cell of a type, and its name comes in their place.
     pub fn make<R: Store>(
         &mut self,
-        table: &TypeTable,
+        table: &Layouts,
         memory: &mut Memory<R>,
         of: u32,
         from: usize,
@@ -216,7 +216,7 @@ impl Hand {
     /// Appends the failed leak checks of a spot with words of a type.
     pub fn push_leaks<R: Store>(
         &mut self,
-        table: &TypeTable,
+        table: &Layouts,
         memory: &Memory<R>,
         spot: Spot,
         of: u32,
@@ -227,7 +227,7 @@ impl Hand {
         ensures leaks { Always R.Means memory.now (λ s. is_broken (leaks_at table.now s (spot_of spot) of pos) ≡ false → Finds (leaks_at table.now s (spot_of spot) of pos) result (leaks_of leaks.old.items) (leaks_of leaks.new.items)) }
         ensures hand { self.new ≡ self.old }
     {
-        if is_pointer(table, of) {
+        if is_pointer(table.table(), of) {
             return find_leak(memory, spot, pos, leaks);
         }
         take_offsets(table, of, &mut self.offsets)?;

@@ -17,31 +17,31 @@ use run_values::{Kind, Value};
 use slot_heap::Store;
 use slot_memory::{Memory, Spot};
 use spark_base::Pos;
-use type_table::TypeTable;
+use type_layouts::Layouts;
 use type_words::{is_pointer, push_access_offsets, push_kinds};
 
 /// The kinds of the words of a type.
 #[tactic(auto, using(crate::proofs::Checks::kinds_of_pointer))]
-pub(crate) fn take_kinds(table: &TypeTable, of: u32, kinds: &mut Vec<Kind>) -> Result<(), Stop>
+pub(crate) fn take_kinds(table: &Layouts, of: u32, kinds: &mut Vec<Kind>) -> Result<(), Stop>
     ensures kinds { OnOk result (kinds.new.items ≡ kinds_of table.now of) }
     ensures memory { OnErr result (IsErrOf result Stop.Memory) }
 {
     kinds.clear();
-    if is_pointer(table, of) {
+    if is_pointer(table.table(), of) {
         kinds.push(Kind::Access)?;
         return Ok(());
     }
-    push_kinds(table, of, kinds)?;
+    push_kinds(table.table(), of, kinds)?;
     Ok(())
 }
 
 /// At which words of a type its access parts stand.
-pub(crate) fn take_offsets(table: &TypeTable, of: u32, offsets: &mut Vec<u32>) -> Result<(), Stop>
+pub(crate) fn take_offsets(table: &Layouts, of: u32, offsets: &mut Vec<u32>) -> Result<(), Stop>
     ensures offsets { OnOk result (offsets.new.items ≡ access_offsets table.now of) }
     ensures memory { OnErr result (IsErrOf result Stop.Memory) }
 {
     offsets.clear();
-    push_access_offsets(table, of, offsets)?;
+    push_access_offsets(table.table(), of, offsets)?;
     Ok(())
 }
 

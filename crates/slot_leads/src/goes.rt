@@ -16,14 +16,14 @@ use slot_heap::Store;
 use slot_memory::Memory;
 use slot_turns::{Halt, no_memory};
 use std::alloc::AllocError;
-use type_table::TypeTable;
+use type_layouts::Layouts;
 
 /// The values that wait from a number on are gone, and the main procedure begins where no frame
 /// waits.
 #[inline(never)]
 fn go_main<R: Store>(
     codes: &Codes,
-    table: &TypeTable,
+    table: &Layouts,
     memory: &mut Memory<R>,
     frames: &mut Frames,
     hand: &mut Hand,
@@ -62,7 +62,7 @@ fn go_next<R: Store>(memory: &mut Memory<R>, frames: &mut Frames, k: usize, next
 #[inline(always)]
 pub fn go_on<R: Store>(
     codes: &Codes,
-    table: &TypeTable,
+    table: &Layouts,
     memory: &mut Memory<R>,
     frames: &mut Frames,
     hand: &mut Hand,

@@ -20,13 +20,13 @@ use slot_memory::{Memory, Spot};
 use slot_values::fill;
 use slot_words::spot;
 use spark_base::Pos;
-use type_table::TypeTable;
+use type_layouts::Layouts;
 use type_words::is_pointer;
 
 /// Appends the failed leak checks of a spot of a type, where there are checks.
 #[tactic(auto, using(crate::proofs::Assigning::none_found))]
 pub(crate) fn check<R: Store>(
-    table: &TypeTable,
+    table: &Layouts,
     memory: &Memory<R>,
     hand: &mut Hand,
     spot: Spot,
@@ -46,7 +46,7 @@ pub(crate) fn check<R: Store>(
 
 /// What was moved out is gone, and after leak checks the words at hand are stored at a spot of a type.
 fn store_checked<R: Store>(
-    table: &TypeTable,
+    table: &Layouts,
     memory: &mut Memory<R>,
     hand: &mut Hand,
     spot: Spot,
@@ -65,7 +65,7 @@ fn store_checked<R: Store>(
 
 /// The words at hand are stored at a place of a type, which is found before the leak checks.
 fn place_words<R: Store>(
-    table: &TypeTable,
+    table: &Layouts,
     nodes: &Nodes,
     memory: &mut Memory<R>,
     hand: &mut Hand,
@@ -85,7 +85,7 @@ fn place_words<R: Store>(
 
 /// A value of a type is made, and its words are stored at a place, which is found then.
 fn assign_words<R: Store>(
-    table: &TypeTable,
+    table: &Layouts,
     nodes: &Nodes,
     fills: &Fills,
     memory: &mut Memory<R>,
@@ -122,7 +122,7 @@ fn moved_from(nodes: &Nodes, fills: &Fills, value: u32) -> Option<Place>
 
 /// A value of a type is assigned to a place, which is found after the value is made.
 pub fn assign<R: Store>(
-    table: &TypeTable,
+    table: &Layouts,
     nodes: &Nodes,
     fills: &Fills,
     memory: &mut Memory<R>,
@@ -143,7 +143,7 @@ pub fn assign<R: Store>(
     if let Place::Local { at } = place {
         if let Some(from) = moved_from(nodes, fills, value) {
             if memory.is_settled() {
-                if is_pointer(table, of) {
+                if is_pointer(table.table(), of) {
                     return assign_moved(table, nodes, memory, hand, from, at, of, checks, leaks);
                 }
             }

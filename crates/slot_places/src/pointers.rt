@@ -18,11 +18,11 @@ use slot_heap::Store;
 use slot_memory::{Memory, Spot};
 use slot_words::spot;
 use spark_base::Pos;
-use type_table::TypeTable;
+use type_layouts::Layouts;
 
 /// After its leak check an access value is put at a spot of a named access type.
 fn put_checked<R: Store>(
-    table: &TypeTable,
+    table: &Layouts,
     memory: &mut Memory<R>,
     hand: &mut Hand,
     spot: Spot,
@@ -44,7 +44,7 @@ fn put_checked<R: Store>(
 /// An access value is moved out of a place to an offset in the frame, where an object of a named
 /// access type stands. Nothing else is moved.
 pub(crate) fn assign_moved<R: Store>(
-    table: &TypeTable,
+    table: &Layouts,
     nodes: &Nodes,
     memory: &mut Memory<R>,
     hand: &mut Hand,

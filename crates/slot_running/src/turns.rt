@@ -16,7 +16,7 @@ use slot_steps::{Parts, Passing, step_point};
 use slot_turns::{Halt, Over, point_at, stopped, take};
 use spark_base::Pos;
 use std::alloc::{AllocError, Global};
-use type_table::TypeTable;
+use type_layouts::Layouts;
 
 /// The run is over after the end of the main procedure.
 pub(crate) fn ended<R: Store>(parts: &Parts<R>) -> Over
@@ -56,7 +56,7 @@ fn halted<R: Store>(
 fn turn_point<R: Store>(
     alloc: Global,
     codes: &Codes,
-    table: &TypeTable,
+    table: &Layouts,
     parts: &mut Parts<R>,
     passing: &mut Passing,
     point: &Point,
@@ -80,7 +80,7 @@ fn turn_point<R: Store>(
 pub(crate) fn turns<R: Store>(
     alloc: Global,
     codes: &Codes,
-    table: &TypeTable,
+    table: &Layouts,
     parts: &mut Parts<R>,
     passing: &mut Passing,
     limit: u64,

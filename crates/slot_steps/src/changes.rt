@@ -9,13 +9,13 @@ use slot_goings::{Group, change_values, change_words};
 use slot_heap::Store;
 use slot_tells::{Parts, go, tell};
 use slot_turns::Halt;
-use type_table::TypeTable;
+use type_layouts::Layouts;
 
 /// A point that stores one word at most.
 #[inline(always)]
 pub fn step_words<R: Store>(
     codes: &Codes,
-    table: &TypeTable,
+    table: &Layouts,
     parts: &mut Parts<R>,
     point: &Point,
     k: usize,
@@ -37,7 +37,7 @@ pub fn step_words<R: Store>(
 #[inline(never)]
 pub(crate) fn step_values<R: Store>(
     codes: &Codes,
-    table: &TypeTable,
+    table: &Layouts,
     parts: &mut Parts<R>,
     point: Point,
     k: usize,

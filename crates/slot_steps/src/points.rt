@@ -14,7 +14,7 @@ use slot_heap::Store;
 use slot_tells::{Parts, step_input, step_left, step_output, step_right};
 use slot_turns::{Halt, no_memory};
 use std::alloc::Global;
-use type_table::TypeTable;
+use type_layouts::Layouts;
 
 /// The run goes on after such a step.
 fn goes(led: Result<(), Halt>) -> Result<bool, Halt>
@@ -31,7 +31,7 @@ fn goes(led: Result<(), Halt>) -> Result<bool, Halt>
 fn step_other<R: Store>(
     alloc: Global,
     codes: &Codes,
-    table: &TypeTable,
+    table: &Layouts,
     parts: &mut Parts<R>,
     passing: &mut Passing,
     point: Point,
@@ -77,7 +77,7 @@ fn step_other<R: Store>(
 pub fn step_point<R: Store>(
     alloc: Global,
     codes: &Codes,
-    table: &TypeTable,
+    table: &Layouts,
     parts: &mut Parts<R>,
     passing: &mut Passing,
     point: &Point,

@@ -12,13 +12,13 @@ use slot_hand::Hand;
 use slot_heap::Store;
 use slot_memory::Memory;
 use slot_words::{spot, word};
-use type_table::TypeTable;
+use type_layouts::Layouts;
 use word_operators::within;
 
 /// One scalar word within bounds.
 #[tactic(auto, using(crate::proofs::Scalars::checked_rules))]
 fn checked<R: Store>(
-    table: &TypeTable,
+    table: &Layouts,
     nodes: &Nodes,
     memory: &Memory<R>,
     hand: &mut Hand,
@@ -38,7 +38,7 @@ fn checked<R: Store>(
 /// An access value that is looked at.
 #[tactic(auto, using(crate::proofs::Scalars::looked_rules))]
 fn looked_at<R: Store>(
-    table: &TypeTable,
+    table: &Layouts,
     nodes: &Nodes,
     memory: &Memory<R>,
     hand: &mut Hand,
@@ -55,7 +55,7 @@ fn looked_at<R: Store>(
 /// An access value that is moved out of its place.
 #[tactic(auto, using(crate::proofs::Places::pointer_rules))]
 fn moved_pointer<R: Store>(
-    table: &TypeTable,
+    table: &Layouts,
     nodes: &Nodes,
     memory: &mut Memory<R>,
     hand: &mut Hand,
@@ -75,7 +75,7 @@ fn moved_pointer<R: Store>(
 /// What a place of a type holds.
 #[tactic(auto, using(crate::proofs::Places::copied_rules))]
 fn copied<R: Store>(
-    table: &TypeTable,
+    table: &Layouts,
     nodes: &Nodes,
     memory: &Memory<R>,
     hand: &mut Hand,
@@ -93,7 +93,7 @@ fn copied<R: Store>(
 /// What a place of a type holds, whose access parts are moved out.
 #[tactic(auto, using(crate::proofs::Places::moved_rules))]
 fn moved<R: Store>(
-    table: &TypeTable,
+    table: &Layouts,
     nodes: &Nodes,
     memory: &mut Memory<R>,
     hand: &mut Hand,
@@ -113,7 +113,7 @@ fn moved<R: Store>(
 /// Words of the values that the point takes.
 #[tactic(auto, using(crate::proofs::Scalars::waited_rules))]
 fn waited<R: Store>(
-    table: &TypeTable,
+    table: &Layouts,
     memory: &Memory<R>,
     hand: &mut Hand,
     at: u32,
@@ -128,7 +128,7 @@ fn waited<R: Store>(
 /// The words of an object of a type without a value.
 #[tactic(auto, using(crate::proofs::Scalars::default_rules))]
 fn defaults<R: Store>(
-    table: &TypeTable,
+    table: &Layouts,
     memory: &Memory<R>,
     hand: &mut Hand,
     of: u32,
@@ -142,7 +142,7 @@ fn defaults<R: Store>(
 #[cycle(fill)]
 #[tactic(auto, using(crate::proofs::Nested::new_rules))]
 fn new<R: Store>(
-    table: &TypeTable,
+    table: &Layouts,
     nodes: &Nodes,
     fills: &Fills,
     memory: &mut Memory<R>,
@@ -165,7 +165,7 @@ fn new<R: Store>(
 #[cycle(fill)]
 #[tactic(auto, using(crate::proofs::Nested::repeated_rules))]
 fn repeated<R: Store>(
-    table: &TypeTable,
+    table: &Layouts,
     nodes: &Nodes,
     fills: &Fills,
     memory: &mut Memory<R>,
@@ -188,7 +188,7 @@ fn repeated<R: Store>(
 #[cycle(fill)]
 #[tactic(auto, using(crate::proofs::Nested::both_rules))]
 fn both<R: Store>(
-    table: &TypeTable,
+    table: &Layouts,
     nodes: &Nodes,
     fills: &Fills,
     memory: &mut Memory<R>,
@@ -216,7 +216,7 @@ fn both<R: Store>(
 #[cycle(fill)]
 #[tactic(auto, using(crate::proofs::Scalars::empty_makes))]
 pub fn fill<R: Store>(
-    table: &TypeTable,
+    table: &Layouts,
     nodes: &Nodes,
     fills: &Fills,
     memory: &mut Memory<R>,
