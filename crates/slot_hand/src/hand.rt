@@ -16,7 +16,7 @@ use crate::spots::{find_leak, find_leaks, make, take_kinds, take_offsets};
 use crate::words::push_repeated;
 use code_rows::Stop;
 use run_results::Leak;
-use run_values::{Kind, Value};
+use run_values::Kind;
 use slot_heap::Store;
 use slot_memory::{Memory, Spot};
 use spark_base::Pos;
@@ -32,7 +32,6 @@ pub struct Hand {
     found: Vec<i64>,
     kinds: Vec<Kind>,
     offsets: Vec<u32>,
-    values: Vec<Value>,
 }
 
 impl Model for Hand {
@@ -50,7 +49,6 @@ impl Drop for Hand {
             found: _,
             kinds: _,
             offsets: _,
-            values: _,
         } = self;
     }
 }
@@ -65,7 +63,6 @@ impl Hand {
             found: Vec::new(alloc),
             kinds: Vec::new(alloc),
             offsets: Vec::new(alloc),
-            values: Vec::new(alloc),
         }
     }
 
@@ -198,7 +195,7 @@ impl Hand {
         ensures elsewhere { elsewhere memory.new ≡ elsewhere memory.old }
     {
         take_kinds(table, of, &mut self.kinds)?;
-        make(memory, &self.kinds, from, &mut self.values, &mut self.words)
+        make(memory, &self.kinds, from, &mut self.words)
     }
 
     /// The words at hand from an index on come so many times.

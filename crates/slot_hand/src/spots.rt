@@ -10,10 +10,10 @@ ghost use Rattle.slot_memory.specs.Spots.{spot_of};
 ghost use Rattle.slot_hand.specs.Outcomes.{Makeable, Made};
 ghost use Rattle.slot_hand.specs.Leaks.{Reads, Finds};
 
-use crate::words::{push_leak, push_leaks, push_values};
+use crate::words::{push_leak, push_leaks};
 use code_rows::Stop;
 use run_results::Leak;
-use run_values::{Kind, Value};
+use run_values::Kind;
 use slot_heap::Store;
 use slot_memory::{Memory, Spot};
 use spark_base::Pos;
@@ -64,7 +64,6 @@ pub(crate) fn make<R: Store>(
     memory: &mut Memory<R>,
     kinds: &[Kind],
     from: usize,
-    values: &mut Vec<Value>,
     words: &mut Vec<i64>,
 ) -> Result<(), Stop>
     requires from { from ≤ length words.old.items }
@@ -72,9 +71,7 @@ pub(crate) fn make<R: Store>(
     ensures made { Made R.Means memory.old kinds.now (drop from words.old.items) result (take from words.old.items) words.new.items memory.new }
     ensures elsewhere { elsewhere memory.new ≡ elsewhere memory.old }
 {
-    values.clear();
-    push_values(kinds, &words.as_slice()[from..], values)?;
-    let word = match memory.allocate(values) {
+    let word = match memory.allocate(kinds, &words.as_slice()[from..]) {
         Ok(word) => word,
         Err(stop) => return Err(stop),
     };
