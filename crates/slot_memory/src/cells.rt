@@ -76,6 +76,7 @@ pub(crate) fn push_range(
     requires room { count ≤ length all.now - first }
     ensures pushed { OnOk result (words.new.items ≡ words.old.items ++ take count (drop first all.now)) }
     ensures memory { OnErr result (IsErrOf result Stop.Memory) }
+    ensures unchanged { OnErr result (words.new.items ≡ words.old.items) }
 {
     words.extend_from_slice(&all[first..][..count])?;
     Ok(())

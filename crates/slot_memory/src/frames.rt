@@ -168,7 +168,8 @@ impl<'s, R: Store> Memory<'s, R> {
     /// Appends so many words of those that the point takes, from an offset on.
     pub fn push_waiting(&self, at: u32, count: u32, words: &mut Vec<i64>) -> Result<(), Stop>
         requires { is_broken (some_words count (drop at (drop self.now.taken self.now.waits))) ≡ false }
-        ensures { Appends (some_words count (drop at (drop self.now.taken self.now.waits))) result words.old.items words.new.items }
+        ensures appended { Appends (some_words count (drop at (drop self.now.taken self.now.waits))) result words.old.items words.new.items }
+        ensures unchanged { OnErr result (words.new.items ≡ words.old.items) }
     {
         if count == 0 {
             return Ok(());

@@ -14,6 +14,7 @@ use run_values::Kind;
 use slot_heap::Store;
 
 /// Notes the access values at some offsets from a spot.
+#[inline(always)]
 fn push_moves(spot: &Spot, offsets: &[u32], moves: &mut Vec<Move>) -> Result<(), Stop>
     ensures pushed { OnOk result (moved_spots moves.new.items ≡ moved_spots moves.old.items ++ map (beyond (spot_of spot.now)) offsets.now) }
     ensures memory { OnErr result (IsErrOf result Stop.Memory) }
@@ -29,6 +30,7 @@ fn push_moves(spot: &Spot, offsets: &[u32], moves: &mut Vec<Move>) -> Result<(),
 
 impl<'s, R: Store> Memory<'s, R> {
     /// The access values at some offsets from a spot are moved out. They stand there until `settle`.
+    #[inline(always)]
     pub fn move_out(&mut self, spot: Spot, offsets: &[u32]) -> Result<(), Stop>
         ensures moved { OnOk result ((ks : List kinds.Kind) → Changes R.Means self.old (λ s. Given (moving s (spot_of spot) ks offsets.now)) self.new) }
         ensures memory { OnErr result (IsErrOf result Stop.Memory) }
@@ -38,6 +40,7 @@ impl<'s, R: Store> Memory<'s, R> {
     }
 
     /// Null stands where an access value is moved from.
+    #[inline(always)]
     fn clear(&mut self, spot: Spot, offset: u32)
         requires { Knows R.Means self.old (λ s. IsThere s (beyond (spot_of spot) offset)) }
         ensures cleared { Clears R.Means self.old (beyond (spot_of spot) offset) self.new }

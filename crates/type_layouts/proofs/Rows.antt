@@ -1,5 +1,5 @@
 -- What is kept of types, one after the other.
-use Rattle.std.proofs.Common.{◌≡◌, ℕ, zero, suc, ◌+◌, List, [], ◌∷◌, ◌++◌, length, Option, Some, None, slice_get, sym, subst, arith}
+use Rattle.std.proofs.Common.{◌≡◌, ℕ, zero, suc, ◌+◌, List, [], ◌∷◌, ◌++◌, length, Some, slice_get, sym, subst, arith}
 use Rattle.type_definitions.specs.Types.{Table}
 use Rattle.type_layouts.specs.declared.layouts.Layout.{Layout}
 use Rattle.type_layouts.specs.Layouts.{IsLaid, AreLaid}
@@ -21,5 +21,10 @@ laid_at table t zero (r ∷ rows) l all is =
 laid_at table t (suc i) (r ∷ rows) l all is =
     subst (λ k. IsLaid table k l) (let same : suc t + i ≡ t + suc i = omega arith in same) (laid_at table (suc t) i rows l all.1 is)
 
-pub laid_here : (table : Table) (i : ℕ) (rows : List Layout) (l : Layout) → AreLaid table 0 rows → slice_get rows i ≡ Some l → IsLaid table i l
-laid_here table i rows l all is = subst (λ k. IsLaid table k l) (let same : 0 + i ≡ i = omega arith in same) (laid_at table 0 i rows l all is)
+-- By the view of a table.
+pub laid_here : (table whole : Table) (t : ℕ) (rows items : List Layout) (l : Layout) → table ≡ whole → items ≡ rows → AreLaid table 0 rows → slice_get items t ≡ Some l
+    → IsLaid whole t l
+laid_here table whole t rows items l same is all there =
+    subst (λ w. IsLaid w t l) same
+    (subst (λ k. IsLaid table k l) (let same : 0 + t ≡ t = omega arith in same)
+    (laid_at table 0 t items l (subst (AreLaid table 0) (sym is) all) there))

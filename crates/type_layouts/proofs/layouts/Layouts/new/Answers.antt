@@ -1,5 +1,4 @@
-use Rattle.std.proofs.Common.{◌≡◌, ◌+◌, List, ◌∷◌, [], ◌++◌, length, sym, subst, arith}
-use Rattle.type_layouts.specs.declared.layouts.Layout.{Layout}
+use Rattle.std.proofs.Common.{◌≡◌, ◌+◌, length, sym, subst, arith}
 use Rattle.type_layouts.specs.Layouts.{IsLaid, AreLaid}
 use Rattle.type_layouts.proofs.Rows.{laid_more}
 use Rattle.type_layouts.proofs.layouts.Layouts.new.Goals as goal
