@@ -1,4 +1,4 @@
-use Rattle.std.proofs.Common.{◌≡◌, ◌+◌, ◌<◌, ◌≤◌, length, refl, subst, arith, rules}
+use Rattle.std.proofs.Common.{◌≡◌, ◌+◌, ◌<◌, ◌≤◌, length, refl, ap, subst, arith, rules}
 use Rattle.std.proofs.lemmas.Int.{to_z-of_z}
 use mir.Syntax.{w64}
 use mir.Val.{SFits}
@@ -34,3 +34,14 @@ returns-clause-made g c =
     let P : Kept g.row.R.Denot → Type 0 = λ m. Always g.R.Store.Means m (λ s. IsMade g.R.Store.Means s vs c.word_of.result n) in
     rw (to_z-of_z w64 c.word_of.result fits)
     (subst P c.self.view_is (makes g.R.Store.Means _ n c.in_ok-handle.handle vs c.word_of.result c.in_ok-handle.ensures.made refl c.word_of.ensures few room))
+
+pub returns-then-count-saturating_sub-clause-made : goal.returns-then-count-saturating_sub-clause-made
+returns-then-count-saturating_sub-clause-made g c = λ s stands other.
+    let vs = slot_values c.args.kinds.now c.args.words.now in
+    let long : length vs ≡ length c.args.words.now = values_long c.args.kinds.now c.args.words.now c.requires.fit in
+    let live : c.self.inside.heap.live ≡ c.args.self.now.heap.live = ap (λ (m : Kept g.row.R.Denot). m.heap.live) c.self.view_is in
+    record {
+      raises = refl;
+      full = omega (arith, c.if-count-saturating_sub.true, c.live.ensures, c.saturating_sub.ensures, live, long);
+      shows = (stands, refl);
+    }
