@@ -50,9 +50,9 @@ fn word_or_zero(words: &[i64], i: usize) -> i64
     }
 }
 
-/// Appends the failed leak check of an access value, where it fails: a cell that the value still owns
-/// is lost (`docs/RUN.md`, "Steps").
-pub fn push_leak<R: Store>(
+/// Appends the failed leak check of an access value that isn't null.
+#[inline(never)]
+fn push_lost<R: Store>(
     memory: &Memory<R>,
     word: i64,
     pos: Pos,
@@ -66,6 +66,25 @@ pub fn push_leak<R: Store>(
         leaks.push(Leak { number, pos })?;
     }
     Ok(())
+}
+
+/// Appends the failed leak check of an access value, where it fails: a cell that the value still owns
+/// is lost (`docs/RUN.md`, "Steps").
+#[inline(always)]
+pub fn push_leak<R: Store>(
+    memory: &Memory<R>,
+    word: i64,
+    pos: Pos,
+    leaks: &mut Vec<Leak>,
+) -> Result<(), Stop>
+    ensures pushed { OnOk result (Always R.Means memory.now (λ s. leaks_of leaks.new.items ≡ leaks_of leaks.old.items ++ leak s.numbers pos word)) }
+    ensures memory { OnErr result (IsErrOf result Stop.Memory) }
+    ensures unchanged { OnErr result (leaks.new.items ≡ leaks.old.items) }
+{
+    if word == 0 {
+        return Ok(());
+    }
+    push_lost(memory, word, pos, leaks)
 }
 
 /// Appends the failed leak checks of the access values at some numbers.
