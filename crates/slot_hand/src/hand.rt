@@ -204,6 +204,9 @@ impl Hand {
         ensures made { Made R.Means memory.old (kinds table.now of) (drop from self.old) result (take from self.old) self.new memory.new }
         ensures elsewhere { elsewhere memory.new ≡ elsewhere memory.old }
     {
+        if let Some(kinds) = table.kinds(of) {
+            return make(memory, kinds, from, &mut self.words);
+        }
         take_kinds(table, of, &mut self.kinds)?;
         make(memory, &self.kinds, from, &mut self.words)
     }
