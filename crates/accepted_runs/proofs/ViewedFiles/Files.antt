@@ -112,11 +112,11 @@ unnamed_access (view.Access d k true) e = unnamed k e
     unnamed true e = cc
     unnamed false e = cc
 unnamed_access (view.Access d k false) e = refl
-unnamed_access w e = cc
+unnamed_access w e = absurd (false≢true e)
 
 is_mode_in : (m : Mode) → is_in m ≡ true → m ≡ mode.In
 is_mode_in mode.In e = refl
-is_mode_in m e = cc
+is_mode_in m e = absurd (false≢true e)
 
 out_apart : mode.Out ≡ mode.In → ⊥
 out_apart e = cc
@@ -156,7 +156,7 @@ whole_named z d c n whole is = cc
 
 formal_kind : (k : ObjectKind) → flow.is_formal_kind k ≡ true → flow.is_variable k ≡ true → ⊥
 formal_kind object_kind.Formal e f = cc
-formal_kind k e f = cc
+formal_kind k e f = absurd (false≢true e)
 
 module _ (files : List (List SourceUnit)) where
   abbrev p : Program

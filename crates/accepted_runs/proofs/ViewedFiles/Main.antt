@@ -91,7 +91,7 @@ formals_scope h n (g ∷ groups) =
 
 by_formals_apart : (k : ObjectKind) (a b : Bool) → is_formal_kind k ≡ true → not ((is_variable k && a) && b) ≡ true
 by_formals_apart object_kind.Formal a b e = refl
-by_formals_apart k a b e = cc
+by_formals_apart k a b e = absurd (false≢true e)
 
 -- No formal is an observer.
 formals_apart : (own : Typing) (n : ℕ) (xs : List ℕ) → ((x : ℕ) → Has xs x → is_formal own x ≡ true) → are_apart own n xs ≡ true

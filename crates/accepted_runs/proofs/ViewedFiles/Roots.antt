@@ -1,6 +1,7 @@
 -- No name in code denotes a formal of an anonymous access type, if no formal of the program is of one.
 use Rattle.std.proofs.Common.{◌≡◌, refl, sym, ap, ◌∙◌, subst, inl, inr, ℕ, suc, ◌+◌, true, List, [], ◌∷◌, ◌++◌, map, flat_map}
 use Rattle.std.specs.List.{AllByRecursion}
+use Rattle.std.proofs.lemmas.Bool.{false≢true}
 use Rattle.spark_base.specs.Lists.{Has}
 use Rattle.place_names.specs.declared.act.Mode.{Mode}
 use Rattle.place_names.specs.declared.act.Mode.TheVariants as mode
@@ -97,7 +98,7 @@ numbered s own known k (o ∷ os) at all d (inr has) = numbered s own known (suc
 
 formal_known : (k : Kind) → is_formal_kind k ≡ true → flow.is_formal_kind (kind_of k) ≡ true
 formal_known kind.Formal e = refl
-formal_known k e = cc
+formal_known k e = absurd (false≢true e)
 
 module _ (s : Site) (own : Typing) (units : List Code) (h : Home) (object : ℕ → Type 0) (names : (d : ℕ) → is_object_entry (entry_of h.known d) ≡ true → object d)
     (at : AreAt s own 1 (over_units (objects_in units h 0) 1 units)) where

@@ -70,12 +70,12 @@ true_false false e f = cc
 
 pub counts_plain : (z : Shape) → counts z ≡ true → flow.is_anonymous (view_of z) ≡ false
 counts_plain (shape.Whole low high) e = refl
-counts_plain z e = cc
+counts_plain z e = absurd (false≢true e)
 
 pub scalar_plain : (w : View) → is_scalar w ≡ true → flow.is_anonymous w ≡ false
 scalar_plain (view.Whole low high) e = refl
 scalar_plain (view.Listed low high) e = refl
-scalar_plain w e = cc
+scalar_plain w e = absurd (false≢true e)
 
 -- An object of an anonymous access type is a variable, and of no package; or it is a formal.
 abbrev pub IsLocalView : Table → DeclaredObject → Type 0
@@ -92,7 +92,7 @@ view_anonymous : (w : View) → is_anonymous w ≡ true → flow.is_anonymous w 
 view_anonymous (view.Access d k true) e = cc
 view_anonymous (view.Access d true false) e = refl
 view_anonymous (view.Access d false false) e = refl
-view_anonymous w e = cc
+view_anonymous w e = absurd (false≢true e)
 
 no_source : (a b : Bool) → a ≡ false → a && b ≡ true → ⊥
 no_source true b e f = cc
@@ -144,7 +144,7 @@ goes_on on rest u Stops e = cc
 other_anonymous : (w : View) → flow.is_anonymous w ≡ true → is_anonymous w ≡ true
 other_anonymous (view.Access d k true) e = cc
 other_anonymous (view.Access d k false) e = refl
-other_anonymous w e = cc
+other_anonymous w e = absurd (false≢true e)
 
 one_place : (t u : ℕ) → reading.Place t ≡ reading.Place u → t ≡ u
 one_place t u e = cc

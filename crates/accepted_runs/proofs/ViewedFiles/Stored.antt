@@ -2,7 +2,7 @@
 -- formal of mode `in` is assigned in a program without reports.
 use Rattle.std.specs.Prelude.{IsTrue}
 use Rattle.std.proofs.Common.{◌≡◌, refl, sym, ap, ◌∙◌, subst, ◌⊎◌, inl, inr, ℕ, ◌<◌, Bool, true, false, not, ◌&&◌, ◌||◌, nat_lt, List, [], ◌∷◌, map, length, filter}
-use Rattle.std.proofs.lemmas.Bool.{ltb-true, lt-ltb}
+use Rattle.std.proofs.lemmas.Bool.{ltb-true, lt-ltb, false≢true}
 use Rattle.spark_base.specs.Lists.{Has}
 use Rattle.spark_base.proofs.Lists.{Has-append_right, Has-map_from, Has-filter}
 use Rattle.spark_base.specs.declared.position.Pos.{Pos}
@@ -55,7 +55,7 @@ both_second false b e = cc
 
 no_variable : (k : ObjectKind) → is_formal_kind k ≡ true → is_variable k ≡ false
 no_variable object_kind.Formal e = refl
-no_variable k e = cc
+no_variable k e = absurd (false≢true e)
 
 -- A formal of mode `in` of an anonymous access type isn't changed as a whole.
 changed_here : (function formal inn access whole : Bool) → formal ≡ true → inn ≡ true → access ≡ false

@@ -1,5 +1,6 @@
 -- A borrower that only sees goes back to a formal of its function.
 use Rattle.std.proofs.Common.{◌≡◌, refl, sym, ap, ◌∙◌, subst, inl, inr, ℕ, zero, suc, true, false, map, None}
+use Rattle.std.proofs.lemmas.Bool.{false≢true}
 use Rattle.spark_base.specs.Lists.{Has}
 use Rattle.spark_base.proofs.Lists.{Has-map}
 use Rattle.place_names.specs.declared.act.Act.TheVariants as act
@@ -34,7 +35,7 @@ use Rattle.accepted_runs.proofs.ViewedFiles.ViewLaws.Sees.{borrower_anonymous, b
 
 no_variable : (k : ObjectKind) → is_formal_kind k ≡ true → is_variable k ≡ false
 no_variable object_kind.Formal is = refl
-no_variable k is = cc
+no_variable k is = absurd (false≢true is)
 
 module _ (table : Table) (typed : TypedProgram) (effects : Effects) (given : IsViewProgram table typed effects) where
   abbrev program : FlowProgram

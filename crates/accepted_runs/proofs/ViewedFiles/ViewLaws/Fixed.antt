@@ -1,5 +1,6 @@
 -- What is changed or lent may be: it isn't named through what only sees.
 use Rattle.std.proofs.Common.{◌≡◌, refl, sym, ap, ◌∙◌, subst, inl, inr, ℕ, Bool, true, false, not, ◌&&◌, ◌||◌, ◌<◌, arith, List, [], ◌∷◌, map, length, Option, Some, is_some}
+use Rattle.std.proofs.lemmas.Bool.{false≢true}
 use Rattle.spark_base.specs.declared.position.Pos.{Pos}
 use Rattle.spark_base.specs.Lists.{Has}
 use Rattle.spark_base.proofs.Lists.{Has-append_left, Has-append_right, Has-map, Has-map_from}
@@ -94,7 +95,7 @@ all_keep fixed (a ∷ acts) h g =
 
 unnamed_access : (v : Shape) → is_named_access (types.view_of v) ≡ true → (d : ℕ) × (k : Bool) × (n : Bool) × (v ≡ shape.Access d k n)
 unnamed_access (shape.Access d k n) is = (d, k, n, refl)
-unnamed_access v is = cc
+unnamed_access v is = absurd (false≢true is)
 
 module _ (table : Table) (typed : TypedProgram) (effects : Effects) (given : IsViewProgram table typed effects) where
   abbrev program : FlowProgram

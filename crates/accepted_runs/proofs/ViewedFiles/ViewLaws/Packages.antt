@@ -3,6 +3,7 @@
 use Rattle.std.proofs.Common.{◌≡◌, refl, subst, ◌⊎◌, inl, inr, ℕ, Bool, true, false, not, ◌&&◌, ◌||◌, List, [], ◌∷◌, ◌++◌, ap, ◌∙◌}
 use Rattle.std.specs.Prelude.{reverse}
 use Rattle.std.specs.List.{AllByRecursion}
+use Rattle.std.proofs.lemmas.Bool.{false≢true}
 use Rattle.spark_base.specs.Lists.{Has}
 use Rattle.spark_base.proofs.Lists.{Has-append_left, Has-append_right, Has-append_cases}
 use Rattle.type_definitions.specs.Types.{is_owning}
@@ -86,7 +87,7 @@ module _ (t : Typing) (s : Setting) where
       subst (λ z. not (is_anonymous (view_of t z)) && no_views t (roots u) ≡ true) object
       (subst (λ z. not (is_anonymous (view_of t x)) && no_views t (roots z) ≡ true) value none)))
   laid_plain typed.NoMore at w k only none = tt
-  laid_plain _ at w k only none = cc
+  laid_plain _ at w k only none = absurd (false≢true only)
 
   pub package_plain : (sub : TypedSub) → declares_only sub.body ≡ true → names_no_view t sub.body ≡ true → (p : NamedPoint) → Has (elaboration_points s sub) p
       → IsPlain t p
@@ -158,4 +159,4 @@ module _ (t u : Typing) (same_table : t.table ≡ u.table) (outer : ℕ → Bool
         | inr before ↦ same x before
       ]) (λ x has. own x (Has-append_right (declared_within a) (declared_within rest) x has)) (and_second (names_no_owner u a) (names_no_owner u rest) none))
   owners_same typed.NoMore scope only seen same own none = refl
-  owners_same _ scope only seen same own none = cc
+  owners_same _ scope only seen same own none = absurd (false≢true only)

@@ -3,6 +3,7 @@
 use Rattle.std.proofs.Common.{◌≡◌, refl, sym, ap, ◌∙◌, subst, ◌⊎◌, inl, inr, ℕ, suc, Bool, true, false, not, ◌&&◌, ◌||◌, List, [], ◌∷◌, map, get_or, nat_lt, Option, None, Some}
 use Rattle.std.specs.Prelude.{reverse}
 use Rattle.std.specs.List.{AllByRecursion}
+use Rattle.std.proofs.lemmas.Bool.{false≢true}
 use Rattle.spark_base.specs.declared.position.Pos.{Pos}
 use Rattle.spark_base.specs.Lists.{Has}
 use Rattle.spark_base.proofs.Lists.{Has-map, Has-map_from, Has-append_left, Has-append_right}
@@ -107,7 +108,7 @@ stored_gives false f b is none e = cc
 
 by_kind_variable_lasts : (k : ObjectKind) → is_variable k ≡ true → is_temporary k ≡ false
 by_kind_variable_lasts object_kind.Variable is = refl
-by_kind_variable_lasts k is = cc
+by_kind_variable_lasts k is = absurd (false≢true is)
 
 some_same : (a b : ℕ) → Some a ≡ Some b → a ≡ b
 some_same a b is = cc

@@ -3,6 +3,7 @@
 use Rattle.std.proofs.Common.{◌≡◌, refl, sym, ap, ◌∙◌, subst, ◌⊎◌, inl, inr, ℕ, ◌<◌, Bool, true, false, ◌&&◌, ◌||◌, List, [], ◌∷◌, ◌++◌, map, take, drop, length, get_or, arith, Option, Some, None, is_some, if◌then◌else◌}
 use Rattle.std.specs.Prelude.{filter, not, nat_lt}
 use Rattle.std.specs.List.{AllByRecursion}
+use Rattle.std.proofs.lemmas.Bool.{false≢true}
 use Rattle.spark_base.specs.declared.position.Pos.{Pos}
 use Rattle.spark_base.specs.Lists.{Has}
 use Rattle.spark_base.proofs.Lists.{Has-append_right, Has-filter, Has-map}
@@ -115,7 +116,7 @@ first_of false b e = cc
 -- what a traversal function gives that is called with such a name
 pub from_gives : (s : Typing) (test : ℕ → Bool) (e : TypedTree) → gives_from test s e ≡ true → gives_view s e ≡ true
 from_gives s test (typed_tree.Call p sub actuals) is = first_of (traverses s.table (sub_at s sub).result) (is_rooted_in test (first actuals)) is
-from_gives s test e is = cc
+from_gives s test e is = absurd (false≢true is)
 
 gives_so : (n g h : Bool) → (g ≡ true → h ≡ true) → n || g ≡ true → n || h ≡ true
 gives_so true g h so e = refl
@@ -129,7 +130,7 @@ stored_fit false f n g view none e = cc
 -- a variable is no formal
 no_formal : (k : ObjectKind) → is_variable k ≡ true → is_formal_kind k ≡ false
 no_formal object_kind.Variable is = refl
-no_formal k is = cc
+no_formal k is = absurd (false≢true is)
 
 module _ (table : Table) (typed : TypedProgram) (effects : Effects) (given : IsViewProgram table typed effects) where
   abbrev program : FlowProgram
@@ -575,7 +576,7 @@ module _ (table : Table) (typed : TypedProgram) (effects : Effects) (given : IsV
   unfolding CallsFit
   name_only test (Name q y steps t) fit asked = asked
   name_only test (typed_tree.Call q n a) fit asked = (let never : true ≡ false = sym fit ∙ no_traversal n asked.0 in cc)
-  name_only test e fit asked = cc
+  name_only test e fit asked = absurd (false≢true fit)
 
   -- an object that is no temporary is as the text has it
   view_same : (x : ℕ) → is_temporary_object s x ≡ false → is_anonymous (view_of s x) ≡ is_anonymous (view_of own x)
