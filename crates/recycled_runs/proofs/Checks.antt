@@ -24,7 +24,7 @@ use Rattle.machine.specs.Memory.{Slot, OfVariable, slots_at}
 use Rattle.machine.specs.States.{sub_of}
 use Rattle.machine.specs.States as machine
 use Rattle.machine.specs.Run.{no_point}
-use Rattle.viewed_facts.specs.NullPlaces.Agrees.{SameState}
+use Rattle.recycled_runs.specs.ViewedFacts.NullPlaces.Agrees.{SameState}
 use Rattle.run_codes.specs.Codes.{Does, Point}
 use Rattle.run_codes.specs.Codes as codes
 use Rattle.run_codes.specs.Flat.{Got, Given, Stops, Broken, and_then, front, is_word, kind_of}

@@ -14,7 +14,7 @@ use Rattle.soundness.specs.OwnedWays.Ways.{Owned}
 use Rattle.soundness.specs.Seen.{is_view_formal, content}
 use Rattle.soundness.specs.Typed.{Kept, loc_of}
 use Rattle.soundness.specs.Sound.{view_of}
-use Rattle.typed_laws.specs.Needed.{Leads}
+use Rattle.soundness.specs.TypedLaws.Needed.{Leads}
 use Rattle.machine.specs.Words.{access_offsets}
 use Rattle.machine.specs.Typed.{Sort, Pointer, sorts}
 use Rattle.machine.specs.Owners.{waiting_in}
@@ -22,8 +22,8 @@ use Rattle.machine.specs.Memory.{Slot, Memory, Base, OfVariable, OfCell, cell, s
 use Rattle.machine.specs.Evaluate.{Evaluated, place_of}
 use Rattle.machine.specs.Memory as machine_memory
 use Rattle.machine.specs.States as machine
-use Rattle.viewed_facts.specs.NullPlaces.Agrees.{SameState}
-use Rattle.viewed_facts.proofs.NullPlaces.Memories.{cell_agree}
+use Rattle.recycled_runs.specs.ViewedFacts.NullPlaces.Agrees.{SameState}
+use Rattle.recycled_runs.proofs.ViewedFacts.NullPlaces.Memories.{cell_agree}
 use Rattle.run_codes.specs.Codes.{Point}
 use Rattle.run_codes.specs.Flat.{Flat, Given, Broken, kinds, Spot, InStack, InCell, spot, words_at, words_in}
 use Rattle.run_codes.specs.Lowered.{Placed, place}

@@ -18,9 +18,9 @@ use Rattle.machine.specs.Words.{Cell, access_offsets}
 use Rattle.machine.specs.Typed.{Sort, Pointer, sorts}
 use Rattle.machine.specs.Memory.{Slot, HeapCell, Base, OfVariable, OfCell, slots_at, no_slot, cell}
 use Rattle.machine.specs.States as machine
-use Rattle.viewed_facts.specs.NullPlaces.Cleared.{cleared_slot}
-use Rattle.viewed_facts.specs.NullPlaces.Agrees.{AgreeSlot, AgreeSlots, SameState}
-use Rattle.viewed_facts.proofs.NullPlaces.Memories.{cell_agree, slots_agree}
+use Rattle.recycled_runs.specs.ViewedFacts.NullPlaces.Cleared.{cleared_slot}
+use Rattle.recycled_runs.specs.ViewedFacts.NullPlaces.Agrees.{AgreeSlot, AgreeSlots, SameState}
+use Rattle.recycled_runs.proofs.ViewedFacts.NullPlaces.Memories.{cell_agree, slots_agree}
 use Rattle.run_codes.specs.Points.{State}
 use Rattle.run_codes.specs.Related.{types, SlotStands, AllStand, IsTable}
 use Rattle.run_points.specs.States.{StateStands}

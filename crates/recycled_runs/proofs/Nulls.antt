@@ -17,11 +17,11 @@ use Rattle.machine.specs.Typed.{Sort, Whole, Position, Pointer, sorts}
 use Rattle.machine.specs.Memory.{Slot, Variable, HeapCell, Memory, OfVariable, OfCell, fresh, is_variable, variable_slots, slots_at, no_slot, no_cell, cell}
 use Rattle.machine.specs.Evaluate.{heap_words}
 use Rattle.machine.specs.States as machine
-use Rattle.viewed_facts.specs.NullPlaces.Cleared.{cleared_slot, cleared_state}
-use Rattle.viewed_facts.specs.NullPlaces.Cleared as null_places
-use Rattle.viewed_facts.specs.NullPlaces.Agrees.{AgreeSlot, AgreeSlots, Agrees, SameState}
-use Rattle.viewed_facts.proofs.NullPlaces.Memories.{clear_agrees, cell_agree, slots_agree, count_agree, room_agree, freed_count}
-use Rattle.viewed_facts.proofs.NullPlaces.Only.{IsGone, OnlyOwners}
+use Rattle.recycled_runs.specs.ViewedFacts.NullPlaces.Cleared.{cleared_slot, cleared_state}
+use Rattle.recycled_runs.specs.ViewedFacts.NullPlaces.Cleared as null_places
+use Rattle.recycled_runs.specs.ViewedFacts.NullPlaces.Agrees.{AgreeSlot, AgreeSlots, Agrees, SameState}
+use Rattle.recycled_runs.proofs.ViewedFacts.NullPlaces.Memories.{clear_agrees, cell_agree, slots_agree, count_agree, room_agree, freed_count}
+use Rattle.recycled_runs.proofs.ViewedFacts.NullPlaces.Only.{IsGone, OnlyOwners}
 use Rattle.kept_cells.specs.Cells.{Cell}
 use Rattle.run_codes.specs.Flat.{Flat, most_cells, gone_from, kind_of, kinds, word_of, words_in}
 use Rattle.run_codes.specs.Points.{State}

@@ -30,7 +30,7 @@ use Rattle.soundness.specs.Sound.{goes_through_none}
 use Rattle.soundness.proofs.Points.{frame_in, flow_at}
 use Rattle.soundness.proofs.Passing.{signature_is}
 use Rattle.soundness.proofs.Typings.{flow_agrees, formal_same}
-use Rattle.typed_laws.specs.Needed.{Leads, IsPlace, IsFine}
+use Rattle.soundness.specs.TypedLaws.Needed.{Leads, IsPlace, IsFine}
 use Rattle.soundness.specs.ViewedSoundness.Holds.{is_bundle, is_given, is_fixed, AllKeep, IsAccess}
 use Rattle.soundness.proofs.ViewedSoundness.Evaluated.{keep_both}
 use Rattle.viewed_steps.specs.Ready.{IsReady, IsActualTo, AreActualsTo, AreUnobserved}

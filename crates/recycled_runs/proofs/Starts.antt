@@ -12,7 +12,7 @@ use Rattle.machine.specs.States.{Frame, sub_of, frame_words, frame_at_start}
 use Rattle.machine.specs.States as machine
 use Rattle.machine.specs.Run.{empty_memory, frames_at_start}
 use Rattle.machine.specs.Run as machine_run
-use Rattle.viewed_facts.proofs.NullPlaces.Only.{OwnersGone, OnlyOwners, fresh_whole}
+use Rattle.recycled_runs.proofs.ViewedFacts.NullPlaces.Only.{OwnersGone, OnlyOwners, fresh_whole}
 use Rattle.run_codes.specs.Points.{no_sub, sub_at, is_declaring}
 use Rattle.run_codes.specs.Points as points
 use Rattle.run_codes.specs.Programs.{Program, sub_rows}

@@ -24,15 +24,15 @@ use Rattle.soundness.specs.Seen.{is_view_formal, content}
 use Rattle.soundness.specs.Typed.{Kept, Spot}
 use Rattle.soundness.specs.Sound.{view_of}
 use Rattle.soundness.proofs.Steps.{no_leaf}
-use Rattle.typed_laws.specs.Needed.{Leads}
+use Rattle.soundness.specs.TypedLaws.Needed.{Leads}
 use Rattle.machine.specs.Words.{Word, Cell, access_offsets}
 use Rattle.machine.specs.Typed.{Pointer, sorts}
 use Rattle.machine.specs.Owners.{waiting_in}
 use Rattle.machine.specs.Memory.{HeapCell, cell, words_of}
 use Rattle.machine.specs.Evaluate.{Use, AsView, cell_place, place_of}
 use Rattle.machine.specs.States as machine
-use Rattle.viewed_facts.specs.NullPlaces.Agrees.{SameState}
-use Rattle.viewed_facts.proofs.NullPlaces.Memories.{cell_agree}
+use Rattle.recycled_runs.specs.ViewedFacts.NullPlaces.Agrees.{SameState}
+use Rattle.recycled_runs.proofs.ViewedFacts.NullPlaces.Memories.{cell_agree}
 use Rattle.kept_cells.specs.Cells.{Cell as StoredCell}
 use Rattle.run_codes.specs.Codes.{Place, Fill, Checked, Pointer as LookedAt, Does, Put, Store, Point, Actual, From, To, InFrame, InPackages, Behind, Number}
 use Rattle.run_codes.specs.Codes as codes

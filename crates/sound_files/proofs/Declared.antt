@@ -25,8 +25,8 @@ use Rattle.flow_paths.specs.Laid.{declared_within}
 use Rattle.flow_paths.specs.Objects.{object_at, is_formal, is_formal_kind, is_state, is_package_object}
 use Rattle.sound_files.specs.MeantFiles.Typed.{IsOf, AreIndicated, AreIntegers, AreTyped}
 use Rattle.sound_files.proofs.MeantFiles.Objects.{object_numbers, units_same}
-use Rattle.order_laws.proofs.ScopeLaws.Lists.{all_both}
-use Rattle.order_laws.specs.Orderly.{typed_of, typing_in}
+use Rattle.settled_types.proofs.OrderLaws.ScopeLaws.Lists.{all_both}
+use Rattle.settled_types.specs.OrderLaws.Orderly.{typed_of, typing_in}
 use Rattle.sound_files.proofs.Kinded.{program_kinded}
 use Rattle.sound_files.proofs.Known.{kind_at}
 

@@ -9,8 +9,8 @@ use Rattle.typed_tree.specs.Programs.{TypedSub, typed_program}
 use Rattle.flow_paths.specs.Objects.{Typing, Signature, object_at, sub_at, is_formal}
 use Rattle.flow_paths.specs.Laid.{FlowProgram, flow_typing, flow_program}
 use Rattle.soundness.proofs.Typings.{Agree, flow_agrees, formal_same}
-use Rattle.order_laws.specs.ReadyLaws.InOrder.{IsSub}
-use Rattle.order_laws.specs.Orderly.{typed_of, typing_in, bodies_of}
+use Rattle.settled_types.specs.OrderLaws.ReadyLaws.InOrder.{IsSub}
+use Rattle.settled_types.specs.OrderLaws.Orderly.{typed_of, typing_in, bodies_of}
 use Rattle.viewed_steps.specs.Sound.{IsScalarObject}
 use Rattle.sound_files.proofs.Functions.{FunctionsTakeIn}
 use Rattle.sound_files.proofs.Classes.{signature_at, signature_same, signature_there, mode_same}

@@ -15,10 +15,10 @@ use Rattle.flow_paths.specs.Objects.{Typing, Signature, sub_at, is_named_access,
 use Rattle.flow_paths.specs.Laid.{FlowProgram, signature, flow_typing, flow_program}
 use Rattle.soundness.proofs.Typings.{Agree, flow_agrees}
 use Rattle.soundness.specs.ViewedSoundness.Holds.{is_of_procedure, is_exclusive}
-use Rattle.order_laws.specs.ScopeLaws.Code.{Once}
-use Rattle.order_laws.specs.Orderly.{typed_of, typing_in, bodies_of}
-use Rattle.order_laws.proofs.Numbers.{numbers, formals_same}
-use Rattle.order_laws.proofs.Parts.{IsPart, part_whole, part_none, part_both, part_left, part_numbers_once}
+use Rattle.settled_types.specs.OrderLaws.ScopeLaws.Code.{Once}
+use Rattle.settled_types.specs.OrderLaws.Orderly.{typed_of, typing_in, bodies_of}
+use Rattle.settled_types.proofs.OrderLaws.Numbers.{numbers, formals_same}
+use Rattle.settled_types.proofs.OrderLaws.Parts.{IsPart, part_whole, part_none, part_both, part_left, part_numbers_once}
 
 -- ---- lists
 

@@ -32,7 +32,7 @@ use Rattle.soundness.specs.PartOffsets.Parts.{offset_in, is_leaf, IsSettled}
 use Rattle.soundness.specs.Seen.{IsNear, is_view_formal, content, trunk, steps_in, word_in, owner_at, seen, home}
 use Rattle.soundness.specs.Changes.{Alike}
 use Rattle.soundness.specs.Typed.{OwnsByShape, Kept}
-use Rattle.typed_laws.specs.Needed.{Source, FirstSource}
+use Rattle.soundness.specs.TypedLaws.Needed.{Source, FirstSource}
 use Rattle.soundness.proofs.Near.{near_under, near_along}
 use Rattle.soundness.proofs.Contents.{bool_cases, word_yes, word_no, word_root}
 use Rattle.soundness.proofs.Memories.{put_other}

@@ -47,7 +47,7 @@ use Rattle.soundness.proofs.OwnedWays.Locations.{reaches_along, named_along as r
 use Rattle.soundness.proofs.OwnedWays.Dropped.{named_base}
 use Rattle.soundness.specs.Seen.{IsNear, content, word_in, home}
 use Rattle.soundness.specs.Typed.{Kept}
-use Rattle.typed_laws.specs.Needed.{IsFine, Stays, Source, FirstSource, FirstWrites, FirstStays, Returns}
+use Rattle.soundness.specs.TypedLaws.Needed.{IsFine, Stays, Source, FirstSource, FirstWrites, FirstStays, Returns}
 use Rattle.soundness.specs.Sound.{IsNoCall, Stage, facts_of, AreStages, IsRunnable, returns_value, InScope, IsNamedSub, IsAtPoint, view_of as view_here, is_temporary_object}
 use Rattle.soundness.specs.Ready.{stored_at, Fills, IsSupplied}
 use Rattle.soundness.proofs.Contents.{bool_cases, word_root}

@@ -51,7 +51,7 @@ use Rattle.machine.specs.Owners.{waiting_in, WellOwned}
 use Rattle.soundness.specs.OwnedWays.Ways.{Step, OfVariable, OfRoot, Way, Held, after, AllowsAll}
 use Rattle.soundness.specs.Seen.{IsNear, content, word_in, home, seen}
 use Rattle.soundness.specs.Typed.{Kept, IsCell}
-use Rattle.typed_laws.specs.Needed.{IsFine, Source, Matches, Returns}
+use Rattle.soundness.specs.TypedLaws.Needed.{IsFine, Source, Matches, Returns}
 use Rattle.soundness.specs.ViewedSoundness.Taken.{GivesPlainly}
 use Rattle.soundness.specs.Sound.{IsNoCall, Stage, facts_of, AreStages, IsRunnable, returns_value, InScope, IsNamedSub, IsAtPoint, view_of as view_here, has_returned}
 use Rattle.soundness.proofs.Scoped.{Inside}

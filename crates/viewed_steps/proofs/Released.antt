@@ -35,7 +35,7 @@ use Rattle.soundness.proofs.PartOffsets.Ranges.{leaf_end, leaf_part}
 use Rattle.soundness.specs.Seen.{IsNear, is_view_formal, Content, content, trunk, steps_in, owner_at, owner_word, seen, home}
 use Rattle.soundness.specs.Changes.{Alike as AlikeTypes, Checks, leaks_at}
 use Rattle.soundness.specs.Typed.{Matches, OwnsByShape, Spot}
-use Rattle.typed_laws.specs.Needed.{Leads}
+use Rattle.soundness.specs.TypedLaws.Needed.{Leads}
 use Rattle.soundness.proofs.Contents.{bool_cases, word_yes, word_no, word_part, checks_made, all_checks}
 use Rattle.soundness.proofs.Joined.{trunk_trunk, below_cell}
 use Rattle.soundness.proofs.Walks.{both_true, way_along, Walked}

@@ -26,7 +26,7 @@ use Rattle.soundness.proofs.OwnedWays.Locations.{same_loc}
 use Rattle.soundness.specs.PartOffsets.Parts.{IsSettled}
 use Rattle.soundness.specs.Seen.{IsNear, seen, home}
 use Rattle.soundness.specs.Typed.{OwnsByShape}
-use Rattle.typed_laws.specs.Needed.{Leads, Gives, Matches, Source}
+use Rattle.soundness.specs.TypedLaws.Needed.{Leads, Gives, Matches, Source}
 use Rattle.soundness.proofs.Numbers.{index_law}
 use Rattle.soundness.proofs.Scalars.{acts, acts_append, after_append, allows_both}
 use Rattle.soundness.proofs.Stays.{Quiet}

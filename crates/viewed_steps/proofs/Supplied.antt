@@ -13,7 +13,7 @@ use Rattle.machine.specs.Words as machine
 use Rattle.machine.specs.Memory.{Memory}
 use Rattle.machine.specs.States.{Waiting}
 use Rattle.machine.specs.Typed.{is_array, is_record}
-use Rattle.typed_laws.specs.Needed.{Gives, IsPlace, Matches}
+use Rattle.soundness.specs.TypedLaws.Needed.{Gives, IsPlace, Matches}
 use Rattle.soundness.specs.PartOffsets.Parts.{IsSettled}
 use Rattle.soundness.specs.Seen.{in_hand}
 use Rattle.soundness.specs.Typed.{Kept, OwnsByShape, Points}

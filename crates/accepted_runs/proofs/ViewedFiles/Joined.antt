@@ -15,9 +15,9 @@ use Rattle.flow_paths.specs.Layout.{declared}
 use Rattle.flow_paths.specs.Laid.{declared_within}
 use Rattle.flow_paths.specs.Scopes.{is_within}
 use Rattle.flow_paths.specs.Views.{encloses, scope_of}
-use Rattle.order_laws.specs.ScopeLaws.Code.{roots, are_seen, is_seen, is_each_seen}
-use Rattle.order_laws.proofs.ScopeLaws.Lists.{within_has, and_first, and_second, both_true}
-use Rattle.order_laws.specs.ScopeLaws.LayeredScopes.Layered.{is_older, are_of_scope, are_apart, is_layered, is_each_layered}
+use Rattle.settled_types.specs.OrderLaws.ScopeLaws.Code.{roots, are_seen, is_seen, is_each_seen}
+use Rattle.settled_types.proofs.OrderLaws.ScopeLaws.Lists.{within_has, and_first, and_second, both_true}
+use Rattle.settled_types.specs.OrderLaws.ScopeLaws.LayeredScopes.Layered.{is_older, are_of_scope, are_apart, is_layered, is_each_layered}
 use Rattle.accepted_runs.specs.ViewedFiles.ViewLaws.InOrder.{gives_view, is_rooted_in, gives_from, is_list_end, is_one_name_of, is_any, fits}
 use Rattle.accepted_runs.specs.ViewedFiles.Sources.{has_source, all_fit}
 

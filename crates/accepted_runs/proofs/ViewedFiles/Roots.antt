@@ -19,7 +19,7 @@ use Rattle.typed_tree.specs.Statements.{scope_count}
 use Rattle.typed_tree.specs.Programs.{DeclaredObject, Home, object_of, objects_in, formals_of, front_formals, local, in_package, package_text, kind_of, entry_kind, over_units}
 use Rattle.flow_paths.specs.Objects.{Typing, object_at, view_of, is_anonymous}
 use Rattle.flow_paths.specs.Objects as flow
-use Rattle.order_laws.proofs.ScopeLaws.Lists.{all_both}
+use Rattle.settled_types.proofs.OrderLaws.ScopeLaws.Lists.{all_both}
 use Rattle.sound_files.specs.SeenFiles.Fits.{AllFit}
 use Rattle.sound_files.specs.MeantFiles.Denoted.{AreDenoted}
 use Rattle.sound_files.proofs.MeantFiles.Objects.{object_numbers, units_same}

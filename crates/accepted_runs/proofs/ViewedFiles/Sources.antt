@@ -45,14 +45,14 @@ use Rattle.flow_paths.specs.Instructions.{Declare}
 use Rattle.flow_paths.specs.Objects.{Typing, Signature, object_at, sub_at, is_variable as is_variable_object}
 use Rattle.flow_paths.specs.Objects as flow
 use Rattle.flow_paths.specs.Names.{first, whole, whole_object}
-use Rattle.typed_laws.specs.Fine.{Laws, IsMeant, Denotes, AreSuffixes, counts}
-use Rattle.typed_laws.proofs.Agreeing.{holds, nil_left, nil_right}
-use Rattle.typed_laws.proofs.Readings.{call_of}
-use Rattle.typed_laws.specs.TypedPoints.Meant.{AreDeclared, AreNumbers, IsMeantOptional}
-use Rattle.typed_laws.proofs.TypedPoints.Flags.{flagged, reading_same}
+use Rattle.soundness.specs.TypedLaws.Fine.{Laws, IsMeant, Denotes, AreSuffixes, counts}
+use Rattle.soundness.proofs.TypedLaws.Agreeing.{holds, nil_left, nil_right}
+use Rattle.soundness.proofs.TypedLaws.Readings.{call_of}
+use Rattle.soundness.specs.TypedLaws.TypedPoints.Meant.{AreDeclared, AreNumbers, IsMeantOptional}
+use Rattle.soundness.proofs.TypedLaws.TypedPoints.Flags.{flagged, reading_same}
 use Rattle.sound_files.specs.SeenFiles.Uses.{Uses}
 use Rattle.sound_files.specs.MeantFiles.Typed.{AreIndicated, AreOf, IsGroupTyped, AreGroupsTyped, IsFrontTyped, AreIntegers}
-use Rattle.order_laws.proofs.ScopeLaws.Lists.{all_both, and_first, and_second}
+use Rattle.settled_types.proofs.OrderLaws.ScopeLaws.Lists.{all_both, and_first, and_second}
 use Rattle.accepted_runs.specs.ViewedFiles.ViewLaws.InOrder.{gives_view, is_name_of, is_one_name_of, is_any, stores_name}
 use Rattle.accepted_runs.specs.ViewedFiles.Sources.{has_source, all_fit}
 

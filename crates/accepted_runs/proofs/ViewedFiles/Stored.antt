@@ -29,17 +29,17 @@ use Rattle.machine.specs.Owners.{is_in, is_in_formal}
 use Rattle.soundness.specs.Sound.{Accepted}
 use Rattle.soundness.proofs.Points.{flow_at}
 use Rattle.soundness.proofs.Typings.{Agree, flow_agrees, formal_same}
-use Rattle.order_laws.proofs.ScopeLaws.Begun.{Begins, sub_begun, package_begun}
-use Rattle.order_laws.specs.ScopeLaws.Code.{roots}
-use Rattle.order_laws.specs.ScopeLaws.Order.{named_in}
-use Rattle.order_laws.specs.ScopeLaws.Supplied.{IsKept}
-use Rattle.order_laws.proofs.ScopeLaws.Kept.{sub_kept}
-use Rattle.order_laws.proofs.ScopeLaws.Filled.{temporaries_of, object_before}
-use Rattle.order_laws.proofs.ScopeLaws.Lists.{all_has, within_has}
-use Rattle.order_laws.specs.ReadyLaws.InOrder.{IsInOrder, AreStill, own_nothing}
-use Rattle.order_laws.proofs.ReadyLaws.Elaborated.{package_declares}
-use Rattle.order_laws.proofs.ReadyLaws.Ready.{seen_has}
-use Rattle.order_laws.proofs.ReadyLaws.Subs.{setting_from, named_cases}
+use Rattle.settled_types.proofs.OrderLaws.ScopeLaws.Begun.{Begins, sub_begun, package_begun}
+use Rattle.settled_types.specs.OrderLaws.ScopeLaws.Code.{roots}
+use Rattle.settled_types.specs.OrderLaws.ScopeLaws.Order.{named_in}
+use Rattle.settled_types.specs.OrderLaws.ScopeLaws.Supplied.{IsKept}
+use Rattle.settled_types.proofs.OrderLaws.ScopeLaws.Kept.{sub_kept}
+use Rattle.settled_types.proofs.OrderLaws.ScopeLaws.Filled.{temporaries_of, object_before}
+use Rattle.settled_types.proofs.OrderLaws.ScopeLaws.Lists.{all_has, within_has}
+use Rattle.settled_types.specs.OrderLaws.ReadyLaws.InOrder.{IsInOrder, AreStill, own_nothing}
+use Rattle.settled_types.proofs.OrderLaws.ReadyLaws.Elaborated.{package_declares}
+use Rattle.settled_types.proofs.OrderLaws.ReadyLaws.Ready.{seen_has}
+use Rattle.settled_types.proofs.OrderLaws.ReadyLaws.Subs.{setting_from, named_cases}
 use Rattle.viewed_steps.specs.Sound.{IsStoredAt}
 
 true_is : {A : Type 0} → true ≡ false → A

@@ -11,10 +11,10 @@ use Rattle.typed_tree.specs.Trees as typed
 use Rattle.flow_paths.specs.Instructions.{Declare, Assign, Call, Hold}
 use Rattle.flow_paths.specs.Objects.{Typing, object_at, sub_at, traverses, is_anonymous}
 use Rattle.machine.specs.Words.{element_of, component_type}
-use Rattle.typed_laws.specs.Fine.{Has, Leads}
-use Rattle.typed_laws.proofs.Sound.{matches}
-use Rattle.typed_laws.proofs.Agreeing.{agree_access}
-use Rattle.typed_laws.specs.TypedSteps.Steps.{Taken, ActualsTaken, IsCall}
+use Rattle.soundness.specs.TypedLaws.Fine.{Has, Leads}
+use Rattle.soundness.proofs.TypedLaws.Sound.{matches}
+use Rattle.soundness.proofs.TypedLaws.Agreeing.{agree_access}
+use Rattle.soundness.specs.TypedLaws.TypedSteps.Steps.{Taken, ActualsTaken, IsCall}
 use Rattle.sound_files.specs.TypedFiles.TypedRuns.Code.{IsName, NamesFirst, ArePassed, WithinSource, IsViewSource, IsTypedUse}
 use Rattle.soundness.specs.ViewedSoundness.Holds.{IsNamed, PartsAreNamed}
 use Rattle.viewed_steps.specs.Traversals.{GivesView, IsSourceName}

@@ -14,8 +14,8 @@ use Rattle.numbered_cells.specs.Follows as numbered
 use Rattle.numbered_cells.specs.Follows.{handled, Follows}
 use Rattle.run_codes.specs.Flat.{Flat, kind_of, word_of, words_in, gone_from}
 use Rattle.run_codes.specs.Related.{types, SlotStands, AllStand, AllKinds, CellStands, HaveCells}
-use Rattle.viewed_facts.proofs.NullPlaces.Lists.{pair_same}
-use Rattle.viewed_facts.specs.NullPlaces.Agrees.{Pairwise, AgreeSlot, AgreeSlots, AgreeCell}
+use Rattle.recycled_runs.proofs.ViewedFacts.NullPlaces.Lists.{pair_same}
+use Rattle.recycled_runs.specs.ViewedFacts.NullPlaces.Agrees.{Pairwise, AgreeSlot, AgreeSlots, AgreeCell}
 use Rattle.recycled_runs.specs.RecycledCells.Cells.{handled_word, handled_slot, IsThere, IsBack, HasCells}
 
 -- ---- lists

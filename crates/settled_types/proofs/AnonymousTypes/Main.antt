@@ -33,7 +33,7 @@ use Rattle.settled_types.specs.Orderly.{Past, at_start, IsOrderly}
 use Rattle.settled_types.specs.Stamped.{AllOpen}
 use Rattle.settled_types.proofs.Faultless.{program_open}
 use Rattle.settled_types.proofs.Main.{end}
-use Rattle.typed_laws.proofs.Agreeing.{of_known, nil_left, nil_right, holds, and_left, and_right}
+use Rattle.soundness.proofs.TypedLaws.Agreeing.{of_known, nil_left, nil_right, holds, and_left, and_right}
 use Rattle.settled_types.specs.GatheredLaws.Made.{indicated_numbers, result_numbers}
 use Rattle.settled_types.specs.GatheredLaws.DefinitionKinds.{kind}
 use Rattle.settled_types.specs.GatheredLaws.Views.{named_numbers, front_result, AreViewsApart, IsViewRow, AreViews}

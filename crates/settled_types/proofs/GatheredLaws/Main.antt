@@ -24,7 +24,7 @@ use Rattle.type_definitions.specs.Gathered.{gather}
 use Rattle.type_definitions.specs.Whole.{predefined_types, predefined_entries, at_first, outside, gather_units, known_from, known_of}
 use Rattle.settled_types.specs.Orderly.{IsOrderly}
 use Rattle.machine.specs.Words.{component_type, no_component}
-use Rattle.typed_laws.specs.Fine.{counts, lists}
+use Rattle.soundness.specs.TypedLaws.Fine.{counts, lists}
 use Rattle.settled_types.specs.GatheredLaws.Made.{type_numbers, IsMade, IsMadeOf, SpeaksOf, AreTypes}
 use Rattle.settled_types.proofs.GatheredLaws.Numbered.{program_high}
 use Rattle.settled_types.proofs.GatheredLaws.Gathered.{Good, gathered}

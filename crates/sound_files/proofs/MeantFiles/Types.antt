@@ -26,7 +26,7 @@ use Rattle.type_definitions.specs.Names.{Context}
 use Rattle.type_definitions.specs.Gathered.{gather, each, with_entry, with_indication, own_info, with_object, object_info, constant_value, indicated, with_number, number_info, initial_value, with_formal, with_formal_group, with_formals, with_result, with_front, with_body_front, profile, front_number, is_subprogram, plain_object, parameter_type, in_subprogram, in_visible, in_hidden, declared_number}
 use Rattle.type_definitions.specs.Whole.{gather_units}
 use Rattle.settled_types.specs.GatheredLaws.Made.{indicated_numbers, all_numbers, front_numbers, type_numbers}
-use Rattle.typed_laws.specs.TypedPoints.Meant.{IsIndicated}
+use Rattle.soundness.specs.TypedLaws.TypedPoints.Meant.{IsIndicated}
 use Rattle.sound_files.specs.MeantFiles.Declarations.{Declarations, each_as, group_declarations, formal_declarations, front_declarations, body_form, declarations, last_from, IsLow, IsLowIndication, IsLowRange, IsLowGroup, AreLowGroups, IsLowFront, AreLow, AllLow}
 use Rattle.sound_files.specs.MeantFiles.Counted.{is_completing, Counts}
 use Rattle.sound_files.specs.MeantFiles.Typed.{IsParameterOf, AreIndicated, AreIntegers, AreOf, IsGroupTyped, AreGroupsTyped, IsFrontTyped, AreTyped}

@@ -34,13 +34,13 @@ use Rattle.typed_tree.specs.Statements.{scope_count}
 use Rattle.typed_tree.specs.Programs.{TypedSub, DeclaredObject, Home, object_of, formals_of as home_formals, front_formals, formal_numbers, local, in_package, package_text, objects_in, over_units, bodies_in, placed, subs_in, elaboration, program_objects, text_io, typed_program}
 use Rattle.flow_paths.specs.Objects.{Typing, Signature, object_at, sub_at, traverses, is_anonymous as anonymous_view}
 use Rattle.flow_paths.specs.Laid.{signature}
-use Rattle.typed_laws.specs.Fine.{Agree, Laws}
-use Rattle.typed_laws.proofs.Agreeing.{of_known, holds, nil_left, nil_right, and_left, and_right}
-use Rattle.order_laws.specs.ScopeLaws.Code.{Once}
+use Rattle.soundness.specs.TypedLaws.Fine.{Agree, Laws}
+use Rattle.soundness.proofs.TypedLaws.Agreeing.{of_known, holds, nil_left, nil_right, and_left, and_right}
+use Rattle.settled_types.specs.OrderLaws.ScopeLaws.Code.{Once}
 use Rattle.name_events.proofs.Searches.{same_is}
-use Rattle.typed_laws.proofs.Steps.{seen_access}
-use Rattle.typed_laws.proofs.Cases.{is_access_view}
-use Rattle.typed_laws.proofs.TypedPoints.Sources.{anonymous_shape}
+use Rattle.soundness.proofs.TypedLaws.Steps.{seen_access}
+use Rattle.soundness.proofs.TypedLaws.Cases.{is_access_view}
+use Rattle.soundness.proofs.TypedLaws.TypedPoints.Sources.{anonymous_shape}
 use Rattle.settled_types.specs.GatheredLaws.Components.{AreWordsApart}
 use Rattle.settled_types.specs.GatheredLaws.Views.{AreViewsApart}
 use Rattle.settled_types.specs.AnonymousTypes.Fronts.{AllFronts}

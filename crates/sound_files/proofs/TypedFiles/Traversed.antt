@@ -31,11 +31,11 @@ use Rattle.flow_paths.specs.Laid.{signature}
 use Rattle.flow_paths.specs.Views.{traversed_of}
 use Rattle.std.specs.List.{position_or_len}
 use Rattle.std.specs.Prelude.{nat_eq}
-use Rattle.typed_laws.specs.Fine.{Laws}
-use Rattle.typed_laws.proofs.Agreeing.{of_known, holds, nil_left, nil_right, and_left, and_right}
-use Rattle.typed_laws.proofs.Steps.{seen_access}
-use Rattle.typed_laws.proofs.Cases.{is_access_view}
-use Rattle.order_laws.specs.ScopeLaws.Code.{Once}
+use Rattle.soundness.specs.TypedLaws.Fine.{Laws}
+use Rattle.soundness.proofs.TypedLaws.Agreeing.{of_known, holds, nil_left, nil_right, and_left, and_right}
+use Rattle.soundness.proofs.TypedLaws.Steps.{seen_access}
+use Rattle.soundness.proofs.TypedLaws.Cases.{is_access_view}
+use Rattle.settled_types.specs.OrderLaws.ScopeLaws.Code.{Once}
 use Rattle.settled_types.specs.GatheredLaws.Views.{AreViewsApart}
 use Rattle.settled_types.proofs.AnonymousTypes.Main as views
 use Rattle.type_sizes.specs.Formed.{all_formed}

@@ -30,7 +30,7 @@ use Rattle.soundness.specs.PartOffsets.Parts.{type_in, offset_in, has_part, owns
 use Rattle.soundness.specs.Seen.{IsNear, in_hand, owner_word, content, trunk, word_in, seen, home}
 use Rattle.soundness.specs.Changes.{Alike as AlikeTypes}
 use Rattle.soundness.specs.Typed.{Matches, OwnsByShape, Kept, Spot}
-use Rattle.typed_laws.specs.Needed.{Stays, Gives, GivesParts, GivesFirst, IndexLaw}
+use Rattle.soundness.specs.TypedLaws.Needed.{Stays, Gives, GivesParts, GivesFirst, IndexLaw}
 use Rattle.soundness.proofs.Near.{near_under}
 use Rattle.soundness.proofs.Contents.{bool_cases, word_yes, word_no}
 use Rattle.soundness.proofs.Steps.{no_leaf, plain_shape, matches_words, room, taken_slots, alike}

@@ -31,7 +31,7 @@ use Rattle.soundness.specs.PartOffsets.Parts.{IsSettled}
 use Rattle.soundness.specs.Seen.{IsNear, content, trunk, seen, home, is_view_formal}
 use Rattle.soundness.specs.Changes.{leaks_at}
 use Rattle.soundness.specs.Typed.{Matches, IsCell, OwnsByShape, Kept}
-use Rattle.typed_laws.specs.Needed.{Leads as LeadsTo}
+use Rattle.soundness.specs.TypedLaws.Needed.{Leads as LeadsTo}
 use Rattle.soundness.proofs.Contents.{all_checks}
 use Rattle.soundness.proofs.OwnedLoans.Clear.{clear_same}
 use Rattle.spark_base.specs.Lists.{Has}

@@ -17,7 +17,7 @@ use Rattle.flow_paths.specs.Views.{Roots, borrows, is_function, lends, sub_acts}
 use Rattle.machine.specs.Owners.{is_in}
 use Rattle.soundness.proofs.Points.{flow_at}
 use Rattle.soundness.proofs.Typings.{package_same}
-use Rattle.order_laws.specs.ScopeLaws.Code.{objects_of}
+use Rattle.settled_types.specs.OrderLaws.ScopeLaws.Code.{objects_of}
 use Rattle.soundness.specs.ViewedSoundness.Holds.{is_given, is_exclusive, sees_only}
 use Rattle.viewed_steps.specs.Seeing.{sees_within, program_acts, sees_in}
 use Rattle.viewed_steps.proofs.Sees.{from_within, zero_within, kind_within, within_seen}

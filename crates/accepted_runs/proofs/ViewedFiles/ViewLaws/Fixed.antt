@@ -35,12 +35,12 @@ use Rattle.viewed_steps.proofs.Called.{way_to, passes_to}
 use Rattle.soundness.specs.Seen.{is_view_formal}
 use Rattle.soundness.proofs.Points.{flow_at}
 use Rattle.soundness.proofs.Typings.{package_same}
-use Rattle.typed_laws.specs.Needed.{Leads, IsPlace}
+use Rattle.soundness.specs.TypedLaws.Needed.{Leads, IsPlace}
 use Rattle.soundness.specs.Sound.{goes_through_none}
 use Rattle.soundness.specs.ViewedSoundness.Holds.{is_given, is_exclusive, sees_only, is_fixed, KeepsObserved, AllKeep}
 use Rattle.viewed_steps.specs.Seeing.{sees_in}
 use Rattle.viewed_steps.proofs.Sees.{kind_seen}
-use Rattle.order_laws.specs.ScopeLaws.Order.{named_in}
+use Rattle.settled_types.specs.OrderLaws.ScopeLaws.Order.{named_in}
 use Rattle.accepted_runs.specs.ViewedFiles.ViewLaws.Program.{IsPassedTo, ArePassedTo, IsViewProgram}
 use Rattle.accepted_runs.proofs.ViewedFiles.ViewLaws.Calls.{IsPlainCall, IsThroughCall}
 use Rattle.viewed_steps.proofs.Followed.{is_traversing}

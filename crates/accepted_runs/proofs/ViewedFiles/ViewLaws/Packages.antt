@@ -18,9 +18,9 @@ use Rattle.flow_paths.specs.Prep.{Setting, with_held, prep}
 use Rattle.flow_paths.specs.Layout.{Around, with_scope, declared, laid}
 use Rattle.flow_paths.specs.Laid.{declared_within, around_body, elaboration_points}
 use Rattle.flow_paths.specs.Scopes.{is_within}
-use Rattle.order_laws.specs.ScopeLaws.Code.{roots, are_seen, is_seen}
-use Rattle.order_laws.proofs.ScopeLaws.Lists.{and_first, and_second, all_both, all_one, all_if, all_has, has_reverse, within_has}
-use Rattle.order_laws.specs.ReadyLaws.InOrder.{declares_only, own_nothing, names_no_owner}
+use Rattle.settled_types.specs.OrderLaws.ScopeLaws.Code.{roots, are_seen, is_seen}
+use Rattle.settled_types.proofs.OrderLaws.ScopeLaws.Lists.{and_first, and_second, all_both, all_one, all_if, all_has, has_reverse, within_has}
+use Rattle.settled_types.specs.OrderLaws.ReadyLaws.InOrder.{declares_only, own_nothing, names_no_owner}
 use Rattle.accepted_runs.specs.ViewedFiles.ViewLaws.InOrder.{no_views, names_no_view}
 
 -- What is declared at a point is no view, and is declared with a value that names none.

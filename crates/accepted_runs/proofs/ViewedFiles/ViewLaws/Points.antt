@@ -32,17 +32,17 @@ use Rattle.soundness.specs.Sound.{IsAtPoint, is_temporary_object}
 use Rattle.soundness.proofs.Points.{flow_at, next_there}
 use Rattle.soundness.proofs.Typings.{package_same, formal_same}
 use Rattle.soundness.proofs.Waits.{drop_none}
-use Rattle.typed_laws.specs.Needed.{Leads, FirstSource, IsFine}
+use Rattle.soundness.specs.TypedLaws.Needed.{Leads, FirstSource, IsFine}
 use Rattle.machine.specs.Owners.{is_in, is_in_formal}
 use Rattle.soundness.specs.Seen.{is_view_formal}
-use Rattle.order_laws.proofs.ScopeLaws.Begun.{Begins, sub_begun, package_begun}
-use Rattle.order_laws.specs.ScopeLaws.Order.{named_in}
-use Rattle.order_laws.specs.ScopeLaws.Code.{roots}
-use Rattle.order_laws.proofs.ScopeLaws.Lists.{all_has, within_has, and_first, and_second}
-use Rattle.order_laws.specs.ScopeLaws.LayeredScopes.Layered.{is_older}
-use Rattle.order_laws.specs.ScopeLaws.LayeredScopes.Points.{GoesOn, AreFading}
-use Rattle.order_laws.proofs.ReadyLaws.Ready.{seen_has}
-use Rattle.order_laws.proofs.ReadyLaws.Subs.{setting_from}
+use Rattle.settled_types.proofs.OrderLaws.ScopeLaws.Begun.{Begins, sub_begun, package_begun}
+use Rattle.settled_types.specs.OrderLaws.ScopeLaws.Order.{named_in}
+use Rattle.settled_types.specs.OrderLaws.ScopeLaws.Code.{roots}
+use Rattle.settled_types.proofs.OrderLaws.ScopeLaws.Lists.{all_has, within_has, and_first, and_second}
+use Rattle.settled_types.specs.OrderLaws.ScopeLaws.LayeredScopes.Layered.{is_older}
+use Rattle.settled_types.specs.OrderLaws.ScopeLaws.LayeredScopes.Points.{GoesOn, AreFading}
+use Rattle.settled_types.proofs.OrderLaws.ReadyLaws.Ready.{seen_has}
+use Rattle.settled_types.proofs.OrderLaws.ReadyLaws.Subs.{setting_from}
 use Rattle.viewed_steps.specs.Traversals.{GivesView, IsSourceName}
 use Rattle.viewed_steps.specs.Sound.{IsStoredAt}
 use Rattle.accepted_runs.specs.ViewedFiles.ViewLaws.InOrder.{is_name_of, is_list_end, is_one_name_of, is_any, is_call, gives_view, gives_from, IsTraversed, NamesSource, fits}

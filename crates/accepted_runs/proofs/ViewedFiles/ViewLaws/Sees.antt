@@ -28,10 +28,10 @@ use Rattle.flow_paths.specs.Views.{sub_acts}
 use Rattle.machine.specs.Owners.{is_in}
 use Rattle.soundness.proofs.Points.{flow_at}
 use Rattle.soundness.proofs.Scalars.{acts}
-use Rattle.order_laws.specs.ScopeLaws.Code.{Once, objects_of}
-use Rattle.order_laws.proofs.ScopeLaws.Lists.{and_first, and_second, once_right}
-use Rattle.order_laws.proofs.ScopeLaws.Values.{IsDeclared, declared_there, one_value, sub_declared}
-use Rattle.order_laws.proofs.ReadyLaws.Subs.{setting_from, object_named}
+use Rattle.settled_types.specs.OrderLaws.ScopeLaws.Code.{Once, objects_of}
+use Rattle.settled_types.proofs.OrderLaws.ScopeLaws.Lists.{and_first, and_second, once_right}
+use Rattle.settled_types.proofs.OrderLaws.ScopeLaws.Values.{IsDeclared, declared_there, one_value, sub_declared}
+use Rattle.settled_types.proofs.OrderLaws.ReadyLaws.Subs.{setting_from, object_named}
 use Rattle.soundness.specs.ViewedSoundness.Holds.{is_given, is_exclusive, sees_only}
 use Rattle.viewed_steps.specs.Seeing.{program_acts, sees_in}
 use Rattle.viewed_steps.specs.Traversals.{IsSourceName}

@@ -22,12 +22,12 @@ use Rattle.typed_tree.specs.Statements.{scope_count, statements}
 use Rattle.typed_tree.specs.Programs.{DeclaredObject, Home, objects_in, object_of, formals_of, front_formals, local, in_package, package_text, kind_of, entry_kind, placed, elaborated, over_units, text_io}
 use Rattle.flow_paths.specs.Objects.{is_state}
 use Rattle.flow_paths.specs.Laid.{declared_within}
-use Rattle.order_laws.specs.ScopeLaws.Code.{Once}
-use Rattle.order_laws.proofs.ScopeLaws.Lists.{and_first, and_second, all_both, all_has}
-use Rattle.order_laws.specs.Written.{is_declaration, are_declarations, are_statements, is_statement, are_branches, is_branch, are_alternatives, is_alternative, is_procedure, is_body, are_parts, is_unit}
-use Rattle.order_laws.proofs.Numbers.{numbers, declared_in, two, one_declaration}
-use Rattle.order_laws.proofs.Parts.{IsPart, part_whole, part_none, part_both, part_object, number_here, number_later, number_of, either, same_number}
-use Rattle.order_laws.proofs.Parts as parts
+use Rattle.settled_types.specs.OrderLaws.ScopeLaws.Code.{Once}
+use Rattle.settled_types.proofs.OrderLaws.ScopeLaws.Lists.{and_first, and_second, all_both, all_has}
+use Rattle.settled_types.specs.OrderLaws.Written.{is_declaration, are_declarations, are_statements, is_statement, are_branches, is_branch, are_alternatives, is_alternative, is_procedure, is_body, are_parts, is_unit}
+use Rattle.settled_types.proofs.OrderLaws.Numbers.{numbers, declared_in, two, one_declaration}
+use Rattle.settled_types.proofs.OrderLaws.Parts.{IsPart, part_whole, part_none, part_both, part_object, number_here, number_later, number_of, either, same_number}
+use Rattle.settled_types.proofs.OrderLaws.Parts as parts
 
 -- ---- objects of packages, and others
 

@@ -13,9 +13,9 @@ use Rattle.flow_paths.specs.Objects.{Typing, object_at, sub_at, Passing, passing
 use Rattle.flow_paths.specs.Names.{waiting}
 use Rattle.machine.specs.Evaluate.{AsValue, AsView}
 use Rattle.machine.specs.Typed.{Sort}
-use Rattle.typed_laws.specs.Fine.{Agree, counts, lists, Has}
-use Rattle.typed_laws.proofs.Agreeing.{Owns}
-use Rattle.typed_laws.specs.TypedSteps.Steps.{Taken, IsPlaceOf, IsText, IsActual, ActualsTaken, IsCall}
+use Rattle.soundness.specs.TypedLaws.Fine.{Agree, counts, lists, Has}
+use Rattle.soundness.proofs.TypedLaws.Agreeing.{Owns}
+use Rattle.soundness.specs.TypedLaws.TypedSteps.Steps.{Taken, IsPlaceOf, IsText, IsActual, ActualsTaken, IsCall}
 use Rattle.run_codes.specs.Codes.{Actual, Piece}
 use Rattle.run_codes.specs.Codes as codes
 use Rattle.run_codes.specs.Lowered.{Site, Placed, Lowered, lowered, place, value, one_type, scalar_of, option_map}

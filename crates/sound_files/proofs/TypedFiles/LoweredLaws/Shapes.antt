@@ -6,8 +6,8 @@ use Rattle.type_definitions.specs.declared.table.Shape.{Shape}
 use Rattle.type_definitions.specs.declared.table.Shape.TheVariants as shape
 use Rattle.type_definitions.specs.Types.{Table, meant_type, shape_of, components_of, view_of, is_owning, is_scalar}
 use Rattle.machine.specs.Typed.{Sort, Whole, Position, Pointer, sorts, sorts_of, same_kind, same_designated, same_sort, same_sorts, is_pointer, points_to, is_record, is_array, field_count}
-use Rattle.typed_laws.specs.Fine.{Agree, counts, lists}
-use Rattle.typed_laws.proofs.Agreeing.{Owns, one_shape, either_left, scalar_owns}
+use Rattle.soundness.specs.TypedLaws.Fine.{Agree, counts, lists}
+use Rattle.soundness.proofs.TypedLaws.Agreeing.{Owns, one_shape, either_left, scalar_owns}
 use Rattle.run_codes.specs.Lowered.{sort_of, one_type, is_composite}
 
 -- ---- scalar types

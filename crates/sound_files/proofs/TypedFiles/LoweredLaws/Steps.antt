@@ -17,11 +17,11 @@ use Rattle.flow_paths.specs.Names.{waiting}
 use Rattle.flow_paths.specs.Points.{FlowPoint}
 use Rattle.machine.specs.Evaluate.{AsValue}
 use Rattle.machine.specs.Typed.{Sort, Whole, Position, successors}
-use Rattle.order_laws.specs.ScopeLaws.Code.{roots}
-use Rattle.order_laws.specs.ScopeLaws.Order.{named_in}
-use Rattle.typed_laws.specs.Fine.{counts, lists, Has as HasType}
-use Rattle.typed_laws.proofs.Agreeing.{Owns}
-use Rattle.typed_laws.specs.TypedSteps.Steps.{Taken, FirstTaken, FirstHas, IsPlaceOf, FirstText, IsCall, Returned, IsTypedStep}
+use Rattle.settled_types.specs.OrderLaws.ScopeLaws.Code.{roots}
+use Rattle.settled_types.specs.OrderLaws.ScopeLaws.Order.{named_in}
+use Rattle.soundness.specs.TypedLaws.Fine.{counts, lists, Has as HasType}
+use Rattle.soundness.proofs.TypedLaws.Agreeing.{Owns}
+use Rattle.soundness.specs.TypedLaws.TypedSteps.Steps.{Taken, FirstTaken, FirstHas, IsPlaceOf, FirstText, IsCall, Returned, IsTypedStep}
 use Rattle.run_codes.specs.Codes.{Does, Choice}
 use Rattle.run_codes.specs.Codes as codes
 use Rattle.run_codes.specs.Lowered.{Site, Lowered, Scalar, scalar_of, offset_of, lowered, value, option_map}

@@ -27,10 +27,10 @@ use Rattle.typed_tree.specs.Expressions.{Site, sub_number, typed_expression, typ
 use Rattle.flow_paths.specs.Objects.{Typing, Signature, object_at, sub_at}
 use Rattle.flow_paths.specs.Objects as flow
 use Rattle.type_definitions.specs.Types.{is_owning}
-use Rattle.typed_laws.specs.Fine.{Agree, Has, Laws, IsMeant, AreArguments}
-use Rattle.typed_laws.proofs.Agreeing.{of_known, holds, nil_left, nil_right, and_left, and_right, agree_trans, agree_access, agree_owns, retyped, is_free}
-use Rattle.typed_laws.proofs.Assigns as assigns
-use Rattle.typed_laws.proofs.Main.{has_type}
+use Rattle.soundness.specs.TypedLaws.Fine.{Agree, Has, Laws, IsMeant, AreArguments}
+use Rattle.soundness.proofs.TypedLaws.Agreeing.{of_known, holds, nil_left, nil_right, and_left, and_right, agree_trans, agree_access, agree_owns, retyped, is_free}
+use Rattle.soundness.proofs.TypedLaws.Assigns as assigns
+use Rattle.soundness.proofs.TypedLaws.Main.{has_type}
 use Rattle.type_definitions.specs.declared.table.Shape.{Shape}
 use Rattle.typed_tree.specs.Trees.{NoMore}
 use Rattle.type_definitions.specs.Types.{is_same, view_of}
@@ -38,13 +38,13 @@ use Rattle.type_definitions.specs.Faults.{K6}
 use Rattle.type_definitions.specs.declared.judgement.Own.{Own}
 use Rattle.type_definitions.specs.Expressions.{own_owning, reading_access, traversed_fits, behind, way_of, is_object}
 use Rattle.machine.specs.Typed.{same_kind}
-use Rattle.typed_laws.proofs.Steps.{seen_access}
-use Rattle.typed_laws.proofs.Named.{named_has}
-use Rattle.typed_laws.proofs.Cases.{is_access_view, one_base}
-use Rattle.typed_laws.proofs.Main.{fine_suffixes}
-use Rattle.typed_laws.proofs.TypedPoints.Sources.{anonymous_shape}
-use Rattle.typed_laws.specs.TypedSteps.Steps.{IsViewed, Views}
-use Rattle.typed_laws.specs.TypedSteps.Steps.{Taken, IsPlaceOf, IsActual, ActualsTaken, IsCall}
+use Rattle.soundness.proofs.TypedLaws.Steps.{seen_access}
+use Rattle.soundness.proofs.TypedLaws.Named.{named_has}
+use Rattle.soundness.proofs.TypedLaws.Cases.{is_access_view, one_base}
+use Rattle.soundness.proofs.TypedLaws.Main.{fine_suffixes}
+use Rattle.soundness.proofs.TypedLaws.TypedPoints.Sources.{anonymous_shape}
+use Rattle.soundness.specs.TypedLaws.TypedSteps.Steps.{IsViewed, Views}
+use Rattle.soundness.specs.TypedLaws.TypedSteps.Steps.{Taken, IsPlaceOf, IsActual, ActualsTaken, IsCall}
 use Rattle.sound_files.specs.TypedFiles.TypedRuns.Code.{IsName, IsNamedOwner, NamesOwner, NamesOwners, NamesFirst, ArePassed}
 use Rattle.sound_files.specs.TypedFiles.TypedRuns.Formals.{AreSameViews, IsFormal, AreFormals, formals_of, IsProfiled}
 use Rattle.sound_files.proofs.TypedFiles.TypedRuns.Owners.{anonymous_apart, owner_named, object_named}

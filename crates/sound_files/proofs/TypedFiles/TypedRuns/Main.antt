@@ -18,10 +18,10 @@ use Rattle.typed_tree.specs.Programs as programs
 use Rattle.flow_paths.specs.Objects.{Typing, Signature}
 use Rattle.flow_paths.specs.Points.{FlowPoint}
 use Rattle.flow_paths.specs.Laid.{FlowSub, flow_typing}
-use Rattle.typed_laws.specs.Fine.{Laws}
-use Rattle.typed_laws.proofs.Agreeing.{nil_left, nil_right}
-use Rattle.typed_laws.specs.TypedPoints.Meant.{AreMeantBodies, AreMeantObjects}
-use Rattle.typed_laws.specs.TypedSteps.Steps.{AreTyped}
+use Rattle.soundness.specs.TypedLaws.Fine.{Laws}
+use Rattle.soundness.proofs.TypedLaws.Agreeing.{nil_left, nil_right}
+use Rattle.soundness.specs.TypedLaws.TypedPoints.Meant.{AreMeantBodies, AreMeantObjects}
+use Rattle.soundness.specs.TypedLaws.TypedSteps.Steps.{AreTyped}
 use Rattle.sound_files.specs.TypedFiles.TypedRuns.Code.{IsTypedUse, IsTypedCode}
 use Rattle.sound_files.specs.TypedFiles.TypedRuns.Formals.{AreProfiled}
 use Rattle.sound_files.specs.TypedFiles.TypedRuns.Bounds.{HaveBounds}

@@ -12,9 +12,9 @@ use Rattle.flow_paths.specs.Objects.{Typing, sub_at, traverses, is_anonymous, vi
 use Rattle.flow_paths.specs.Laid.{typing_of, flow_typing}
 use Rattle.flow_paths.specs.Views.{traversed_of}
 use Rattle.machine.specs.Words.{component_type, element_type}
-use Rattle.typed_laws.proofs.Agreeing.{Owns}
-use Rattle.order_laws.specs.ScopeLaws.Code.{Once}
-use Rattle.order_laws.specs.ScopeLaws.Alone.{ResultsFit}
+use Rattle.soundness.proofs.TypedLaws.Agreeing.{Owns}
+use Rattle.settled_types.specs.OrderLaws.ScopeLaws.Code.{Once}
+use Rattle.settled_types.specs.OrderLaws.ScopeLaws.Alone.{ResultsFit}
 use Rattle.sound_files.specs.TypedFiles.TypedRuns.Code.{IsTypedCode}
 use Rattle.sound_files.specs.TypedFiles.TypedRuns.Meant.{typed_in, laid_in, typing_laid}
 use Rattle.sound_files.proofs.TypedFiles.TypedRuns.Given.{AreSettled, code_fits}
