@@ -4,7 +4,7 @@
 //! A lowered program's steps over such a heap are alike to its steps over numbers
 //! (`handled_steps`), and these to the machine's (`run_points`), where nothing is gone as a step
 //! begins. So beside a run of the machine goes one after each step of which null stands where it
-//! moved (`viewed_facts`), and beside that the runs over numbers and over handles. After each step
+//! moved (`ViewedFacts`), and beside that the runs over numbers and over handles. After each step
 //! the stack has the words of the frames that there are (`proofs/Frames.antt` and `Machine.antt`,
 //! by `Subs.antt`), and with null where something was moved the states still stand for each other
 //! (`proofs/Nulls.antt`). So the next step is as the rules ask it, and whole runs give the same, or

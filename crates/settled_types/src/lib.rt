@@ -40,7 +40,7 @@
 //! `DefinedKinds`), so that a subtype with bounds is of a scalar type there (`Bounded`, `Faultless`).
 //! With it, and with what is said of literals and instances (`Entries`), follow the sentences of
 //! `Sentences`. Types have components with names of their own, if records have (`Components`). So the
-//! table is as `typed_laws` asks (`Laws`). Nothing here runs.
+//! table is as `TypedLaws` asks (`Laws`). Nothing here runs.
 //!
 //! # File positions
 //!
