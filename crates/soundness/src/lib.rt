@@ -5,7 +5,7 @@
 //! changes is told by contents (`specs/Changes.antt`). `specs/Typed.antt` says when words have the
 //! types of what they stand in, and `specs/Sound.antt` what the frames of a run are, and what is to
 //! be proved of runs. What is asked of the expressions and instructions of a program stands in
-//! `typed_laws/specs/Needed.antt`.
+//! `specs/TypedLaws/Needed.antt`.
 //!
 //! The functions of the machine's memory do what the steps of `OwnedWays` do (`proofs/Steps.antt`,
 //! `Ends`, `Fresh`, `Frees`), and keep states sound (`Moments`) and words typed (`Lasting`). Names
@@ -73,7 +73,7 @@
 //! What an excused one says of the facts at its point stands in `proofs/Spots.antt`, with the leak checks
 //! of a point by the typing of the text. What steps keep that lead on, runs keep (`Budgets`). Facts after
 //! acts (`Frames`), ways and locations (`Steps`), the access parts of types (`Parts`), memories
-//! (`Memories`) and single checks (`Checks`) have laws that `viewed_facts` goes by, which says that facts
+//! (`Memories`) and single checks (`Checks`) have laws that `ViewedFacts` goes by, which says that facts
 //! stay exact. Nothing here runs.
 //!
 //! # Viewed soundness
