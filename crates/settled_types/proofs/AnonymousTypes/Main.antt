@@ -55,8 +55,8 @@ some_same a b e = cc
 
 mode_in : (m : Mode) → is_in m ≡ true → m ≡ mode.In
 mode_in mode.In e = refl
-mode_in mode.Out e = cc
-mode_in mode.InOut e = cc
+mode_in mode.Out e = absurd (false≢true e)
+mode_in mode.InOut e = absurd (false≢true e)
 
 -- The row of a number without a name where that is an anonymous access type.
 unnamed_view : (t : ℕ) (o : Option Info) → shape_found o ≡ shape.Fields [] → meant_type_found t o ≡ t

@@ -1,6 +1,7 @@
 -- The units of a program without a fault of typing break no sentence.
-use Rattle.std.proofs.Common.{◌≡◌, refl, subst, inl, inr, true, List, [], ◌∷◌, Option, Some, None, if◌then◌else◌}
-use Rattle.std.specs.Prelude.{flat_map}
+use Rattle.std.proofs.Common.{◌≡◌, refl, subst, inl, inr, true, List, [], ◌∷◌, Option, Some, None, if◌then◌else◌, ap}
+use Rattle.std.specs.Prelude.{flat_map, is_some}
+use Rattle.std.proofs.lemmas.Bool.{true≢false}
 use Rattle.spark_base.specs.Lists.{Has}
 use Rattle.resolved_tree.specs.Trees.{Code, Program}
 use Rattle.type_definitions.specs.declared.judgement.Fault.{Fault}
@@ -11,7 +12,7 @@ use Rattle.type_definitions.specs.Whole.{outside, known_of, known_with, main_fau
 use Rattle.settled_types.proofs.OrderLaws.Mains.{nothing_left, nothing_right}
 
 noted_some : (g : Fault) (faults : List Fault) → noted (Some g) faults ≡ None → ⊥
-noted_some g [] e = cc
+noted_some g [] e = true≢false (ap is_some e)
 noted_some g (f ∷ rest) e = noted_some (if precedes f g then f else g) rest e
 
 first_none : (faults : List Fault) → first faults ≡ None → faults ≡ []
@@ -20,13 +21,13 @@ first_none (f ∷ rest) e = absurd (noted_some f rest e)
 
 decided_none : (size sentence : Option Fault) → decided size sentence ≡ None → sentence ≡ None
 decided_none None None e = refl
-decided_none None (Some f) e = cc
-decided_none (Some f) sentence e = cc
+decided_none None (Some f) e = absurd (true≢false (ap is_some e))
+decided_none (Some f) sentence e = absurd (true≢false (ap is_some e))
 
 told_none : (found other : Option TypeFault) → told found other ≡ None → found ≡ None
 told_none None other e = refl
-told_none (Some f) None e = cc
-told_none (Some f) (Some g) e = cc
+told_none (Some f) None e = absurd (true≢false (ap is_some e))
+told_none (Some f) (Some g) e = absurd (true≢false (ap is_some e))
 
 each_none : (known : Known) (units : List Code) → flat_map (unit_faults (outside known)) units ≡ [] → (u : Code) → Has units u → unit_faults (outside known) u ≡ []
 each_none known [] e u has = absurd has

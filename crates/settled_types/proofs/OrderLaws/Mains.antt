@@ -1,6 +1,6 @@
 -- The main procedure has its number among the subprograms, and no result.
 use Rattle.std.proofs.Common.{◌≡◌, refl, sym, ap, ◌∙◌, subst, inl, inr, ℕ, suc, ◌+◌, Bool, true, false, nat_eq, List, [], ◌∷◌, ◌++◌, arith, Option, Some, None}
-use Rattle.std.specs.Prelude.{flat_map}
+use Rattle.std.specs.Prelude.{flat_map, is_some}
 use Rattle.std.specs.List.{position_or_len}
 use Rattle.std.proofs.lemmas.Bool.{false≢true}
 use Rattle.spark_base.specs.Lists.{Has}
@@ -84,7 +84,7 @@ aligned_at known (e ∷ ds) (sub ∷ subs) h d has = elim (either (nat_eq d e)) 
 -- It is a library procedure among the units.
 pub main_unit : (s : Site) (us : List Code) (n : ℕ) → main_of s us ≡ Some n
     → (front : Code) × (items : Code) × (stmts : Code) × (end : Pos) × Has us (SubBody front items stmts end) × (n ≡ sub_number s (front_number front))
-main_unit s [] n is = cc
+main_unit s [] n is = absurd (false≢true (ap is_some is))
 main_unit s (SubBody front items stmts end ∷ us) n is = (front, items, stmts, end, inl refl, sym (one is))
   where
     one : Some (sub_number s (front_number front)) ≡ Some n → sub_number s (front_number front) ≡ n
@@ -132,7 +132,7 @@ by_result known p d formals e = by_option p.result e
   where
     by_option : (r : Option ℕ) → same_result known r NoMore ≡ true → r ≡ None
     by_option None e = refl
-    by_option (Some t) e = cc
+    by_option (Some t) e = absurd (false≢true e)
 
 -- The profile of a body without faults is that of its declaration.
 pub procedure_result : (c : Context) (front items stmts : Code) (end : Pos) → is_procedure front ≡ true → code_faults c (SubBody front items stmts end) ≡ []

@@ -26,7 +26,7 @@ abbrev Calls : NamedPoint → Type 0
 Calls p = calls_procedures p.instr ≡ true → ⊥
 
 not_false : false ≡ true → ⊥
-not_false e = cc
+not_false e = absurd (false≢true e)
 
 both : (ps qs : List NamedPoint) → AllByRecursion Calls ps → AllByRecursion Calls qs → AllByRecursion Calls (ps ++ qs)
 both ps qs h g = all_both Calls ps qs h g

@@ -4,6 +4,7 @@ use Rattle.std.proofs.Common.{◌≡◌, refl, sym, ap, ◌∙◌, subst, ◌⊎
 use Rattle.std.specs.Prelude.{reverse}
 use Rattle.std.specs.List.{AllByRecursion}
 use Rattle.std.proofs.lemmas.List.{length-map}
+use Rattle.std.proofs.lemmas.Bool.{false≢true}
 use Rattle.spark_base.specs.Lists.{Has}
 use Rattle.spark_base.proofs.Lists.{Has-append_right, Has-map, Has-map_from}
 use Rattle.type_definitions.specs.Types.{Table}
@@ -227,8 +228,8 @@ module _ (table : Table) (typed : TypedProgram) (effects : Effects) (accepted : 
 
   -- what does without calls fills nothing
   still_fills : (i : Instruction) → calls_procedures i ≡ true → FillsOne (is_temporary_object s) i
-  still_fills (Call n actuals (Some t)) calls = cc
-  still_fills (Evaluate t e (Some op)) calls = cc
+  still_fills (Call n actuals (Some t)) calls = absurd (false≢true calls)
+  still_fills (Evaluate t e (Some op)) calls = absurd (false≢true calls)
   still_fills i calls = tt
 
   package_fills : (sub : TypedSub) (rest : List TypedSub) → typed.subs ≡ sub ∷ rest → AllByRecursion (IsFilling (is_temporary_object s)) (elaboration_points (unnumbered own) sub)

@@ -4,6 +4,7 @@ use Rattle.std.specs.Prelude.{cond, filter, drop, reverse}
 use Rattle.std.specs.List.{list_all}
 use Rattle.std.proofs.lemmas.List.{reverse-append}
 use Rattle.std.proofs.lemmas.Grind.{common_steps}
+use Rattle.std.proofs.lemmas.Bool.{false≢true}
 use Rattle.spark_base.specs.Lists.{Has}
 use Rattle.spark_base.proofs.Lists.{Has-append_cases}
 use Rattle.typed_tree.specs.Trees.{TypedCode, Declare}
@@ -94,8 +95,8 @@ module _ (s : Typing) (older : ℕ → ℕ → Bool) (fits : Instruction → Boo
       by true true true d e = refl
       by true true false true e = refl
       by true true false false e = refl
-      by true false c d e = cc
-      by false b c d e = cc
+      by true false c d e = absurd (false≢true e)
+      by false b c d e = absurd (false≢true e)
 
   -- of these, one that has an end comes first
   heads : (n : ℕ) (ds xs : List ℕ) (y : ℕ) → ((x : ℕ) → Has ds x → scope_of s x ≡ n) → Has ds y → has_scope_end s y ≡ true

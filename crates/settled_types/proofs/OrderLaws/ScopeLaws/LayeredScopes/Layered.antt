@@ -214,7 +214,7 @@ module _ (s : Setting) (older : ℕ → ℕ → Bool) (fits : Instruction → Bo
   no_more xs = grind (arith, common_steps)
 
   not_and : (a b : Bool) → not a && b ≡ true → a ≡ false
-  not_and true b e = cc
+  not_and true b e = sym e
   not_and false b e = refl
 
   -- What a block or a body declares ends before what is around it.
