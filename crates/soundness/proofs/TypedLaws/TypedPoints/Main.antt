@@ -1,7 +1,8 @@
 -- The law: the points of a program without a fault of typing are as soundness needs them.
 use Rattle.std.proofs.Common.{◌≡◌, refl, sym, ap, ◌∙◌, subst, inl, inr, ℕ, ◌+◌, true, false, List, [], ◌∷◌, ◌++◌, Option, Some, None, if◌then◌else◌}
-use Rattle.std.specs.Prelude.{flat_map}
+use Rattle.std.specs.Prelude.{flat_map, is_some}
 use Rattle.std.specs.List.{AllByRecursion}
+use Rattle.std.proofs.lemmas.Bool.{true≢false, false≢true}
 use Rattle.spark_base.specs.Lists.{Has}
 use Rattle.resolved_tree.specs.Trees.{Code, More, SubBody, Package, PackageBody, Program}
 use Rattle.type_definitions.specs.declared.table.Known.{Known}
@@ -28,7 +29,7 @@ use Rattle.soundness.proofs.TypedLaws.TypedPoints.Laid.{flow_knows, laid_fine}
 -- ---- faults
 
 noted_some : (f : Fault) (faults : List Fault) → first (f ∷ faults) ≡ None → ⊥
-noted_some f [] e = cc
+noted_some f [] e = true≢false (ap is_some e)
 noted_some f (g ∷ faults) e = noted_some (if precedes g f then g else f) faults e
 
 first_none : (faults : List Fault) → first faults ≡ None → faults ≡ []
@@ -37,12 +38,12 @@ first_none (f ∷ faults) e = absurd (noted_some f faults e)
 
 told_none : (found asked : Option TypeFault) → told found asked ≡ None → found ≡ None
 told_none None asked e = refl
-told_none (Some f) None e = cc
-told_none (Some f) (Some g) e = cc
+told_none (Some f) None e = absurd (true≢false (ap is_some e))
+told_none (Some f) (Some g) e = absurd (true≢false (ap is_some e))
 
 decided_none : (sizes sentences : Option Fault) → decided sizes sentences ≡ None → sentences ≡ None
-decided_none (Some f) k e = cc
-decided_none None (Some f) e = cc
+decided_none (Some f) k e = absurd (true≢false (ap is_some e))
+decided_none None (Some f) e = absurd (true≢false (ap is_some e))
 decided_none None None e = refl
 
 no_fault : (p : Program) → type_fault p ≡ None → sentence_faults (known_of p) p.units ≡ []
@@ -173,7 +174,7 @@ module _ (p : Program) (made : ℕ → Type 0) (none : type_fault p ≡ None) (l
   -- Where nothing but procedures is called, there are no temporaries.
   undivided_evaluated : AreUndivided flow → AreEvaluated flow
   undivided_evaluated undivided sub has point there t e left is =
-      absurd (let no : false ≡ true = sym (ap is_whole is) ∙ undivided sub has point there in cc)
+      absurd (let no : false ≡ true = sym (ap is_whole is) ∙ undivided sub has point there in absurd (false≢true no))
 
   pub are_fine : AreMeantUnits (known_of p) made p.units → flow.objects ≡ typed.objects → AreUndivided flow → AreFine flow
   are_fine meant objects undivided =
