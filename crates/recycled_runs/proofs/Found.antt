@@ -1,6 +1,8 @@
 -- The place of a name, as it is lowered, is a part of a variable or a cell of the machine: what its leak checks tell of is there.
 use Rattle.std.proofs.Common.{◌≡◌, refl, sym, ap, ◌∙◌, subst, inl, inr, ◌⊎◌, ℕ, zero, suc, ◌+◌, ◌<◌, arith, true, false, not, List, [], ◌∷◌, take, drop, length, get_or, slice_get, Some, ℤ, pos}
 use Rattle.std.proofs.lemmas.List.{drop-drop}
+use Rattle.std.proofs.lemmas.Bool.{false≢true}
+use Rattle.std.specs.Prelude.{is_some}
 use Rattle.spark_base.specs.Lists.{Has}
 use Rattle.spark_base.specs.declared.position.Pos.{Pos}
 use Rattle.typed_tree.specs.Trees.{TypedTree, Name, Call, NoMore, More}
@@ -55,7 +57,7 @@ get_take (suc n) zero (z ∷ zs) less = refl
 get_take (suc n) (suc o) (z ∷ zs) less = get_take n o zs (omega (arith, less))
 
 pub below_length : (all : List Sort) (o : ℕ) (x : Sort) → slice_get all o ≡ Some x → o < length all
-below_length [] o x e = cc
+below_length [] o x e = absurd (false≢true (ap is_some e))
 below_length (s ∷ all) zero x e = omega arith
 below_length (s ∷ all) (suc o) x e = let less = below_length all o x e in omega (arith, less)
 

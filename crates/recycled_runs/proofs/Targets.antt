@@ -2,6 +2,7 @@
 use Rattle.std.proofs.Common.{◌≡◌, refl, sym, ap, ◌∙◌, subst, inl, inr, ◌⊎◌, ℕ, zero, suc, ◌+◌, ◌<◌, arith, Bool, true, false, not, ◌==◌, List, [], ◌∷◌, map, take, drop, length, get_or, slice_get, Option, Some, None, ℤ, pos, negsuc, if◌then◌else◌}
 use Rattle.std.specs.Prelude.{option_and_then}
 use Rattle.std.proofs.lemmas.List.{length-map}
+use Rattle.std.proofs.lemmas.Bool.{true≢false}
 use Rattle.spark_base.specs.Lists.{Has}
 use Rattle.spark_base.specs.declared.position.Pos.{Pos}
 use Rattle.place_names.specs.declared.act.Mode.TheVariants as mode
@@ -100,7 +101,7 @@ none_leaked cells us (o ∷ offsets) none = absurd (none o (inl refl))
 scalar_none : (table : Table) → IsSettled table → (t : ℕ) → is_scalar (full table t) ≡ true → (o : ℕ) → Has (access_offsets table t) o → ⊥
 scalar_none table settled t scalar o has =
     let leaf = leaf_from table settled t o has in
-    let no : true ≡ false = sym leaf.1 ∙ no_leaf table settled t scalar leaf.0 in cc
+    let no : true ≡ false = sym leaf.1 ∙ no_leaf table settled t scalar leaf.0 in absurd (true≢false no)
 
 -- The type of a name is that of its place.
 named_type : (c : Site) (k y u : ℕ) (path : TypedTree) (name : Pos) (r : Placed) → place c k (Name name y path u) ≡ Some r → r.of ≡ u

@@ -1,5 +1,7 @@
 -- The law: as a run ends, the heap has the cells of the machine's last state.
 use Rattle.std.proofs.Common.{◌≡◌, refl, sym, ap, ◌∙◌, subst, ℕ, zero, suc, Bool, true, false, nat_le, List, [], ◌∷◌, ◌++◌, length, None, Option, Some, ℤ, if◌then◌else◌}
+use Rattle.std.proofs.lemmas.Bool.{false≢true}
+use Rattle.std.specs.Prelude.{is_some}
 use Rattle.type_definitions.specs.Types.{Table}
 use Rattle.run_values.specs.declared.value.Kind.{Kind}
 use Rattle.flow_paths.specs.Laid.{FlowProgram, flow_typing}
@@ -220,7 +222,7 @@ module _ (program : FlowProgram) (p : Program) (input : List ℕ) (has : HasType
 -- ---- the start
 
 none_some : {A : Type 0} (a : A) → None ≡ Some a → ⊥
-none_some a is = cc
+none_some a is = false≢true (ap is_some is)
 
 none_has : HasCells [] no_heap
 none_has = record {

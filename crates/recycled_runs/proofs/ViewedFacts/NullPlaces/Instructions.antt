@@ -271,7 +271,7 @@ module _ (t : Turn) (settled : IsSettled (typing t).table) (own_law : OwnsByShap
       ap (λ z. acts_in (typing t) e ++ acts_in (typing t) z) last ∙ append-nil (acts_in (typing t) e) in
       let alone_there : waits_in e + waits_in rest ≡ waits_in e = ap (λ z. waits_in e + waits_in z) last ∙ nothing_more (waits_in e) in
       elim source [
-        | inl view ↦ absurd (let no : true ≡ false = sym view.0 ∙ owner in absurd (true≢false no))
+        | inl view ↦ absurd (let no : true ≡ false = sym view.0 ∙ owner in true≢false no)
         | inr gives ↦ source_same on u e owner own gives (asks.both_calls (has_call e) (has_call rest) calls).0 (asks.both_give e rest own_calls).0
             (takes_as (waits_in e + waits_in rest) (waits_in e) (start t).waits on alone_there takes) compares.0 (subst (λ z. AllowsAll facts (acts z)) same allowed)
             (subst (λ z. asks.keeps (acts z)) same keep)

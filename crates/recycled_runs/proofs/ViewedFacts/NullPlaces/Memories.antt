@@ -1,7 +1,7 @@
 -- What the machine does to memories that agree: each function of a memory gives the same or leaves
 -- memories that agree. Nothing is asked of programs and states here.
 use Rattle.std.proofs.Common.{◌≡◌, refl, sym, ap, ◌∙◌, subst, inl, inr, ℕ, zero, suc, ◌+◌, Bool, true, false, not, ◌&&◌, ◌==◌, List, [], ◌∷◌, ◌++◌, map, filter, take, drop, length, sum, get_or, if◌then◌else◌}
-use Rattle.std.proofs.lemmas.Bool.{true≢false}
+use Rattle.std.proofs.lemmas.Bool.{true≢false, false≢true}
 use Rattle.spark_base.specs.declared.position.Pos.{Pos}
 use Rattle.place_names.specs.declared.selector.Sel.{Sel}
 use Rattle.type_definitions.specs.Types.{words, parts}
@@ -229,7 +229,7 @@ given_up_agree m n a b p q = record {
 -- ---- leak checks: what is gone fails none, and neither does null
 
 one_check : (pos : Pos) (w : Word) (g : Bool) (y : Slot) → g ≡ true → cleared_slot y ≡ no_slot → failed_at pos w g ≡ failed pos y
-one_check pos w false y gone null = cc
+one_check pos w false y gone null = absurd (false≢true gone)
 one_check pos w true y gone null = gone_none w ∙ sym (blank_none y.word y.gone null)
   where
     gone_none : (w : Word) → failed_at pos w true ≡ []

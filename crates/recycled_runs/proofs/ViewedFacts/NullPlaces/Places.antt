@@ -132,7 +132,7 @@ module _ (s : Typing) (settled : IsSettled s.table) (m : Memory) (hands : List W
         let c : Content = content s m hands (trunk l) in
         let type : shape_of s.table (type_in s.table c.of (steps_in l)) ≡ shape.Access d constant true = elim spot.of [
           | inl same ↦ sym same ∙ is
-          | inr both ↦ absurd (let none : true ≡ false = sym (ap owns_one is) ∙ (plain_shape (shape_of s.table k.of) both.0).2 in cc)
+          | inr both ↦ absurd (let none : true ≡ false = sym (ap owns_one is) ∙ (plain_shape (shape_of s.table k.of) both.0).2 in true≢false none)
         ] in
         let own : is_leaf s.table c.of (steps_in l) ≡ true = both_true _ _ spot.there (ap owns_one type) in
         let end : p ≡ [] = leaf_end s.table settled c.of p (steps_in l) own (leaf_part s.table settled c.of (p ++ steps_in l) leaf) in

@@ -82,7 +82,7 @@ use Rattle.recycled_runs.proofs.ViewedFacts.Constructors.{is_in_mode}
 -- A name that goes through an access value has steps.
 some_selectors : (s : Typing) (t u : ℕ) (path : TypedTree) → Leads s t path u → goes_through_none path ≡ false → selectors path ≡ [] → ⊥
 unfolding goes_through_none selectors Leads
-some_selectors s t u typed.NoMore leads some none = cc
+some_selectors s t u typed.NoMore leads some none = true≢false some
 some_selectors s t u (typed.Component i rest) leads some none = cc
 some_selectors s t u (typed.Element index low high rest) leads some none = cc
 some_selectors s t u (typed.Designated rest) leads some none = cc

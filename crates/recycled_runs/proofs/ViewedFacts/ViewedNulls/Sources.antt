@@ -59,7 +59,7 @@ source_of s want q y u path view (inr (lead, inl same)) =
     let sh = view_shape (shape_of s.table want) view in (sh.0, sh.1, sh.2, lead, same ∙ sh.3)
 source_of s want q y u path view (inr (lead, inr scalar)) =
     let sh = view_shape (shape_of s.table want) view in
-    absurd (let no : false ≡ true = sym (ap (λ z. is_scalar (view_of_shape z)) sh.3) ∙ scalar.1 in absurd (false≢true no))
+    absurd (let no : false ≡ true = sym (ap (λ z. is_scalar (view_of_shape z)) sh.3) ∙ scalar.1 in false≢true no)
 
 module _ (t : Turn) (sees : ℕ → Bool) (seeing : Seeing (typing t) sees) (settled : IsSettled (typing t).table) (own_law : OwnsByShape (typing t).table) (other : Around (home (typing t) (length t.outer)))
     (alone : (w : Way) → IsNear (length t.outer) w → other.gone w → ⊥) (in_formals : AreAccess (typing t)) (v : Views)

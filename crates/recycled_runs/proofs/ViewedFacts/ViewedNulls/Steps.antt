@@ -293,7 +293,7 @@ module _ (table : Table) (typed : TypedProgram) (effects : Effects) (input : Lis
           compares_there.0 (subst (AllowsAll facts_now) same allowed) (subst (AllKeep (is_fixed s sees)) same keep)
         where
           given_there : (of : ℕ) (e : TypedTree) → is_anonymous (full s.table of) ≡ false → Source s of e → Gives s of e
-          given_there of e owner (inl view) = absurd (let no : true ≡ false = sym view.0 ∙ owner in absurd (true≢false no))
+          given_there of e owner (inl view) = absurd (let no : true ≡ false = sym view.0 ∙ owner in true≢false no)
           given_there of e owner (inr gives) = gives
 
       -- what a traversal function returns

@@ -294,7 +294,7 @@ module _ (table : Table) (typed : TypedProgram) (effects : Effects) (input : Lis
         assigns_it r y path_there u is calls true view =
             let fine = subst (IsFine s named.sub.result) is text in
             elim (leads_or s ready.class.parts_named path_there (object_at s y).of u fine.1.0) [
-              | inr own_type ↦ absurd (let no : true ≡ false = sym view ∙ named_plain s.table u own_type in absurd (true≢false no))
+              | inr own_type ↦ absurd (let no : true ≡ false = sym view ∙ named_plain s.table u own_type in true≢false no)
               | inl whole ↦ assigns_view r y path_there u whole.0 whole.1 view
             ]
 
@@ -331,7 +331,7 @@ module _ (table : Table) (typed : TypedProgram) (effects : Effects) (input : Lis
         held_same : (u : ℕ) → IsNamed s.table u → Source s u held → (later first : List Waiting) → front ≡ later ++ first → AreOfTypes s (types_taken s held) first
             → Compares s held → AllowsAll facts_now (acts (acts_in s held)) → AllKeep (is_fixed s sees) (acts (acts_in s held))
             → SameTo s (steps.taken_by main_turn u held (start main_turn)) (steps.taken_by main_turn u held (start (twin main_turn n)))
-        held_same u own_type (inl view) later first split fit compares_there allowed keep = absurd (let no : true ≡ false = sym view.0 ∙ named_plain s.table u own_type in absurd (true≢false no))
+        held_same u own_type (inl view) later first split fit compares_there allowed keep = absurd (let no : true ≡ false = sym view.0 ∙ named_plain s.table u own_type in true≢false no)
         held_same u own_type (inr gives) later first split fit compares_there allowed keep =
             let h : Here = steps.here main_turn in
             let words_are : (start main_turn).waits ≡ first_words first (first_words later []) = words_first front ∙ ap (λ z. first_words z []) split ∙ first_both later first [] in
