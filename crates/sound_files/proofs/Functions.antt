@@ -40,8 +40,8 @@ right s os more x f = (f.0, f.1, Has-append_right os more f.0 f.2, f.3)
 
 in_mode : (m : Mode) → is_in m ≡ true → m ≡ mode.In
 in_mode mode.In e = refl
-in_mode mode.Out e = cc
-in_mode mode.InOut e = cc
+in_mode mode.Out e = absurd (false≢true e)
+in_mode mode.InOut e = absurd (false≢true e)
 
 -- ---- the formals of a body
 

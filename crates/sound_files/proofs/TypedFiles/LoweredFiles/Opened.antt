@@ -83,8 +83,8 @@ module _ (s : Setting) (x : ℕ) where
         let out : List NamedPoint = ends at 0 end (ending s stmts) (reverse (declared stmts) ++ w.scope) k in
         in_left x (laid s stmts (0 ∷ at) (within_block (ending s stmts) w) (entry out k)) out
         (stands stmts (0 ∷ at) (within_block (ending s stmts) w) (entry out k) h has)
-    stands (typed.Branch p e stmts) at w k h has = cc
-    stands (typed.When choices stmts) at w k h has = cc
+    stands (typed.Branch p e stmts) at w k h has = absurd (false≢true h)
+    stands (typed.When choices stmts) at w k h has = absurd (false≢true h)
     stands _ at w k h has = absurd has
 
     branches_stand : (c : TypedCode) (at : Place) (w : Around) (k otherwise : List PointName) → are_placed_branches c ≡ true → Has (declared_within c) x

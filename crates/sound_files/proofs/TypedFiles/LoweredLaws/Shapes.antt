@@ -58,13 +58,13 @@ pub no_pointer : (z : Shape) (so : Sort) (d : ℕ) (k n : Bool) → IsScalarOf z
 no_pointer z so d k n is e = subst (λ z. IsScalarOf z so) e is
 
 pub no_composite : (z : Shape) (so : Sort) → IsScalarOf z so → is_record z || is_array z ≡ true → ⊥
-no_composite (shape.Whole a b) so is e = cc
-no_composite (shape.Listed k a b) so is e = cc
+no_composite (shape.Whole a b) so is e = false≢true e
+no_composite (shape.Listed k a b) so is e = false≢true e
 no_composite z so is e = absurd is
 
 pub no_elements : (z : Shape) (so : Sort) → IsScalarOf z so → is_array z ≡ true → ⊥
-no_elements (shape.Whole a b) so is e = cc
-no_elements (shape.Listed k a b) so is e = cc
+no_elements (shape.Whole a b) so is e = false≢true e
+no_elements (shape.Listed k a b) so is e = false≢true e
 no_elements z so is e = absurd is
 
 -- ---- types that agree

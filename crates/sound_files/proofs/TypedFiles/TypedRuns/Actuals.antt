@@ -1,5 +1,5 @@
 -- Actuals: each is a value for its formal, or a place of its type.
-use Rattle.std.proofs.Common.{◌≡◌, ◌⊎◌, refl, sym, ap, ◌∙◌, subst, inl, inr, ℕ, suc, ◌+◌, ◌<◌, Bool, true, false, not, ◌||◌, List, [], ◌∷◌, ◌++◌, map, length, get_or, nat_eq, Some, None, if◌then◌else◌, arith}
+use Rattle.std.proofs.Common.{◌≡◌, ◌⊎◌, refl, sym, ap, ◌∙◌, subst, inl, inr, ℕ, zero, suc, ◌+◌, ◌<◌, Bool, true, false, not, ◌||◌, List, [], ◌∷◌, ◌++◌, map, length, get_or, nat_eq, Some, None, if◌then◌else◌, arith}
 use Rattle.std.specs.Prelude.{is_some}
 use Rattle.std.proofs.lemmas.Bool.{eqb-true, false≢true, true≢false}
 use Rattle.spark_base.specs.declared.position.Pos.{Pos}
@@ -76,6 +76,10 @@ agree_back table t u (inr e) = inr (kind_back (shape_of table t) (shape_of table
     kind_back (shape.Whole u v) b e = absurd (false≢true e)
     kind_back (shape.Listed k u v) b e = absurd (false≢true e)
     kind_back a b e = absurd (false≢true e)
+
+abbrev is_nought : ℕ → Bool
+is_nought zero = true
+is_nought (suc n) = false
 
 module _ (s : Site) (objects : List Object) (subs : List Signature) (made : ℕ → Type 0) (laws : Laws s.context.known made) where
   abbrev y : Typing
@@ -411,13 +415,13 @@ module _ (s : Site) (objects : List Object) (subs : List Signature) (made : ℕ 
               (let n = count in omega (arith, n)) all meant.1 (nil_right (inside c info.traversed info.of e) _ later),
         )
     by_position (Argument (Some w) e more) i xs rest are same count all meant none = absurd (false≢true all)
-    by_position (Argument None e more) i [] [] are same count all meant none = cc
+    by_position (Argument None e more) i [] [] are same count all meant none = absurd (false≢true (ap is_nought count))
     by_position (Argument None e more) i (x ∷ xs) [] are same count all meant none = absurd are
     by_position (Argument None e more) i [] (k ∷ rest) are same count all meant none = absurd are
     by_position args i [] [] are same count all meant none = tt
     by_position args i (x ∷ xs) [] are same count all meant none = absurd are
     by_position args i [] (k ∷ rest) are same count all meant none = absurd are
-    by_position args i (x ∷ xs) (k ∷ rest) are same count all meant none = cc
+    by_position args i (x ∷ xs) (k ∷ rest) are same count all meant none = absurd (true≢false (ap is_nought count))
 
     -- The value that is given by a name.
     value_given : (args : Tree) (i x : ℕ) (k : FormalInfo) (w : List ℕ) → IsFormal y x k → made k.of
