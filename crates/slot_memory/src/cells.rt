@@ -9,10 +9,9 @@ ghost use Rattle.handled_runs.specs.Fits.{is_slot_word, are_slot_words};
 ghost use Rattle.slot_memory.specs.Cells.{Have};
 
 use crate::heap::Heap;
-use crate::values::{value_of, word_of};
 use code_rows::Stop;
 use run_values::{Handle, Kind};
-use slot_heap::Store;
+use slot_heap::{Store, value_of, word_of};
 
 impl<'s, R: Store> Heap<'s, R> {
     /// The word of a kind at an offset in a live cell.
