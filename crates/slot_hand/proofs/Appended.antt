@@ -6,9 +6,15 @@ use Rattle.machine.specs.States.{Leak}
 use Rattle.run_codes.specs.Flat.{repeated}
 use Rattle.handled_runs.specs.Leaks.{leak, leaks_in}
 
-pub repeated_word : (count : ℕ) (z : ℤ) → replicate count z ≡ repeated count (z ∷ [])
+repeated_word : (count : ℕ) (z : ℤ) → replicate count z ≡ repeated count (z ∷ [])
 repeated_word zero z = refl
 repeated_word (suc n) z = ap (λ l. z ∷ l) (repeated_word n z)
+
+-- One word is repeated.
+pub repeated_alone : (count : ℕ) (zs : List ℤ) → length zs ≡ 1 → replicate count (get_or zs 0 (pos 0)) ≡ repeated count zs
+repeated_alone count [] is = absurd (omega (arith, is))
+repeated_alone count (z ∷ []) is = repeated_word count z
+repeated_alone count (z ∷ y ∷ zs) is = absurd (omega (arith, is))
 
 pub repeated_next : (count i : ℕ) (l old : List ℤ) → i < count → (old ++ l) ++ repeated (count - (i + 1)) l ≡ old ++ repeated (count - i) l
 repeated_next count i l old lt = append_assoc old l (repeated (count - (i + 1)) l) ∙ ap (λ n. old ++ repeated n l) (sym (next count i lt))

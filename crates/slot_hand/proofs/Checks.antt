@@ -84,7 +84,7 @@ front_given (k ∷ ks) (z ∷ zs) whole = more (front ks zs) (front_given ks zs)
     more (Stops x) given whole = let u = given refl in absurd (let e : Stops x ≡ Given u.0 = u.1 in cc)
     more Broken given whole = cc
 
-held_given : (s : Slots) (q : Spot) (ks : List Kind) → is_broken (held s q ks) ≡ false → (us : List ℤ) × (held s q ks ≡ Given us)
+pub held_given : (s : Slots) (q : Spot) (ks : List Kind) → is_broken (held s q ks) ≡ false → (us : List ℤ) × (held s q ks ≡ Given us)
 held_given s (InStack n) ks whole = front_given ks (drop n s.stack) whole
 held_given s (InCell h o) ks whole = by (words_at s.heap.cells h) whole
   where

@@ -1,6 +1,6 @@
 -- Access values among words of some kinds.
 use Rattle.std.proofs.Common.{◌≡◌, ℕ, zero, suc, ◌+◌, ◌<◌, ◌≤◌, Bool, true, false, ◌&&◌, ◌++◌, append-nil, map, drop, get_or, length, None, Some, Option, Result, List, [], ◌∷◌, refl, sym, ap, subst, ◌∙◌, arith, ℤ, pos, slice_get, if◌then◌else◌}
-use Rattle.std.proofs.lemmas.List.{drop-drop, drop_all}
+use Rattle.std.proofs.lemmas.List.{drop-drop, drop_all, length-drop}
 use Rattle.spark_base.specs.declared.position.Pos.{Pos}
 use Rattle.run_values.specs.declared.value.Value.{Value}
 use Rattle.run_values.specs.declared.value.Kind.{Kind}
@@ -15,6 +15,7 @@ use Rattle.code_rows.specs.declared.stop.Stop.{Stop}
 use Rattle.handled_runs.specs.Slots.{Slots, front, cell_words, held, slot_word}
 use Rattle.handled_runs.specs.Leaks.{leak, leaks_in, leaks_at}
 use Rattle.slot_memory.specs.Memory.{Kept, Knows, Always, beyond, slots}
+use Rattle.slot_memory.proofs.OfKinds.{front_within}
 use Rattle.slot_hand.specs.Leaks.{Finds, HasPointers}
 use Rattle.slot_hand.proofs.Checks.{one, held_given, first_whole}
 use Rattle.slot_hand.proofs.Appended.{leaks_next}
@@ -76,6 +77,10 @@ pub held_one : (s : Slots) (q : Spot) (ks : List Kind) (zs : List ℤ) (o : ℕ)
 held_one s (InStack n) ks zs o given is = ap (front one) (sym (drop-drop o n s.stack)) ∙ front_one ks (drop n s.stack) zs o given is
 held_one s (InCell h at) ks zs o given is = cell_one ks at (words_at s.heap.cells h) zs o given is
 
+-- A word of the stack is one of its words.
+pub one_within : (s : Slots) (n : ℕ) → is_broken (held s (InStack n) one) ≡ false → n < length s.stack
+one_within s n whole = omega (arith, front_within one (drop n s.stack) whole, length-drop n s.stack)
+
 -- ---- offsets of access values, one after the other
 
 pointer_nth : (ks : List Kind) (os : List ℕ) (i : ℕ) → are_pointers ks os ≡ true → i < length os → is_pointer (slice_get ks (get_or os i 0)) ≡ true
@@ -115,6 +120,14 @@ pub pointers_end : (s : Slots) (p : Pos) (zs : List ℤ) (os : List ℕ) (i : �
     → new ++ leaks_in s.numbers p zs (drop i os) ≡ old ++ leaks_in s.numbers p zs os → new ≡ old ++ leaks_in s.numbers p zs os
 pointers_end s p zs os i old new le is =
     sym (append-nil new) ∙ sym (ap (λ l. new ++ leaks_in s.numbers p zs l) (drop_all i os le)) ∙ is
+
+pub pointers_found : (s : Slots) (q : Spot) (ks : List Kind) (p : Pos) (os : List ℕ) (i : ℕ) (old new : List Leak) → length os ≤ i → is_broken (held s q ks) ≡ false
+    → ((zs : List ℤ) → held s q ks ≡ Given zs → new ++ leaks_in s.numbers p zs (drop i os) ≡ old ++ leaks_in s.numbers p zs os)
+    → and_then (and_then (held s q ks) (λ zs. Given (leaks_in s.numbers p zs os))) (λ found. Given (old ++ found)) ≡ Given new
+pointers_found s q ks p os i old new le whole all =
+    let given = held_given s q ks whole in
+    ap (λ g. and_then (and_then g (λ zs. Given (leaks_in s.numbers p zs os))) (λ found. Given (old ++ found))) given.1
+    ∙ ap (λ l. Given l) (sym (pointers_end s p given.0 os i old new le (all given.0 given.1)))
 
 -- ---- a spot of a type whose offsets are known
 

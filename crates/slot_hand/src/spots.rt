@@ -104,6 +104,8 @@ fn access_at<R: Store>(memory: &Memory<R>, spot: Spot, offset: u32) -> i64
 {
     match spot {
         Spot::Stack { index } => {
+            // it lies within the words of all frames, so there is such an index
+            let _top = memory.top();
             let index = index + offset as usize;
             memory.word_at(Spot::Stack { index }, Kind::Access)
         }

@@ -1,10 +1,6 @@
-use Rattle.std.proofs.Common.{rules, ◌≡◌, true, List, [], ℕ, length, sym, ◌∙◌}
-use Rattle.std.proofs.lemmas.List.{nil_from_length}
-use Rattle.run_results.specs.Results.{leaks_of}
-use Rattle.slot_memory.specs.Memory.{slots}
-use Rattle.slot_memory.specs.Spots.{spot_of}
-use Rattle.type_words.specs.Pointers.{is_pointer}
-use Rattle.slot_hand.proofs.Checks.{nothing_found, pointer_known, pointer_told}
+use Rattle.std.proofs.Common.{◌≡◌, true, refl, sym, ◌∙◌}
+use Rattle.slot_hand.proofs.Checks.{pointer_known, pointer_told}
+use Rattle.slot_hand.proofs.Pointers.{pointers_known, pointers_told}
 use Rattle.slot_hand.proofs.hand.Hand.push_leaks.Goals as goal
 
 pub find_leak-requires : goal.find_leak-requires
@@ -14,10 +10,11 @@ pub returns-then-is_pointer-clause-leaks : goal.returns-then-is_pointer-clause-l
 returns-then-is_pointer-clause-leaks g c =
     pointer_told _ _ c.args.table.now _ c.args.of c.args.pos c.find_leak.result _ _ (sym c.is_pointer.ensures ∙ c.if-is_pointer.true) c.find_leak.ensures
 
-pub returns-then-is_empty-clause-leaks : goal.returns-then-is_empty-clause-leaks
-returns-then-is_empty-clause-leaks g c =
-    let os : List ℕ = c.take_offsets.new.offsets.items in
-    let long : length c.take_offsets.new.offsets.items ≡ 0 = search rules in
-    λ ghosts stands whole.
-    nothing_found c.args.table.now (slots c.args.memory.now ghosts) (spot_of c.args.spot) c.args.of c.args.pos os (leaks_of c.args.leaks.now.items)
-    c.in_ok-take_offsets.ensures.offsets (nil_from_length os long) whole
+pub find_pointers-requires : goal.find_pointers-requires
+find_pointers-requires g c =
+    pointers_known _ _ c.args.table.now _ c.args.of c.args.pos c.in-Some.offsets.now c.in-Some.ensures.offsets (c.in-Some.ensures.pointers refl) c.requires
+
+pub returns-in-Some-clause-leaks : goal.returns-in-Some-clause-leaks
+returns-in-Some-clause-leaks g c =
+    pointers_told _ _ c.args.table.now _ c.args.of c.args.pos c.in-Some.offsets.now c.find_pointers.result _ _ c.in-Some.ensures.offsets
+    (c.in-Some.ensures.pointers refl) c.find_pointers.ensures
