@@ -1,4 +1,4 @@
-use Rattle.std.proofs.Common.{rules, ◌≡◌, ◌+◌, ◌<◌, length, Fits, w64, arith}
+use Rattle.std.proofs.Common.{rules, ◌+◌, ◌<◌, length, Fits, w64, arith}
 use Rattle.run_values.specs.declared.value.Kind.TheVariants as sort
 use Rattle.slot_memory.specs.Memory.{slots}
 use Rattle.slot_memory.proofs.Seen.{one_holds, holds_offset}

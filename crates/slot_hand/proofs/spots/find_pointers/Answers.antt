@@ -1,15 +1,11 @@
-use Rattle.std.proofs.Common.{rules, ◌≡◌, false, ◌+◌, ◌<◌, ◌++◌, [], ◌∷◌, List, ℕ, length, refl, arith, ◌∙◌, slice_index_or}
+use Rattle.std.proofs.Common.{rules, ◌≡◌, ◌<◌, ◌++◌, ℕ, length, refl, arith, ◌∙◌, slice_index_or}
 use Rattle.std.proofs.lemmas.Int.{to_z-of_z}
 use mir.Syntax.{w64}
 use mir.Val.{SFits}
-use Rattle.machine.specs.States.{Leak}
-use Rattle.run_codes.specs.Flat.{Given, is_broken}
 use Rattle.run_results.specs.Results.{leaks_of}
-use Rattle.handled_runs.specs.Slots.{held}
 use Rattle.handled_runs.specs.Leaks.{leak}
-use Rattle.slot_memory.specs.Memory.{beyond, slots}
+use Rattle.slot_memory.specs.Memory.{slots}
 use Rattle.slot_memory.specs.Spots.{spot_of}
-use Rattle.slot_hand.proofs.Checks.{one}
 use Rattle.slot_hand.proofs.Pointers.{pointer_held, pointers_next, pointers_found}
 use Rattle.slot_hand.proofs.spots.find_pointers.Goals as goal
 

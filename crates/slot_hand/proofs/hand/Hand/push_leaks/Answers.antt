@@ -1,4 +1,4 @@
-use Rattle.std.proofs.Common.{◌≡◌, true, refl, sym, ◌∙◌}
+use Rattle.std.proofs.Common.{refl, sym, ◌∙◌}
 use Rattle.slot_hand.proofs.Checks.{pointer_known, pointer_told}
 use Rattle.slot_hand.proofs.Pointers.{pointers_known, pointers_told}
 use Rattle.slot_hand.proofs.hand.Hand.push_leaks.Goals as goal
