@@ -1,11 +1,11 @@
 -- What changes in words over a heap that uses its slots again.
-use Rattle.std.specs.Prelude.{ℕ, zero, suc, ◌+◌, ◌-◌, ◌==◌, ◌&&◌, List, [], ◌∷◌, ◌++◌, drop, length, nat_le, Option, Some, None, ℤ, pos, unsigned_abs, if◌then◌else◌}
+use Rattle.std.specs.Prelude.{ℕ, suc, ◌+◌, ◌-◌, ◌==◌, ◌&&◌, List, [], ◌∷◌, ◌++◌, drop, length, nat_le, Option, Some, None, ℤ, pos, if◌then◌else◌}
 use Rattle.numbered_cells.specs.run_values.declared.value.Value.{Value}
 use Rattle.numbered_cells.specs.run_values.declared.value.Value.TheVariants as value
 use Rattle.numbered_cells.specs.run_values.declared.value.Kind.{Kind}
-use Rattle.numbered_cells.specs.run_values.declared.value.Kind.TheVariants as sort
 use Rattle.numbered_cells.specs.machine.Memory.{Peak, at_number, greatest}
 use Rattle.numbered_cells.specs.slot_heap.Heaps.{Heap, words_at, live_count, allocated, written, released}
+pub use Rattle.numbered_cells.specs.slot_heap.Words.{cell_named, slot_value, slot_values}
 use Rattle.numbered_cells.specs.run_codes.Flat.{Got, Given, Broken, and_then, spliced, have_kinds, are_pointers, Spot, InStack, InCell}
 use Rattle.handled_runs.specs.Fits.{are_slot_words}
 use Rattle.handled_runs.specs.Slots.{Move, Slots, front}
@@ -15,21 +15,6 @@ with_stack s stack = record s { stack = stack }
 
 abbrev pub with_heap : Slots → Heap → Slots
 with_heap s heap = record s { heap = heap }
-
--- ---- values of cells
-
-abbrev pub cell_named : ℕ → Value
-cell_named zero = value.Null
-cell_named (suc h) = value.Cell h
-
-abbrev pub slot_value : Kind → ℤ → Value
-slot_value sort.Int z = value.Int z
-slot_value sort.Enum z = value.Enum (unsigned_abs z)
-slot_value sort.Access z = cell_named (unsigned_abs z)
-
-abbrev pub slot_values : List Kind → List ℤ → List Value
-slot_values (k ∷ ks) (z ∷ zs) = slot_value k z ∷ slot_values ks zs
-slot_values ks zs = []
 
 -- ---- stores
 

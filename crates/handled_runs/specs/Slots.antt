@@ -5,12 +5,12 @@
 -- it reads what stood there before, and one that stops has nothing to put back.
 use Rattle.std.specs.Prelude.{ℕ, zero, suc, ◌+◌, not, List, [], ◌∷◌, drop, length, map, slice_get, nat_lt, nat_le, Option, Some, None, ℤ, pos, unsigned_abs, if◌then◌else◌}
 use Rattle.numbered_cells.specs.run_values.declared.value.Value.{Value}
-use Rattle.numbered_cells.specs.run_values.declared.value.Value.TheVariants as value
 use Rattle.numbered_cells.specs.run_values.declared.value.Kind.{Kind}
 use Rattle.numbered_cells.specs.run_values.Values.{kind}
 use Rattle.numbered_cells.specs.run_values.Items.{at_end}
 use Rattle.numbered_cells.specs.machine.Memory.{Peak}
 use Rattle.numbered_cells.specs.slot_heap.Heaps.{Heap, word_at, words_at}
+pub use Rattle.numbered_cells.specs.slot_heap.Words.{slot_word}
 use Rattle.numbered_cells.specs.run_codes.Codes.{Code, Number, Local, Global, Via, Scaled, Plus, Unary, Binary, Short, IsNull, Waiting, EndOfFile, Nothing, Place, InFrame, InPackages, Behind}
 use Rattle.numbered_cells.specs.run_codes.Flat.{Got, Given, Stops, Broken, and_then, found, same_kind, have_kinds, most_offsets, constraint, truth, is_zero, operated, operated_alone, decides, offset, scaled, Spot, InStack, InCell}
 
@@ -39,12 +39,6 @@ pub record Slots : Type 0 where
   pub moves : List Move
 
 -- ---- words of cells
-
-abbrev pub slot_word : Value → ℤ
-slot_word (value.Int v) = v
-slot_word (value.Enum n) = pos n
-slot_word value.Null = pos 0
-slot_word (value.Cell h) = pos (suc h)
 
 abbrev pub of_kind : Kind → Option Value → Got ℤ
 of_kind k None = Broken

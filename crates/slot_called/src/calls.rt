@@ -19,7 +19,7 @@ use slot_hand::Hand;
 use slot_heap::Store;
 use slot_leads::sub_at;
 use slot_memory::Memory;
-use type_table::TypeTable;
+use type_layouts::Layouts;
 
 /// A call of a subprogram, after which the frame that runs goes on at a point: the actuals are passed,
 /// the words of all frames are counted, and the formals get their values in a new frame; what was
@@ -27,7 +27,7 @@ use type_table::TypeTable;
 /// number on are gone: the point took them.
 #[tactic(auto, using(crate::proofs::Called::call_rules))]
 pub fn call<R: Store>(
-    table: &TypeTable,
+    table: &Layouts,
     codes: &Codes,
     memory: &mut Memory<R>,
     frames: &mut Frames,

@@ -11,7 +11,7 @@ use slot_formals::{Pass, pass_actuals};
 use slot_hand::Hand;
 use slot_heap::Store;
 use slot_memory::Memory;
-use type_table::TypeTable;
+use type_layouts::Layouts;
 
 /// The most words of all frames.
 const STACK_WORDS: u64 = 4_194_304;
@@ -25,7 +25,7 @@ fn have_room(more: u64, words: u64) -> bool
 
 /// The actuals of a call are passed in order.
 fn pass_all<R: Store>(
-    table: &TypeTable,
+    table: &Layouts,
     rows: &Rows,
     memory: &mut Memory<R>,
     hand: &mut Hand,
@@ -49,7 +49,7 @@ fn pass_all<R: Store>(
 /// The same, where there is room for the frame of a subprogram beside so many words.
 #[tactic(auto, using(crate::proofs::Tested::tested_rules))]
 pub(crate) fn pass_tested<R: Store>(
-    table: &TypeTable,
+    table: &Layouts,
     codes: &Codes,
     memory: &mut Memory<R>,
     hand: &mut Hand,

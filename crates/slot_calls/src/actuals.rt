@@ -15,11 +15,11 @@ use slot_hand::Hand;
 use slot_heap::Store;
 use slot_memory::{Memory, Spot};
 use slot_values::fill;
-use slot_words::{spot, word};
+use slot_words::{operand, spot};
 use spark_base::Pos;
 use std::alloc::AllocError;
 use type_bounds::fits;
-use type_table::TypeTable;
+use type_layouts::Layouts;
 use word_operators::within;
 
 /// What is known of an actual before the call: the words at hand of its value, from one index to
@@ -34,7 +34,7 @@ pub enum Pass {
 /// A value is passed: its words are appended to those at hand.
 #[tactic(auto, using(crate::proofs::Values::value_rules))]
 fn pass_value<R: Store>(
-    table: &TypeTable,
+    table: &Layouts,
     nodes: &Nodes,
     fills: &Fills,
     memory: &mut Memory<R>,
@@ -56,7 +56,7 @@ fn pass_value<R: Store>(
 /// What a place of a type holds fits the type of a formal.
 #[tactic(auto, using(crate::proofs::Fitting::test_rules))]
 fn test_held<R: Store>(
-    table: &TypeTable,
+    table: &Layouts,
     memory: &Memory<R>,
     hand: &mut Hand,
     spot: Spot,
@@ -69,7 +69,7 @@ fn test_held<R: Store>(
 {
     let first = hand.len();
     hand.push_held(table, memory, spot, of)?;
-    let fit = fits(table, formal, &hand.words()[first..]);
+    let fit = fits(table.table(), formal, &hand.words()[first..]);
     hand.cut(first);
     if fit {
         Ok(())
@@ -81,7 +81,7 @@ fn test_held<R: Store>(
 /// A place is passed whose value a formal gets, if it fits.
 #[tactic(auto, using(crate::proofs::Values::from_rules))]
 fn pass_from<R: Store>(
-    table: &TypeTable,
+    table: &Layouts,
     nodes: &Nodes,
     memory: &Memory<R>,
     hand: &mut Hand,
@@ -101,7 +101,7 @@ fn pass_from<R: Store>(
 /// A place is passed that an `out` formal is copied back to.
 #[tactic(auto, using(crate::proofs::Values::to_rules))]
 fn pass_to<R: Store>(
-    table: &TypeTable,
+    table: &Layouts,
     nodes: &Nodes,
     memory: &Memory<R>,
     hand: &Hand,
@@ -124,7 +124,7 @@ fn pass_to<R: Store>(
 /// A scalar word within bounds is passed.
 #[tactic(auto, using(crate::proofs::Values::word_rules))]
 fn pass_word<R: Store>(
-    table: &TypeTable,
+    table: &Layouts,
     nodes: &Nodes,
     memory: &Memory<R>,
     hand: &mut Hand,
@@ -137,7 +137,7 @@ fn pass_word<R: Store>(
     ensures { PassedOne R.Means memory.now table.now (codes.ByValue (codes.Checked (code_at nodes.now value) low high)) result hand.old hand.new memory.now }
 {
     let first = hand.len();
-    let given = word(nodes, memory, value)?;
+    let given = operand(nodes, memory, value)?;
     let kept = within(given, low, high)?;
     hand.push(kept)?;
     let end = hand.len();
@@ -146,7 +146,7 @@ fn pass_word<R: Store>(
 
 /// An actual is passed. The words of a value are appended to those at hand.
 pub fn pass_actual<R: Store>(
-    table: &TypeTable,
+    table: &Layouts,
     rows: &Rows,
     memory: &mut Memory<R>,
     hand: &mut Hand,
@@ -187,7 +187,7 @@ fn push_pass(passes: &mut Vec<Pass>, pass: Pass) -> Result<(), AllocError>
 /// Actuals are passed in order.
 #[tactic(auto, using(crate::proofs::Passing::all_rules))]
 pub fn pass_actuals<R: Store>(
-    table: &TypeTable,
+    table: &Layouts,
     rows: &Rows,
     memory: &mut Memory<R>,
     hand: &mut Hand,

@@ -7,7 +7,7 @@ use code_rows::{Codes, Room, Stop, Sub};
 use slot_hand::Hand;
 use slot_heap::Store;
 use slot_memory::Memory;
-use type_table::TypeTable;
+use type_layouts::Layouts;
 
 /// Appends the words of a loop that doesn't run.
 fn push_counter(hand: &mut Hand) -> Result<(), Stop>
@@ -20,7 +20,7 @@ fn push_counter(hand: &mut Hand) -> Result<(), Stop>
 }
 
 /// Appends the words of what stands in a frame, without a value.
-fn push_words(table: &TypeTable, hand: &mut Hand, room: Room) -> Result<(), Stop>
+fn push_words(table: &Layouts, hand: &mut Hand, room: Room) -> Result<(), Stop>
     ensures pushed { OnOk result (hand.new ≡ hand.old ++ room_words table.now (room_of room)) }
     ensures memory { OnErr result (IsErrOf result Stop.Memory) }
 {
@@ -32,7 +32,7 @@ fn push_words(table: &TypeTable, hand: &mut Hand, room: Room) -> Result<(), Stop
 
 /// The words of what stands in a frame, without a value, come after those of all frames.
 fn push_room<R: Store>(
-    table: &TypeTable,
+    table: &Layouts,
     memory: &mut Memory<R>,
     hand: &mut Hand,
     room: Room,
@@ -51,7 +51,7 @@ fn push_room<R: Store>(
 /// The words of all that stands in a frame, without values, come after those of all frames. The words
 /// at hand stay.
 pub fn push_rooms<R: Store>(
-    table: &TypeTable,
+    table: &Layouts,
     memory: &mut Memory<R>,
     hand: &mut Hand,
     rooms: &[Room],

@@ -15,11 +15,11 @@ use slot_hand::Hand;
 use slot_heap::Store;
 use slot_memory::Memory;
 use slot_returns::{check_one, copy_one};
-use type_table::TypeTable;
+use type_layouts::Layouts;
 
 /// Whether the formals of the frame that runs fit where they are copied back to, each of them.
 fn check_own<R: Store>(
-    table: &TypeTable,
+    table: &Layouts,
     memory: &Memory<R>,
     hand: &mut Hand,
     frames: &Frames,
@@ -35,7 +35,7 @@ fn check_own<R: Store>(
 
 /// They are copied back in order.
 fn store_own<R: Store>(
-    table: &TypeTable,
+    table: &Layouts,
     memory: &mut Memory<R>,
     hand: &mut Hand,
     frames: &Frames,
@@ -54,7 +54,7 @@ fn store_own<R: Store>(
 /// The formals of the frame that runs are copied back, all of them or none. One alone is checked as it
 /// is copied.
 fn copy_own<R: Store>(
-    table: &TypeTable,
+    table: &Layouts,
     memory: &mut Memory<R>,
     hand: &mut Hand,
     frames: &Frames,
@@ -78,7 +78,7 @@ fn copy_own<R: Store>(
 /// The end of a call: formals are copied back, and the frame that waited runs. Whether others wait: if
 /// none does, the main procedure has ended. Where a formal doesn't fit, none is copied back.
 pub fn finish<R: Store>(
-    table: &TypeTable,
+    table: &Layouts,
     memory: &mut Memory<R>,
     frames: &mut Frames,
     hand: &mut Hand,

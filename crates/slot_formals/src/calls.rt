@@ -20,12 +20,12 @@ use slot_frames::Frames;
 use slot_hand::Hand;
 use slot_heap::Store;
 use slot_memory::Memory;
-use type_table::TypeTable;
+use type_layouts::Layouts;
 
 /// The frame of a subprogram comes after the others, and its formals get what is passed. Where it
 /// begins.
 fn fill_frame<R: Store>(
-    table: &TypeTable,
+    table: &Layouts,
     codes: &Codes,
     memory: &mut Memory<R>,
     frames: &mut Frames,
@@ -59,7 +59,7 @@ fn fill_frame<R: Store>(
 /// The same. What was moved so far is gone then, leaks of `out` actuals are checked, and what the
 /// actuals move is gone, too.
 pub fn begin_frame<R: Store>(
-    table: &TypeTable,
+    table: &Layouts,
     codes: &Codes,
     memory: &mut Memory<R>,
     frames: &mut Frames,

@@ -17,7 +17,7 @@ use slot_frames::Frames;
 use slot_hand::Hand;
 use slot_heap::Store;
 use slot_memory::{Memory, Spot};
-use type_table::TypeTable;
+use type_layouts::Layouts;
 use type_words::push_kinds;
 
 // ---- one formal
@@ -50,7 +50,7 @@ fn store_value<R: Store>(memory: &mut Memory<R>, hand: &Hand, at: usize, first: 
 
 /// A formal gets what a place of a type holds.
 fn store_held<R: Store>(
-    table: &TypeTable,
+    table: &Layouts,
     memory: &mut Memory<R>,
     hand: &mut Hand,
     at: usize,
@@ -72,7 +72,7 @@ fn store_held<R: Store>(
 
 /// A formal at an index of the stack gets what is passed.
 fn store_formal<R: Store>(
-    table: &TypeTable,
+    table: &Layouts,
     memory: &mut Memory<R>,
     hand: &mut Hand,
     at: usize,
@@ -112,12 +112,12 @@ fn push_return(frames: &mut Frames, at: u32, formal: u32, pass: &Pass) -> Result
 }
 
 /// The offset after a formal.
-fn next_offset(table: &TypeTable, kinds: &mut Vec<Kind>, at: u32, formal: u32) -> Result<u32, Stop>
+fn next_offset(table: &Layouts, kinds: &mut Vec<Kind>, at: u32, formal: u32) -> Result<u32, Stop>
     ensures offset { IfOk result (λ next. next ≡ at + length (kinds_of table.now formal)) }
     ensures memory { OnErr result (IsErrOf result Stop.Memory) }
 {
     kinds.clear();
-    push_kinds(table, formal, kinds)?;
+    push_kinds(table.table(), formal, kinds)?;
     let Ok(words) = u32::try_from(kinds.len()) else {
         return Err(Stop::Memory);
     };
@@ -132,7 +132,7 @@ fn next_offset(table: &TypeTable, kinds: &mut Vec<Kind>, at: u32, formal: u32) -
 /// A formal at an offset of the frame that begins at an index gets what is passed. The offset of the
 /// next one.
 fn pass_formal<R: Store>(
-    table: &TypeTable,
+    table: &Layouts,
     memory: &mut Memory<R>,
     hand: &mut Hand,
     kinds: &mut Vec<Kind>,
@@ -162,7 +162,7 @@ fn pass_formal<R: Store>(
 
 /// The formals of a frame that begins at an index get what is passed.
 pub(crate) fn pass_formals<R: Store>(
-    table: &TypeTable,
+    table: &Layouts,
     memory: &mut Memory<R>,
     hand: &mut Hand,
     kinds: &mut Vec<Kind>,

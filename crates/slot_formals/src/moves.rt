@@ -10,11 +10,11 @@ use slot_calls::Pass;
 use slot_hand::Hand;
 use slot_heap::Store;
 use slot_memory::Memory;
-use type_table::TypeTable;
+use type_layouts::Layouts;
 
 /// What one passes by its place is noted as moved.
 fn note_move<R: Store>(
-    table: &TypeTable,
+    table: &Layouts,
     memory: &mut Memory<R>,
     hand: &mut Hand,
     pass: &Pass,
@@ -33,7 +33,7 @@ fn note_move<R: Store>(
 
 /// What formals are passed by its place is noted as moved.
 pub(crate) fn note_moves<R: Store>(
-    table: &TypeTable,
+    table: &Layouts,
     memory: &mut Memory<R>,
     hand: &mut Hand,
     formals: &[u32],

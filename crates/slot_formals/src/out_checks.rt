@@ -12,11 +12,11 @@ use slot_calls::Pass;
 use slot_hand::Hand;
 use slot_heap::Store;
 use slot_memory::Memory;
-use type_table::TypeTable;
+use type_layouts::Layouts;
 
 /// Appends the failed leak checks of what is passed to an `out` formal.
 fn check_out<R: Store>(
-    table: &TypeTable,
+    table: &Layouts,
     memory: &Memory<R>,
     hand: &mut Hand,
     pass: &Pass,
@@ -35,7 +35,7 @@ fn check_out<R: Store>(
 
 /// Appends the failed leak checks of what is passed to `out` formals.
 pub(crate) fn check_outs<R: Store>(
-    table: &TypeTable,
+    table: &Layouts,
     memory: &Memory<R>,
     hand: &mut Hand,
     passes: &[Pass],

@@ -96,7 +96,7 @@ held_given s (InCell h o) ks whole = by (words_at s.heap.cells h) whole
     by None whole = cc
     by (Some ws) whole = kept (have_kinds ks (drop o ws)) (drop o (map slot_word ws)) whole
 
-first_whole : {A B : Type 0} (g : Got A) (f : A → Got B) → is_broken (and_then g f) ≡ false → is_broken g ≡ false
+pub first_whole : {A B : Type 0} (g : Got A) (f : A → Got B) → is_broken (and_then g f) ≡ false → is_broken g ≡ false
 first_whole (Given a) f whole = refl
 first_whole (Stops x) f whole = refl
 first_whole Broken f whole = cc

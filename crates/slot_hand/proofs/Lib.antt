@@ -4,3 +4,5 @@ pub mod Appended
 pub mod Making
 -- leak checks
 pub mod Checks
+-- leak checks by offsets
+pub mod Pointers

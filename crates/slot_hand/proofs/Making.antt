@@ -1,19 +1,19 @@
 -- Cells that are made of words.
-use Rattle.std.proofs.Common.{◌≡◌, ℕ, suc, ◌+◌, ◌<◌, ◌≤◌, Bool, true, false, List, [], ◌∷◌, ◌++◌, length, nat_le, nat_lt, refl, sym, ap, subst, ◌∙◌, arith, ℤ}
+use Rattle.std.proofs.Common.{◌≡◌, ℕ, ◌+◌, ◌<◌, ◌≤◌, Bool, true, false, List, [], ◌∷◌, ◌++◌, length, nat_le, nat_lt, refl, sym, ap, subst, ◌∙◌, arith, ℤ}
 use Rattle.run_values.specs.declared.value.Value.{Value}
 use Rattle.run_values.specs.declared.value.Kind.{Kind}
 use Rattle.machine.specs.Evaluate.{heap_words}
 use Rattle.run_codes.specs.Flat.{Stop, most_cells}
 use Rattle.slot_heap.specs.Heaps.{Heap}
+use Rattle.slot_heap.proofs.Words.{values_long}
 use Rattle.code_rows.specs.declared.stop.Stop.{Stop as Cause}
 use Rattle.code_rows.specs.Stops.{stop_of}
-use Rattle.handled_runs.specs.Fits.{is_slot_word, are_slot_words, most_handles}
+use Rattle.handled_runs.specs.Fits.{are_slot_words, most_handles}
 use Rattle.handled_runs.specs.Slots.{Slots}
 use Rattle.handled_runs.specs.Changes.{slot_values, made}
 use Rattle.handled_runs.specs.Values.{Outcome, Gives, Ends, Fails, MakesCell, MakesWhere, Makes}
 use Rattle.slot_memory.specs.Memory.{Kept, Shows}
 use Rattle.slot_memory.specs.Answers.{with_cell, IsMade, IsRefused}
-use Rattle.slot_memory.proofs.OfKinds.{and_second}
 use Rattle.slot_hand.specs.Outcomes.{IsGiven, IsEnded}
 
 -- Words fit where making doesn't fail.
@@ -30,12 +30,6 @@ makes_cell s ks zs b r fit room cell =
     let P : Bool → Type 0 = λ c. MakesWhere c (MakesCell (nat_le (s.live + length zs) heap_words) s ks zs r) r in
     let Q : Bool → Type 0 = λ c. MakesCell c s ks zs r in
     subst P (sym fit) (subst Q (sym room) cell)
-
-values_long : (ks : List Kind) (zs : List ℤ) → are_slot_words ks zs ≡ true → length (slot_values ks zs) ≡ length zs
-values_long [] [] is = refl
-values_long [] (z ∷ zs) is = cc
-values_long (k ∷ ks) [] is = cc
-values_long (k ∷ ks) (z ∷ zs) is = ap suc (values_long ks zs (and_second (is_slot_word k z) (are_slot_words ks zs) is))
 
 le_true : (a b : ℕ) → a ≤ b → nat_le a b ≡ true
 le_true a b le = grind arith

@@ -12,18 +12,18 @@ ghost use Rattle.slot_memory.specs.Answers.{Appends};
 ghost use Rattle.slot_hand.specs.Outcomes.{Makeable, Made};
 ghost use Rattle.slot_hand.specs.Leaks.{Finds};
 
-use crate::spots::{find_leak, find_leaks, make, take_kinds, take_offsets};
+use crate::spots::{find_leak, find_leaks, find_pointers, make, take_kinds, take_offsets};
 use crate::words::push_repeated;
 use code_rows::Stop;
 use run_results::Leak;
-use run_values::{Kind, Value};
+use run_values::Kind;
 use slot_heap::Store;
 use slot_memory::{Memory, Spot};
 use spark_base::Pos;
 use std::alloc::Global;
 use std::marker::Model;
-use type_table::TypeTable;
-use type_words::{is_pointer, push_defaults};
+use type_layouts::Layouts;
+use type_words::push_defaults;
 
 /// Words at hand, and room for what is worked on beside them. Contracts see the words.
 pub struct Hand {
@@ -32,7 +32,6 @@ pub struct Hand {
     found: Vec<i64>,
     kinds: Vec<Kind>,
     offsets: Vec<u32>,
-    values: Vec<Value>,
 }
 
 impl Model for Hand {
@@ -50,7 +49,6 @@ impl Drop for Hand {
             found: _,
             kinds: _,
             offsets: _,
-            values: _,
         } = self;
     }
 }
@@ -65,7 +63,6 @@ impl Hand {
             found: Vec::new(alloc),
             kinds: Vec::new(alloc),
             offsets: Vec::new(alloc),
-            values: Vec::new(alloc),
         }
     }
 
@@ -108,11 +105,11 @@ impl Hand {
     }
 
     /// Appends the words of an object of a type without a value.
-    pub fn push_default(&mut self, table: &TypeTable, of: u32) -> Result<(), Stop>
+    pub fn push_default(&mut self, table: &Layouts, of: u32) -> Result<(), Stop>
         ensures pushed { OnOk result (self.new ≡ self.old ++ default_words table.now of) }
         ensures memory { OnErr result (IsErrOf result Stop.Memory) }
     {
-        push_defaults(table, of, &mut self.words)?;
+        push_defaults(table.table(), of, &mut self.words)?;
         Ok(())
     }
 
@@ -132,7 +129,7 @@ impl Hand {
     /// Appends what a spot of a type holds.
     pub fn push_held<R: Store>(
         &mut self,
-        table: &TypeTable,
+        table: &Layouts,
         memory: &Memory<R>,
         spot: Spot,
         of: u32,
@@ -140,6 +137,9 @@ impl Hand {
         requires { Knows R.Means memory.now (λ s. is_broken (held s (spot_of spot) (kinds table.now of)) ≡ false) }
         ensures { Always R.Means memory.now (λ s. is_broken (held s (spot_of spot) (kinds table.now of)) ≡ false → Appends (held s (spot_of spot) (kinds table.now of)) result self.old self.new) }
     {
+        if let Some(kinds) = table.kinds(of) {
+            return memory.push_words(spot, kinds, &mut self.words);
+        }
         take_kinds(table, of, &mut self.kinds)?;
         memory.push_words(spot, &self.kinds, &mut self.words)
     }
@@ -147,7 +147,7 @@ impl Hand {
     /// Stores the words at hand from an index on at a spot of a type.
     pub fn store<R: Store>(
         &mut self,
-        table: &TypeTable,
+        table: &Layouts,
         memory: &mut Memory<R>,
         spot: Spot,
         of: u32,
@@ -161,6 +161,10 @@ impl Hand {
         ensures elsewhere { elsewhere memory.new ≡ elsewhere memory.old }
         ensures hand { self.new ≡ self.old }
     {
+        if let Some(kinds) = table.kinds(of) {
+            memory.store_words(spot, kinds, &self.words[from..]);
+            return Ok(());
+        }
         take_kinds(table, of, &mut self.kinds)?;
         memory.store_words(spot, &self.kinds, &self.words[from..]);
         Ok(())
@@ -170,7 +174,7 @@ impl Hand {
     /// settled.
     pub fn move_out<R: Store>(
         &mut self,
-        table: &TypeTable,
+        table: &Layouts,
         memory: &mut Memory<R>,
         spot: Spot,
         of: u32,
@@ -180,6 +184,9 @@ impl Hand {
         ensures elsewhere { elsewhere memory.new ≡ elsewhere memory.old }
         ensures hand { self.new ≡ self.old }
     {
+        if let Some(offsets) = table.offsets(of) {
+            return memory.move_out(spot, offsets);
+        }
         take_offsets(table, of, &mut self.offsets)?;
         memory.move_out(spot, &self.offsets)
     }
@@ -187,7 +194,7 @@ impl Hand {
     /// The words at hand from an index on become a cell of a type, and its name comes in their place.
     pub fn make<R: Store>(
         &mut self,
-        table: &TypeTable,
+        table: &Layouts,
         memory: &mut Memory<R>,
         of: u32,
         from: usize,
@@ -197,8 +204,11 @@ impl Hand {
         ensures made { Made R.Means memory.old (kinds table.now of) (drop from self.old) result (take from self.old) self.new memory.new }
         ensures elsewhere { elsewhere memory.new ≡ elsewhere memory.old }
     {
+        if let Some(kinds) = table.kinds(of) {
+            return make(memory, kinds, from, &mut self.words);
+        }
         take_kinds(table, of, &mut self.kinds)?;
-        make(memory, &self.kinds, from, &mut self.values, &mut self.words)
+        make(memory, &self.kinds, from, &mut self.words)
     }
 
     /// The words at hand from an index on come so many times.
@@ -213,10 +223,11 @@ impl Hand {
         push_repeated(&self.found, count, &mut self.words)
     }
 
-    /// Appends the failed leak checks of a spot with words of a type.
-    pub fn push_leaks<R: Store>(
+    /// Appends the failed leak checks of a spot with words of a type, of which nothing is kept.
+    #[inline(never)]
+    fn search_leaks<R: Store>(
         &mut self,
-        table: &TypeTable,
+        table: &Layouts,
         memory: &Memory<R>,
         spot: Spot,
         of: u32,
@@ -227,9 +238,6 @@ impl Hand {
         ensures leaks { Always R.Means memory.now (λ s. is_broken (leaks_at table.now s (spot_of spot) of pos) ≡ false → Finds (leaks_at table.now s (spot_of spot) of pos) result (leaks_of leaks.old.items) (leaks_of leaks.new.items)) }
         ensures hand { self.new ≡ self.old }
     {
-        if is_pointer(table, of) {
-            return find_leak(memory, spot, pos, leaks);
-        }
         take_offsets(table, of, &mut self.offsets)?;
         if self.offsets.is_empty() {
             return Ok(());
@@ -244,5 +252,29 @@ impl Hand {
             &mut self.found,
             leaks,
         )
+    }
+
+    /// Appends the failed leak checks of a spot with words of a type.
+    #[inline(always)]
+    pub fn push_leaks<R: Store>(
+        &mut self,
+        table: &Layouts,
+        memory: &Memory<R>,
+        spot: Spot,
+        of: u32,
+        pos: Pos,
+        leaks: &mut Vec<Leak>,
+    ) -> Result<(), Stop>
+        requires { Knows R.Means memory.now (λ s. is_broken (leaks_at table.now s (spot_of spot) of pos) ≡ false) }
+        ensures leaks { Always R.Means memory.now (λ s. is_broken (leaks_at table.now s (spot_of spot) of pos) ≡ false → Finds (leaks_at table.now s (spot_of spot) of pos) result (leaks_of leaks.old.items) (leaks_of leaks.new.items)) }
+        ensures hand { self.new ≡ self.old }
+    {
+        if table.is_pointer(of) {
+            return find_leak(memory, spot, pos, leaks);
+        }
+        if let Some(offsets) = table.offsets(of) {
+            return find_pointers(memory, spot, offsets, pos, leaks);
+        }
+        self.search_leaks(table, memory, spot, of, pos, leaks)
     }
 }

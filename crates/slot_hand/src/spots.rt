@@ -1,47 +1,48 @@
 //! What spots with words of some kinds hold.
-ghost use Rattle.std.specs.Prelude.{◌≡◌, ◌≤◌, ◌∷◌, [], false, length, take, drop, OnOk, OnErr, IsErrOf};
+ghost use Rattle.std.specs.Prelude.{◌≡◌, ◌≤◌, ◌∷◌, [], true, false, List, length, take, drop, OnOk, OnErr, IsErrOf};
 ghost use Rattle.machine.specs.Words.{access_offsets};
-ghost use Rattle.run_codes.specs.Flat.{is_broken, kinds as kinds_of, Given, and_then};
+ghost use Rattle.run_values.specs.declared.value.Kind as sorts;
+ghost use Rattle.run_codes.specs.Flat.{is_broken, are_pointers, kinds as kinds_of, Given, and_then};
 ghost use Rattle.run_results.specs.Results.{leaks_of};
 ghost use Rattle.handled_runs.specs.Slots.{held};
 ghost use Rattle.handled_runs.specs.Leaks.{leaks_in};
-ghost use Rattle.slot_memory.specs.Memory.{Knows, Always, elsewhere};
+ghost use Rattle.slot_memory.specs.Memory.{Knows, Always, beyond, elsewhere};
 ghost use Rattle.slot_memory.specs.Spots.{spot_of};
 ghost use Rattle.slot_hand.specs.Outcomes.{Makeable, Made};
-ghost use Rattle.slot_hand.specs.Leaks.{Reads, Finds};
+ghost use Rattle.slot_hand.specs.Leaks.{Reads, Finds, HasPointers};
 
-use crate::words::{push_leak, push_leaks, push_values};
+use crate::words::{push_leak, push_leaks};
 use code_rows::Stop;
 use run_results::Leak;
-use run_values::{Kind, Value};
+use run_values::Kind;
 use slot_heap::Store;
 use slot_memory::{Memory, Spot};
 use spark_base::Pos;
-use type_table::TypeTable;
-use type_words::{is_pointer, push_access_offsets, push_kinds};
+use type_layouts::Layouts;
+use type_words::{push_access_offsets, push_kinds};
 
 /// The kinds of the words of a type.
 #[tactic(auto, using(crate::proofs::Checks::kinds_of_pointer))]
-pub(crate) fn take_kinds(table: &TypeTable, of: u32, kinds: &mut Vec<Kind>) -> Result<(), Stop>
+pub(crate) fn take_kinds(table: &Layouts, of: u32, kinds: &mut Vec<Kind>) -> Result<(), Stop>
     ensures kinds { OnOk result (kinds.new.items ≡ kinds_of table.now of) }
     ensures memory { OnErr result (IsErrOf result Stop.Memory) }
 {
     kinds.clear();
-    if is_pointer(table, of) {
+    if table.is_pointer(of) {
         kinds.push(Kind::Access)?;
         return Ok(());
     }
-    push_kinds(table, of, kinds)?;
+    push_kinds(table.table(), of, kinds)?;
     Ok(())
 }
 
 /// At which words of a type its access parts stand.
-pub(crate) fn take_offsets(table: &TypeTable, of: u32, offsets: &mut Vec<u32>) -> Result<(), Stop>
+pub(crate) fn take_offsets(table: &Layouts, of: u32, offsets: &mut Vec<u32>) -> Result<(), Stop>
     ensures offsets { OnOk result (offsets.new.items ≡ access_offsets table.now of) }
     ensures memory { OnErr result (IsErrOf result Stop.Memory) }
 {
     offsets.clear();
-    push_access_offsets(table, of, offsets)?;
+    push_access_offsets(table.table(), of, offsets)?;
     Ok(())
 }
 
@@ -64,7 +65,6 @@ pub(crate) fn make<R: Store>(
     memory: &mut Memory<R>,
     kinds: &[Kind],
     from: usize,
-    values: &mut Vec<Value>,
     words: &mut Vec<i64>,
 ) -> Result<(), Stop>
     requires from { from ≤ length words.old.items }
@@ -72,9 +72,7 @@ pub(crate) fn make<R: Store>(
     ensures made { Made R.Means memory.old kinds.now (drop from words.old.items) result (take from words.old.items) words.new.items memory.new }
     ensures elsewhere { elsewhere memory.new ≡ elsewhere memory.old }
 {
-    values.clear();
-    push_values(kinds, &words.as_slice()[from..], values)?;
-    let word = match memory.allocate(values) {
+    let word = match memory.allocate(kinds, &words.as_slice()[from..]) {
         Ok(word) => word,
         Err(stop) => return Err(stop),
     };
@@ -84,6 +82,7 @@ pub(crate) fn make<R: Store>(
 }
 
 /// Appends the failed leak check of the access value at a spot.
+#[inline(always)]
 pub(crate) fn find_leak<R: Store>(
     memory: &Memory<R>,
     spot: Spot,
@@ -95,6 +94,44 @@ pub(crate) fn find_leak<R: Store>(
 {
     let word = memory.word_at(spot, Kind::Access);
     push_leak(memory, word, pos, leaks)
+}
+
+/// The access value at an offset from a spot.
+#[inline(always)]
+fn access_at<R: Store>(memory: &Memory<R>, spot: Spot, offset: u32) -> i64
+    requires { Knows R.Means memory.now (λ s. is_broken (held s (beyond (spot_of spot) offset) (Kind.Access ∷ [])) ≡ false) }
+    ensures { Always R.Means memory.now (λ s. is_broken (held s (beyond (spot_of spot) offset) (Kind.Access ∷ [])) ≡ false → held s (beyond (spot_of spot) offset) (Kind.Access ∷ []) ≡ Given (result ∷ [])) }
+{
+    match spot {
+        Spot::Stack { index } => {
+            let index = index + offset as usize;
+            memory.word_at(Spot::Stack { index }, Kind::Access)
+        }
+        Spot::Cell { cell, at } => {
+            let at = at + offset;
+            memory.word_at(Spot::Cell { cell, at }, Kind::Access)
+        }
+    }
+}
+
+/// Appends the failed leak checks of the access values at some offsets from a spot. No other word is
+/// read.
+#[inline(always)]
+pub(crate) fn find_pointers<R: Store>(
+    memory: &Memory<R>,
+    spot: Spot,
+    offsets: &[u32],
+    pos: Pos,
+    leaks: &mut Vec<Leak>,
+) -> Result<(), Stop>
+    requires { Knows R.Means memory.now (λ s. HasPointers s (spot_of spot) offsets.now) }
+    ensures { (ks : List sorts.Kind) → are_pointers ks offsets.now ≡ true → Always R.Means memory.now (λ s. is_broken (held s (spot_of spot) ks) ≡ false → Finds (and_then (held s (spot_of spot) ks) (λ zs. Given (leaks_in s.numbers pos zs offsets.now))) result (leaks_of leaks.old.items) (leaks_of leaks.new.items)) }
+{
+    'offsets: for i in 0..offsets.len() {
+        let word = access_at(memory, spot.same(), offsets[i]);
+        push_leak(memory, word, pos, leaks)?;
+    }
+    Ok(())
 }
 
 /// Appends the failed leak checks of the access values at some offsets from a spot.

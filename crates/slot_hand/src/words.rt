@@ -1,34 +1,28 @@
-//! Words, values and leaks that are appended to others.
-ghost use Rattle.std.specs.Prelude.{◌≡◌, ◌++◌, ◌∷◌, true, pos as positive, get_or, OnOk, OnErr, IsErrOf};
+//! Words and leaks that are appended to others.
+ghost use Rattle.std.specs.Prelude.{◌≡◌, ◌++◌, ◌∷◌, pos as positive, get_or, replicate, OnOk, OnErr, IsErrOf};
 ghost use Rattle.run_codes.specs.Flat.{repeated};
-ghost use Rattle.handled_runs.specs.Fits.{are_slot_words};
-ghost use Rattle.handled_runs.specs.Changes.{slot_values};
 ghost use Rattle.handled_runs.specs.Leaks.{leak, leaks_in};
 ghost use Rattle.run_results.specs.Results.{leaks_of};
 ghost use Rattle.slot_memory.specs.Memory.{Always};
 
 use code_rows::Stop;
 use run_results::Leak;
-use run_values::{Kind, Value};
 use slot_heap::Store;
-use slot_memory::{Memory, value_of};
+use slot_memory::Memory;
 use spark_base::Pos;
 
-/// Appends the values that are kept for words of some kinds.
-pub(crate) fn push_values(
-    kinds: &[Kind],
-    words: &[i64],
-    values: &mut Vec<Value>,
-) -> Result<(), Stop>
-    requires { are_slot_words kinds.now words.now ≡ true }
-    ensures pushed { OnOk result (values.new.items ≡ values.old.items ++ slot_values kinds.now words.now) }
+/// Appends a word so many times. More than a list can have count as too little memory.
+fn push_times(word: i64, count: u32, words: &mut Vec<i64>) -> Result<(), Stop>
+    ensures pushed { OnOk result (words.new.items ≡ words.old.items ++ replicate count word) }
     ensures memory { OnErr result (IsErrOf result Stop.Memory) }
 {
-    'kinds: for i in 0..kinds.len() {
-        let word = word_or_zero(words, i);
-        values.push(value_of(kinds[i], word))?;
+    match words.len().checked_add(count as usize) {
+        Some(all) => {
+            words.resize(all, word)?;
+            Ok(())
+        }
+        None => Err(Stop::Memory),
     }
-    Ok(())
 }
 
 /// Appends the same words so many times.
@@ -36,6 +30,10 @@ pub(crate) fn push_repeated(block: &[i64], count: u32, words: &mut Vec<i64>) -> 
     ensures pushed { OnOk result (words.new.items ≡ words.old.items ++ repeated count block.now) }
     ensures memory { OnErr result (IsErrOf result Stop.Memory) }
 {
+    // the elements of an array of scalars are one each
+    if block.len() == 1 {
+        return push_times(block[0], count, words);
+    }
     'times: for _time in 0..count {
         words.extend_from_slice(block)?;
     }
@@ -52,9 +50,9 @@ fn word_or_zero(words: &[i64], i: usize) -> i64
     }
 }
 
-/// Appends the failed leak check of an access value, where it fails: a cell that the value still owns
-/// is lost (`docs/RUN.md`, "Steps").
-pub fn push_leak<R: Store>(
+/// Appends the failed leak check of an access value that isn't null.
+#[inline(never)]
+fn push_lost<R: Store>(
     memory: &Memory<R>,
     word: i64,
     pos: Pos,
@@ -68,6 +66,25 @@ pub fn push_leak<R: Store>(
         leaks.push(Leak { number, pos })?;
     }
     Ok(())
+}
+
+/// Appends the failed leak check of an access value, where it fails: a cell that the value still owns
+/// is lost (`docs/RUN.md`, "Steps").
+#[inline(always)]
+pub fn push_leak<R: Store>(
+    memory: &Memory<R>,
+    word: i64,
+    pos: Pos,
+    leaks: &mut Vec<Leak>,
+) -> Result<(), Stop>
+    ensures pushed { OnOk result (Always R.Means memory.now (λ s. leaks_of leaks.new.items ≡ leaks_of leaks.old.items ++ leak s.numbers pos word)) }
+    ensures memory { OnErr result (IsErrOf result Stop.Memory) }
+    ensures unchanged { OnErr result (leaks.new.items ≡ leaks.old.items) }
+{
+    if word == 0 {
+        return Ok(());
+    }
+    push_lost(memory, word, pos, leaks)
 }
 
 /// Appends the failed leak checks of the access values at some numbers.

@@ -1,7 +1,8 @@
 //! What a run asks of its heap.
-ghost use Rattle.std.specs.Prelude.{◌≡◌, ◌<◌, ◌^◌, None, length, IfOk, OnErr};
+ghost use Rattle.std.specs.Prelude.{◌≡◌, ◌<◌, ◌^◌, None, true, length, IfOk, OnErr};
 ghost use Rattle.run_values.specs.Values.{kind as kind_of};
 ghost use Rattle.slot_heap.specs.Heaps.{Heap, Knows, Always, Becomes, Holds, HasWord, IsOfSize, words_at, allocated, written, released};
+ghost use Rattle.slot_heap.specs.Words.{slot_values, are_slot_words};
 
 use run_values::{Handle, Kind, Value};
 use std::alloc::AllocError;
@@ -15,13 +16,15 @@ pub trait Store {
     /// The store means this heap.
     ghost Means: { Self → Heap → Type 0 };
 
-    /// A new cell with these words. Its handle wasn't live. It takes a slot of its size that is
-    /// free, and where none is, a new one. Where memory is out, no cell is made.
-    fn allocate(&mut self, words: &[Value]) -> Result<Handle, AllocError>
+    /// A new cell with the values of these words, which are of these kinds. Its handle wasn't live.
+    /// It takes a slot of its size that is free, and where none is, a new one. Where memory is out,
+    /// no cell is made.
+    fn allocate(&mut self, kinds: &[Kind], words: &[i64]) -> Result<Handle, AllocError>
         requires some { 0 < length words.now }
+        requires fit { are_slot_words kinds.now words.now ≡ true }
         requires few { Knows Means self.old (λ m. length m.slots < 2 ^ 62) }
         ensures new { IfOk result (λ h. Always Means self.old (λ m. words_at m.cells h ≡ None)) }
-        ensures allocated { IfOk result (λ h. Becomes Means self.old self.new (λ m. allocated m h words.now)) }
+        ensures allocated { IfOk result (λ h. Becomes Means self.old self.new (λ m. allocated m h (slot_values kinds.now words.now))) }
         ensures unchanged { OnErr result (Becomes Means self.old self.new (λ m. m)) };
 
     /// The word at this place of the cell, which is of this kind.

@@ -12,7 +12,7 @@ use slot_hand::Hand;
 use slot_heap::Store;
 use slot_memory::Memory;
 use slot_values::fill;
-use type_table::TypeTable;
+use type_layouts::Layouts;
 
 /// The words at hand are a value that waits in the frame of the caller; those that the point takes,
 /// from a number on, are gone. There is too little memory where other values wait in the frame that
@@ -47,7 +47,7 @@ fn let_wait<R: Store>(
 /// number on, are gone.
 #[tactic(auto, using(crate::proofs::Held::hold_rules))]
 pub fn hold<R: Store>(
-    table: &TypeTable,
+    table: &Layouts,
     rows: &Rows,
     memory: &mut Memory<R>,
     frames: &mut Frames,

@@ -11,7 +11,7 @@ use slot_frames::Frames;
 use slot_hand::Hand;
 use slot_heap::Store;
 use slot_memory::Memory;
-use type_table::TypeTable;
+use type_layouts::Layouts;
 
 /// The subprogram with a number, or one without words.
 pub fn sub_at(codes: &Codes, n: u32) -> Sub
@@ -33,7 +33,7 @@ pub fn sub_at(codes: &Codes, n: u32) -> Sub
 /// The frame of the main procedure begins above those that are there, and runs.
 pub fn begin_main<R: Store>(
     codes: &Codes,
-    table: &TypeTable,
+    table: &Layouts,
     memory: &mut Memory<R>,
     frames: &mut Frames,
     hand: &mut Hand,

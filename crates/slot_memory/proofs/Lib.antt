@@ -15,6 +15,7 @@ pub mod Settled
 pub mod Settling
 -- what a memory stands for
 pub mod Shown
+pub mod Taking
 -- what is freed where a step stops
 pub mod Given
 pub mod Giving

@@ -6,7 +6,6 @@ use Rattle.run_values.specs.declared.value.Kind.{Kind}
 use Rattle.run_values.specs.declared.value.Kind.TheVariants as sort
 use Rattle.run_values.specs.Values.{kind}
 use Rattle.run_codes.specs.Flat.{Got, Given, Stops, Broken, and_then, is_broken, same_kind, have_kinds, is_pointer}
-use Rattle.handled_runs.specs.Fits.{is_slot_word, are_slot_words}
 use Rattle.handled_runs.specs.Slots.{front}
 use Rattle.handled_runs.specs.Changes.{slot_value, slot_values}
 
@@ -174,17 +173,3 @@ pub front_there : (ks : List Kind) (zs : List ℤ) → length ks ≤ length zs �
 front_there [] zs le = refl
 front_there (k ∷ ks) [] le = absurd (omega (arith, le))
 front_there (k ∷ ks) (z ∷ zs) le = ap (λ g. and_then g (λ more. Given (z ∷ more))) (front_there ks zs (omega (arith, le)))
-
--- ---- words that fit
-
-pub words_long : (ks : List Kind) (zs : List ℤ) → are_slot_words ks zs ≡ true → length zs ≡ length ks
-words_long [] [] is = refl
-words_long [] (z ∷ zs) is = cc
-words_long (k ∷ ks) [] is = cc
-words_long (k ∷ ks) (z ∷ zs) is = ap suc (words_long ks zs (and_second (is_slot_word k z) (are_slot_words ks zs) is))
-
-pub word_is : (ks : List Kind) (zs : List ℤ) (i : ℕ) (k : Kind) (z : ℤ) → are_slot_words ks zs ≡ true → i < length ks → is_slot_word (get_or ks i k) (get_or zs i z) ≡ true
-word_is [] zs i k z is lt = absurd (omega (arith, lt))
-word_is (x ∷ ks) [] i k z is lt = cc
-word_is (x ∷ ks) (y ∷ zs) zero k z is lt = and_first (is_slot_word x y) (are_slot_words ks zs) is
-word_is (x ∷ ks) (y ∷ zs) (suc i) k z is lt = word_is ks zs i k z (and_second (is_slot_word x y) (are_slot_words ks zs) is) (omega (arith, lt))

@@ -68,6 +68,7 @@ impl<'s, R: Store> Memory<'s, R> {
     // ---- one word
 
     /// The word of a kind at a spot.
+    #[inline(always)]
     pub fn word_at(&self, spot: Spot, kind: Kind) -> i64
         requires { Knows R.Means self.now (λ s. is_broken (held s (spot_of spot) (kind ∷ [])) ≡ false) }
         ensures { Always R.Means self.now (λ s. is_broken (held s (spot_of spot) (kind ∷ [])) ≡ false → held s (spot_of spot) (kind ∷ []) ≡ Given (result ∷ [])) }
@@ -79,6 +80,7 @@ impl<'s, R: Store> Memory<'s, R> {
     }
 
     /// Puts a word of a kind at a spot.
+    #[inline(always)]
     pub fn put_at(&mut self, spot: Spot, kind: Kind, word: i64)
         requires { Knows R.Means self.old (λ s. is_broken (stored s (spot_of spot) (kind ∷ []) (word ∷ [])) ≡ false) }
         ensures stored { Changes R.Means self.old (λ s. stored s (spot_of spot) (kind ∷ []) (word ∷ [])) self.new }

@@ -9,10 +9,9 @@ ghost use Rattle.handled_runs.specs.Fits.{is_slot_word, are_slot_words};
 ghost use Rattle.slot_memory.specs.Cells.{Have};
 
 use crate::heap::Heap;
-use crate::values::{value_of, word_of};
 use code_rows::Stop;
 use run_values::{Handle, Kind};
-use slot_heap::Store;
+use slot_heap::{Store, value_of, word_of};
 
 impl<'s, R: Store> Heap<'s, R> {
     /// The word of a kind at an offset in a live cell.
@@ -77,6 +76,7 @@ pub(crate) fn push_range(
     requires room { count ≤ length all.now - first }
     ensures pushed { OnOk result (words.new.items ≡ words.old.items ++ take count (drop first all.now)) }
     ensures memory { OnErr result (IsErrOf result Stop.Memory) }
+    ensures unchanged { OnErr result (words.new.items ≡ words.old.items) }
 {
     words.extend_from_slice(&all[first..][..count])?;
     Ok(())

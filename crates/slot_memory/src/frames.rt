@@ -1,7 +1,8 @@
 //! Cells, frames, values that wait, and the input.
-ghost use Rattle.std.specs.Prelude.{◌≡◌, ◌≤◌, ◌+◌, ◌-◌, ◌++◌, false, length, take, drop, OnOk, OnErr, IsErrOf};
+ghost use Rattle.std.specs.Prelude.{◌≡◌, ◌≤◌, ◌+◌, ◌-◌, ◌++◌, true, false, length, take, drop, OnOk, OnErr, IsErrOf};
 ghost use Rattle.run_codes.specs.Flat.{is_broken, some_words};
 ghost use Rattle.slot_heap.specs.Heaps.{IsLive};
+ghost use Rattle.slot_heap.specs.Words.{slot_values, are_slot_words};
 ghost use Rattle.slot_memory.specs.Memory.{IsKnown, Knows, Always, elsewhere};
 ghost use Rattle.slot_memory.specs.Answers.{Appends, Allocates, Frees, number_of};
 ghost use Rattle.slot_memory.specs.Given.{CanGive, IsGivenUp};
@@ -9,31 +10,31 @@ ghost use Rattle.slot_memory.specs.Given.{CanGive, IsGivenUp};
 use crate::cells::push_range;
 use crate::heap::{HEAP_WORDS, MOST_CELLS};
 use crate::memory::Memory;
-use crate::values::word_of;
 use code_rows::{Exception, Stop};
-use run_values::{Handle, Value};
-use slot_heap::Store;
+use run_values::{Handle, Kind, Value};
+use slot_heap::{Store, word_of};
 
 impl<'s, R: Store> Memory<'s, R> {
     // ---- cells
 
-    /// A new cell with some values, as an access value. One without words isn't made.
-    pub fn allocate(&mut self, values: &[Value]) -> Result<i64, Stop>
-        requires { IsKnown R.Means self.old }
-        ensures made { Always R.Means self.old (λ s. Allocates R.Means s values.now result self.new) }
+    /// A new cell with words of some kinds, as an access value. One without words isn't made.
+    pub fn allocate(&mut self, kinds: &[Kind], words: &[i64]) -> Result<i64, Stop>
+        requires known { IsKnown R.Means self.old }
+        requires fit { are_slot_words kinds.now words.now ≡ true }
+        ensures made { Always R.Means self.old (λ s. Allocates R.Means s (slot_values kinds.now words.now) result self.new) }
         ensures elsewhere { elsewhere self.new ≡ elsewhere self.old }
     {
-        if values.is_empty() {
+        if words.is_empty() {
             return Err(Stop::Memory);
         }
-        let words = values.len() as u64;
-        if words > HEAP_WORDS.saturating_sub(self.heap.live()) {
+        let count = words.len() as u64;
+        if count > HEAP_WORDS.saturating_sub(self.heap.live()) {
             return Err(Stop::Raises(Exception::StorageError));
         }
         if self.heap.made() >= MOST_CELLS {
             return Err(Stop::Memory);
         }
-        let handle = self.heap.allocate(values)?;
+        let handle = self.heap.allocate(kinds, words)?;
         Ok(word_of(Value::Cell(handle)))
     }
 
@@ -167,7 +168,8 @@ impl<'s, R: Store> Memory<'s, R> {
     /// Appends so many words of those that the point takes, from an offset on.
     pub fn push_waiting(&self, at: u32, count: u32, words: &mut Vec<i64>) -> Result<(), Stop>
         requires { is_broken (some_words count (drop at (drop self.now.taken self.now.waits))) ≡ false }
-        ensures { Appends (some_words count (drop at (drop self.now.taken self.now.waits))) result words.old.items words.new.items }
+        ensures appended { Appends (some_words count (drop at (drop self.now.taken self.now.waits))) result words.old.items words.new.items }
+        ensures unchanged { OnErr result (words.new.items ≡ words.old.items) }
     {
         if count == 0 {
             return Ok(());

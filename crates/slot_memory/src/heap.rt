@@ -1,10 +1,11 @@
 //! The cells of a run, with what is counted of them.
-ghost use Rattle.std.specs.Prelude.{◌≡◌, ◌<◌, ◌≤◌, ◌+◌, ◌-◌, ◌++◌, ◌^◌, [], length, replicate, get_or, IfOk, OnOk};
+ghost use Rattle.std.specs.Prelude.{◌≡◌, ◌<◌, ◌≤◌, ◌+◌, ◌-◌, ◌++◌, ◌^◌, [], true, length, replicate, get_or, IfOk, OnOk};
 ghost use Rattle.run_values.specs.Values.{kind as kind_of};
 ghost use Rattle.machine.specs.Evaluate.{heap_words};
 ghost use Rattle.run_codes.specs.Flat.{most_cells};
 ghost use Rattle.slot_heap.specs.Heaps as heaps;
 ghost use Rattle.slot_heap.specs.Heaps.{Holds, HasWord, written};
+ghost use Rattle.slot_heap.specs.Words.{slot_values, are_slot_words};
 ghost use Rattle.slot_memory.specs.Cells.{KnowsCells, IsMadeAs, IsFreed};
 ghost use Rattle.slot_memory.specs.Given.{CanGive, IsGivenUp};
 
@@ -161,22 +162,23 @@ impl<'s, R: Store> Heap<'s, R> {
         Ok(())
     }
 
-    /// A new cell, where it isn't one too many and has room.
-    pub fn allocate(&mut self, values: &[Value]) -> Result<Handle, AllocError>
-        requires some { 0 < length values.now }
-        requires words { self.old.live + length values.now ≤ heap_words }
+    /// A new cell of words of some kinds, where it isn't one too many and has room.
+    pub fn allocate(&mut self, kinds: &[Kind], words: &[i64]) -> Result<Handle, AllocError>
+        requires some { 0 < length words.now }
+        requires fit { are_slot_words kinds.now words.now ≡ true }
+        requires words { self.old.live + length words.now ≤ heap_words }
         requires cells { self.old.made < most_cells }
         requires known { KnowsCells R.Means self.old (λ m. m ≡ m) }
-        ensures made { IfOk result (λ h. IsMadeAs R.Means self.old h values.now self.new) }
+        ensures made { IfOk result (λ h. IsMadeAs R.Means self.old h (slot_values kinds.now words.now) self.new) }
         ensures lent { self.new.lent ≡ self.old.lent }
     {
-        let handle = self.store.allocate(values)?;
+        let handle = self.store.allocate(kinds, words)?;
         let index = handle.number() as usize;
         self.reach(index)?;
         self.made += 1;
-        self.lengths[index] = values.len() as u32;
+        self.lengths[index] = words.len() as u32;
         self.numbers[index] = self.made;
-        self.live += values.len() as u64;
+        self.live += words.len() as u64;
         Ok(handle)
     }
 

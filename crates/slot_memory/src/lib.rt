@@ -18,8 +18,6 @@ mod heap;
 mod memory;
 mod moves;
 mod spot;
-mod values;
 
 pub use memory::Memory;
 pub use spot::Spot;
-pub use values::{value_of, word_of};

@@ -111,6 +111,7 @@ impl<'s, R: Store> Memory<'s, R> {
     // ---- words
 
     /// The word at an offset in the frame.
+    #[inline(always)]
     pub fn local(&self, at: u32) -> i64
         requires { is_broken (found (slice_get self.now.stack (self.now.base + at))) ≡ false }
         ensures { found (slice_get self.now.stack (self.now.base + at)) ≡ Given result }
@@ -176,6 +177,7 @@ impl<'s, R: Store> Memory<'s, R> {
     // ---- places
 
     /// The place at two offsets in the frame.
+    #[inline(always)]
     pub fn local_spot(&self, at: u32, index: i64) -> Spot
         requires { self.now.base + at + unsigned_abs index ≤ length self.now.stack }
         ensures { spot_of result ≡ InStack (self.now.base + at + unsigned_abs index) }
@@ -186,6 +188,7 @@ impl<'s, R: Store> Memory<'s, R> {
     }
 
     /// The place at two offsets among the package objects.
+    #[inline(always)]
     pub fn global_spot(&self, at: u32, index: i64) -> Spot
         requires { at + unsigned_abs index ≤ length self.now.stack }
         ensures { spot_of result ≡ InStack (at + unsigned_abs index) }
@@ -196,6 +199,7 @@ impl<'s, R: Store> Memory<'s, R> {
     }
 
     /// The place at an offset in the cell that an access value designates.
+    #[inline(always)]
     pub fn spot_behind(&self, pointer: i64, at: u64) -> Result<Spot, Stop>
         requires { Knows R.Means self.now (λ s. is_broken (cell_spot s at (unsigned_abs pointer)) ≡ false) }
         ensures { Always R.Means self.now (λ s. is_broken (cell_spot s at (unsigned_abs pointer)) ≡ false → cell_spot s at (unsigned_abs pointer) ≡ shown_spot result) }

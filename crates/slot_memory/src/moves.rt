@@ -1,5 +1,5 @@
 //! What a point moves out of spots.
-ghost use Rattle.std.specs.Prelude.{◌≡◌, ◌++◌, false, List, map, OnOk, OnErr, IsErrOf};
+ghost use Rattle.std.specs.Prelude.{◌≡◌, ◌++◌, ◌∷◌, [], false, List, map, OnOk, OnErr, IsErrOf, IsTrue};
 ghost use Rattle.run_values.specs.declared.value.Kind as kinds;
 ghost use Rattle.run_codes.specs.Flat.{is_broken, Given};
 ghost use Rattle.handled_runs.specs.Changes.{moving, settled};
@@ -14,6 +14,7 @@ use run_values::Kind;
 use slot_heap::Store;
 
 /// Notes the access values at some offsets from a spot.
+#[inline(always)]
 fn push_moves(spot: &Spot, offsets: &[u32], moves: &mut Vec<Move>) -> Result<(), Stop>
     ensures pushed { OnOk result (moved_spots moves.new.items ≡ moved_spots moves.old.items ++ map (beyond (spot_of spot.now)) offsets.now) }
     ensures memory { OnErr result (IsErrOf result Stop.Memory) }
@@ -29,6 +30,7 @@ fn push_moves(spot: &Spot, offsets: &[u32], moves: &mut Vec<Move>) -> Result<(),
 
 impl<'s, R: Store> Memory<'s, R> {
     /// The access values at some offsets from a spot are moved out. They stand there until `settle`.
+    #[inline(always)]
     pub fn move_out(&mut self, spot: Spot, offsets: &[u32]) -> Result<(), Stop>
         ensures moved { OnOk result ((ks : List kinds.Kind) → Changes R.Means self.old (λ s. Given (moving s (spot_of spot) ks offsets.now)) self.new) }
         ensures memory { OnErr result (IsErrOf result Stop.Memory) }
@@ -38,6 +40,7 @@ impl<'s, R: Store> Memory<'s, R> {
     }
 
     /// Null stands where an access value is moved from.
+    #[inline(always)]
     fn clear(&mut self, spot: Spot, offset: u32)
         requires { Knows R.Means self.old (λ s. IsThere s (beyond (spot_of spot) offset)) }
         ensures cleared { Clears R.Means self.old (beyond (spot_of spot) offset) self.new }
@@ -48,6 +51,25 @@ impl<'s, R: Store> Memory<'s, R> {
             Spot::Stack { index } => self.stack[index + offset as usize] = 0,
             Spot::Cell { cell, at } => self.heap.put(cell, at + offset, Kind::Access, 0),
         }
+    }
+
+    /// Whether nothing is moved.
+    #[inline(always)]
+    pub fn is_settled(&self) -> bool
+        ensures { IsTrue result → self.now.moves ≡ [] }
+    {
+        self.moves.is_empty()
+    }
+
+    /// The access value at a spot is moved out, where nothing else is: it is gone at once.
+    #[inline(always)]
+    pub fn take_out(&mut self, spot: Spot)
+        requires none { self.old.moves ≡ [] }
+        requires whole { Knows R.Means (record self.old { moves = beyond (spot_of spot) 0 ∷ [] }) (λ s. is_broken (settled s) ≡ false) }
+        ensures settled { Changes R.Means (record self.old { moves = beyond (spot_of spot) 0 ∷ [] }) settled self.new }
+        ensures elsewhere { elsewhere self.new ≡ elsewhere self.old }
+    {
+        self.clear(spot, 0);
     }
 
     /// What is moved out is gone: null stands in its place.

@@ -17,7 +17,7 @@ use slot_heap::Store;
 use slot_leads::{begin_main, sub_at};
 use slot_memory::Memory;
 use std::alloc::{AllocError, Global};
-use type_table::TypeTable;
+use type_layouts::Layouts;
 
 /// The only frame is the one of a subprogram, which has no words yet.
 fn first<'r, R: Store>(alloc: Global, store: &'r mut R, input: &'r [u8], sub: Sub) -> Parts<'r, R>
@@ -47,7 +47,7 @@ fn first<'r, R: Store>(alloc: Global, store: &'r mut R, input: &'r [u8], sub: Su
 /// The words of the frame of a subprogram come after those that are there.
 fn push_packages<R: Store>(
     codes: &Codes,
-    table: &TypeTable,
+    table: &Layouts,
     parts: &mut Parts<R>,
     sub: Sub,
 ) -> Result<(), Stop>
@@ -65,7 +65,7 @@ fn push_packages<R: Store>(
 fn first_frame<'r, R: Store>(
     alloc: Global,
     codes: &Codes,
-    table: &TypeTable,
+    table: &Layouts,
     store: &'r mut R,
     input: &'r [u8],
 ) -> Result<Parts<'r, R>, Stop>
@@ -80,7 +80,7 @@ fn first_frame<'r, R: Store>(
 }
 
 /// The frame of the main procedure begins above that of the package objects.
-fn push_main<R: Store>(codes: &Codes, table: &TypeTable, parts: &mut Parts<R>) -> Result<(), Stop>
+fn push_main<R: Store>(codes: &Codes, table: &Layouts, parts: &mut Parts<R>) -> Result<(), Stop>
     requires whole { IsWhole codes.now }
     requires words { parts.old.words ≡ stacked_words parts.old.frames }
     ensures main { OnOk result (MainBegins table.now (program_of codes.now) parts.old.memory parts.old.frames parts.new.memory parts.new.frames) }
@@ -103,7 +103,7 @@ fn push_main<R: Store>(codes: &Codes, table: &TypeTable, parts: &mut Parts<R>) -
 pub fn begin<'r, R: Store>(
     alloc: Global,
     codes: &Codes,
-    table: &TypeTable,
+    table: &Layouts,
     store: &'r mut R,
     input: &'r [u8],
     declares: bool,

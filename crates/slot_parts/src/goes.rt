@@ -12,14 +12,14 @@ use code_rows::Codes;
 use slot_heap::Store;
 use slot_leads::{go_on, tell_found};
 use slot_turns::{Halt, no_memory};
-use type_table::TypeTable;
+use type_layouts::Layouts;
 
 /// The values that wait from a number on are gone, and the run goes on at a point. Where there is
 /// none, the main procedure begins.
 #[inline(always)]
 pub fn go<R: Store>(
     codes: &Codes,
-    table: &TypeTable,
+    table: &Layouts,
     parts: &mut Parts<R>,
     k: usize,
     next: u32,
@@ -43,6 +43,7 @@ pub fn go<R: Store>(
 }
 
 /// The leaks that were found come after those that weren't told yet.
+#[inline(always)]
 pub fn tell<R: Store>(parts: &mut Parts<R>) -> Result<(), Halt>
     ensures told { OnOk result (leaks_of parts.new.leaks.items ≡ leaks_of parts.old.leaks.items ++ leaks_of parts.old.found.items) }
     ensures rest { parts.new ≡ record parts.old { leaks = parts.new.leaks } }

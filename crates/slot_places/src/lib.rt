@@ -7,6 +7,7 @@
 #![tactic(auto)]
 
 mod assigns;
+mod pointers;
 mod releases;
 mod scopes;
 

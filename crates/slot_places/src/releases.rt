@@ -15,11 +15,11 @@ use slot_heap::Store;
 use slot_memory::{Memory, Spot};
 use slot_words::spot;
 use spark_base::Pos;
-use type_table::TypeTable;
+use type_layouts::Layouts;
 
 /// A cell is freed after its leak checks, and its name, which stands at a spot, becomes null.
 fn release_cell<R: Store>(
-    table: &TypeTable,
+    table: &Layouts,
     memory: &mut Memory<R>,
     hand: &mut Hand,
     spot: Spot,
@@ -40,7 +40,7 @@ fn release_cell<R: Store>(
 
 /// The cell that an access value designates is released. Nothing is done to null.
 fn release_word<R: Store>(
-    table: &TypeTable,
+    table: &Layouts,
     memory: &mut Memory<R>,
     hand: &mut Hand,
     spot: Spot,
@@ -62,7 +62,7 @@ fn release_word<R: Store>(
 
 /// The access value at a place is released. The place is found first.
 pub fn release<R: Store>(
-    table: &TypeTable,
+    table: &Layouts,
     nodes: &Nodes,
     memory: &mut Memory<R>,
     hand: &mut Hand,

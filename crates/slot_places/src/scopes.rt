@@ -14,7 +14,7 @@ use slot_hand::Hand;
 use slot_heap::Store;
 use slot_memory::Memory;
 use spark_base::Pos;
-use type_table::TypeTable;
+use type_layouts::Layouts;
 
 /// Puts words at an offset in the frame.
 fn put_words<R: Store>(memory: &mut Memory<R>, at: u32, words: &[i64])
@@ -29,7 +29,7 @@ fn put_words<R: Store>(memory: &mut Memory<R>, at: u32, words: &[i64])
 
 /// The object of a type at an offset in the frame is without a value.
 fn put_default<R: Store>(
-    table: &TypeTable,
+    table: &Layouts,
     memory: &mut Memory<R>,
     hand: &mut Hand,
     at: u32,
@@ -49,7 +49,7 @@ fn put_default<R: Store>(
 
 /// Appends the failed leak checks of the object of a type at an offset in the frame.
 fn check<R: Store>(
-    table: &TypeTable,
+    table: &Layouts,
     memory: &Memory<R>,
     hand: &mut Hand,
     at: u32,
@@ -67,7 +67,7 @@ fn check<R: Store>(
 
 /// The scope of an object of a type ends: after its leak checks it is without a value.
 pub fn end_scope<R: Store>(
-    table: &TypeTable,
+    table: &Layouts,
     memory: &mut Memory<R>,
     hand: &mut Hand,
     at: u32,

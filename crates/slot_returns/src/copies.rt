@@ -12,7 +12,7 @@ use slot_hand::Hand;
 use slot_heap::Store;
 use slot_memory::{Memory, Spot};
 use type_bounds::fits;
-use type_table::TypeTable;
+use type_layouts::Layouts;
 
 /// The place at an offset in the frame.
 fn frame_spot<R: Store>(memory: &Memory<R>, at: u32) -> Result<Spot, Stop>
@@ -27,7 +27,7 @@ fn frame_spot<R: Store>(memory: &Memory<R>, at: u32) -> Result<Spot, Stop>
 
 /// What a formal holds is at hand, if it fits where it is copied back to.
 fn take_one<R: Store>(
-    table: &TypeTable,
+    table: &Layouts,
     memory: &Memory<R>,
     hand: &mut Hand,
     back: Return,
@@ -38,7 +38,7 @@ fn take_one<R: Store>(
     let found = frame_spot(memory, back.at)?;
     hand.clear();
     hand.push_held(table, memory, found, back.from)?;
-    if !fits(table, back.of, hand.words()) {
+    if !fits(table.table(), back.of, hand.words()) {
         return Err(Stop::Raises(Exception::ConstraintError));
     }
     Ok(())
@@ -56,7 +56,7 @@ fn is_below(place: Spot, count: usize, base: usize) -> bool
 
 /// Whether a formal can be copied back: else it doesn't fit.
 pub fn check_one<R: Store>(
-    table: &TypeTable,
+    table: &Layouts,
     memory: &Memory<R>,
     hand: &mut Hand,
     formal: Return,
@@ -74,7 +74,7 @@ pub fn check_one<R: Store>(
 
 /// A formal is copied back. What it holds is tested first.
 pub fn copy_one<R: Store>(
-    table: &TypeTable,
+    table: &Layouts,
     memory: &mut Memory<R>,
     hand: &mut Hand,
     back: Return,

@@ -13,7 +13,7 @@ use slot_goings::{Group, change_words, grouped};
 use slot_heap::Store;
 use slot_steps::Parts;
 use slot_tells::go;
-use type_table::TypeTable;
+use type_layouts::Layouts;
 
 /// What such a step comes to.
 #[derive(Clone, Copy, Drop)]
@@ -44,7 +44,7 @@ fn is_free(point: &Point) -> bool
 #[inline(never)]
 fn go_far<R: Store>(
     codes: &Codes,
-    table: &TypeTable,
+    table: &Layouts,
     parts: &mut Parts<R>,
     k: usize,
     next: u32,
@@ -65,7 +65,7 @@ fn go_far<R: Store>(
 #[tactic(auto, using(crate::proofs::Idle::none_taken, crate::proofs::Idle::all_wait))]
 fn go_free<R: Store>(
     codes: &Codes,
-    table: &TypeTable,
+    table: &Layouts,
     parts: &mut Parts<R>,
     k: usize,
     next: u32,
@@ -88,7 +88,7 @@ fn go_free<R: Store>(
 #[inline(always)]
 pub(crate) fn free_point<R: Store>(
     codes: &Codes,
-    table: &TypeTable,
+    table: &Layouts,
     parts: &mut Parts<R>,
     point: &Point,
     k: usize,

@@ -13,13 +13,14 @@ use slot_steps::{Parts, Passing, begin};
 use slot_turns::Over;
 use std::alloc::{AllocError, Global};
 use std::marker::Model;
+use type_layouts::Layouts;
 use type_table::TypeTable;
 
 /// A run of a program in rows, between two steps.
 pub struct Run<'r, R: Store> {
     alloc: Global,
     codes: Codes,
-    table: &'r TypeTable,
+    table: Layouts<'r>,
     input: &'r [u8],
     parts: Parts<'r, R>,
     passing: Passing,
@@ -34,7 +35,7 @@ impl<'r, R: Store> Model for Run<'r, R> {
 
     ghost Value = { Running R };
 
-    ghost view = { λ r. record { codes = r.codes; table = r.table.now; input = r.input.now; between = between_of r.parts; over = r.over } };
+    ghost view = { λ r. record { codes = r.codes; table = r.table; input = r.input.now; between = between_of r.parts; over = r.over } };
 
     ghost invariant = { λ r. IsWhole r.codes × AreKept R.Means r.over r.parts };
 }
@@ -69,11 +70,12 @@ impl<'r, R: Store> Run<'r, R> {
         requires store { R.Means store.old no_heap }
         ensures { IfOk result (λ run. IsAtStart R.Means table.now (program_of codes) store.entry.ghost_name input.now declares run) }
     {
-        let parts = begin(alloc, &codes, table, store, input, declares)?;
+        let layouts = Layouts::new(alloc, table)?;
+        let parts = begin(alloc, &codes, &layouts, store, input, declares)?;
         Ok(Run {
             alloc,
             codes,
-            table,
+            table: layouts,
             input,
             parts,
             passing: Passing::new(alloc),
@@ -122,7 +124,7 @@ impl<'r, R: Store> Stepping for Run<'r, R> {
         match turns(
             alloc,
             &self.codes,
-            self.table,
+            &self.table,
             &mut self.parts,
             &mut self.passing,
             limit,

@@ -16,7 +16,7 @@ use slot_steps::{Parts, Passing, step_point};
 use slot_turns::{Halt, Over, point_at, stopped, take};
 use spark_base::Pos;
 use std::alloc::{AllocError, Global};
-use type_table::TypeTable;
+use type_layouts::Layouts;
 
 /// The run is over after the end of the main procedure.
 pub(crate) fn ended<R: Store>(parts: &Parts<R>) -> Over
@@ -56,7 +56,7 @@ fn halted<R: Store>(
 fn turn_point<R: Store>(
     alloc: Global,
     codes: &Codes,
-    table: &TypeTable,
+    table: &Layouts,
     parts: &mut Parts<R>,
     passing: &mut Passing,
     point: &Point,
@@ -74,13 +74,12 @@ fn turn_point<R: Store>(
     }
 }
 
-/// Makes at most so many steps, but at least one: those of points that take no values and store one
-/// word at most, and one of another point or one that raises. Where a step can't be made for want of
-/// memory, nothing is told.
+/// Makes so many steps, but fewer where the run is over before, and at least one. Where a step can't
+/// be made for want of memory, nothing is told.
 pub(crate) fn turns<R: Store>(
     alloc: Global,
     codes: &Codes,
-    table: &TypeTable,
+    table: &Layouts,
     parts: &mut Parts<R>,
     passing: &mut Passing,
     limit: u64,
@@ -99,10 +98,10 @@ pub(crate) fn turns<R: Store>(
         };
         match free_point(codes, table, parts, point, k) {
             Free::Goes => made += 1,
-            Free::Stays => {
-                let over = turn_point(alloc, codes, table, parts, passing, point, k)?;
-                return Ok((made + 1, over));
-            }
+            Free::Stays => match turn_point(alloc, codes, table, parts, passing, point, k)? {
+                None => made += 1,
+                Some(over) => return Ok((made + 1, Some(over))),
+            },
             Free::Fails => return Err(AllocError),
         }
     }

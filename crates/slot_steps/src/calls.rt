@@ -9,12 +9,12 @@ use slot_finished::finish;
 use slot_heap::Store;
 use slot_tells::{Parts, tell};
 use slot_turns::Halt;
-use type_table::TypeTable;
+use type_layouts::Layouts;
 
 /// A call, whose frame runs then.
 pub(crate) fn step_call<R: Store>(
     codes: &Codes,
-    table: &TypeTable,
+    table: &Layouts,
     parts: &mut Parts<R>,
     passing: &mut Passing,
     point: Point,
@@ -53,7 +53,7 @@ pub(crate) fn step_call<R: Store>(
 /// The end of a call: whether the run goes on.
 pub(crate) fn step_finish<R: Store>(
     codes: &Codes,
-    table: &TypeTable,
+    table: &Layouts,
     parts: &mut Parts<R>,
     point: Point,
     k: usize,
@@ -80,7 +80,7 @@ pub(crate) fn step_finish<R: Store>(
 /// The end of a function raises an exception.
 pub(crate) fn step_fall<R: Store>(
     codes: &Codes,
-    table: &TypeTable,
+    table: &Layouts,
     parts: &Parts<R>,
     point: Point,
     k: usize,

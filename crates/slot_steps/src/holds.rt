@@ -8,12 +8,12 @@ use slot_called::hold;
 use slot_heap::Store;
 use slot_tells::Parts;
 use slot_turns::Halt;
-use type_table::TypeTable;
+use type_layouts::Layouts;
 
 /// The result of a function waits in the frame of its caller.
 pub(crate) fn step_hold<R: Store>(
     codes: &Codes,
-    table: &TypeTable,
+    table: &Layouts,
     parts: &mut Parts<R>,
     point: Point,
     k: usize,

@@ -14,7 +14,7 @@ use slot_heap::Store;
 use slot_tells::{Parts, step_input, step_left, step_output, step_right};
 use slot_turns::{Halt, no_memory};
 use std::alloc::Global;
-use type_table::TypeTable;
+use type_layouts::Layouts;
 
 /// The run goes on after such a step.
 fn goes(led: Result<(), Halt>) -> Result<bool, Halt>
@@ -31,7 +31,7 @@ fn goes(led: Result<(), Halt>) -> Result<bool, Halt>
 fn step_other<R: Store>(
     alloc: Global,
     codes: &Codes,
-    table: &TypeTable,
+    table: &Layouts,
     parts: &mut Parts<R>,
     passing: &mut Passing,
     point: Point,
@@ -74,10 +74,11 @@ fn step_other<R: Store>(
 }
 
 /// The step of a point, which takes the values that wait from a number on: whether the run goes on.
+#[inline(always)]
 pub fn step_point<R: Store>(
     alloc: Global,
     codes: &Codes,
-    table: &TypeTable,
+    table: &Layouts,
     parts: &mut Parts<R>,
     passing: &mut Passing,
     point: &Point,
@@ -88,7 +89,7 @@ pub fn step_point<R: Store>(
 {
     match grouped(point.does) {
         Group::Words => goes(step_words(codes, table, parts, point, k)),
-        Group::Values => goes(step_values(codes, table, parts, *point, k)),
+        Group::Values => goes(step_values(codes, table, parts, point, k)),
         Group::Others => step_other(alloc, codes, table, parts, passing, *point, k),
     }
 }

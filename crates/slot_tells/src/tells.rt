@@ -9,13 +9,13 @@ use slot_parts::{Parts, go};
 use slot_points::{input, output};
 use slot_turns::Halt;
 use std::alloc::Global;
-use type_table::TypeTable;
+use type_layouts::Layouts;
 
 /// Pieces of a string are written.
 pub fn step_output<R: Store>(
     alloc: Global,
     codes: &Codes,
-    table: &TypeTable,
+    table: &Layouts,
     parts: &mut Parts<R>,
     point: Point,
     k: usize,
@@ -31,7 +31,7 @@ pub fn step_output<R: Store>(
     match output(
         alloc,
         &codes.rows,
-        table,
+        table.table(),
         &parts.memory,
         texts,
         line,
@@ -45,7 +45,7 @@ pub fn step_output<R: Store>(
 /// The next item of the input is stored at a place.
 pub fn step_input<R: Store>(
     codes: &Codes,
-    table: &TypeTable,
+    table: &Layouts,
     parts: &mut Parts<R>,
     point: Point,
     k: usize,

@@ -16,7 +16,7 @@ use slot_parts::Parts;
 use slot_points::decided;
 use slot_turns::{Halt, no_memory};
 use slot_words::word;
-use type_table::TypeTable;
+use type_layouts::Layouts;
 
 /// A truth waits in place of the values from a number on, and the run goes on at a point.
 fn wait_truth<R: Store>(parts: &mut Parts<R>, k: usize, truth: i64, next: u32) -> Result<(), Halt>
@@ -43,7 +43,7 @@ fn wait_truth<R: Store>(parts: &mut Parts<R>, k: usize, truth: i64, next: u32) -
 /// The value of the left operand waits.
 pub fn step_left<R: Store>(
     codes: &Codes,
-    table: &TypeTable,
+    table: &Layouts,
     parts: &mut Parts<R>,
     point: Point,
     k: usize,
@@ -74,7 +74,7 @@ fn before(frames: &Frames, k: usize) -> usize
 /// The value of the right operand waits in place of the left one's.
 pub fn step_right<R: Store>(
     codes: &Codes,
-    table: &TypeTable,
+    table: &Layouts,
     parts: &mut Parts<R>,
     point: Point,
     k: usize,

@@ -1,5 +1,5 @@
 -- Values that are made of values.
-use Rattle.std.proofs.Common.{◌≡◌, ◌≢◌, refl, sym, ap, ◌∙◌, subst, ℕ, ◌≤◌, arith, List, ◌++◌, length, take, drop, ℤ, Result, Ok, Err, append_assoc}
+use Rattle.std.proofs.Common.{◌≡◌, ◌≢◌, refl, sym, ap, ◌∙◌, subst, ℕ, ◌≤◌, arith, List, ◌++◌, length, [], take, drop, ℤ, Result, Ok, Err, append_assoc, append-nil}
 use Rattle.std.specs.Prelude.{OnOk, OnErr, IsErrOf}
 use Rattle.std.proofs.lemmas.List.{take_at, drop_at, length-append}
 use Rattle.type_definitions.specs.Types.{Table}
@@ -15,7 +15,7 @@ use Rattle.handled_runs.specs.Values.{Outcome, Gives, Ends, Fails, Fills, Then}
 use Rattle.slot_memory.specs.Memory.{Kept, Ghosts, Stands, Shows, slots, ghosts_of}
 use Rattle.slot_hand.specs.Outcomes.{Answers, IsGiven, IsEnded, Makeable, Made}
 use Rattle.slot_values.specs.Fillings.{Fillable, Filled}
-use Rattle.slot_values.proofs.Reading.{error_is}
+use Rattle.slot_values.proofs.Reading.{error_is, shown_here}
 
 -- ---- a value, and what comes after it
 
@@ -192,6 +192,43 @@ pub record Follows {R : Type 0} (Means : R → Heap → Type 0) (m : Kept R) (ta
   pub follows : (g : Ghosts) → Stands Means m g → (Fills table v (slots m g) Fails → ⊥)
       → (zs : List ℤ) × (t : Slots) × Shows Means n t × (now ≡ old ++ zs) × ((o : Outcome) → Fills table w t o → Fills table v (slots m g) (after_words zs o))
 
+module _ {R : Type 0} (Means : R → Heap → Type 0) (m : Kept R) (table : Table) (v : Fill) (old : List ℤ) where
+  -- nothing came before it
+  pub follows_itself : Follows Means m table v old v m old
+  follows_itself = record {
+    follows = λ g stands safe. ([], slots m g, shown_here Means m g stands, sym (append-nil old), λ o is. subst (Fills table v (slots m g)) (sym (none o)) is);
+  }
+    where
+      none : (o : Outcome) → after_words [] o ≡ o
+      none (Gives zs t) = refl
+      none (Ends x t) = refl
+      none Fails = refl
+
+module _ {R : Type 0} (Means : R → Heap → Type 0) (m : Kept R) (table : Table) (v : Fill) (old : List ℤ) (w : Fill) (n : Kept R) (now : List ℤ) where
+  -- what is made next
+  pub follows_makes : {U : Type 0} (r : Result U Stop) (new : List ℤ) (k : Kept R) → Follows Means m table v old w n now → Filled Means n table w r now new k
+      → Filled Means m table v r old new k
+  follows_makes r new k is next = record { filled = by r next }
+    where
+      by : {U : Type 0} (r : Result U Stop) → Filled Means n table w r now new k → (g : Ghosts) → Stands Means m g → (Fills table v (slots m g) Fails → ⊥)
+          → Answers Means (Fills table v (slots m g)) r old new k
+      by r next g stands safe =
+          let (zs, t, shows, appended, on) = is.follows g stands safe in
+          told r zs appended
+          (λ o may. on o (subst (λ s. Fills table w s o) shows.1 may))
+          (next.filled (ghosts_of t) shows.0 (λ fails. safe (on Fails (subst (λ s. Fills table w s Fails) shows.1 fails))))
+        where
+          told : {U : Type 0} {P : Outcome → Type 0} (r : Result U Stop) (zs : List ℤ) → now ≡ old ++ zs → ((o : Outcome) → P o → Fills table v (slots m g) (after_words zs o))
+              → Answers Means P r now new k → Answers Means (Fills table v (slots m g)) r old new k
+          told (Ok u) zs appended on is = record {
+            words = zs ++ is.words;
+            after = is.after;
+            may = on (Gives is.words is.after) is.may;
+            appended = is.appended ∙ ap (λ xs. xs ++ is.words) appended ∙ append_assoc old zs is.words;
+            shows = is.shows;
+          }
+          told (Err x) zs appended on is = λ other. (let ended = is other in record { after = ended.after; may = on (Ends (stop_of x) ended.after) ended.may; shows = ended.shows })
+
 module _ {R : Type 0} (Means : R → Heap → Type 0) (m : Kept R) (table : Table) (a b : Fill) where
   abbrev second : List ℤ → Slots → Outcome → Type 0
   second zs t r = (q : Outcome) × Fills table b t q × Then q (λ us u. r ≡ Gives (zs ++ us) u) r
@@ -230,6 +267,11 @@ module _ {R : Type 0} (Means : R → Heap → Type 0) (m : Kept R) (table : Tabl
         );
   }
 
+  pub both_makes : {U V : Type 0} (u : U) (r : Result V Stop) (old now new : List ℤ) (n after : Kept R) → Filled Means m table a (Ok u) old now n
+      → Filled Means n table b r now new after → Filled Means m table (Both a b) r old new after
+  both_makes u r old now new n after first next =
+      follows_makes Means m table (Both a b) old b n now r new after (both_follows u old now n first) next
+
   pub both_next : {U : Type 0} (u : U) (old now : List ℤ) (n : Kept R) → Fillable Means m table (Both a b) → Filled Means m table a (Ok u) old now n
       → Fillable Means n table b
   both_next u old now n is first =
@@ -239,31 +281,6 @@ module _ {R : Type 0} (Means : R → Heap → Type 0) (m : Kept R) (table : Tabl
         whole = λ fails. next_fails Means m table a second (Fills table (Both a b)) both_is (slots m is.ghosts) given.after given.words given.may is.whole
             (second_is given.words given.after Fails (subst (λ t. Fills table b t Fails) given.shows.1 fails));
       }
-
-module _ {R : Type 0} (Means : R → Heap → Type 0) (m : Kept R) (table : Table) (v : Fill) (old : List ℤ) (w : Fill) (n : Kept R) (now : List ℤ) where
-  -- what is made next
-  pub follows_makes : {U : Type 0} (r : Result U Stop) (new : List ℤ) (k : Kept R) → Follows Means m table v old w n now → Filled Means n table w r now new k
-      → Filled Means m table v r old new k
-  follows_makes r new k is next = record { filled = by r next }
-    where
-      by : {U : Type 0} (r : Result U Stop) → Filled Means n table w r now new k → (g : Ghosts) → Stands Means m g → (Fills table v (slots m g) Fails → ⊥)
-          → Answers Means (Fills table v (slots m g)) r old new k
-      by r next g stands safe =
-          let (zs, t, shows, appended, on) = is.follows g stands safe in
-          told r zs appended
-          (λ o may. on o (subst (λ s. Fills table w s o) shows.1 may))
-          (next.filled (ghosts_of t) shows.0 (λ fails. safe (on Fails (subst (λ s. Fills table w s Fails) shows.1 fails))))
-        where
-          told : {U : Type 0} {P : Outcome → Type 0} (r : Result U Stop) (zs : List ℤ) → now ≡ old ++ zs → ((o : Outcome) → P o → Fills table v (slots m g) (after_words zs o))
-              → Answers Means P r now new k → Answers Means (Fills table v (slots m g)) r old new k
-          told (Ok u) zs appended on is = record {
-            words = zs ++ is.words;
-            after = is.after;
-            may = on (Gives is.words is.after) is.may;
-            appended = is.appended ∙ ap (λ xs. xs ++ is.words) appended ∙ append_assoc old zs is.words;
-            shows = is.shows;
-          }
-          told (Err x) zs appended on is = λ other. (let ended = is other in record { after = ended.after; may = on (Ends (stop_of x) ended.after) ended.may; shows = ended.shows })
 
 module _ {R : Type 0} (Means : R → Heap → Type 0) (m : Kept R) (table : Table) (v : Fill) (old : List ℤ) (a b : Fill) (n : Kept R) (now : List ℤ) where
   -- of two values the first one is made
@@ -292,4 +309,6 @@ module _ {R : Type 0} (Means : R → Heap → Type 0) (m : Kept R) (table : Tabl
   follows_stops x next new k is first =
       follows_makes Means m table v old (Both a b) n now (Err x) new k is (both_stops Means n table a b x now next new k first)
 
-pub ruleset both_rules = (both_first, both_stops, both_follows, both_next, follows_makes, follows_on, follows_stops)
+pub ruleset both_rules = (both_first, both_stops, both_next, both_makes)
+
+pub ruleset list_rules = (follows_itself, follows_makes, follows_stops)

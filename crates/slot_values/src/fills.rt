@@ -11,14 +11,15 @@ use run_values::Kind;
 use slot_hand::Hand;
 use slot_heap::Store;
 use slot_memory::Memory;
-use slot_words::{spot, word};
-use type_table::TypeTable;
+use slot_words::{operand, spot};
+use type_layouts::Layouts;
 use word_operators::within;
 
 /// One scalar word within bounds.
+#[inline(always)]
 #[tactic(auto, using(crate::proofs::Scalars::checked_rules))]
 fn checked<R: Store>(
-    table: &TypeTable,
+    table: &Layouts,
     nodes: &Nodes,
     memory: &Memory<R>,
     hand: &mut Hand,
@@ -30,15 +31,16 @@ fn checked<R: Store>(
     requires whole { Fillable R.Means memory.now table.now (codes.Checked (code_at nodes.now value) low high) }
     ensures { Filled R.Means memory.now table.now (codes.Checked (code_at nodes.now value) low high) result hand.old hand.new memory.now }
 {
-    let given = word(nodes, memory, value)?;
+    let given = operand(nodes, memory, value)?;
     let kept = within(given, low, high)?;
     hand.push(kept)
 }
 
 /// An access value that is looked at.
+#[inline(always)]
 #[tactic(auto, using(crate::proofs::Scalars::looked_rules))]
 fn looked_at<R: Store>(
-    table: &TypeTable,
+    table: &Layouts,
     nodes: &Nodes,
     memory: &Memory<R>,
     hand: &mut Hand,
@@ -48,14 +50,15 @@ fn looked_at<R: Store>(
     requires whole { Fillable R.Means memory.now table.now (codes.Pointer (code_at nodes.now value)) }
     ensures { Filled R.Means memory.now table.now (codes.Pointer (code_at nodes.now value)) result hand.old hand.new memory.now }
 {
-    let given = word(nodes, memory, value)?;
+    let given = operand(nodes, memory, value)?;
     hand.push(given)
 }
 
 /// An access value that is moved out of its place.
+#[inline(always)]
 #[tactic(auto, using(crate::proofs::Places::pointer_rules))]
 fn moved_pointer<R: Store>(
-    table: &TypeTable,
+    table: &Layouts,
     nodes: &Nodes,
     memory: &mut Memory<R>,
     hand: &mut Hand,
@@ -75,7 +78,7 @@ fn moved_pointer<R: Store>(
 /// What a place of a type holds.
 #[tactic(auto, using(crate::proofs::Places::copied_rules))]
 fn copied<R: Store>(
-    table: &TypeTable,
+    table: &Layouts,
     nodes: &Nodes,
     memory: &Memory<R>,
     hand: &mut Hand,
@@ -93,7 +96,7 @@ fn copied<R: Store>(
 /// What a place of a type holds, whose access parts are moved out.
 #[tactic(auto, using(crate::proofs::Places::moved_rules))]
 fn moved<R: Store>(
-    table: &TypeTable,
+    table: &Layouts,
     nodes: &Nodes,
     memory: &mut Memory<R>,
     hand: &mut Hand,
@@ -113,7 +116,7 @@ fn moved<R: Store>(
 /// Words of the values that the point takes.
 #[tactic(auto, using(crate::proofs::Scalars::waited_rules))]
 fn waited<R: Store>(
-    table: &TypeTable,
+    table: &Layouts,
     memory: &Memory<R>,
     hand: &mut Hand,
     at: u32,
@@ -128,7 +131,7 @@ fn waited<R: Store>(
 /// The words of an object of a type without a value.
 #[tactic(auto, using(crate::proofs::Scalars::default_rules))]
 fn defaults<R: Store>(
-    table: &TypeTable,
+    table: &Layouts,
     memory: &Memory<R>,
     hand: &mut Hand,
     of: u32,
@@ -139,10 +142,11 @@ fn defaults<R: Store>(
 }
 
 /// A new cell of a type with a value.
-#[cycle(fill)]
+#[cycle(list)]
+#[inline(never)]
 #[tactic(auto, using(crate::proofs::Nested::new_rules))]
 fn new<R: Store>(
-    table: &TypeTable,
+    table: &Layouts,
     nodes: &Nodes,
     fills: &Fills,
     memory: &mut Memory<R>,
@@ -157,15 +161,15 @@ fn new<R: Store>(
     ensures elsewhere { elsewhere memory.new ≡ elsewhere memory.old }
 {
     let from = hand.len();
-    fill(table, nodes, fills, memory, hand, value)?;
+    list(table, nodes, fills, memory, hand, value)?;
     hand.make(table, memory, of, from)
 }
 
 /// The same value so many times.
-#[cycle(fill)]
+#[cycle(list)]
 #[tactic(auto, using(crate::proofs::Nested::repeated_rules))]
 fn repeated<R: Store>(
-    table: &TypeTable,
+    table: &Layouts,
     nodes: &Nodes,
     fills: &Fills,
     memory: &mut Memory<R>,
@@ -180,15 +184,15 @@ fn repeated<R: Store>(
     ensures elsewhere { elsewhere memory.new ≡ elsewhere memory.old }
 {
     let from = hand.len();
-    fill(table, nodes, fills, memory, hand, value)?;
+    nested(table, nodes, fills, memory, hand, value)?;
     hand.repeat(from, count)
 }
 
-/// One value after the other. A list of values is right nested.
-#[cycle(fill)]
+/// One value after the other.
+#[cycle(list)]
 #[tactic(auto, using(crate::proofs::Nested::both_rules))]
 fn both<R: Store>(
-    table: &TypeTable,
+    table: &Layouts,
     nodes: &Nodes,
     fills: &Fills,
     memory: &mut Memory<R>,
@@ -203,20 +207,16 @@ fn both<R: Store>(
     ensures made { Filled R.Means memory.old table.now (codes.Both (fill_at nodes.now fills.now first) (fill_at nodes.now fills.now second)) result hand.old hand.new memory.new }
     ensures elsewhere { elsewhere memory.new ≡ elsewhere memory.old }
 {
-    fill(table, nodes, fills, memory, hand, first)?;
-    let mut n = second;
-    'list: while let Fill::Both { first, second } = fills.fill(n, nodes) {
-        fill(table, nodes, fills, memory, hand, first)?;
-        n = second;
-    }
-    fill(table, nodes, fills, memory, hand, n)
+    nested(table, nodes, fills, memory, hand, first)?;
+    nested(table, nodes, fills, memory, hand, second)
 }
 
-/// Makes a value: its words are appended to those at hand.
-#[cycle(fill)]
+/// One value of a list: in place, unless it is made of others.
+#[cycle(list)]
+#[inline(always)]
 #[tactic(auto, using(crate::proofs::Scalars::empty_makes))]
-pub fn fill<R: Store>(
-    table: &TypeTable,
+fn part<R: Store>(
+    table: &Layouts,
     nodes: &Nodes,
     fills: &Fills,
     memory: &mut Memory<R>,
@@ -246,4 +246,72 @@ pub fn fill<R: Store>(
         }
         Fill::Both { first, second } => both(table, nodes, fills, memory, hand, first, second),
     }
+}
+
+/// The values of a list, which is right nested, or another value.
+#[cycle(list)]
+#[inline(always)]
+#[tactic(auto, using(crate::proofs::Nested::list_rules))]
+fn list<R: Store>(
+    table: &Layouts,
+    nodes: &Nodes,
+    fills: &Fills,
+    memory: &mut Memory<R>,
+    hand: &mut Hand,
+    n: u32,
+) -> Result<(), Stop>
+    requires within { IsTrue (are_within nodes.now fills.now) }
+    requires there { n < length fills.now }
+    requires whole { Fillable R.Means memory.old table.now (fill_at nodes.now fills.now n) }
+    ensures made { Filled R.Means memory.old table.now (fill_at nodes.now fills.now n) result hand.old hand.new memory.new }
+    ensures elsewhere { elsewhere memory.new ≡ elsewhere memory.old }
+{
+    let mut rest = n;
+    'values: while let Fill::Both { first, second } = fills.fill(rest, nodes) {
+        part(table, nodes, fills, memory, hand, first)?;
+        rest = second;
+    }
+    part(table, nodes, fills, memory, hand, rest)
+}
+
+/// The same, by a call.
+#[cycle(list)]
+#[inline(never)]
+fn nested<R: Store>(
+    table: &Layouts,
+    nodes: &Nodes,
+    fills: &Fills,
+    memory: &mut Memory<R>,
+    hand: &mut Hand,
+    n: u32,
+) -> Result<(), Stop>
+    requires within { IsTrue (are_within nodes.now fills.now) }
+    requires there { n < length fills.now }
+    requires whole { Fillable R.Means memory.old table.now (fill_at nodes.now fills.now n) }
+    ensures made { Filled R.Means memory.old table.now (fill_at nodes.now fills.now n) result hand.old hand.new memory.new }
+    ensures elsewhere { elsewhere memory.new ≡ elsewhere memory.old }
+{
+    list(table, nodes, fills, memory, hand, n)
+}
+
+/// Makes a value: its words are appended to those at hand.
+#[inline(always)]
+pub fn fill<R: Store>(
+    table: &Layouts,
+    nodes: &Nodes,
+    fills: &Fills,
+    memory: &mut Memory<R>,
+    hand: &mut Hand,
+    n: u32,
+) -> Result<(), Stop>
+    requires within { IsTrue (are_within nodes.now fills.now) }
+    requires there { n < length fills.now }
+    requires whole { Fillable R.Means memory.old table.now (fill_at nodes.now fills.now n) }
+    ensures made { Filled R.Means memory.old table.now (fill_at nodes.now fills.now n) result hand.old hand.new memory.new }
+    ensures elsewhere { elsewhere memory.new ≡ elsewhere memory.old }
+{
+    if let Fill::New { value, of } = fills.fill(n, nodes) {
+        return new(table, nodes, fills, memory, hand, value, of);
+    }
+    nested(table, nodes, fills, memory, hand, n)
 }

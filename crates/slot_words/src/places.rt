@@ -1,13 +1,14 @@
 //! Where places lead.
 ghost use Rattle.std.specs.Prelude.{◌<◌, length, IsTrue, Ok};
 ghost use Rattle.code_rows.specs.Rows.{code_at, place_of, is_place_below};
-ghost use Rattle.run_codes.specs.Codes.{InFrame, InPackages, Behind};
+ghost use Rattle.run_codes.specs.Codes.{InFrame, InPackages, Behind, Local};
 ghost use Rattle.run_codes.specs.Lowered.{no_index};
 ghost use Rattle.slot_words.specs.Reading.{ReadsCell, GivesCell, ReadsSpot, GivesSpot};
 
 use crate::quick::evaluate;
+use crate::words;
 use crate::words::{names, word};
-use code_rows::{Nodes, Place, Stop};
+use code_rows::{Node, Nodes, Place, Stop};
 use slot_heap::Store;
 use slot_memory::{Memory, Spot};
 
@@ -21,6 +22,7 @@ fn in_cell<R: Store>(memory: &Memory<R>, pointer: i64, at: u64) -> Result<Spot, 
 }
 
 /// The place at an offset in the cell that an access value designates.
+#[inline(never)]
 #[tactic(auto, using(crate::proofs::Spots::behind_rules))]
 fn behind<R: Store>(nodes: &Nodes, memory: &Memory<R>, pointer: u32, at: u32) -> Result<Spot, Stop>
     requires there { pointer < length nodes.now }
@@ -94,7 +96,8 @@ fn global_at<R: Store>(nodes: &Nodes, memory: &Memory<R>, at: u32, index: u32) -
 }
 
 /// Where a place is, or why there is none.
-pub fn spot<R: Store>(nodes: &Nodes, memory: &Memory<R>, place: Place) -> Result<Spot, Stop>
+#[inline(never)]
+fn any_spot<R: Store>(nodes: &Nodes, memory: &Memory<R>, place: Place) -> Result<Spot, Stop>
     requires there { IsTrue (is_place_below (length nodes.now) place) }
     requires whole { ReadsSpot R.Means memory.now (place_of (code_at nodes.now) place) }
     ensures { GivesSpot R.Means memory.now (place_of (code_at nodes.now) place) result }
@@ -107,4 +110,51 @@ pub fn spot<R: Store>(nodes: &Nodes, memory: &Memory<R>, place: Place) -> Result
         Place::Behind { pointer, at } => behind(nodes, memory, pointer, at),
         Place::BehindAt { pointer, at, index } => behind_at(nodes, memory, pointer, at, index),
     }
+}
+
+// ---- frequent places
+
+/// The place at an offset in the cell that a word of the frame designates.
+#[inline(always)]
+#[tactic(auto, using(crate::proofs::Spots::behind_rules))]
+fn behind_local<R: Store>(memory: &Memory<R>, from: u32, at: u32) -> Result<Spot, Stop>
+    requires { ReadsSpot R.Means memory.now (Behind (Local from no_index) at no_index) }
+    ensures { GivesSpot R.Means memory.now (Behind (Local from no_index) at no_index) result }
+{
+    let pointer = words::local(memory, from);
+    in_cell(memory, pointer, at as u64)
+}
+
+/// The place at an offset in the cell that an access value designates.
+#[inline(always)]
+fn behind_name<R: Store>(
+    nodes: &Nodes,
+    memory: &Memory<R>,
+    pointer: u32,
+    at: u32,
+) -> Result<Spot, Stop>
+    requires there { pointer < length nodes.now }
+    requires whole { ReadsSpot R.Means memory.now (Behind (code_at nodes.now pointer) at no_index) }
+    ensures { GivesSpot R.Means memory.now (Behind (code_at nodes.now pointer) at no_index) result }
+{
+    if let Node::Local { at: from } = nodes.node(pointer) {
+        return behind_local(memory, from, at);
+    }
+    behind(nodes, memory, pointer, at)
+}
+
+/// Where a place is, or why there is none.
+#[inline(always)]
+pub fn spot<R: Store>(nodes: &Nodes, memory: &Memory<R>, place: Place) -> Result<Spot, Stop>
+    requires there { IsTrue (is_place_below (length nodes.now) place) }
+    requires whole { ReadsSpot R.Means memory.now (place_of (code_at nodes.now) place) }
+    ensures { GivesSpot R.Means memory.now (place_of (code_at nodes.now) place) result }
+{
+    if let Place::Local { at } = place {
+        return Ok(local(memory, at));
+    }
+    if let Place::Behind { pointer, at } = place {
+        return behind_name(nodes, memory, pointer, at);
+    }
+    any_spot(nodes, memory, place)
 }

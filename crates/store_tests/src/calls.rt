@@ -9,9 +9,9 @@ use std::alloc::AllocError;
 pub(crate) fn uses_again<R: Store>(store: &mut R) -> Result<bool, AllocError>
     requires { R.Means store.old no_heap }
 {
-    let first = store.allocate(&[Value::Int(7), Value::Null])?;
+    let first = store.allocate(&[Kind::Int, Kind::Access], &[7, 0])?;
     store.free(first, 2);
-    let second = store.allocate(&[Value::Enum(1), Value::Int(-8)])?;
+    let second = store.allocate(&[Kind::Enum, Kind::Int], &[1, -8])?;
     let position = store.read(second, 0, Kind::Enum);
     let number = store.read(second, 1, Kind::Int);
     Ok(store.slots() == 1 && position == Value::Enum(1) && number == Value::Int(-8))
@@ -21,7 +21,7 @@ pub(crate) fn uses_again<R: Store>(store: &mut R) -> Result<bool, AllocError>
 pub(crate) fn writes_one_word<R: Store>(store: &mut R) -> Result<bool, AllocError>
     requires { R.Means store.old no_heap }
 {
-    let cell = store.allocate(&[Value::Int(7), Value::Null])?;
+    let cell = store.allocate(&[Kind::Int, Kind::Access], &[7, 0])?;
     store.write(cell, 1, Value::Cell(cell));
     let number = store.read(cell, 0, Kind::Int);
     let name = store.read(cell, 1, Kind::Access);
@@ -32,9 +32,9 @@ pub(crate) fn writes_one_word<R: Store>(store: &mut R) -> Result<bool, AllocErro
 pub(crate) fn keeps_sizes_apart<R: Store>(store: &mut R) -> Result<bool, AllocError>
     requires { R.Means store.old no_heap }
 {
-    let one = store.allocate(&[Value::Enum(3)])?;
+    let one = store.allocate(&[Kind::Enum], &[3])?;
     store.free(one, 1);
-    let two = store.allocate(&[Value::Int(4), Value::Int(5)])?;
+    let two = store.allocate(&[Kind::Int, Kind::Int], &[4, 5])?;
     let slots = store.slots();
     let number = store.read(two, 1, Kind::Int);
     Ok(slots == 2 && number == Value::Int(5))
@@ -44,12 +44,12 @@ pub(crate) fn keeps_sizes_apart<R: Store>(store: &mut R) -> Result<bool, AllocEr
 pub(crate) fn uses_each_once<R: Store>(store: &mut R) -> Result<bool, AllocError>
     requires { R.Means store.old no_heap }
 {
-    let first = store.allocate(&[Value::Int(1)])?;
-    let second = store.allocate(&[Value::Int(2)])?;
+    let first = store.allocate(&[Kind::Int], &[1])?;
+    let second = store.allocate(&[Kind::Int], &[2])?;
     store.free(first, 1);
     store.free(second, 1);
-    let third = store.allocate(&[Value::Int(3)])?;
-    let fourth = store.allocate(&[Value::Int(4)])?;
+    let third = store.allocate(&[Kind::Int], &[3])?;
+    let fourth = store.allocate(&[Kind::Int], &[4])?;
     let number = store.read(fourth, 0, Kind::Int);
     Ok(store.slots() == 2 && third != fourth && number == Value::Int(4))
 }

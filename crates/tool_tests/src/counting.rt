@@ -34,8 +34,8 @@ impl<R: Store> Counting<R> {
 impl<R: Store> Store for Counting<R> {
     ghost Means = { λ store m. R.Means store.inner m };
 
-    fn allocate(&mut self, words: &[Value]) -> Result<Handle, AllocError> {
-        self.inner.allocate(words)
+    fn allocate(&mut self, kinds: &[Kind], words: &[i64]) -> Result<Handle, AllocError> {
+        self.inner.allocate(kinds, words)
     }
 
     fn read(&self, h: Handle, at: u32, kind: Kind) -> Value {

@@ -1,10 +1,9 @@
 //! A heap in one list of numbers.
-ghost use Rattle.std.specs.Prelude.{◌≡◌, ◌<◌, ◌≤◌, ◌+◌, ◌-◌, ◌^◌, ◌++◌, length, set, get_or, take, drop, map, replicate, pos, IfOk, OnOk, OnErr};
+ghost use Rattle.std.specs.Prelude.{◌≡◌, ◌<◌, ◌≤◌, ◌+◌, ◌-◌, ◌^◌, ◌++◌, length, set, get_or, take, drop, replicate, pos, IfOk, OnOk, OnErr};
 ghost use Rattle.slot_heap.specs.Heaps.{no_heap};
-ghost use Rattle.word_heap.specs.Codes as spec;
 ghost use Rattle.word_heap.specs.Stores.{Means};
 
-use crate::codes::{code, decoded, put};
+use crate::codes::{code, decoded};
 use run_values::{Handle, Kind, Value};
 use slot_heap::Store;
 use std::alloc::{AllocError, Global};
@@ -45,46 +44,43 @@ impl WordStore {
     }
 
     /// A cell in the first free run of its size.
-    fn reuse(&mut self, h: Handle, words: &[Value])
+    fn reuse(&mut self, h: Handle, words: &[i64])
         requires some { 0 < length words.now }
         requires within { h + length words.now ≤ length self.old.words.items }
         requires size { length words.now < length self.old.heads.items }
-        ensures words { self.new.words.items ≡ take h self.old.words.items ++ map spec.code words.now ++ drop (h + length words.now) self.old.words.items }
-        ensures fits { spec.AreFit words.now }
+        ensures words { self.new.words.items ≡ take h self.old.words.items ++ words.now ++ drop (h + length words.now) self.old.words.items }
         ensures heads { self.new.heads.items ≡ set self.old.heads.items (length words.now) (get_or self.old.words.items h (pos 0)) }
         ensures count { self.new.count ≡ self.old.count }
     {
         let start = h.number() as usize;
         self.heads[words.len()] = self.words[start];
-        put(&mut self.words, start, words);
+        self.words[start..start + words.len()].copy_from_slice(words);
     }
 
     /// A cell after all words.
-    fn add(&mut self, words: &[Value]) -> Result<Handle, AllocError>
+    fn add(&mut self, words: &[i64]) -> Result<Handle, AllocError>
         requires { self.old.count < 2 ^ 62 }
         ensures handle { IfOk result (λ h. h ≡ length self.old.words.items) }
-        ensures words { OnOk result (self.new.words.items ≡ self.old.words.items ++ map spec.code words.now) }
-        ensures fits { OnOk result (spec.AreFit words.now) }
+        ensures words { OnOk result (self.new.words.items ≡ self.old.words.items ++ words.now) }
         ensures count { OnOk result (self.new.count ≡ self.old.count + 1) }
         ensures heads { self.new.heads.items ≡ self.old.heads.items }
         ensures words_stay { OnErr result (self.new.words.items ≡ self.old.words.items) }
         ensures count_stays { OnErr result (self.new.count ≡ self.old.count) }
     {
-        let start = self.words.len();
-        if start as u64 >= 1 << 62 {
+        let start = self.words.len() as u64;
+        if start >= 1 << 62 {
             return Err(AllocError);
         }
-        self.words.resize(start + words.len(), 0)?;
-        put(&mut self.words, start, words);
+        self.words.extend_from_slice(words)?;
         self.count += 1;
-        Ok(Handle::new(start as u64))
+        Ok(Handle::new(start))
     }
 }
 
 impl Store for WordStore {
     ghost Means = { Means };
 
-    fn allocate(&mut self, words: &[Value]) -> Result<Handle, AllocError> {
+    fn allocate(&mut self, _kinds: &[Kind], words: &[i64]) -> Result<Handle, AllocError> {
         self.grow(words.len())?;
         if let Value::Cell(h) = decoded(self.heads[words.len()], Kind::Access) {
             self.reuse(h, words);

@@ -8,8 +8,8 @@ use Rattle.slot_values.proofs.Reading.{filled_by}
 use Rattle.slot_values.proofs.Scalars.{checked_word, checked_out, checked_makes}
 use Rattle.slot_values.proofs.fills.checked.Goals as goal
 
-pub word-requires-clause-whole : goal.word-requires-clause-whole
-word-requires-clause-whole g c =
+pub operand-requires-clause-whole : goal.operand-requires-clause-whole
+operand-requires-clause-whole g c =
     checked_word g.R.Store.Means c.args.memory.now c.args.table.now (code_at c.args.nodes.now c.args.value) c.args.low c.args.high c.requires.whole
 
 pub returns-in_err-kept : goal.returns-in_err-kept

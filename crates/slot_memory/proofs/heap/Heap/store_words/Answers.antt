@@ -6,7 +6,7 @@ use Rattle.slot_memory.proofs.heap.Heap.store_words.Goals as goal
 use Rattle.run_values.specs.declared.value.Kind.TheVariants as sort
 use Rattle.handled_runs.specs.Changes.{slot_values, written_all}
 use Rattle.slot_memory.specs.Cells.{Cells}
-use Rattle.slot_memory.proofs.OfKinds.{words_long, word_is}
+use Rattle.slot_heap.proofs.Words.{words_long, word_is}
 use Rattle.slot_memory.proofs.Heaps.{storing_holds, storing_next}
 
 pub bounds-words-i : goal.bounds-words-i

@@ -1,20 +1,20 @@
-use Rattle.std.proofs.Common.{◌<◌, ◌+◌, ◌++◌, ℕ, pos, length, map, take, drop, set, get_or, ap, sym, subst, refl, ◌∙◌, rules, w64, SFits}
+use Rattle.std.proofs.Common.{◌≡◌, ◌<◌, ◌+◌, ◌++◌, ℕ, pos, length, ap, sym, subst, refl, ◌∙◌, rules, w64, SFits}
 use Rattle.std.proofs.lemmas.Int.{to_z-of_z}
-use Rattle.std.proofs.lemmas.List.{length-map}
 use Rattle.slot_heap.specs.Heaps.{Heap, allocated}
+use Rattle.slot_heap.specs.Words.{slot_values}
 use Rattle.slot_heap.specs.Runs.{Kept, link}
 use Rattle.slot_heap.proofs.Held.{first_stands, code_read}
 use Rattle.slot_heap.proofs.Made.{kept-grown}
+use Rattle.slot_heap.proofs.Words.{values_long}
 use Rattle.slot_heap.proofs.Allocated.{grown_within, reused_within, reused, added, length_more}
-use Rattle.word_heap.specs.Codes.{code, IsCode}
+use Rattle.word_heap.specs.Codes.{IsCode}
 use Rattle.word_heap.specs.Stores.{Means}
 use Rattle.word_heap.proofs.Coded.{stand_coded, link_kind}
 use Rattle.word_heap.proofs.word_store.WordStoreStore.allocate.Goals as goal
 
 pub decoded-requires : goal.decoded-requires
 decoded-requires c =
-    let ws = c.args.words.now in
-    let n = length ws in
+    let n = length c.args.words.now in
     let w = c.index.result.now in
     let fits : SFits w64 w = search rules in
     let kept : Kept IsCode c.grow.new.self.words.items c.grow.new.self.heads.items c.requires.few.0 =
@@ -25,8 +25,7 @@ decoded-requires c =
 
 pub reuse-requires-clause-within : goal.reuse-requires-clause-within
 reuse-requires-clause-within c =
-    let ws = c.args.words.now in
-    let n = length ws in
+    let n = length c.args.words.now in
     let w = c.index.result.now in
     let fits : SFits w64 w = search rules in
     let kept : Kept IsCode c.grow.new.self.words.items c.grow.new.self.heads.items c.requires.few.0 =
@@ -38,8 +37,10 @@ reuse-requires-clause-within c =
 
 pub returns-in-Cell-clause-new : goal.returns-in-Cell-clause-new
 returns-in-Cell-clause-new c = λ m means.
-    let ws = c.args.words.now in
-    let n = length ws in
+    let zs = c.args.words.now in
+    let ws = slot_values c.args._kinds.now zs in
+    let n = length zs in
+    let long : length ws ≡ n = values_long c.args._kinds.now zs c.requires.fit in
     let w = c.index.result.now in
     let fits : SFits w64 w = search rules in
     let kept : Kept IsCode c.grow.new.self.words.items c.grow.new.self.heads.items m =
@@ -47,12 +48,14 @@ returns-in-Cell-clause-new c = λ m means.
     let within : n < length c.grow.new.self.heads.items = rw c.in_ok-grow.ensures.heads (grown_within _ n (pos 0)) in
     let is = code_read IsCode c.grow.new.self.heads.items n n (link (kept.frees n)) w refl c.index.ensures (first_stands IsCode kept n within) in
     let first = c.decoded.ensures (link (kept.frees n)) (to_z-of_z w64 w fits ∙ is.0, is.1) (link_kind (kept.frees n)) in
-    (reused IsCode c.in-Cell.h (pos 0) (map code ws) ws (length-map ws code) (stand_coded ws c.reuse.ensures.fits) kept (sym first ∙ c.in-Cell.is)).1
+    (reused IsCode c.in-Cell.h (pos 0) zs ws n long refl (stand_coded c.args._kinds.now zs c.requires.fit) kept (sym first ∙ c.in-Cell.is)).1
 
 pub returns-in-Cell-clause-allocated : goal.returns-in-Cell-clause-allocated
 returns-in-Cell-clause-allocated c = λ m means.
-    let ws = c.args.words.now in
-    let n = length ws in
+    let zs = c.args.words.now in
+    let ws = slot_values c.args._kinds.now zs in
+    let n = length zs in
+    let long : length ws ≡ n = values_long c.args._kinds.now zs c.requires.fit in
     let w = c.index.result.now in
     let fits : SFits w64 w = search rules in
     let kept : Kept IsCode c.grow.new.self.words.items c.grow.new.self.heads.items m =
@@ -60,19 +63,17 @@ returns-in-Cell-clause-allocated c = λ m means.
     let within : n < length c.grow.new.self.heads.items = rw c.in_ok-grow.ensures.heads (grown_within _ n (pos 0)) in
     let is = code_read IsCode c.grow.new.self.heads.items n n (link (kept.frees n)) w refl c.index.ensures (first_stands IsCode kept n within) in
     let first = c.decoded.ensures (link (kept.frees n)) (to_z-of_z w64 w fits ∙ is.0, is.1) (link_kind (kept.frees n)) in
-    let h = c.in-Cell.h in
-    let old = c.grow.new.self in
-    let all = reused IsCode h (pos 0) (map code ws) ws (length-map ws code) (stand_coded ws c.reuse.ensures.fits) kept (sym first ∙ c.in-Cell.is) in
-    let P : ℕ → Type 0 = λ k. Kept IsCode (take h old.words.items ++ map code ws ++ drop (h + k) old.words.items) (set old.heads.items n (get_or old.words.items h (pos 0))) (allocated m h ws) in
-    (rw (c.reuse.ensures.words, c.reuse.ensures.heads) (subst P (length-map ws code) all.0), c.reuse.ensures.count ∙ c.in_ok-grow.ensures.count ∙ means.1 ∙ ap length (sym all.2))
+    let all = reused IsCode c.in-Cell.h (pos 0) zs ws n long refl (stand_coded c.args._kinds.now zs c.requires.fit) kept (sym first ∙ c.in-Cell.is) in
+    (rw (c.reuse.ensures.words, c.reuse.ensures.heads) all.0, c.reuse.ensures.count ∙ c.in_ok-grow.ensures.count ∙ means.1 ∙ ap length (sym all.2))
 
 pub returns-in-Ok : goal.returns-in-Ok
 returns-in-Ok c =
-    let ws = c.args.words.now in
+    let zs = c.args.words.now in
+    let ws = slot_values c.args._kinds.now zs in
     let s = c.grow.new.self in
     let whole = λ (m : Heap) (means : Means c.args.self.now m).
-    let ws = c.args.words.now in
-    let n = length ws in
+    let n = length zs in
+    let long : length ws ≡ n = values_long c.args._kinds.now zs c.requires.fit in
     let w = c.index.result.now in
     let fits : SFits w64 w = search rules in
     let kept : Kept IsCode c.grow.new.self.words.items c.grow.new.self.heads.items m =
@@ -80,8 +81,8 @@ returns-in-Ok c =
     let within : n < length c.grow.new.self.heads.items = rw c.in_ok-grow.ensures.heads (grown_within _ n (pos 0)) in
     let is = code_read IsCode c.grow.new.self.heads.items n n (link (kept.frees n)) w refl c.index.ensures (first_stands IsCode kept n within) in
     let first = c.decoded.ensures (link (kept.frees n)) (to_z-of_z w64 w fits ∙ is.0, is.1) (link_kind (kept.frees n)) in
-    added IsCode (map code ws) ws c.requires.some within (length-map ws code) (stand_coded ws c.in-Ok.ensures.fits) kept (λ a at. c.in_default.not-Cell a (first ∙ at)) in
-    let P : ℕ → Heap → Type 0 = λ h m. Kept IsCode (s.words.items ++ map code ws) s.heads.items (allocated m h ws) in
+    added IsCode zs ws n c.requires.some within long refl (stand_coded c.args._kinds.now zs c.requires.fit) kept (λ a at. c.in_default.not-Cell a (first ∙ at)) in
+    let P : ℕ → Heap → Type 0 = λ h m. Kept IsCode (s.words.items ++ zs) s.heads.items (allocated m h ws) in
     record {
       new = λ m means. rw c.in-Ok.ensures.handle (whole m means).1;
       allocated = λ m means. (

@@ -1,8 +1,6 @@
-//! Words and what the store keeps for them.
+//! Words, and the values that they are kept for.
 ghost use Rattle.std.specs.Prelude.{◌≡◌, true};
-ghost use Rattle.handled_runs.specs.Slots.{slot_word};
-ghost use Rattle.handled_runs.specs.Changes.{slot_value};
-ghost use Rattle.handled_runs.specs.Fits.{is_slot_word};
+ghost use Rattle.slot_heap.specs.Words.{slot_word, slot_value, is_slot_word};
 
 use run_values::{Handle, Kind, Value};
 

@@ -1,6 +1,6 @@
 use Rattle.std.proofs.lemmas.Result.{err_from_is_err_and}
 use Rattle.slot_places.proofs.Assigning.{assign_fillable, assign_known, assign_stops, assign_leaves}
-use Rattle.slot_places.proofs.assigns.assign.Goals as goal
+use Rattle.slot_places.proofs.assigns.assign_words.Goals as goal
 
 pub fill-requires-clause-whole : goal.fill-requires-clause-whole
 fill-requires-clause-whole g c = assign_fillable _ _ _ _ _ _ _ c.requires.whole
