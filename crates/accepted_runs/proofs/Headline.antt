@@ -6,7 +6,7 @@ use Rattle.soundness.specs.Sound.{RunIsSound}
 use Rattle.type_definitions.specs.Whole.{known_of}
 use Rattle.typing_steps.specs.Programs.{program_of}
 use Rattle.program_check.specs.Sources.{flow_of}
-use Rattle.order_laws.specs.Orderly.{typed_of}
+use Rattle.settled_types.specs.OrderLaws.Orderly.{typed_of}
 use Rattle.accepted_runs.specs.Passed.{Passes}
 use Rattle.accepted_runs.specs.Mains.{HasMain}
 use Rattle.accepted_runs.specs.Headline.{IsSoundRun}

@@ -11,7 +11,7 @@ use Rattle.type_definitions.specs.Types.{Table}
 use Rattle.type_definitions.specs.Whole.{known_of, type_fault}
 use Rattle.typing_steps.specs.Programs.{program_of as text_program}
 use Rattle.typed_tree.specs.Programs.{TypedProgram}
-use Rattle.order_laws.specs.Orderly.{typed_of}
+use Rattle.settled_types.specs.OrderLaws.Orderly.{typed_of}
 use Rattle.laid_program.specs.Layouts.{IsLayout}
 use Rattle.laid_program.specs.Programs.{program_of}
 use Rattle.path_check.specs.declared.accepted.AcceptedProgram.{AcceptedProgram}

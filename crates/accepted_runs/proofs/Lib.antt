@@ -20,3 +20,5 @@ pub mod AcceptedLowered
 pub mod AcceptedRecycled
 -- and leaves the cells of the machine there
 pub mod AcceptedCells
+-- texts that the laws hold of
+pub mod AcceptedExamples

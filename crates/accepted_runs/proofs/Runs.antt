@@ -6,9 +6,9 @@ use Rattle.typing_steps.specs.Programs.{program_of}
 use Rattle.flow_paths.specs.declared.report.Effects.{Effects}
 use Rattle.soundness.specs.Sound.{RunIsSound}
 use Rattle.program_check.specs.Sources.{flow_of}
-use Rattle.order_laws.specs.Orderly.{typed_of}
+use Rattle.settled_types.specs.OrderLaws.Orderly.{typed_of}
 use Rattle.soundness.specs.ExactFacts.Exact.{RunHolds}
-use Rattle.viewed_facts.specs.NullPlaces.Cleared.{RunsWithNull}
+use Rattle.recycled_runs.specs.ViewedFacts.NullPlaces.Cleared.{RunsWithNull}
 
 -- Each moment of each run of such a program is well owned, and none is a trap.
 abbrev pub RunsAreSound : List (List SourceUnit) → Type 0

@@ -4,8 +4,8 @@ use Rattle.ada_tree.specs.declared.unit.SourceUnit.{SourceUnit}
 use Rattle.type_definitions.specs.Whole.{known_of}
 use Rattle.typing_steps.specs.Programs.{program_of}
 use Rattle.flow_paths.specs.declared.report.Effects.{Effects}
-use Rattle.order_laws.specs.Orderly.{typed_of}
-use Rattle.viewed_facts.proofs.Runs.{run_holds}
+use Rattle.settled_types.specs.OrderLaws.Orderly.{typed_of}
+use Rattle.recycled_runs.proofs.ViewedFacts.Runs.{run_holds}
 use Rattle.accepted_runs.specs.Passed.{Passes}
 use Rattle.accepted_runs.proofs.Runs.{RunsHold}
 use Rattle.accepted_runs.specs.Mains.{HasMain}

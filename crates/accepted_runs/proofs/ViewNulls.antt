@@ -6,10 +6,10 @@ use Rattle.type_definitions.specs.Whole.{known_of}
 use Rattle.typing_steps.specs.Programs.{program_of}
 use Rattle.flow_paths.specs.declared.report.Effects.{Effects}
 use Rattle.program_check.specs.Sources.{flow_of}
-use Rattle.order_laws.specs.Orderly.{typed_of}
+use Rattle.settled_types.specs.OrderLaws.Orderly.{typed_of}
 use Rattle.sound_files.proofs.TypedFiles.Main.{parsed_steps}
-use Rattle.viewed_facts.proofs.NullPlaces.Typed.{typed_compared}
-use Rattle.viewed_facts.proofs.ViewedNulls.Runs.{viewed_runs}
+use Rattle.recycled_runs.proofs.ViewedFacts.NullPlaces.Typed.{typed_compared}
+use Rattle.recycled_runs.proofs.ViewedFacts.ViewedNulls.Runs.{viewed_runs}
 use Rattle.accepted_runs.specs.Passed.{Passes}
 use Rattle.accepted_runs.proofs.Parsed.{are_parsed}
 use Rattle.accepted_runs.proofs.Runs.{RunsAreWithNull}

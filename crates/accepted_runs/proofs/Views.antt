@@ -5,7 +5,7 @@ use Rattle.ada_tree.specs.declared.unit.SourceUnit.{SourceUnit}
 use Rattle.type_definitions.specs.Whole.{known_of}
 use Rattle.typing_steps.specs.Programs.{program_of}
 use Rattle.flow_paths.specs.declared.report.Effects.{Effects}
-use Rattle.order_laws.specs.Orderly.{typed_of}
+use Rattle.settled_types.specs.OrderLaws.Orderly.{typed_of}
 use Rattle.viewed_steps.specs.Ready.{IsReady}
 use Rattle.viewed_steps.proofs.Main.{ready_sound}
 use Rattle.accepted_runs.proofs.ViewedFiles.Files.{parsed_called_ready}

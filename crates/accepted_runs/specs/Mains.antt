@@ -2,7 +2,7 @@
 use Rattle.std.specs.Prelude.{◌≡◌, ℕ, List, Some}
 use Rattle.ada_tree.specs.declared.unit.SourceUnit.{SourceUnit}
 use Rattle.typing_steps.specs.Programs.{program_of}
-use Rattle.order_laws.specs.Orderly.{typed_of}
+use Rattle.settled_types.specs.OrderLaws.Orderly.{typed_of}
 
 -- There is a main procedure.
 abbrev pub HasMain : List (List SourceUnit) → Type 0

@@ -4,8 +4,8 @@
 //! Texts pass if their tokens spell sources, and the program breaks no rule of names and of types
 //! and no limit, and there are no reports (`specs/Passed.antt`). The files are parsed then, as
 //! `settled_types` has it (`proofs/Parsed.antt`). So the laws of `ViewedFiles` speak of such texts
-//! (`proofs/Views.antt`), and so do those of `viewed_facts` (`proofs/ViewFacts.antt`) and of
-//! `viewed_facts` (`proofs/ViewNulls.antt`), where there is a main procedure (`specs/Mains.antt`).
+//! (`proofs/Views.antt`), and so do those of `ViewedFacts` (`proofs/ViewFacts.antt`) and of
+//! `ViewedFacts` (`proofs/ViewNulls.antt`), where there is a main procedure (`specs/Mains.antt`).
 //! Of one run `specs/Headline.antt` has it all (`proofs/Headline.antt`). The type of an accepted
 //! program keeps that it is that of texts that pass (`proofs/Kept.antt`): so `execute` says that
 //! what it runs runs soundly. That what `check` accepts passes, `answered_runs` says. Nothing here
@@ -78,6 +78,17 @@
 //! What acts move is rooted in an object that the instruction names, whose scope ends at a point; and
 //! by rule V1 no act changes what is named through an object that only sees (`Fixed`).
 //! Nothing here runs.
+//!
+//! # Accepted examples
+//!
+//! Texts that the laws on runs hold of: lemmas, and nothing else.
+//!
+//! `proofs/AcceptedExamples/Small.antt` has a text whose tokens spell a source, which breaks no rule of names and of
+//! types and has a main procedure. Nothing is reported of it (`Quiet`), so its runs are sound
+//! (`Sound`): the premises of the law don't contradict each other. `Observed` has a text with an
+//! observer, and the same of it; that nothing is reported of it is computed along its paths
+//! (`Unreported`). `Lent` has one with a call, and `Handed` one with a formal that owns. Nothing
+//! here runs.
 #![tactic(auto)]
 
 pub use run_ready::lower_ready;

@@ -1,6 +1,7 @@
 -- What leak checks tell of is there: at the ends of scopes, and where no check is made.
 use Rattle.std.proofs.Common.{◌≡◌, refl, sym, ap, ◌∙◌, subst, inl, inr, ℕ, zero, suc, ◌+◌, ◌<◌, arith, Bool, true, false, not, ◌==◌, List, [], ◌∷◌, map, drop, length, get_or, slice_get, Option, Some, None, ℤ, pos, if◌then◌else◌}
-use Rattle.std.specs.Prelude.{option_and_then}
+use Rattle.std.specs.Prelude.{option_and_then, is_some}
+use Rattle.std.proofs.lemmas.Bool.{false≢true}
 use Rattle.spark_base.specs.Lists.{Has}
 use Rattle.type_definitions.specs.declared.table.Shape.{Shape}
 use Rattle.type_definitions.specs.declared.table.Shape.TheVariants as shape
@@ -24,7 +25,7 @@ use Rattle.machine.specs.Memory.{Slot, OfVariable, slots_at}
 use Rattle.machine.specs.States.{sub_of}
 use Rattle.machine.specs.States as machine
 use Rattle.machine.specs.Run.{no_point}
-use Rattle.viewed_facts.specs.NullPlaces.Agrees.{SameState}
+use Rattle.recycled_runs.specs.ViewedFacts.NullPlaces.Agrees.{SameState}
 use Rattle.run_codes.specs.Codes.{Does, Point}
 use Rattle.run_codes.specs.Codes as codes
 use Rattle.run_codes.specs.Flat.{Got, Given, Stops, Broken, and_then, front, is_word, kind_of}
@@ -96,9 +97,9 @@ front_stands table made (s ∷ all) (x ∷ xs) (w ∷ ws) zs stand is = by (is_w
     by false e on = cc
 
 first_word : (n : ℕ) (zs : List ℤ) (z : ℤ) → slice_get zs n ≡ Some z → get_or (drop n zs) 0 (pos 0) ≡ z
-first_word zero [] z is = cc
+first_word zero [] z is = absurd (false≢true (ap is_some is))
 first_word zero (w ∷ zs) z is = cc
-first_word (suc n) [] z is = cc
+first_word (suc n) [] z is = absurd (false≢true (ap is_some is))
 first_word (suc n) (w ∷ zs) z is = first_word n zs z is
 
 -- ---- the ends of scopes

@@ -1,6 +1,8 @@
 -- Nothing is gone as a step begins.
 use Rattle.std.proofs.Common.{◌≡◌, refl, sym, ap, ◌∙◌, subst, ℕ, zero, suc, ◌-◌, Bool, true, false, List, [], ◌∷◌, ◌++◌, map, flat_map, reverse, length, take, nat_lt, slice_get, Some, ℤ, pos, negsuc, if◌then◌else◌}
 use Rattle.std.proofs.lemmas.List.{reverse-append}
+use Rattle.std.proofs.lemmas.Bool.{false≢true}
+use Rattle.std.specs.Prelude.{is_some}
 use Rattle.type_definitions.specs.Types.{Table}
 use Rattle.run_values.specs.declared.value.Value.{Value}
 use Rattle.run_values.specs.declared.value.Value.TheVariants as value
@@ -70,7 +72,7 @@ values_kept [] = tt
 values_kept (v ∷ vs) = (value_kept v, values_kept vs)
 
 cells_kept : (cells : List Cell) (n : ℕ) (c : Cell) → slice_get (map cleared_cell cells) n ≡ Some c → AreKept (map kind c.words) (words_in c.words)
-cells_kept [] n c is = cc
+cells_kept [] n c is = absurd (false≢true (ap is_some is))
 cells_kept (k ∷ cells) zero c is = subst (λ (x : Cell). AreKept (map kind x.words) (words_in x.words)) (let same : cleared_cell k ≡ c = cc in same) (values_kept k.words)
 cells_kept (k ∷ cells) (suc n) c is = cells_kept cells n c is
 
@@ -101,7 +103,7 @@ fresh_kept table made (s ∷ all) (w ∷ ws) [] stand = absurd stand
 fresh_kept table made (Whole ∷ all) (w ∷ ws) (z ∷ zs) stand = (tt, fresh_kept table made all ws zs stand.1)
 fresh_kept table made (Position ∷ all) (w ∷ ws) (z ∷ zs) stand = (tt, fresh_kept table made all ws zs stand.1)
 fresh_kept table made (Pointer d ∷ all) (w ∷ ws) (pos n ∷ zs) stand = (tt, fresh_kept table made all ws zs stand.1)
-fresh_kept table made (Pointer d ∷ all) (w ∷ ws) (negsuc n ∷ zs) stand = (let no : false ≡ true = stand.0.1 in cc)
+fresh_kept table made (Pointer d ∷ all) (w ∷ ws) (negsuc n ∷ zs) stand = (let no : false ≡ true = stand.0.1 in absurd (false≢true no))
 
 module _ (table : Table) where
   abbrev of_held : Held → List Kind

@@ -1,6 +1,8 @@
 -- The place of a name, as it is lowered, is a part of a variable or a cell of the machine: what its leak checks tell of is there.
 use Rattle.std.proofs.Common.{◌≡◌, refl, sym, ap, ◌∙◌, subst, inl, inr, ◌⊎◌, ℕ, zero, suc, ◌+◌, ◌<◌, arith, true, false, not, List, [], ◌∷◌, take, drop, length, get_or, slice_get, Some, ℤ, pos}
 use Rattle.std.proofs.lemmas.List.{drop-drop}
+use Rattle.std.proofs.lemmas.Bool.{false≢true}
+use Rattle.std.specs.Prelude.{is_some}
 use Rattle.spark_base.specs.Lists.{Has}
 use Rattle.spark_base.specs.declared.position.Pos.{Pos}
 use Rattle.typed_tree.specs.Trees.{TypedTree, Name, Call, NoMore, More}
@@ -14,7 +16,7 @@ use Rattle.soundness.specs.OwnedWays.Ways.{Owned}
 use Rattle.soundness.specs.Seen.{is_view_formal, content}
 use Rattle.soundness.specs.Typed.{Kept, loc_of}
 use Rattle.soundness.specs.Sound.{view_of}
-use Rattle.typed_laws.specs.Needed.{Leads}
+use Rattle.soundness.specs.TypedLaws.Needed.{Leads}
 use Rattle.machine.specs.Words.{access_offsets}
 use Rattle.machine.specs.Typed.{Sort, Pointer, sorts}
 use Rattle.machine.specs.Owners.{waiting_in}
@@ -22,8 +24,8 @@ use Rattle.machine.specs.Memory.{Slot, Memory, Base, OfVariable, OfCell, cell, s
 use Rattle.machine.specs.Evaluate.{Evaluated, place_of}
 use Rattle.machine.specs.Memory as machine_memory
 use Rattle.machine.specs.States as machine
-use Rattle.viewed_facts.specs.NullPlaces.Agrees.{SameState}
-use Rattle.viewed_facts.proofs.NullPlaces.Memories.{cell_agree}
+use Rattle.recycled_runs.specs.ViewedFacts.NullPlaces.Agrees.{SameState}
+use Rattle.recycled_runs.proofs.ViewedFacts.NullPlaces.Memories.{cell_agree}
 use Rattle.run_codes.specs.Codes.{Point}
 use Rattle.run_codes.specs.Flat.{Flat, Given, Broken, kinds, Spot, InStack, InCell, spot, words_at, words_in}
 use Rattle.run_codes.specs.Lowered.{Placed, place}
@@ -55,7 +57,7 @@ get_take (suc n) zero (z ∷ zs) less = refl
 get_take (suc n) (suc o) (z ∷ zs) less = get_take n o zs (omega (arith, less))
 
 pub below_length : (all : List Sort) (o : ℕ) (x : Sort) → slice_get all o ≡ Some x → o < length all
-below_length [] o x e = cc
+below_length [] o x e = absurd (false≢true (ap is_some e))
 below_length (s ∷ all) zero x e = omega arith
 below_length (s ∷ all) (suc o) x e = let less = below_length all o x e in omega (arith, less)
 

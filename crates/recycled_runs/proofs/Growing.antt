@@ -1,6 +1,7 @@
 -- The values of a point mark what they move and make cells: without the marks all that there was is as before.
 use Rattle.std.proofs.Common.{◌≡◌, refl, sym, ap, ◌∙◌, subst, ℕ, zero, suc, ◌+◌, ◌-◌, arith, Bool, true, false, not, ◌&&◌, nat_le, nat_lt, List, [], ◌∷◌, ◌++◌, append_assoc, append-nil, drop, length, ℤ, pos, negsuc, if◌then◌else◌}
 use Rattle.std.proofs.lemmas.Bool.Decides.{nat_tests}
+use Rattle.std.proofs.lemmas.Bool.{false≢true}
 use Rattle.type_definitions.specs.Types.{Table}
 use Rattle.run_values.specs.declared.value.Value.{Value}
 use Rattle.run_values.specs.declared.value.Value.TheVariants as value
@@ -58,15 +59,15 @@ one_unmarked sort.Access (negsuc n) is =
 
 first_of : (a b : Bool) → a && b ≡ true → a ≡ true
 first_of true b e = refl
-first_of false b e = cc
+first_of false b e = e
 
 second_of : (a b : Bool) → a && b ≡ true → b ≡ true
 second_of true b e = e
-second_of false b e = cc
+second_of false b e = absurd (false≢true e)
 
 all_unmarked : (ks : List Kind) (zs : List ℤ) → are_words ks zs ≡ true → ValuesUnmarked (values ks (all_fresh ks zs)) (values ks zs)
 all_unmarked [] zs is = tt
-all_unmarked (k ∷ ks) [] is = cc
+all_unmarked (k ∷ ks) [] is = absurd (false≢true is)
 all_unmarked (k ∷ ks) (z ∷ zs) is = (one_unmarked k z (first_of (is_word k z) (are_words ks zs) is), all_unmarked ks zs (second_of (is_word k z) (are_words ks zs) is))
 
 unmarked_long : (vs ws : List Value) → ValuesUnmarked vs ws → length vs ≡ length ws

@@ -10,11 +10,11 @@ use Rattle.soundness.specs.OwnedWays.Ways as ways
 use Rattle.soundness.specs.PartOffsets.Parts.{type_in, offset_in, has_part}
 use Rattle.soundness.specs.Seen.{content}
 use Rattle.soundness.specs.Typed.{Matches, IsCell, Kept, Points}
-use Rattle.viewed_facts.specs.NullPlaces.Cleared.{cleared_slot}
-use Rattle.viewed_facts.specs.NullPlaces.Cleared as null_places
-use Rattle.viewed_facts.specs.NullPlaces.Agrees.{AgreeSlot, AgreeSlots, Agrees}
-use Rattle.viewed_facts.proofs.NullPlaces.Lists.{pair_length}
-use Rattle.viewed_facts.proofs.NullPlaces.Memories.{cell_agree, count_agree, slots_agree}
+use Rattle.recycled_runs.specs.ViewedFacts.NullPlaces.Cleared.{cleared_slot}
+use Rattle.recycled_runs.specs.ViewedFacts.NullPlaces.Cleared as null_places
+use Rattle.recycled_runs.specs.ViewedFacts.NullPlaces.Agrees.{AgreeSlot, AgreeSlots, Agrees}
+use Rattle.recycled_runs.proofs.ViewedFacts.NullPlaces.Lists.{pair_length}
+use Rattle.recycled_runs.proofs.ViewedFacts.NullPlaces.Memories.{cell_agree, count_agree, slots_agree}
 use Rattle.recycled_runs.proofs.Nulls.{variable_clear, cell_clear}
 
 -- ---- nothing is gone

@@ -1,6 +1,8 @@
 -- What stands at a variable or a cell that owns names cells that are there.
 use Rattle.std.proofs.Common.{◌≡◌, refl, sym, ap, ◌∙◌, subst, inl, inr, ℕ, zero, suc, ◌<◌, true, false, List, [], ◌∷◌, append-nil, length, get_or, slice_get, Some, ℤ, pos, negsuc, if◌then◌else◌}
 use Rattle.std.proofs.lemmas.List.{length-map}
+use Rattle.std.proofs.lemmas.Bool.{false≢true}
+use Rattle.std.specs.Prelude.{is_some}
 use Rattle.spark_base.specs.Lists.{Has}
 use Rattle.type_definitions.specs.Types.{Table}
 use Rattle.flow_paths.specs.Objects.{Typing}
@@ -18,9 +20,9 @@ use Rattle.machine.specs.Words.{Cell, access_offsets}
 use Rattle.machine.specs.Typed.{Sort, Pointer, sorts}
 use Rattle.machine.specs.Memory.{Slot, HeapCell, Base, OfVariable, OfCell, slots_at, no_slot, cell}
 use Rattle.machine.specs.States as machine
-use Rattle.viewed_facts.specs.NullPlaces.Cleared.{cleared_slot}
-use Rattle.viewed_facts.specs.NullPlaces.Agrees.{AgreeSlot, AgreeSlots, SameState}
-use Rattle.viewed_facts.proofs.NullPlaces.Memories.{cell_agree, slots_agree}
+use Rattle.recycled_runs.specs.ViewedFacts.NullPlaces.Cleared.{cleared_slot}
+use Rattle.recycled_runs.specs.ViewedFacts.NullPlaces.Agrees.{AgreeSlot, AgreeSlots, SameState}
+use Rattle.recycled_runs.proofs.ViewedFacts.NullPlaces.Memories.{cell_agree, slots_agree}
 use Rattle.run_codes.specs.Points.{State}
 use Rattle.run_codes.specs.Related.{types, SlotStands, AllStand, IsTable}
 use Rattle.run_points.specs.States.{StateStands}
@@ -35,7 +37,7 @@ record Names (made : List ℕ) (x : Slot) (n : ℕ) : Type 0 where
 
 word_names : (table : Table) (made : List ℕ) (all : List Sort) (xs : List Slot) (zs : List ℤ) (o d n : ℕ) → AllStand table made all xs zs → slice_get all o ≡ Some (Pointer d) → get_or zs o (pos 0) ≡ pos (suc n)
     → Names made (get_or xs o no_slot) n
-word_names table made [] xs zs o d n stand is at = cc
+word_names table made [] xs zs o d n stand is at = absurd (false≢true (ap is_some is))
 word_names table made (s ∷ all) [] zs o d n stand is at = absurd stand
 word_names table made (s ∷ all) (x ∷ xs) [] o d n stand is at = absurd stand
 word_names table made (s ∷ all) (x ∷ xs) (z ∷ zs) zero d n stand is at =

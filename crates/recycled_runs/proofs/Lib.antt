@@ -1,3 +1,5 @@
+-- facts stay exact, and null may stand in moved places
+pub mod ViewedFacts
 -- points that make no leak check
 pub mod Quiet
 -- points that are neither a call nor its end

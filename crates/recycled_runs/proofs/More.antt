@@ -1,6 +1,7 @@
 -- What a memory gives is given where more cells were made.
 use Rattle.std.proofs.Common.{◌≡◌, refl, sym, ap, ◌∙◌, subst, ℕ, zero, suc, ◌+◌, Bool, true, false, not, ◌&&◌, nat_le, nat_lt, List, [], ◌∷◌, ◌++◌, drop, length, slice_get, Some, None, ℤ, if◌then◌else◌}
-use Rattle.std.specs.Prelude.{unsigned_abs}
+use Rattle.std.specs.Prelude.{unsigned_abs, is_some}
+use Rattle.std.proofs.lemmas.Bool.{false≢true}
 use Rattle.run_values.specs.declared.value.Kind.{Kind}
 use Rattle.run_values.specs.Items.{at_end}
 use Rattle.kept_cells.specs.Cells.{Cell}
@@ -41,7 +42,7 @@ pub record Grows (x w : Flat) : Type 0 where
   pub cells : w.cells ≡ x.cells ++ more
 
 pub slice_more : {A : Type 0} (xs ys : List A) (n : ℕ) (a : A) → slice_get xs n ≡ Some a → slice_get (xs ++ ys) n ≡ Some a
-slice_more [] ys n a e = cc
+slice_more [] ys n a e = absurd (false≢true (ap is_some e))
 slice_more (x ∷ xs) ys zero a e = e
 slice_more (x ∷ xs) ys (suc n) a e = slice_more xs ys n a e
 

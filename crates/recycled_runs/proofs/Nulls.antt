@@ -1,6 +1,8 @@
 -- The law: states stand for each other also with null in both for what was moved.
 use Rattle.std.proofs.Common.{◌≡◌, refl, sym, ap, ◌∙◌, subst, inl, inr, ℕ, zero, suc, ◌-◌, ◌<◌, ◌≤◌, Bool, true, false, List, [], ◌∷◌, map, take, drop, length, get_or, nat_lt, slice_get, Some, ℤ, pos, negsuc, arith, if◌then◌else◌}
 use Rattle.std.proofs.lemmas.List.{length-map}
+use Rattle.std.proofs.lemmas.Bool.{false≢true}
+use Rattle.std.specs.Prelude.{is_some}
 use Rattle.spark_base.specs.Lists.{Has}
 use Rattle.type_definitions.specs.Types.{Table}
 use Rattle.run_values.specs.declared.value.Value.{Value}
@@ -17,11 +19,11 @@ use Rattle.machine.specs.Typed.{Sort, Whole, Position, Pointer, sorts}
 use Rattle.machine.specs.Memory.{Slot, Variable, HeapCell, Memory, OfVariable, OfCell, fresh, is_variable, variable_slots, slots_at, no_slot, no_cell, cell}
 use Rattle.machine.specs.Evaluate.{heap_words}
 use Rattle.machine.specs.States as machine
-use Rattle.viewed_facts.specs.NullPlaces.Cleared.{cleared_slot, cleared_state}
-use Rattle.viewed_facts.specs.NullPlaces.Cleared as null_places
-use Rattle.viewed_facts.specs.NullPlaces.Agrees.{AgreeSlot, AgreeSlots, Agrees, SameState}
-use Rattle.viewed_facts.proofs.NullPlaces.Memories.{clear_agrees, cell_agree, slots_agree, count_agree, room_agree, freed_count}
-use Rattle.viewed_facts.proofs.NullPlaces.Only.{IsGone, OnlyOwners}
+use Rattle.recycled_runs.specs.ViewedFacts.NullPlaces.Cleared.{cleared_slot, cleared_state}
+use Rattle.recycled_runs.specs.ViewedFacts.NullPlaces.Cleared as null_places
+use Rattle.recycled_runs.specs.ViewedFacts.NullPlaces.Agrees.{AgreeSlot, AgreeSlots, Agrees, SameState}
+use Rattle.recycled_runs.proofs.ViewedFacts.NullPlaces.Memories.{clear_agrees, cell_agree, slots_agree, count_agree, room_agree, freed_count}
+use Rattle.recycled_runs.proofs.ViewedFacts.NullPlaces.Only.{IsGone, OnlyOwners}
 use Rattle.kept_cells.specs.Cells.{Cell}
 use Rattle.run_codes.specs.Flat.{Flat, most_cells, gone_from, kind_of, kinds, word_of, words_in}
 use Rattle.run_codes.specs.Points.{State}
@@ -167,7 +169,7 @@ kinds_front (s ∷ all) [] are = absurd are
 kinds_front (s ∷ all) (v ∷ vs) are = (sym are.0, kinds_front all vs are.1)
 
 got_clear : (cells : List Cell) (n : ℕ) (k : Cell) → slice_get cells n ≡ Some k → slice_get (map cleared_cell cells) n ≡ Some (cleared_cell k)
-got_clear [] n k is = cc
+got_clear [] n k is = absurd (false≢true (ap is_some is))
 got_clear (c ∷ cells) zero k is = ap Some (ap cleared_cell (let same : c ≡ k = cc in same))
 got_clear (c ∷ cells) (suc n) k is = got_clear cells n k is
 

@@ -1,6 +1,7 @@
 -- In programs that are ready, names own what is checked for leaks.
 use Rattle.std.proofs.Common.{◌≡◌, refl, sym, ap, ◌∙◌, subst, inl, inr, ◌⊎◌, ℕ, zero, suc, ◌<◌, arith, Bool, true, false, not, ◌&&◌, ◌||◌, List, [], ◌∷◌, ◌++◌, map, length, get_or, if◌then◌else◌}
 use Rattle.std.specs.Prelude.{is_some}
+use Rattle.std.proofs.lemmas.Bool.{false≢true, true≢false}
 use Rattle.spark_base.specs.Lists.{Has}
 use Rattle.spark_base.specs.declared.position.Pos.{Pos}
 use Rattle.place_names.specs.declared.act.Act.{Act}
@@ -30,7 +31,7 @@ use Rattle.soundness.specs.Sound.{goes_through_none}
 use Rattle.soundness.proofs.Points.{frame_in, flow_at}
 use Rattle.soundness.proofs.Passing.{signature_is}
 use Rattle.soundness.proofs.Typings.{flow_agrees, formal_same}
-use Rattle.typed_laws.specs.Needed.{Leads, IsPlace, IsFine}
+use Rattle.soundness.specs.TypedLaws.Needed.{Leads, IsPlace, IsFine}
 use Rattle.soundness.specs.ViewedSoundness.Holds.{is_bundle, is_given, is_fixed, AllKeep, IsAccess}
 use Rattle.soundness.proofs.ViewedSoundness.Evaluated.{keep_both}
 use Rattle.viewed_steps.specs.Ready.{IsReady, IsActualTo, AreActualsTo, AreUnobserved}
@@ -65,25 +66,25 @@ sub_has (x ∷ subs) (suc n) k less = inr (sub_has subs n k less)
 -- ---- what is no such formal itself
 
 no_end : (a g n : Bool) → a || (g && n) ≡ false → g ≡ true → n ≡ true → ⊥
-no_end true g n e given end = cc
-no_end false true true e given end = cc
-no_end false true false e given end = cc
-no_end false false n e given end = cc
+no_end true g n e given end = absurd (true≢false e)
+no_end false true true e given end = absurd (true≢false e)
+no_end false true false e given end = absurd (false≢true end)
+no_end false false n e given end = absurd (false≢true given)
 
 opposed : (b : Bool) → b ≡ true → b ≡ false → ⊥
-opposed b e f = (let no : true ≡ false = sym e ∙ f in cc)
+opposed b e f = (let no : true ≡ false = sym e ∙ f in absurd (true≢false no))
 
 no_first : (a b : Bool) → a || b ≡ false → a ≡ false
-no_first true b e = cc
+no_first true b e = e
 no_first false b e = refl
 
 given_first : (a b : Bool) → a ≡ true → a || b ≡ true
 given_first true b e = refl
-given_first false b e = cc
+given_first false b e = absurd (false≢true e)
 
 first_true : (a b : Bool) → a && b ≡ true → a ≡ true
 first_true true b e = refl
-first_true false b e = cc
+first_true false b e = e
 
 abbrev acts : List Placed → List Act
 acts all = map (λ (a : Placed). a.act) all
@@ -195,7 +196,7 @@ module _ (table : Table) (typed : TypedProgram) (effects : Effects) (ready : IsR
 
   no_variable : (k : ObjectKind) → is_formal_kind k ≡ true → is_variable k ≡ false
   no_variable object_kind.Formal e = refl
-  no_variable object_kind.Variable e = cc
+  no_variable object_kind.Variable e = absurd (false≢true e)
   no_variable object_kind.TextIo e = refl
   no_variable k e = refl
 

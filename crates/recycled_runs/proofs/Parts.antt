@@ -17,8 +17,8 @@ use Rattle.machine.specs.Words.{access_offsets}
 use Rattle.machine.specs.Typed.{sorts}
 use Rattle.machine.specs.Memory.{Base, OfVariable, OfCell, Place, slots_at}
 use Rattle.machine.specs.States as machine
-use Rattle.viewed_facts.specs.NullPlaces.Agrees.{SameState}
-use Rattle.viewed_facts.proofs.NullPlaces.Memories.{cell_agree}
+use Rattle.recycled_runs.specs.ViewedFacts.NullPlaces.Agrees.{SameState}
+use Rattle.recycled_runs.proofs.ViewedFacts.NullPlaces.Memories.{cell_agree}
 use Rattle.run_codes.specs.Points.{State}
 use Rattle.run_codes.specs.Related.{types, AllStand, IsTable}
 use Rattle.run_points.specs.States.{StateStands}

@@ -11,9 +11,9 @@ use Rattle.soundness.specs.Sound.{ending_of}
 use Rattle.viewed_steps.specs.Sound.{IsSound, LeadsOn}
 use Rattle.viewed_steps.proofs.Stepping.{sound_step}
 use Rattle.viewed_steps.proofs.Main.{sound_start, ready_sound}
-use Rattle.viewed_facts.specs.NullPlaces.Compares.{AreCompared}
-use Rattle.viewed_facts.proofs.NullPlaces.Runs.{GoesOn}
-use Rattle.viewed_facts.proofs.ViewedNulls.Steps.{step_same}
+use Rattle.recycled_runs.specs.ViewedFacts.NullPlaces.Compares.{AreCompared}
+use Rattle.recycled_runs.proofs.ViewedFacts.NullPlaces.Runs.{GoesOn}
+use Rattle.recycled_runs.proofs.ViewedFacts.ViewedNulls.Steps.{step_same}
 use Rattle.run_codes.specs.Points.{is_declaring}
 use Rattle.run_codes.specs.Programs.{Program}
 use Rattle.run_points.specs.Turns.{IsLowered, HasTypes}

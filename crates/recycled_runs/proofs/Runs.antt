@@ -10,12 +10,12 @@ use Rattle.machine.specs.States as machine
 use Rattle.machine.specs.Run.{Run, ended, run_with, then_on, within, empty_memory}
 use Rattle.machine.specs.Run as machine_run
 use Rattle.soundness.specs.PartOffsets.Parts.{IsSettled}
-use Rattle.viewed_facts.specs.NullPlaces.Cleared.{cleared_state}
-use Rattle.viewed_facts.specs.NullPlaces.Agrees.{Agrees, SameState}
-use Rattle.viewed_facts.proofs.NullPlaces.Memories.{itself, agrees_right, count_agree, freed_count}
-use Rattle.viewed_facts.proofs.NullPlaces.Only.{OnlyOwners}
-use Rattle.viewed_facts.proofs.NullPlaces.Instructions.{SameStepBy}
-use Rattle.viewed_facts.proofs.NullPlaces.Runs.{GoesOn}
+use Rattle.recycled_runs.specs.ViewedFacts.NullPlaces.Cleared.{cleared_state}
+use Rattle.recycled_runs.specs.ViewedFacts.NullPlaces.Agrees.{Agrees, SameState}
+use Rattle.recycled_runs.proofs.ViewedFacts.NullPlaces.Memories.{itself, agrees_right, count_agree, freed_count}
+use Rattle.recycled_runs.proofs.ViewedFacts.NullPlaces.Only.{OnlyOwners}
+use Rattle.recycled_runs.proofs.ViewedFacts.NullPlaces.Instructions.{SameStepBy}
+use Rattle.recycled_runs.proofs.ViewedFacts.NullPlaces.Runs.{GoesOn}
 use Rattle.run_codes.specs.Codes.{Point}
 use Rattle.run_codes.specs.Points.{Frame, State, ran_of}
 use Rattle.run_codes.specs.Points as points

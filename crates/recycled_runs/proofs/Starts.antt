@@ -1,5 +1,6 @@
 -- What stands before the first step.
 use Rattle.std.proofs.Common.{◌≡◌, refl, sym, ap, ◌∙◌, subst, ℕ, zero, suc, ◌+◌, arith, Bool, true, false, nat_lt, List, [], ◌∷◌, ◌++◌, length, get_or, sum, Option, Some, None}
+use Rattle.std.proofs.lemmas.Bool.{true≢false}
 use Rattle.type_definitions.specs.Types.{Table}
 use Rattle.flow_paths.specs.Objects.{object_at}
 use Rattle.flow_paths.specs.Points.{FlowPoint}
@@ -12,7 +13,7 @@ use Rattle.machine.specs.States.{Frame, sub_of, frame_words, frame_at_start}
 use Rattle.machine.specs.States as machine
 use Rattle.machine.specs.Run.{empty_memory, frames_at_start}
 use Rattle.machine.specs.Run as machine_run
-use Rattle.viewed_facts.proofs.NullPlaces.Only.{OwnersGone, OnlyOwners, fresh_whole}
+use Rattle.recycled_runs.proofs.ViewedFacts.NullPlaces.Only.{OwnersGone, OnlyOwners, fresh_whole}
 use Rattle.run_codes.specs.Points.{no_sub, sub_at, is_declaring}
 use Rattle.run_codes.specs.Points as points
 use Rattle.run_codes.specs.Programs.{Program, sub_rows}
@@ -31,12 +32,12 @@ use Rattle.recycled_runs.proofs.Clear.{NoneGone, kept_on, template_kept}
 pub start_only : (program : FlowProgram) → OnlyOwners (flow_typing program) empty_memory
 start_only program = (
   owners,
-  λ f x o gone. (let no : true ≡ false = sym gone ∙ fresh_whole (default (flow_typing program).table (object_at (flow_typing program) x).of) o in cc),
+  λ f x o gone. (let no : true ≡ false = sym gone ∙ fresh_whole (default (flow_typing program).table (object_at (flow_typing program) x).of) o in absurd (true≢false no)),
 )
   where
     owners : (b : Base) → OwnersGone (flow_typing program).table (content (flow_typing program) empty_memory [] (loc_of b))
     owners (OfVariable f x) o gone =
-        (let no : true ≡ false = sym gone ∙ fresh_whole (default (flow_typing program).table (object_at (flow_typing program) x).of) o in cc)
+        (let no : true ≡ false = sym gone ∙ fresh_whole (default (flow_typing program).table (object_at (flow_typing program) x).of) o in absurd (true≢false no))
     owners (OfCell zero) o gone = cc
     owners (OfCell (suc k)) o gone = cc
 

@@ -2,6 +2,7 @@
 use Rattle.std.proofs.Common.{◌≡◌, refl, sym, ap, ◌∙◌, subst, inl, inr, ◌⊎◌, ℕ, zero, suc, ◌+◌, ◌<◌, arith, Bool, true, false, not, ◌==◌, List, [], ◌∷◌, map, take, drop, length, get_or, slice_get, Option, Some, None, ℤ, pos, negsuc, if◌then◌else◌}
 use Rattle.std.specs.Prelude.{option_and_then}
 use Rattle.std.proofs.lemmas.List.{length-map}
+use Rattle.std.proofs.lemmas.Bool.{true≢false}
 use Rattle.spark_base.specs.Lists.{Has}
 use Rattle.spark_base.specs.declared.position.Pos.{Pos}
 use Rattle.place_names.specs.declared.act.Mode.TheVariants as mode
@@ -24,15 +25,15 @@ use Rattle.soundness.specs.Seen.{is_view_formal, content}
 use Rattle.soundness.specs.Typed.{Kept, Spot}
 use Rattle.soundness.specs.Sound.{view_of}
 use Rattle.soundness.proofs.Steps.{no_leaf}
-use Rattle.typed_laws.specs.Needed.{Leads}
+use Rattle.soundness.specs.TypedLaws.Needed.{Leads}
 use Rattle.machine.specs.Words.{Word, Cell, access_offsets}
 use Rattle.machine.specs.Typed.{Pointer, sorts}
 use Rattle.machine.specs.Owners.{waiting_in}
 use Rattle.machine.specs.Memory.{HeapCell, cell, words_of}
 use Rattle.machine.specs.Evaluate.{Use, AsView, cell_place, place_of}
 use Rattle.machine.specs.States as machine
-use Rattle.viewed_facts.specs.NullPlaces.Agrees.{SameState}
-use Rattle.viewed_facts.proofs.NullPlaces.Memories.{cell_agree}
+use Rattle.recycled_runs.specs.ViewedFacts.NullPlaces.Agrees.{SameState}
+use Rattle.recycled_runs.proofs.ViewedFacts.NullPlaces.Memories.{cell_agree}
 use Rattle.kept_cells.specs.Cells.{Cell as StoredCell}
 use Rattle.run_codes.specs.Codes.{Place, Fill, Checked, Pointer as LookedAt, Does, Put, Store, Point, Actual, From, To, InFrame, InPackages, Behind, Number}
 use Rattle.run_codes.specs.Codes as codes
@@ -100,7 +101,7 @@ none_leaked cells us (o ∷ offsets) none = absurd (none o (inl refl))
 scalar_none : (table : Table) → IsSettled table → (t : ℕ) → is_scalar (full table t) ≡ true → (o : ℕ) → Has (access_offsets table t) o → ⊥
 scalar_none table settled t scalar o has =
     let leaf = leaf_from table settled t o has in
-    let no : true ≡ false = sym leaf.1 ∙ no_leaf table settled t scalar leaf.0 in cc
+    let no : true ≡ false = sym leaf.1 ∙ no_leaf table settled t scalar leaf.0 in absurd (true≢false no)
 
 -- The type of a name is that of its place.
 named_type : (c : Site) (k y u : ℕ) (path : TypedTree) (name : Pos) (r : Placed) → place c k (Name name y path u) ≡ Some r → r.of ≡ u

@@ -21,7 +21,7 @@ use Rattle.soundness.specs.Seen.{content, trunk, steps_in}
 use Rattle.soundness.specs.Typed.{Kept, Spot}
 use Rattle.soundness.proofs.Numbers.{index_law}
 use Rattle.soundness.proofs.Steps.{plain_shape, content_slots}
-use Rattle.typed_laws.specs.Needed.{Matches, Leads}
+use Rattle.soundness.specs.TypedLaws.Needed.{Matches, Leads}
 
 -- ---- one after the other
 

@@ -1,5 +1,5 @@
 -- In a program without a fault of typing, the full types of private types don't have themselves in them.
-use Rattle.std.proofs.Common.{◌≡◌, ℕ, Bool, true, false, not, ◌||◌, ◌&&◌, IsTrue, arith, List, [], ◌∷◌, ◌++◌, refl, sym, Option, Some, None, is_some, is_none, true≢false, if◌then◌else◌}
+use Rattle.std.proofs.Common.{◌≡◌, ℕ, Bool, true, false, not, ◌||◌, ◌&&◌, IsTrue, arith, List, [], ◌∷◌, ◌++◌, refl, sym, Option, Some, None, is_some, is_none, true≢false, if◌then◌else◌, ap}
 use Rattle.std.specs.Prelude.{flat_map}
 use Rattle.spark_base.specs.declared.position.Pos.{Pos}
 use Rattle.resolved_tree.specs.declared.node.Mark.{Mark}
@@ -37,7 +37,7 @@ demanded n p true e = refl
 demanded n p false e = cc
 
 some_first : (found : List Fault) (f : Fault) → noted (Some f) found ≡ None → ⊥
-some_first [] f e = cc
+some_first [] f e = true≢false (ap is_some e)
 some_first (g ∷ rest) f e = some_first rest (if precedes g f then g else f) e
 
 no_first : (found : List Fault) → first found ≡ None → found ≡ []
@@ -45,8 +45,8 @@ no_first [] e = refl
 no_first (f ∷ rest) e = absurd (some_first rest f e)
 
 no_sentence : (found later : Option Fault) → decided found later ≡ None → later ≡ None
-no_sentence (Some f) later e = cc
-no_sentence None (Some f) e = cc
+no_sentence (Some f) later e = absurd (true≢false (ap is_some e))
+no_sentence None (Some f) e = absurd (true≢false (ap is_some e))
 no_sentence None None e = refl
 
 lone_where : (seen_in : Option ℕ) (b : Bool) → is_none seen_in || not b ≡ true → is_some seen_in ≡ true → b ≡ false
@@ -182,8 +182,8 @@ all_open known (u ∷ rest) formed e =
 
 no_fault : (found later : Option TypeFault) → told found later ≡ None → found ≡ None
 no_fault None later e = refl
-no_fault (Some f) None e = cc
-no_fault (Some f) (Some g) e = cc
+no_fault (Some f) None e = absurd (true≢false (ap is_some e))
+no_fault (Some f) (Some g) e = absurd (true≢false (ap is_some e))
 
 -- no unit breaks a sentence
 pub no_faults : (p : Program) → type_fault p ≡ None → flat_map (unit_faults (outside (known_of p))) p.units ≡ []

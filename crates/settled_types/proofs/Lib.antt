@@ -23,3 +23,5 @@ pub mod AnonymousTypes
 pub mod SteadyTypes
 -- tables of types that are fit for runs
 pub mod TableLaws
+-- which accepted programs are ready, by their typed and their resolved code
+pub mod OrderLaws

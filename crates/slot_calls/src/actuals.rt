@@ -15,7 +15,7 @@ use slot_hand::Hand;
 use slot_heap::Store;
 use slot_memory::{Memory, Spot};
 use slot_values::fill;
-use slot_words::{spot, word};
+use slot_words::{operand, spot};
 use spark_base::Pos;
 use std::alloc::AllocError;
 use type_bounds::fits;
@@ -137,7 +137,7 @@ fn pass_word<R: Store>(
     ensures { PassedOne R.Means memory.now table.now (codes.ByValue (codes.Checked (code_at nodes.now value) low high)) result hand.old hand.new memory.now }
 {
     let first = hand.len();
-    let given = word(nodes, memory, value)?;
+    let given = operand(nodes, memory, value)?;
     let kept = within(given, low, high)?;
     hand.push(kept)?;
     let end = hand.len();

@@ -16,6 +16,7 @@ use spark_base::Pos;
 use type_layouts::Layouts;
 
 /// A value of a type is assigned to a place.
+#[inline(always)]
 #[tactic(auto, using(crate::proofs::Left::values_rules))]
 fn assign_value<R: Store>(
     table: &Layouts,
@@ -48,6 +49,7 @@ fn assign_value<R: Store>(
 }
 
 /// The access value at a place is released.
+#[inline(always)]
 #[tactic(auto, using(crate::proofs::Left::values_rules))]
 fn release_place<R: Store>(
     table: &Layouts,
@@ -74,6 +76,7 @@ fn release_place<R: Store>(
 }
 
 /// The scope of an object of a named access type ends.
+#[inline(always)]
 #[tactic(auto, using(crate::proofs::Left::values_rules))]
 fn leave_pointer<R: Store>(
     table: &Layouts,
@@ -97,6 +100,7 @@ fn leave_pointer<R: Store>(
 }
 
 /// The scope of an object of another type ends.
+#[inline(always)]
 #[tactic(auto, using(crate::proofs::Left::values_rules))]
 fn leave_scope<R: Store>(
     table: &Layouts,
@@ -122,6 +126,7 @@ fn leave_scope<R: Store>(
 
 /// A point that may have leak checks: where it leads. The leaks that are found are appended to
 /// `found`, where there were none.
+#[inline(always)]
 #[tactic(auto, using(crate::proofs::Left::no_change))]
 pub fn change_values<R: Store>(
     table: &Layouts,
@@ -130,16 +135,16 @@ pub fn change_values<R: Store>(
     hand: &mut Hand,
     found: &mut Vec<Leak>,
     point: Pos,
-    does: Does,
+    does: &Does,
 ) -> Result<u32, Stop>
     requires sound { AreSound rows.now }
-    requires there { IsTrue (is_does_there rows.now does) }
+    requires there { IsTrue (is_does_there rows.now does.now) }
     requires none { found.old.items ≡ [] }
-    requires whole { CanChange R.Means memory.old (ValuesChange table.now rows.now point does) }
-    ensures left { Changing R.Means memory.old (ValuesChange table.now rows.now point does) result (leaks_of found.new.items) memory.new }
+    requires whole { CanChange R.Means memory.old (ValuesChange table.now rows.now point does.now) }
+    ensures left { Changing R.Means memory.old (ValuesChange table.now rows.now point does.now) result (leaks_of found.new.items) memory.new }
     ensures elsewhere { elsewhere memory.new ≡ elsewhere memory.old }
 {
-    match does {
+    match *does {
         Does::Assign {
             place,
             value,

@@ -2,3 +2,5 @@
 pub mod Started
 -- what a step comes to where the run goes on
 pub mod Led
+-- where no value was taken
+pub mod Idle

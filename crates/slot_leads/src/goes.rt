@@ -1,5 +1,5 @@
 //! Where the run goes on after a point.
-ghost use Rattle.std.specs.Prelude.{◌≡◌, ◌≤◌, ◌++◌, length, OnOk, IfErr};
+ghost use Rattle.std.specs.Prelude.{◌≡◌, ◌≤◌, ◌++◌, length, take, OnOk, IfErr};
 ghost use Rattle.code_rows.specs.Points.{next_of, program_of, IsWhole};
 ghost use Rattle.run_results.specs.Results.{leaks_of};
 ghost use Rattle.slot_frames.specs.Frames.{word_at};
@@ -47,13 +47,28 @@ fn go_main<R: Store>(
     }
 }
 
+/// The values that wait from a number on are gone. Mostly there are none.
+#[inline(always)]
+fn drop_any<R: Store>(memory: &mut Memory<R>, frames: &mut Frames, k: usize)
+    requires { word_at frames.old.waits k (length memory.old.waits) ≤ length memory.old.waits }
+    ensures memory { memory.new ≡ without_taken frames.old k memory.old }
+    ensures frames { frames.new ≡ record frames.old { waits = take k frames.old.waits } }
+{
+    if k == frames.waiting() {
+        memory.take_from(memory.waiting_words());
+        return;
+    }
+    drop_taken(memory, frames, k);
+}
+
 /// The values that wait from a number on are gone, and the run goes on at a point.
+#[inline(always)]
 fn go_next<R: Store>(memory: &mut Memory<R>, frames: &mut Frames, k: usize, next: u32)
     requires { word_at frames.old.waits k (length memory.old.waits) ≤ length memory.old.waits }
     ensures memory { memory.new ≡ without_taken frames.old k memory.old }
     ensures frames { frames.new ≡ at_next frames.old k next }
 {
-    drop_taken(memory, frames, k);
+    drop_any(memory, frames, k);
     frames.go(next);
 }
 
@@ -85,6 +100,7 @@ pub fn go_on<R: Store>(
 }
 
 /// The leaks that were found come after those that weren't told yet.
+#[inline(always)]
 pub fn tell_found(found: &[Leak], leaks: &mut Vec<Leak>) -> Result<(), AllocError>
     ensures { OnOk result (leaks_of leaks.new.items ≡ leaks_of leaks.old.items ++ leaks_of found.now) }
 {

@@ -43,6 +43,7 @@ pub fn go<R: Store>(
 }
 
 /// The leaks that were found come after those that weren't told yet.
+#[inline(always)]
 pub fn tell<R: Store>(parts: &mut Parts<R>) -> Result<(), Halt>
     ensures told { OnOk result (leaks_of parts.new.leaks.items ≡ leaks_of parts.old.leaks.items ++ leaks_of parts.old.found.items) }
     ensures rest { parts.new ≡ record parts.old { leaks = parts.new.leaks } }

@@ -1,5 +1,6 @@
 pub mod Never
 pub mod Assigning
+pub mod Framed
 pub mod Moved
 pub mod Cells
 pub mod Frees

@@ -28,6 +28,7 @@ use Rattle.slot_values.specs.Fillings.{Filled}
 use Rattle.slot_values.proofs.Places.{pointer_spot, pointer_stops, pointer_held, pointer_makes}
 use Rattle.code_rows.specs.Stops.{stop_of}
 use Rattle.slot_places.specs.Steps.{Leavable, Leaving, stored_leaking, stored_checked, stored_settled, Assignable, Assigning}
+use Rattle.slot_places.proofs.Framed.{frame_there, frame_settles, frame_checks, frame_leaves}
 use Rattle.slot_places.proofs.Assigning.{Found, Halted, settle_known, after_settled, store_known, checked_leaving, settled_leaving, place_reads, place_known, place_leaving, assign_fillable, assign_known, assign_stops, assign_leaves}
 
 abbrev one : List Kind
@@ -97,24 +98,17 @@ module _ {R : Type 0} (Means : R → Heap → Type 0) (table : Table) (p : Place
     assigns is = assign_known Means table to value of checks m noted tt [] (w ∷ []) refl is filled
 
     pub to_room : CanAssign → m.base + at + unsigned_abs (pos 0) ≤ length m.stack
-    to_room is = frame_room Means noted at no_index (pos 0) (place_reads Means table to of checks (w ∷ []) noted (assigns is)) (number_gives Means noted (pos 0))
+    to_room is = frame_there Means table at of checks w noted (assigns is)
 
     module _ (r : declared.Spot) (e : spot_of r ≡ InStack (m.base + at + unsigned_abs (pos 0))) where
-      to_gives : GivesSpot Means noted to (Ok r)
-      to_gives = frame_gives Means noted at no_index (pos 0) r (number_gives Means noted (pos 0)) e
-
-      settles : CanAssign → Leavable Means noted (stored_settled table (spot_of r) of checks (w ∷ []))
-      settles is = place_known Means table to of checks (w ∷ []) noted r (assigns is) to_gives
-
       pub take_known : CanAssign → Knows Means noted (λ s. is_broken (settled s) ≡ false)
-      take_known is = settle_known Means table (spot_of r) of checks (w ∷ []) noted (settles is)
+      take_known is = frame_settles Means table at of checks w noted r e (assigns is)
 
       pub taken_known : (n : Kept R) → CanAssign → Changes Means noted settled n → Leavable Means n (stored_checked table (spot_of r) of checks (w ∷ []))
-      taken_known n is changes = after_settled Means table (spot_of r) of checks (w ∷ []) noted n (settles is) changes
+      taken_known n is changes = frame_checks Means table at of checks w noted r e n (assigns is) changes
 
       pub moved_leaves : {V : Type 0} (n k : Kept R) (res : Result V Stop) (old new : List Leak) → Changes Means noted settled n
           → Leaving Means n (stored_checked table (spot_of r) of checks (w ∷ [])) res old new k → Assigning Means m table to value of checks res old new k
       moved_leaves n k res old new changes leaving =
           assign_leaves Means table to value of checks m noted k tt [] (w ∷ []) res old new refl filled
-          (place_leaving Means table to of checks (w ∷ []) noted k r res old new to_gives
-          (settled_leaving Means table (spot_of r) of checks (w ∷ []) noted n k res old new changes leaving))
+          (frame_leaves Means table at of checks w noted r e n k res old new changes leaving)

@@ -11,7 +11,7 @@ ghost use Rattle.slot_memory.specs.Spots.{spot_of};
 ghost use Rattle.slot_hand.specs.Leaks.{Finds};
 ghost use Rattle.slot_places.specs.Steps.{Leavable, Leaving, stored_settled, Assignable, Assigning};
 
-use crate::pointers::assign_moved;
+use crate::pointers::{assign_moved, put_settled};
 use code_rows::{Fill, Fills, Nodes, Place, Stop};
 use run_results::Leak;
 use slot_hand::Hand;
@@ -21,7 +21,6 @@ use slot_values::fill;
 use slot_words::spot;
 use spark_base::Pos;
 use type_layouts::Layouts;
-use type_words::is_pointer;
 
 /// Appends the failed leak checks of a spot of a type, where there are checks.
 #[tactic(auto, using(crate::proofs::Assigning::none_found))]
@@ -64,7 +63,8 @@ fn store_checked<R: Store>(
 }
 
 /// The words at hand are stored at a place of a type, which is found before the leak checks.
-fn place_words<R: Store>(
+#[inline(never)]
+fn any_place<R: Store>(
     table: &Layouts,
     nodes: &Nodes,
     memory: &mut Memory<R>,
@@ -83,7 +83,37 @@ fn place_words<R: Store>(
     store_checked(table, memory, hand, found, of, checks, leaks)
 }
 
+/// The same. One access value needs no list of words where an object of a named access type in the
+/// frame is assigned.
+#[inline(always)]
+fn place_words<R: Store>(
+    table: &Layouts,
+    nodes: &Nodes,
+    memory: &mut Memory<R>,
+    hand: &mut Hand,
+    place: Place,
+    of: u32,
+    checks: Option<Pos>,
+    leaks: &mut Vec<Leak>,
+) -> Result<(), Stop>
+    requires place { IsTrue (is_place_below (length nodes.now) place) }
+    requires whole { Leavable R.Means memory.old (assigned table.now (place_of (code_at nodes.now) place) of checks hand.old) }
+    ensures stored { Leaving R.Means memory.old (assigned table.now (place_of (code_at nodes.now) place) of checks hand.old) result (leaks_of leaks.old.items) (leaks_of leaks.new.items) memory.new }
+    ensures elsewhere { elsewhere memory.new ≡ elsewhere memory.old }
+{
+    if let Place::Local { at } = place {
+        if hand.len() == 1 {
+            if table.is_pointer(of) {
+                let word = hand.words()[0];
+                return put_settled(table, memory, word, at, of, checks, leaks);
+            }
+        }
+    }
+    any_place(table, nodes, memory, hand, place, of, checks, leaks)
+}
+
 /// A value of a type is made, and its words are stored at a place, which is found then.
+#[inline(never)]
 fn assign_words<R: Store>(
     table: &Layouts,
     nodes: &Nodes,
@@ -109,6 +139,7 @@ fn assign_words<R: Store>(
 }
 
 /// The place that a value is moved out of, where it is one access value.
+#[inline(always)]
 fn moved_from(nodes: &Nodes, fills: &Fills, value: u32) -> Option<Place>
     requires within { IsTrue (are_within nodes.now fills.now) }
     requires there { value < length fills.now }
@@ -121,6 +152,7 @@ fn moved_from(nodes: &Nodes, fills: &Fills, value: u32) -> Option<Place>
 }
 
 /// A value of a type is assigned to a place, which is found after the value is made.
+#[inline(always)]
 pub fn assign<R: Store>(
     table: &Layouts,
     nodes: &Nodes,
@@ -143,8 +175,8 @@ pub fn assign<R: Store>(
     if let Place::Local { at } = place {
         if let Some(from) = moved_from(nodes, fills, value) {
             if memory.is_settled() {
-                if is_pointer(table.table(), of) {
-                    return assign_moved(table, nodes, memory, hand, from, at, of, checks, leaks);
+                if table.is_pointer(of) {
+                    return assign_moved(table, nodes, memory, from, at, of, checks, leaks);
                 }
             }
         }

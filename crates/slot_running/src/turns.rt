@@ -74,9 +74,8 @@ fn turn_point<R: Store>(
     }
 }
 
-/// Makes at most so many steps, but at least one: those of points that take no values and store one
-/// word at most, and one of another point or one that raises. Where a step can't be made for want of
-/// memory, nothing is told.
+/// Makes so many steps, but fewer where the run is over before, and at least one. Where a step can't
+/// be made for want of memory, nothing is told.
 pub(crate) fn turns<R: Store>(
     alloc: Global,
     codes: &Codes,
@@ -99,10 +98,10 @@ pub(crate) fn turns<R: Store>(
         };
         match free_point(codes, table, parts, point, k) {
             Free::Goes => made += 1,
-            Free::Stays => {
-                let over = turn_point(alloc, codes, table, parts, passing, point, k)?;
-                return Ok((made + 1, over));
-            }
+            Free::Stays => match turn_point(alloc, codes, table, parts, passing, point, k)? {
+                None => made += 1,
+                Some(over) => return Ok((made + 1, Some(over))),
+            },
             Free::Fails => return Err(AllocError),
         }
     }

@@ -34,17 +34,17 @@ pub fn step_words<R: Store>(
 }
 
 /// A point that may have leak checks.
-#[inline(never)]
+#[inline(always)]
 pub(crate) fn step_values<R: Store>(
     codes: &Codes,
     table: &Layouts,
     parts: &mut Parts<R>,
-    point: Point,
+    point: &Point,
     k: usize,
 ) -> Result<(), Halt>
-    requires at { IsAt R.Means codes.now table.now point k parts.old }
-    requires group { group_of point.does ≡ Group.Values }
-    ensures { Leads R.Means codes.now table.now point result parts.old parts.new }
+    requires at { IsAt R.Means codes.now table.now point.now k parts.old }
+    requires group { group_of point.now.does ≡ Group.Values }
+    ensures { Leads R.Means codes.now table.now point.now result parts.old parts.new }
 {
     parts.found.clear();
     match change_values(
@@ -54,7 +54,7 @@ pub(crate) fn step_values<R: Store>(
         &mut parts.hand,
         &mut parts.found,
         point.pos,
-        point.does,
+        &point.does,
     ) {
         Ok(next) => {
             tell(parts)?;

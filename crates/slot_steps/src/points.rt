@@ -74,6 +74,7 @@ fn step_other<R: Store>(
 }
 
 /// The step of a point, which takes the values that wait from a number on: whether the run goes on.
+#[inline(always)]
 pub fn step_point<R: Store>(
     alloc: Global,
     codes: &Codes,
@@ -88,7 +89,7 @@ pub fn step_point<R: Store>(
 {
     match grouped(point.does) {
         Group::Words => goes(step_words(codes, table, parts, point, k)),
-        Group::Values => goes(step_values(codes, table, parts, *point, k)),
+        Group::Values => goes(step_values(codes, table, parts, point, k)),
         Group::Others => step_other(alloc, codes, table, parts, passing, *point, k),
     }
 }

@@ -81,10 +81,10 @@ fn given_behind<R: Store>(memory: &Memory<R>, from: u32, at: u32, kind: Kind) ->
     }
 }
 
-/// A number, a word of the frame, or a word of the cell that one designates. None: it is another
-/// expression, or it stops.
+/// A word of the frame, or a word of the cell that one designates. None: it is another expression, or
+/// it stops.
 #[inline(always)]
-fn leaf<R: Store>(nodes: &Nodes, memory: &Memory<R>, n: u32) -> Option<i64>
+fn variable<R: Store>(nodes: &Nodes, memory: &Memory<R>, n: u32) -> Option<i64>
     requires there { n < length nodes.now }
     requires whole { Reads R.Means memory.now (code_at nodes.now n) }
     ensures { IfSome result (λ w. Gives R.Means memory.now (code_at nodes.now n) (Ok w)) }
@@ -96,13 +96,23 @@ fn leaf<R: Store>(nodes: &Nodes, memory: &Memory<R>, n: u32) -> Option<i64>
     if let Node::ViaLocal { local, at, kind } = node {
         return given_behind(memory, local, at, kind);
     }
-    if let Node::Number { value } = node {
-        return Some(value as i64);
-    }
     None
 }
 
-/// An operator with two such operands.
+/// Such a word, or a number. None: it is another expression, or it stops.
+#[inline(always)]
+fn leaf<R: Store>(nodes: &Nodes, memory: &Memory<R>, n: u32) -> Option<i64>
+    requires there { n < length nodes.now }
+    requires whole { Reads R.Means memory.now (code_at nodes.now n) }
+    ensures { IfSome result (λ w. Gives R.Means memory.now (code_at nodes.now n) (Ok w)) }
+{
+    if let Node::Number { value } = nodes.node(n) {
+        return Some(value as i64);
+    }
+    variable(nodes, memory, n)
+}
+
+/// An operator with two words of the frame or of cells.
 #[inline(always)]
 #[tactic(auto, using(crate::proofs::Operands::binary_rules))]
 fn leaves<R: Store>(
@@ -117,8 +127,8 @@ fn leaves<R: Store>(
     requires whole { Reads R.Means memory.now (Binary operator (code_at nodes.now left) (code_at nodes.now right)) }
     ensures { IfSome result (λ w. Gives R.Means memory.now (Binary operator (code_at nodes.now left) (code_at nodes.now right)) (Ok w)) }
 {
-    let left = leaf(nodes, memory, left)?;
-    let right = leaf(nodes, memory, right)?;
+    let left = variable(nodes, memory, left)?;
+    let right = variable(nodes, memory, right)?;
     operate_quick(operator, left, right)
 }
 
@@ -135,7 +145,7 @@ fn leaf_is_null<R: Store>(
     requires whole { Reads R.Means memory.now (IsNull equal (code_at nodes.now pointer)) }
     ensures { IfSome result (λ w. Gives R.Means memory.now (IsNull equal (code_at nodes.now pointer)) (Ok w)) }
 {
-    let pointer = leaf(nodes, memory, pointer)?;
+    let pointer = variable(nodes, memory, pointer)?;
     Some(truth((pointer == 0) == equal))
 }
 
@@ -191,7 +201,7 @@ fn term<R: Store>(nodes: &Nodes, memory: &Memory<R>, n: u32) -> Option<i64>
     {
         return leaves(nodes, memory, operator, left, right);
     }
-    leaf(nodes, memory, n)
+    variable(nodes, memory, n)
 }
 
 /// An operator with such an operand on the left, and a number on the right.

@@ -23,8 +23,8 @@ use Rattle.sound_files.proofs.MeantFiles.Told.{files_followed}
 use Rattle.sound_files.proofs.MeantFiles.Bodies.{files_have_bodies}
 use Rattle.sound_files.specs.CalledSubs.Called.{HaveBodies}
 use Rattle.sound_files.proofs.CalledSubs.Main.{calls_within}
-use Rattle.order_laws.specs.ReadyLaws.InOrder.{IsSub}
-use Rattle.order_laws.specs.Orderly.{typed_of, bodies_of}
+use Rattle.settled_types.specs.OrderLaws.ReadyLaws.InOrder.{IsSub}
+use Rattle.settled_types.specs.OrderLaws.Orderly.{typed_of, bodies_of}
 
 -- ---- lists
 

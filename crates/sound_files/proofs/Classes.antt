@@ -14,9 +14,9 @@ use Rattle.flow_paths.specs.Objects.{Typing, Signature, object_at, sub_at}
 use Rattle.flow_paths.specs.Laid.{Temporary, temporary_object, NamedSub, FlowProgram, signature, flow_typing, flow_named, flow_program}
 use Rattle.soundness.proofs.Typings.{flow_agrees}
 use Rattle.sound_files.specs.CalledSubs.Called.{HaveBodies}
-use Rattle.typed_laws.specs.TypedSteps.Steps.{IsTypedStep, AreTyped}
-use Rattle.order_laws.specs.ReadyLaws.InOrder.{IsSub, AreAnswered}
-use Rattle.order_laws.specs.Orderly.{typed_of, typing_in, bodies_of}
+use Rattle.soundness.specs.TypedLaws.TypedSteps.Steps.{IsTypedStep, AreTyped}
+use Rattle.settled_types.specs.OrderLaws.ReadyLaws.InOrder.{IsSub, AreAnswered}
+use Rattle.settled_types.specs.OrderLaws.Orderly.{typed_of, typing_in, bodies_of}
 use Rattle.sound_files.proofs.Called.{called_body}
 
 -- ---- objects

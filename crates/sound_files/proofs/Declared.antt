@@ -1,6 +1,7 @@
 -- What code declares is known as no formal, and formals belong to no package.
 use Rattle.std.proofs.Common.{◌≡◌, refl, sym, ap, ◌∙◌, subst, ◌⊎◌, inl, inr, ℕ, zero, suc, ◌+◌, Bool, true, false, not, ◌&&◌, List, [], ◌∷◌, ◌++◌, map, flat_map, get_or, nat_eq, arith, None, is_some}
 use Rattle.std.specs.List.{position_or_len, AllByRecursion}
+use Rattle.std.proofs.lemmas.Bool.{false≢true}
 use Rattle.spark_base.specs.Lists.{Has}
 use Rattle.spark_base.specs.declared.position.Pos.{Pos}
 use Rattle.place_names.specs.declared.act.Mode.{Mode}
@@ -25,8 +26,8 @@ use Rattle.flow_paths.specs.Laid.{declared_within}
 use Rattle.flow_paths.specs.Objects.{object_at, is_formal, is_formal_kind, is_state, is_package_object}
 use Rattle.sound_files.specs.MeantFiles.Typed.{IsOf, AreIndicated, AreIntegers, AreTyped}
 use Rattle.sound_files.proofs.MeantFiles.Objects.{object_numbers, units_same}
-use Rattle.order_laws.proofs.ScopeLaws.Lists.{all_both}
-use Rattle.order_laws.specs.Orderly.{typed_of, typing_in}
+use Rattle.settled_types.proofs.OrderLaws.ScopeLaws.Lists.{all_both}
+use Rattle.settled_types.specs.OrderLaws.Orderly.{typed_of, typing_in}
 use Rattle.sound_files.proofs.Kinded.{program_kinded}
 use Rattle.sound_files.proofs.Known.{kind_at}
 
@@ -199,7 +200,7 @@ abbrev IsSorted : DeclaredObject → Type 0
 IsSorted o = is_formal_kind o.object.kind ≡ true → o.object.«package» ≡ None
 
 no_formal : (k : ObjectKind) → is_formal_kind k ≡ false → is_formal_kind k ≡ true → ⊥
-no_formal k none is = (let no : false ≡ true = sym none ∙ is in cc)
+no_formal k none is = (let no : false ≡ true = sym none ∙ is in absurd (false≢true no))
 
 module _ (units : List Code) (made : ℕ → Type 0) where
   abbrev AreSorted : List DeclaredObject → Type 0
@@ -279,7 +280,7 @@ module _ (units : List Code) (made : ℕ → Type 0) where
 
 sorted_at : (os : List DeclaredObject) → AllByRecursion IsSorted os → (x : ℕ) → is_formal_kind (get_or (map (λ (o : DeclaredObject). o.object) os) x text_io).kind ≡ true
     → (get_or (map (λ (o : DeclaredObject). o.object) os) x text_io).«package» ≡ None
-sorted_at [] all x is = (let no : false ≡ true = is in cc)
+sorted_at [] all x is = (let no : false ≡ true = is in absurd (false≢true no))
 sorted_at (o ∷ os) all zero is = all.0 is
 sorted_at (o ∷ os) all (suc x) is = sorted_at os all.1 x is
 
@@ -312,7 +313,7 @@ module _ (p : Program) where
   pub formals_apart : (made : ℕ → Type 0) → ((u : Code) → Has p.units u → AreTyped made (outside (known_of p)) u) → (x : ℕ) → is_formal (typing_in p) x ≡ true
       → is_package_object (typing_in p) x ≡ false
   unfolding typed_program
-  formals_apart made typed zero is = (let no : false ≡ true = is in cc)
+  formals_apart made typed zero is = (let no : false ≡ true = is in absurd (false≢true no))
   formals_apart made typed (suc x) is =
       let os : List DeclaredObject = program_objects (known_of p) p.units in
       let none = sorted_at os (units_sorted p.units made (record { known = known_of p; identifier = None }) (outside (known_of p)) refl 1 p.units typed) x is in

@@ -21,11 +21,11 @@ use Rattle.typed_tree.specs.Expressions.{Site, object_number}
 use Rattle.typed_tree.specs.Statements.{scope_count}
 use Rattle.typed_tree.specs.Programs.{TypedSub, DeclaredObject, Home, object_of, objects_of, formals_of, objects_in, program_objects, text_io, local, in_package, package_text, front_formals, formal_numbers, placed, subs_in, over_units, site_of, typed_program}
 use Rattle.flow_paths.specs.Objects.{object_at}
-use Rattle.order_laws.proofs.ScopeLaws.Lists.{and_second}
-use Rattle.order_laws.specs.ScopeLaws.Code.{Once}
-use Rattle.order_laws.specs.Orderly.{typing_in, bodies_of}
-use Rattle.order_laws.proofs.Mains.{nothing_left, nothing_right, demanded}
-use Rattle.order_laws.proofs.Parts.{object_there}
+use Rattle.settled_types.proofs.OrderLaws.ScopeLaws.Lists.{and_second}
+use Rattle.settled_types.specs.OrderLaws.ScopeLaws.Code.{Once}
+use Rattle.settled_types.specs.OrderLaws.Orderly.{typing_in, bodies_of}
+use Rattle.settled_types.proofs.OrderLaws.Mains.{nothing_left, nothing_right, demanded}
+use Rattle.settled_types.proofs.OrderLaws.Parts.{object_there}
 use Rattle.sound_files.proofs.Mains.{front_agrees}
 
 -- It is one of these objects, of mode `in`.
@@ -40,8 +40,8 @@ right s os more x f = (f.0, f.1, Has-append_right os more f.0 f.2, f.3)
 
 in_mode : (m : Mode) → is_in m ≡ true → m ≡ mode.In
 in_mode mode.In e = refl
-in_mode mode.Out e = cc
-in_mode mode.InOut e = cc
+in_mode mode.Out e = absurd (false≢true e)
+in_mode mode.InOut e = absurd (false≢true e)
 
 -- ---- the formals of a body
 

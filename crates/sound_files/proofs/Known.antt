@@ -18,7 +18,7 @@ use Rattle.flow_paths.specs.Objects.{is_formal, is_formal_kind}
 use Rattle.sound_files.specs.SeenFiles.Fits.{all_numbers, group_numbers, front_numbers}
 use Rattle.sound_files.specs.MeantFiles.Typed.{AreOf, IsGroupTyped, AreGroupsTyped, IsFrontTyped, AreTyped}
 use Rattle.sound_files.proofs.MeantFiles.Objects.{object_numbers, units_same}
-use Rattle.order_laws.specs.Orderly.{typing_in, bodies_of}
+use Rattle.settled_types.specs.OrderLaws.Orderly.{typing_in, bodies_of}
 use Rattle.sound_files.proofs.Kinded.{AreKinded, program_kinded}
 
 -- It is the object of a declaration among these, which is known as that of a formal.

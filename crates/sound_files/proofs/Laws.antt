@@ -12,8 +12,8 @@ use Rattle.typing_steps.specs.Programs.{program_of}
 use Rattle.typed_tree.specs.Programs.{site_of}
 use Rattle.type_sizes.specs.Formed.{all_formed}
 use Rattle.type_rules.proofs.Formed.{files_formed}
-use Rattle.typed_laws.specs.Fine.{Laws}
-use Rattle.typed_laws.proofs.TypedPoints.Values.{truth, numbers}
+use Rattle.soundness.specs.TypedLaws.Fine.{Laws}
+use Rattle.soundness.proofs.TypedLaws.TypedPoints.Values.{truth, numbers}
 use Rattle.settled_types.specs.Orderly.{at_start, IsOrderly as IsInOrder}
 use Rattle.settled_types.specs.OrderlyFiles.Apart.{AreApart}
 use Rattle.settled_types.specs.OrderlyFiles.Ended.{AllEnded}
@@ -26,7 +26,7 @@ use Rattle.settled_types.proofs.GatheredLaws.Laws.{program_laws}
 use Rattle.settled_types.proofs.NamedFiles.Records.{records_apart}
 use Rattle.sound_files.specs.MeantFiles.Typed.{AreTyped as AreDeclared}
 use Rattle.sound_files.proofs.MeantFiles.Main.{first_table, files_kept, files_typed}
-use Rattle.order_laws.proofs.Faults.{units_faultless}
+use Rattle.settled_types.proofs.OrderLaws.Faults.{units_faultless}
 use Rattle.settled_types.specs.Stamped.{AllOpen}
 use Rattle.settled_types.proofs.Main.{second, rows_first, rows_second}
 use Rattle.settled_types.proofs.Faultless.{program_open}

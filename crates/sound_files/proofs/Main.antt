@@ -15,8 +15,8 @@ use Rattle.settled_types.proofs.OrderlyFiles.Main.{files_in_order}
 use Rattle.settled_types.specs.FilePositions.Order.{Ascends, event_positions}
 use Rattle.settled_types.specs.GatheredLaws.Made.{IsMade}
 use Rattle.settled_types.specs.GatheredLaws.Views.{AreViews}
-use Rattle.order_laws.specs.Orderly.{typed_of, IsOrderly}
-use Rattle.order_laws.proofs.Faults.{units_faultless}
+use Rattle.settled_types.specs.OrderLaws.Orderly.{typed_of, IsOrderly}
+use Rattle.settled_types.proofs.OrderLaws.Faults.{units_faultless}
 use Rattle.sound_files.proofs.SeenFiles.Main.{files_seen}
 use Rattle.sound_files.proofs.Whole.{whole}
 use Rattle.sound_files.proofs.Once.{files_once}

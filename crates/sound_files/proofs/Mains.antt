@@ -19,13 +19,13 @@ use Rattle.type_definitions.specs.Whole.{outside, known_of, is_formless, type_fa
 use Rattle.typed_tree.specs.Expressions.{Site, object_number}
 use Rattle.typed_tree.specs.Statements.{scope_count}
 use Rattle.typed_tree.specs.Programs.{TypedSub, subs_in, placed, bodies_in, over_units, site_of, formal_numbers, front_formals, typed_program}
-use Rattle.order_laws.proofs.ScopeLaws.Lists.{and_first}
-use Rattle.order_laws.specs.ReadyLaws.InOrder.{IsSub}
-use Rattle.order_laws.specs.Written.{is_procedure, is_unit, are_declarations, are_statements}
-use Rattle.order_laws.specs.Orderly.{typed_of, bodies_of}
-use Rattle.order_laws.proofs.Faults.{units_faultless, mains_faultless}
-use Rattle.order_laws.proofs.Mains.{main_unit, nothing_left, nothing_right, demanded}
-use Rattle.order_laws.proofs.Parts.{either, same_number, number_here, number_later}
+use Rattle.settled_types.proofs.OrderLaws.ScopeLaws.Lists.{and_first}
+use Rattle.settled_types.specs.OrderLaws.ReadyLaws.InOrder.{IsSub}
+use Rattle.settled_types.specs.OrderLaws.Written.{is_procedure, is_unit, are_declarations, are_statements}
+use Rattle.settled_types.specs.OrderLaws.Orderly.{typed_of, bodies_of}
+use Rattle.settled_types.proofs.OrderLaws.Faults.{units_faultless, mains_faultless}
+use Rattle.settled_types.proofs.OrderLaws.Mains.{main_unit, nothing_left, nothing_right, demanded}
+use Rattle.settled_types.proofs.OrderLaws.Parts.{either, same_number, number_here, number_later}
 
 -- ---- fronts
 

@@ -60,7 +60,7 @@ use Rattle.settled_types.specs.OrderlyFiles.Apart.{AreApart}
 use Rattle.settled_types.specs.OrderlyFiles.Numbered.{AreNumbered}
 use Rattle.settled_types.proofs.OrderlyFiles.Declares.{numbered_both, behind_both}
 use Rattle.settled_types.proofs.OrderlyFiles.Main.{longer_all, files_numbered}
-use Rattle.order_laws.specs.ScopeLaws.Code.{Once}
+use Rattle.settled_types.specs.OrderLaws.ScopeLaws.Code.{Once}
 use Rattle.sound_files.specs.SeenFiles.Fits.{all_numbers, group_numbers, front_numbers}
 use Rattle.sound_files.proofs.MeantFiles.Objects.{object_numbers, units_same}
 

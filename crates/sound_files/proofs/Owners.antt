@@ -1,5 +1,7 @@
 -- What the class says of the program as it is laid out.
 use Rattle.std.proofs.Common.{◌≡◌, sym, ap, ◌∙◌, subst, inl, inr, ℕ, suc, true, List, [], Some, None}
+use Rattle.std.proofs.lemmas.Bool.{false≢true}
+use Rattle.std.specs.Prelude.{is_some}
 use Rattle.spark_base.specs.Lists.{Has}
 use Rattle.place_names.specs.declared.act.Mode.TheVariants as mode
 use Rattle.resolved_tree.specs.Trees.{Program}
@@ -9,8 +11,8 @@ use Rattle.typed_tree.specs.Programs.{TypedSub, typed_program}
 use Rattle.flow_paths.specs.Objects.{Typing, Signature, object_at, sub_at, is_formal}
 use Rattle.flow_paths.specs.Laid.{FlowProgram, flow_typing, flow_program}
 use Rattle.soundness.proofs.Typings.{Agree, flow_agrees, formal_same}
-use Rattle.order_laws.specs.ReadyLaws.InOrder.{IsSub}
-use Rattle.order_laws.specs.Orderly.{typed_of, typing_in, bodies_of}
+use Rattle.settled_types.specs.OrderLaws.ReadyLaws.InOrder.{IsSub}
+use Rattle.settled_types.specs.OrderLaws.Orderly.{typed_of, typing_in, bodies_of}
 use Rattle.viewed_steps.specs.Sound.{IsScalarObject}
 use Rattle.sound_files.proofs.Functions.{FunctionsTakeIn}
 use Rattle.sound_files.proofs.Classes.{signature_at, signature_same, signature_there, mode_same}
@@ -37,8 +39,8 @@ module _ (p : Program) where
   modes_own : FunctionsTakeIn p → (n t x : ℕ) → (sub_at own n).result ≡ Some t → Has (sub_at own n).formals x → (object_at own x).mode ≡ mode.In
   unfolding typed_program
   modes_own all n t x result has = elim (signature_at (typed_of p).subs n) [
-    | inl none ↦ absurd (let no : None ≡ Some t = sym (ap (λ (z : Signature). z.result) none) ∙ result in cc)
-    | inr (sub, inl first, at) ↦ absurd (let no : None ≡ Some t = ap (λ (z : TypedSub). z.result) first ∙ sym (ap (λ (z : Signature). z.result) at) ∙ result in cc)
+    | inl none ↦ absurd (let no : None ≡ Some t = sym (ap (λ (z : Signature). z.result) none) ∙ result in false≢true (ap is_some no))
+    | inr (sub, inl first, at) ↦ absurd (let no : None ≡ Some t = ap (λ (z : TypedSub). z.result) first ∙ sym (ap (λ (z : Signature). z.result) at) ∙ result in false≢true (ap is_some no))
     | inr (sub, inr there, at) ↦ all sub there t (sym (ap (λ (z : Signature). z.result) at) ∙ result) x (subst (λ (z : Signature). Has z.formals x) at has)
   ]
 

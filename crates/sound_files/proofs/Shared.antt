@@ -1,7 +1,7 @@
 -- A formal belongs to one subprogram alone. So nothing is changed through a formal of a function that lends nothing.
 use Rattle.std.specs.List.{list_any}
 use Rattle.std.proofs.Common.{◌≡◌, refl, sym, ap, ◌∙◌, subst, ◌⊎◌, inl, inr, ℕ, zero, suc, ◌+◌, Bool, true, false, not, ◌&&◌, ◌||◌, ◌==◌, List, [], ◌∷◌, ◌++◌, map, flat_map, append_assoc, get_or, Option, Some, None, is_some}
-use Rattle.std.proofs.lemmas.Bool.{eqb-true}
+use Rattle.std.proofs.lemmas.Bool.{eqb-true, false≢true}
 use Rattle.spark_base.specs.Lists.{Has}
 use Rattle.spark_base.proofs.Lists.{Has-append_left, Has-append_right, Has-map_from}
 use Rattle.resolved_tree.specs.Trees.{Code, SubBody, PackageBody, More, Program}
@@ -15,10 +15,10 @@ use Rattle.flow_paths.specs.Objects.{Typing, Signature, sub_at, is_named_access,
 use Rattle.flow_paths.specs.Laid.{FlowProgram, signature, flow_typing, flow_program}
 use Rattle.soundness.proofs.Typings.{Agree, flow_agrees}
 use Rattle.soundness.specs.ViewedSoundness.Holds.{is_of_procedure, is_exclusive}
-use Rattle.order_laws.specs.ScopeLaws.Code.{Once}
-use Rattle.order_laws.specs.Orderly.{typed_of, typing_in, bodies_of}
-use Rattle.order_laws.proofs.Numbers.{numbers, formals_same}
-use Rattle.order_laws.proofs.Parts.{IsPart, part_whole, part_none, part_both, part_left, part_numbers_once}
+use Rattle.settled_types.specs.OrderLaws.ScopeLaws.Code.{Once}
+use Rattle.settled_types.specs.OrderLaws.Orderly.{typed_of, typing_in, bodies_of}
+use Rattle.settled_types.proofs.OrderLaws.Numbers.{numbers, formals_same}
+use Rattle.settled_types.proofs.OrderLaws.Parts.{IsPart, part_whole, part_none, part_both, part_left, part_numbers_once}
 
 -- ---- lists
 
@@ -109,7 +109,7 @@ units_part all h a n s (u ∷ rest) =
 -- ---- tests
 
 pub any_from : {A : Type 0} (test : A → Bool) (xs : List A) → list_any test xs ≡ true → (x : A) × Has xs x × (test x ≡ true)
-any_from test [] is = (let no : false ≡ true = is in cc)
+any_from test [] is = (let no : false ≡ true = is in absurd (false≢true no))
 any_from {A = A} test (y ∷ xs) is = by (test y) refl is (λ h. any_from test xs h)
   where
     by : (b : Bool) → test y ≡ b → b || list_any test xs ≡ true → (list_any test xs ≡ true → (x : A) × Has xs x × (test x ≡ true)) → (x : A) × Has (y ∷ xs) x × (test x ≡ true)
@@ -118,11 +118,11 @@ any_from {A = A} test (y ∷ xs) is = by (test y) refl is (λ h. any_from test x
 
 and_first : (a b : Bool) → a && b ≡ true → a ≡ true
 and_first true b e = refl
-and_first false b e = cc
+and_first false b e = e
 
 and_second : (a b : Bool) → a && b ≡ true → b ≡ true
 and_second true b e = e
-and_second false b e = cc
+and_second false b e = absurd (false≢true e)
 
 none_of : (a b : Bool) → (b ≡ true → ⊥) → a && b ≡ false
 none_of true true none = absurd (none refl)
@@ -134,7 +134,7 @@ listed xs x is = (let found = any_from (λ y. y == x) xs is in subst (Has xs) (e
 
 no_result : (r : Option ℕ) (t : ℕ) → not (is_some r) ≡ true → r ≡ Some t → ⊥
 no_result None t none is = cc
-no_result (Some u) t none is = cc
+no_result (Some u) t none is = false≢true none
 
 -- ---- the program
 

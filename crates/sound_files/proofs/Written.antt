@@ -37,8 +37,8 @@ use Rattle.type_definitions.specs.Gathered.{declared_number, in_hidden}
 use Rattle.type_definitions.specs.Declarations.{code_faults, alternatives_faults, alternative_faults, body_faults, in_body, choices_of, choices_faults, selector_faults, is_last}
 use Rattle.resolved_tree.specs.Trees.{code_items}
 use Rattle.settled_types.specs.NamedFiles.Library.{is_procedure_spec, is_no_function}
-use Rattle.order_laws.specs.Written.{is_declaration, are_declarations, are_statements, is_statement, are_branches, is_branch, are_alternatives, is_alternative, is_body, are_parts, is_procedure, is_unit}
-use Rattle.order_laws.proofs.Mains.{nothing_left, nothing_right, demanded}
+use Rattle.settled_types.specs.OrderLaws.Written.{is_declaration, are_declarations, are_statements, is_statement, are_branches, is_branch, are_alternatives, is_alternative, is_body, are_parts, is_procedure, is_unit}
+use Rattle.settled_types.proofs.OrderLaws.Mains.{nothing_left, nothing_right, demanded}
 
 both : (a b : Bool) → a ≡ true → b ≡ true → a && b ≡ true
 both a b p q = grind (arith, p, q)

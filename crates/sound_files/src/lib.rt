@@ -1,6 +1,6 @@
 //! The resolved code of accepted files is orderly: laws, for readers.
 //!
-//! `order_laws` says what is asked of the resolved code of a program beside what typing and the
+//! `OrderLaws` says what is asked of the resolved code of a program beside what typing and the
 //! reports say (`IsOrderly`). Here is what the code of files has of it: Integer owns nothing, where
 //! the code declares in order (`proofs/Whole.antt`); units are as the grammar has them, with each
 //! exit in a loop (`Written`); and each declaration of an object has a number of its own (`Once`).
@@ -31,7 +31,7 @@
 //! Files that are meant: trees are those of the grammar, identifiers denote what is declared, and
 //! objects and formals have the types that are indicated. Definitions and laws, for readers.
 //!
-//! `typed_laws` asks so of a text. Here it is proved of files that break no rule of names. Trees
+//! `TypedLaws` asks so of a text. Here it is proved of files that break no rule of names. Trees
 //! are lowered to trees of the grammar (`proofs/MeantFiles/Trees.antt`, `Codes`). The events of a
 //! text declare what its code declares, one by one (`Silent`, `Walk`, with
 //! `specs/MeantFiles/Declarations.antt`), with numbers that count up or complete others (`Events`,
@@ -66,7 +66,7 @@
 //! Files that break no rule of names and of types are typed: laws, for readers.
 //!
 //! `proofs/TypedFiles/Main.antt` has the law. The steps of such a program have expressions of the types of
-//! their places (`AreTyped` of `typed_laws`), its points have as many successors as their
+//! their places (`AreTyped` of `TypedLaws`), its points have as many successors as their
 //! instructions lead to, and it is typed as the machine says it (`is_typed`). Nothing here runs.
 //!
 //! ## Typed runs
@@ -74,7 +74,7 @@
 //! What typing says of the steps of runs: the expressions of each step have the types of their
 //! places, calls and short circuits within expressions included. Definitions and laws, for readers.
 //!
-//! `typed_laws` says what that is of instructions and of programs, and `specs/TypedFiles/TypedRuns/Code.antt`
+//! `TypedLaws` says what that is of instructions and of programs, and `specs/TypedFiles/TypedRuns/Code.antt`
 //! of typed code. It goes by types where the machine's `is_typed` goes by the sorts of words, and
 //! is the stronger of both (`proofs/TypedFiles/TypedRuns/Words.antt`). What is asked of a text beside that it
 //! breaks no sentence stands in `specs/TypedFiles/TypedRuns/Meant.antt`, and the law in
@@ -119,7 +119,7 @@
 //! readers.
 //!
 //! Of the premises of `LoweredTexts`, initial values of package objects call no function
-//! (`order_laws`), since a sentence of typing forbids it. The positions of literals are words
+//! (`OrderLaws`), since a sentence of typing forbids it. The positions of literals are words
 //! (`Readings`, `Trees`, `Statements`), since a text has at most as many literals as tokens
 //! (`Few`). `Main` has the law. Nothing here runs.
 #![tactic(auto)]

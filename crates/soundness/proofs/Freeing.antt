@@ -1,6 +1,7 @@
 -- What a release checks: a scalar type has no access parts, and which fact forbids doesn't matter.
-use Rattle.std.proofs.Common.{◌≡◌, refl, ℕ, Bool, true, false, List, [], Some, None, if◌then◌else◌}
-use Rattle.std.proofs.lemmas.Bool.{false≢true}
+use Rattle.std.proofs.Common.{◌≡◌, refl, ℕ, Bool, true, false, List, [], Some, None, if◌then◌else◌, ap}
+use Rattle.std.proofs.lemmas.Bool.{false≢true, true≢false}
+use Rattle.std.specs.Prelude.{is_some}
 use Rattle.place_names.specs.declared.selector.Sel.{Sel}
 use Rattle.place_names.specs.Rules.{Forbidden}
 use Rattle.type_definitions.specs.declared.table.Shape.{Shape}
@@ -17,5 +18,5 @@ plain_parts f (shape.Elements a b el) e = absurd (false≢true e)
 plain_parts f (shape.Same of) e = absurd (false≢true e)
 
 pub switched : (b : Bool) (x y : Forbidden) → (if b then Some x else None) ≡ None → (if b then Some y else None) ≡ None
-switched true x y e = cc
+switched true x y e = absurd (true≢false (ap is_some e))
 switched false x y e = refl

@@ -1,5 +1,6 @@
 -- A cell is freed, and its name becomes null.
 use Rattle.std.proofs.Common.{◌≡◌, refl, sym, ap, ◌∙◌, subst, ◌⊎◌, inl, inr, ℕ, zero, suc, ◌+◌, ◌≤◌, true, false, not, List, [], ◌∷◌, ◌++◌, take, drop, length, arith}
+use Rattle.std.proofs.lemmas.Bool.{true≢false}
 use Rattle.type_definitions.specs.Types.{shape_of, words}
 use Rattle.flow_paths.specs.Objects.{Typing}
 use Rattle.machine.specs.Words as machine
@@ -196,7 +197,7 @@ module _ (s : Typing) (settled : IsSettled s.table) (m : Memory) (hands : List W
     made = ap suc (put_count s (freed n m) k.base (take k.at (slots_at s (freed n m) k.base) ++ null_slots ++ drop (k.at + length null_slots) (slots_at s (freed n m) k.base)) ∙ freed_count s m n);
     spares = λ c free. (
         let now : (cell (freed n m) c).freed ≡ false = sym (put_freed s (freed n m) k.base (take k.at (slots_at s (freed n m) k.base) ++ null_slots ++ drop (k.at + length null_slots) (slots_at s (freed n m) k.base)) c) ∙ free in
-        let ne : c ≡ n → ⊥ = λ e. (let is : true ≡ false = sym (ap (λ (z : HeapCell). z.freed) (ap (cell (freed n m)) e ∙ freed_same s m n lo hi)) ∙ now in cc) in
+        let ne : c ≡ n → ⊥ = λ e. (let is : true ≡ false = sym (ap (λ (z : HeapCell). z.freed) (ap (cell (freed n m)) e ∙ freed_same s m n lo hi)) ∙ now in absurd (true≢false is)) in
         (sym (ap (λ (z : HeapCell). z.freed) (freed_other s m n c ne)) ∙ now, ne));
     others = λ c free ne.
         put_freed s (freed n m) k.base (take k.at (slots_at s (freed n m) k.base) ++ null_slots ++ drop (k.at + length null_slots) (slots_at s (freed n m) k.base)) c

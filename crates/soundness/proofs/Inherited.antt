@@ -1,7 +1,7 @@
 -- Facts beside those of a subprogram, as those of the frames around it: acts that none of them
 -- forbids are allowed with them, and none is added to them.
 use Rattle.std.proofs.Common.{◌≡◌, refl, sym, ap, ◌∙◌, subst, ◌⊎◌, inl, inr, ℕ, Bool, true, false, not, ◌&&◌, ◌||◌, ◌==◌, eq-eqb, eqb-true, List, [], ◌∷◌, map, append-nil, None}
-use Rattle.std.specs.Prelude.{filter}
+use Rattle.std.specs.Prelude.{filter, is_some}
 use Rattle.std.specs.List.{list_any}
 use Rattle.std.proofs.lemmas.Bool.{false≢true, true≢false}
 use Rattle.spark_base.specs.Lists.{Has}
@@ -84,7 +84,7 @@ forbidden_none true r m f e = absurd (true≢false e)
 forbidden_none false r m f e = refl
 
 none_forbidden : (test : Bool) (r : Rule) (m : Name) (f : Fact) → forbidden_if test r m f ≡ None → test ≡ false
-none_forbidden true r m f e = cc
+none_forbidden true r m f e = absurd (true≢false (ap is_some e))
 none_forbidden false r m f e = refl
 
 -- An act that reads or writes what it names; of actuals, those of mode `out`.

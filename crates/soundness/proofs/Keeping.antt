@@ -310,11 +310,11 @@ module _ (s : Typing) (settled : IsSettled s.table) (m : Memory) where
       subst (λ z. Kept s m (record { of = t; words = machine.repeated (machine.count_of z) ws } ∷ rest)) (sym e)
       (elements_repeated t low high el ws rest e (long ∙ ap (λ z. words s.table (machine.element_of z)) e)
       (subst (λ z. Kept s m (record { of = machine.element_of z; words = ws } ∷ rest)) e kept))
-  repeated t ws rest (shape.Whole a b) e is long kept = cc
-  repeated t ws rest (shape.Listed l a b) e is long kept = cc
-  repeated t ws rest (shape.Access d c n) e is long kept = cc
-  repeated t ws rest (shape.Fields cs) e is long kept = cc
-  repeated t ws rest (shape.Same of) e is long kept = cc
+  repeated t ws rest (shape.Whole a b) e is long kept = absurd (false≢true is)
+  repeated t ws rest (shape.Listed l a b) e is long kept = absurd (false≢true is)
+  repeated t ws rest (shape.Access d c n) e is long kept = absurd (false≢true is)
+  repeated t ws rest (shape.Fields cs) e is long kept = absurd (false≢true is)
+  repeated t ws rest (shape.Same of) e is long kept = absurd (false≢true is)
 
 pub length_repeated : (n : ℕ) (ws : List machine.Word) → length (machine.repeated n ws) ≡ n * length ws
 length_repeated zero ws = omega arith
@@ -331,8 +331,8 @@ repeated_long s settled t ws (shape.Elements low high el) e is long =
     ap (λ z. length (machine.repeated (machine.count_of z) ws)) e ∙ length_repeated (span low high) ws
     ∙ ap (λ z. span low high * z) (long ∙ ap (λ z. words s.table (machine.element_of z)) e)
     ∙ sym (settled.word_law t ∙ ap (shape_words (words s.table)) e)
-repeated_long s settled t ws (shape.Whole a b) e is long = cc
-repeated_long s settled t ws (shape.Listed l a b) e is long = cc
-repeated_long s settled t ws (shape.Access d c n) e is long = cc
-repeated_long s settled t ws (shape.Fields cs) e is long = cc
-repeated_long s settled t ws (shape.Same of) e is long = cc
+repeated_long s settled t ws (shape.Whole a b) e is long = absurd (false≢true is)
+repeated_long s settled t ws (shape.Listed l a b) e is long = absurd (false≢true is)
+repeated_long s settled t ws (shape.Access d c n) e is long = absurd (false≢true is)
+repeated_long s settled t ws (shape.Fields cs) e is long = absurd (false≢true is)
+repeated_long s settled t ws (shape.Same of) e is long = absurd (false≢true is)

@@ -1,3 +1,5 @@
+-- what typing says of expressions, of steps of runs and of code
+pub mod TypedLaws
 -- what the rules on facts say together of accepted programs
 pub mod FactLaws
 pub mod Constructors

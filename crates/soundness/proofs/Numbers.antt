@@ -3,7 +3,7 @@ use Rattle.std.proofs.Common.{◌≡◌, refl, ap, ◌+◌, ◌<◌, Bool, true,
 use Rattle.std.proofs.lemmas.Int.{ints}
 use Rattle.std.proofs.lemmas.Bool.{false≢true}
 use Rattle.type_definitions.specs.Types.{span}
-use Rattle.typed_laws.specs.Needed.{IndexLaw}
+use Rattle.soundness.specs.TypedLaws.Needed.{IndexLaw}
 
 both_true : (a b : Bool) → a && b ≡ true → (a ≡ true) × (b ≡ true)
 both_true true b e = (refl, e)

@@ -26,8 +26,8 @@ not_both true b e = absurd (false≢true e)
 not_both false b e = refl
 
 not_first : (a b : Bool) → b ≡ true → not (a && b) ≡ true → not a ≡ true
-not_first true true owns e = cc
-not_first true false owns e = cc
+not_first true true owns e = e
+not_first true false owns e = owns
 not_first false b owns e = refl
 
 -- a part of a cell is reached through the cell

@@ -3,7 +3,7 @@
 use Rattle.std.proofs.Common.{◌≡◌, refl, sym, ap, ◌∙◌, subst, ◌⊎◌, inl, inr, ℕ, zero, suc, ◌+◌, ◌<◌, ◌≤◌, Bool, true, false, not, ◌&&◌, ◌||◌, ◌==◌, eq-eqb, eqb-true, List, [], ◌∷◌, map, drop, length, arith, IsTrue, Option}
 use Rattle.std.specs.Prelude.{filter}
 use Rattle.std.specs.List.{list_any}
-use Rattle.std.proofs.lemmas.Bool.{false≢true}
+use Rattle.std.proofs.lemmas.Bool.{false≢true, true≢false}
 use Rattle.spark_base.specs.Lists.{Has}
 use Rattle.spark_base.specs.declared.position.Pos.{Pos}
 use Rattle.spark_base.proofs.Lists.{Has-append_left, Has-append_right, Has-append_cases, Has-filter, Has-map_from}
@@ -126,7 +126,7 @@ module _ (program : FlowProgram) (effects : Effects) (are : AreEffects program e
   ]
     where
       past : (k == x) ≡ false → suc k ≤ x
-      past e = (let other : k ≡ x → ⊥ = (λ same. (let yes : true ≡ false = sym (eq-eqb k x same) ∙ e in cc)) in above k x low other)
+      past e = (let other : k ≡ x → ⊥ = (λ same. (let yes : true ≡ false = sym (eq-eqb k x same) ∙ e in absurd (true≢false yes))) in above k x low other)
         where
           above : (a b : ℕ) → a ≤ b → (a ≡ b → ⊥) → suc a ≤ b
           above zero zero l ne = absurd (ne refl)

@@ -1,6 +1,7 @@
 -- The values that wait match the temporaries in scope.
 use Rattle.std.proofs.Common.{◌≡◌, refl, sym, ap, ◌∙◌, ◌⊎◌, inl, inr, ℕ, zero, suc, ◌≤◌, Bool, true, false, ◌||◌, ◌==◌, eqb-true, List, [], ◌∷◌, ◌++◌, take, drop, arith, Some}
 use Rattle.std.proofs.lemmas.List.Folds.{list_any-append}
+use Rattle.std.proofs.lemmas.Bool.{false≢true}
 use Rattle.flow_paths.specs.Instructions.{Instruction, Call, Evaluate}
 use Rattle.flow_paths.specs.Objects.{Typing}
 use Rattle.flow_paths.specs.Scopes.{is_within}
@@ -43,9 +44,9 @@ module _ (s : Typing) where
 
   -- what is taken are temporaries
   taken_temporary : (k : ℕ) (scope : List ℕ) → temporaries_in s (take k scope) ≡ k → (x : ℕ) → is_within x (take k scope) ≡ true → is_temporary_object s x ≡ true
-  taken_temporary zero [] all x within = cc
-  taken_temporary zero (y ∷ scope) all x within = cc
-  taken_temporary (suc k) [] all x within = cc
+  taken_temporary zero [] all x within = absurd (false≢true within)
+  taken_temporary zero (y ∷ scope) all x within = absurd (false≢true within)
+  taken_temporary (suc k) [] all x within = absurd (false≢true within)
   taken_temporary (suc k) (y ∷ scope) all x within = elim (bool_cases (is_temporary_object s y)) [
     | inr isnt ↦ (
         let less = few k scope in

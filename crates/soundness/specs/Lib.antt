@@ -1,3 +1,5 @@
+-- what typing says of expressions, of steps of runs and of code
+pub mod TypedLaws
 -- what the rules on facts say together of accepted programs
 pub mod FactLaws
 -- places, the ways that names take to them, and who owns what
@@ -9,8 +11,6 @@ pub mod Seen
 pub mod Changes
 -- words have the types of what they stand in
 pub mod Typed
--- what is asked of programs
-pub use Rattle.typed_laws.specs.Needed
 -- what holds at each moment
 pub mod Sound
 -- what is asked of a program so that it does

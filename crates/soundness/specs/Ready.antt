@@ -22,7 +22,7 @@ use Rattle.flow_paths.specs.Names.{has_call}
 use Rattle.flow_paths.specs.Scopes.{taken, is_ready, is_within, Differ, ScopesHold}
 use Rattle.machine.specs.States.{sub_of}
 use Rattle.machine.specs.Run.{no_point}
-use Rattle.typed_laws.specs.Needed.{Stays, IsPlace}
+use Rattle.soundness.specs.TypedLaws.Needed.{Stays, IsPlace}
 use Rattle.soundness.specs.Sound.{IsEntered, is_temporary_object, temporaries_in, returns_value, has_returned}
 
 -- ---- scopes

@@ -27,7 +27,7 @@ use Rattle.soundness.specs.OwnedWays.Ways as ways
 use Rattle.soundness.specs.PartOffsets.Parts.{IsSettled}
 use Rattle.soundness.specs.Seen.{content, word_in, seen}
 use Rattle.soundness.specs.Typed.{IsFixed}
-use Rattle.typed_laws.specs.Needed.{AreFine}
+use Rattle.soundness.specs.TypedLaws.Needed.{AreFine}
 
 -- ---- the program
 

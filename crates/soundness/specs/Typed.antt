@@ -6,7 +6,7 @@ use Rattle.flow_paths.specs.Objects.{Typing, object_at}
 use Rattle.machine.specs.Words as machine
 use Rattle.machine.specs.Memory.{Memory, Base, OfVariable, OfCell, Place, variable_slots, cell, no_slot}
 use Rattle.machine.specs.States.{Waiting}
-pub use Rattle.typed_laws.specs.Needed.{Matches}
+pub use Rattle.soundness.specs.TypedLaws.Needed.{Matches}
 use Rattle.soundness.specs.OwnedWays.Ways.{Step, Loc, OfRoot}
 use Rattle.soundness.specs.OwnedWays.Ways as ways
 use Rattle.soundness.specs.PartOffsets.Parts.{type_in, offset_in, has_part}

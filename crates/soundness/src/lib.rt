@@ -5,7 +5,7 @@
 //! changes is told by contents (`specs/Changes.antt`). `specs/Typed.antt` says when words have the
 //! types of what they stand in, and `specs/Sound.antt` what the frames of a run are, and what is to
 //! be proved of runs. What is asked of the expressions and instructions of a program stands in
-//! `typed_laws/specs/Needed.antt`.
+//! `specs/TypedLaws/Needed.antt`.
 //!
 //! The functions of the machine's memory do what the steps of `OwnedWays` do (`proofs/Steps.antt`,
 //! `Ends`, `Fresh`, `Frees`), and keep states sound (`Moments`) and words typed (`Lasting`). Names
@@ -73,7 +73,7 @@
 //! What an excused one says of the facts at its point stands in `proofs/Spots.antt`, with the leak checks
 //! of a point by the typing of the text. What steps keep that lead on, runs keep (`Budgets`). Facts after
 //! acts (`Frames`), ways and locations (`Steps`), the access parts of types (`Parts`), memories
-//! (`Memories`) and single checks (`Checks`) have laws that `viewed_facts` goes by, which says that facts
+//! (`Memories`) and single checks (`Checks`) have laws that `ViewedFacts` goes by, which says that facts
 //! stay exact. Nothing here runs.
 //!
 //! # Viewed soundness
@@ -107,4 +107,37 @@
 //!
 //! So on each control path of an accepted program, the facts before each act and after each point
 //! are apart (`proofs/FactLaws/Paths.antt`). Nothing here runs.
+//!
+//! # Typed laws
+//!
+//! What typing says of accepted programs: their expressions have the types of their places.
+//! Definitions and laws, for readers.
+//!
+//! `specs/TypedLaws/Fine.antt` says when an expression has a type, and what is asked of the table of types
+//! and of trees; `specs/TypedLaws/Needed.antt` what soundness asks of expressions and of instructions. Where
+//! no fault of typing is around an expression or in it, it has the type that its place wants
+//! (`proofs/TypedLaws/Main.antt`). From that follow what soundness asks of it (`Sound`) and the sorts of its
+//! words as the machine has them (`Sorts`). That the tables of accepted programs are as asked for
+//! isn't proved yet: docs/SOUNDNESS.md has what is open. Nothing here runs.
+//!
+//! ## Typed steps
+//!
+//! What typing says of the steps of runs: definitions, for readers.
+//!
+//! `specs/TypedLaws/Steps.antt` says when the expressions of a step have the types of their places. It is
+//! stronger than `is_typed` of `machine`, which goes by the sorts of words. Nothing here runs.
+//!
+//! ## Typed points
+//!
+//! What typing says of the points of accepted programs: their instructions are as soundness asks.
+//! Definitions and laws, for readers.
+//!
+//! `specs/TypedLaws/TypedPoints/Code.antt` says it of typed code and of points, and
+//! `specs/TypedLaws/TypedPoints/Meant.antt` what is asked of a text beside that it breaks no sentence.
+//! Expressions at their places (`proofs/TypedLaws/TypedPoints/Values.antt`), sources (`Sources`), strings
+//! (`Strings`), declarations (`Statements`) and calls (`Calls`) come together in bodies (`Bodies`),
+//! these in points (`Points`, `Laid`), and all of it in the law on programs (`Main`). Objects and
+//! subprograms have the numbers of their declarations (`Numbers`). `settled_types` and
+//! `sound_files` say what accepted programs meet of it, and docs/SOUNDNESS.md has what is open.
+//! Nothing here runs.
 #![tactic(auto)]

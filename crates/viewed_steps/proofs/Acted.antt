@@ -25,7 +25,7 @@ use Rattle.soundness.specs.OwnedWays.Ways as ways
 use Rattle.soundness.specs.PartOffsets.Parts.{type_in, IsSettled}
 use Rattle.soundness.specs.Seen.{IsNear, Content, content, trunk, steps_in, seen, home}
 use Rattle.soundness.specs.Typed.{OwnsByShape, Kept, Spot}
-use Rattle.typed_laws.specs.Needed.{IndexLaw}
+use Rattle.soundness.specs.TypedLaws.Needed.{IndexLaw}
 use Rattle.soundness.proofs.Contents.{word_no, word_part}
 use Rattle.soundness.proofs.Joined.{leaf_join}
 use Rattle.soundness.proofs.Steps.{no_leaf}

@@ -43,9 +43,6 @@ use Rattle.viewed_steps.proofs.Lodged.{cell_live}
 use Rattle.viewed_steps.proofs.Views.{AreAccess, AreFar}
 use Rattle.viewed_steps.proofs.Constructors.{is_held_word, is_of_cell_loc}
 
-same_names : {f x g y : ℕ} → memory.OfVariable f x ≡ memory.OfVariable g y → (f ≡ g) × (x ≡ y)
-same_names e = (cc, cc)
-
 -- A place in a variable is there, and one in a cell that isn't freed.
 abbrev pub IsThere : Memory → memory.Base → Type 0
 IsThere m (memory.OfVariable f x) = Unit {0}
@@ -103,13 +100,6 @@ module _ (t : Turn) (sees : ℕ → Bool) (settled : IsSettled (typing t).table)
 
   pub left_more : (r : Return) (rest : List Return) (w : Way) → IsLeft (r ∷ rest) w → IsLeft rest w
   left_more r rest w (x, base, none) = (x, base, λ q has. none q (inr has))
-
-  not_above : (y : ℕ) → home s depth y ≡ suc depth → ⊥
-  not_above y e = by_package (is_package_object s y) e
-    where
-      by_package : (b : Bool) → (if b then 0 else depth) ≡ suc depth → ⊥
-      by_package true e = omega (arith, e)
-      by_package false e = omega (arith, e)
 
   -- ---- one that is given back
 

@@ -6,6 +6,8 @@ use Rattle.viewed_steps.proofs.LaidOut.{IsLaidOne, AreLaidOut}
 use Rattle.soundness.proofs.Points.{one_named, one_point}
 use Rattle.soundness.specs.Sound.{IsNamedSub, IsAtPoint}
 use Rattle.std.proofs.Common.{◌≡◌, refl, sym, ap, ◌∙◌, subst, inl, inr, ℕ, List, [], ◌∷◌, ◌++◌, Option, Some, Bool}
+use Rattle.std.proofs.lemmas.Bool.{false≢true}
+use Rattle.std.specs.Prelude.{is_some}
 use Rattle.spark_base.specs.Lists.{Has}
 use Rattle.place_names.specs.declared.act.Mode.TheVariants as mode
 use Rattle.typed_tree.specs.Trees.{TypedTree, NoMore, More}

@@ -25,7 +25,7 @@ use Rattle.soundness.specs.OwnedWays.Ways.{Step, OfRoot, Empty, Gone, Held}
 use Rattle.soundness.specs.OwnedWays.Ways as ways
 use Rattle.soundness.specs.PartOffsets.Parts.{offset_in, is_leaf}
 use Rattle.soundness.specs.Seen.{content, owner_at, owner_word, word_in, home, is_view_formal}
-use Rattle.typed_laws.specs.Needed.{IsFine, FirstStays, Returns}
+use Rattle.soundness.specs.TypedLaws.Needed.{IsFine, FirstStays, Returns}
 use Rattle.soundness.proofs.Contents.{bool_cases}
 use Rattle.soundness.proofs.Memories.{put_other, removed_other}
 use Rattle.soundness.proofs.Fading.{Fainter, FadesTo, Fades, still, then_fades, if_fades, checked_fades, fades, steps_fade}

@@ -1,55 +1,49 @@
 -- The state after a call: the caller waits, and what is called begins.
 use Rattle.soundness.specs.PartOffsets.Parts.{offset_in}
 use Rattle.spark_base.proofs.Lists.{Has-append_cases}
-use Rattle.std.proofs.Common.{◌≡◌, refl, sym, ap, ◌∙◌, subst, ◌⊎◌, inl, inr, ℕ, suc, ◌<◌, true, false, List, [], ◌∷◌, ◌++◌, take, drop, length, get_or, arith, Option, Some, None, Bool, flat_map}
+use Rattle.std.proofs.Common.{◌≡◌, refl, sym, ap, ◌∙◌, subst, ◌⊎◌, inl, inr, ℕ, suc, ◌<◌, true, false, List, [], ◌∷◌, ◌++◌, take, length, get_or, arith, Option, Some, None, Bool, flat_map}
 use Rattle.spark_base.specs.Lists.{Has}
 use Rattle.place_names.specs.declared.fact.Fact.{Fact}
 use Rattle.place_names.specs.declared.fact.Fact.TheVariants.{Moved, Lent}
 use Rattle.place_names.specs.declared.rule.Loan.{Loan}
 use Rattle.place_names.specs.Names.{Name as PlaceName, object}
-use Rattle.place_names.specs.declared.act.Mode.TheVariants as mode
 use Rattle.type_definitions.specs.Types.{Table}
 use Rattle.typed_tree.specs.Trees.{TypedTree}
 use Rattle.typed_tree.specs.Programs.{TypedProgram}
 use Rattle.flow_paths.specs.declared.report.Effects.{Effects}
 use Rattle.flow_paths.specs.Instructions.{Call}
-use Rattle.flow_paths.specs.Objects.{Typing, object_at, is_package_object, Passing, Signature}
-use Rattle.flow_paths.specs.Aliases.{overlap_reports, passed_reports, call_reports}
+use Rattle.flow_paths.specs.Objects.{Typing, object_at, is_package_object, Signature}
 use Rattle.flow_paths.specs.Aliases as alias
 use Rattle.flow_paths.specs.Points.{NamedPoint}
 use Rattle.flow_paths.specs.Laid.{FlowSub, FlowProgram, NamedSub, flow_sub, typing_of, flow_typing, flow_program, flow_named}
-use Rattle.flow_paths.specs.Paths.{PathPoint, is_some_point, ControlPath, goes_on, facts_before}
+use Rattle.flow_paths.specs.Paths.{PathPoint, ControlPath, goes_on, facts_before}
 use Rattle.flow_paths.specs.Effects.{flow_sub_at, path_points}
 use Rattle.flow_paths.specs.Scopes.{taken, scope_behind, Leads}
 use Rattle.machine.specs.Words as machine
 use Rattle.machine.specs.Memory.{Memory, no_slot, variable_slots}
-use Rattle.machine.specs.Evaluate.{Now, Exception}
-use Rattle.machine.specs.States.{Frame, State, Leak, sub_of, frame_at_start, Outcome}
-use Rattle.machine.specs.Step.{Turn, turn, start, led, successor}
+use Rattle.machine.specs.States.{Frame, State, Leak, sub_of, frame_at_start}
+use Rattle.machine.specs.Step.{Turn, start, led, successor}
 use Rattle.machine.specs.Step as steps
-use Rattle.machine.specs.Calls.{Passed, all_passed, with_formals, returns_of, out_checks}
+use Rattle.machine.specs.Calls.{Passed, with_formals, returns_of, out_checks}
 use Rattle.machine.specs.Owners.{waiting_in}
-use Rattle.place_names.specs.declared.act.Mode.TheVariants as mode
-use Rattle.soundness.specs.OwnedWays.Ways.{Step, Way, after, AllowsAll, Past}
+use Rattle.soundness.specs.OwnedWays.Ways.{Step, Way, Past}
 use Rattle.soundness.specs.OwnedWays.Ways as ways
-use Rattle.soundness.specs.Seen.{IsNear, content, seen, home, trunk, word_in, steps_in}
+use Rattle.soundness.specs.Seen.{content, seen, home, word_in, steps_in}
 use Rattle.soundness.specs.Typed.{Kept}
-use Rattle.soundness.specs.Sound.{Stage, facts_of, AreStages, Uses, IsRunnable, returns_value, InScope, IsNamedSub, IsAtPoint, view_of as view_here}
-use Rattle.soundness.proofs.Stays.{Quiet}
+use Rattle.soundness.specs.Sound.{Stage, facts_of, AreStages, Uses, IsRunnable, InScope, IsNamedSub, IsAtPoint, view_of as view_here}
 use Rattle.soundness.proofs.Passing.{entered, signature_is}
 use Rattle.soundness.proofs.Points.{path_there}
 use Rattle.soundness.proofs.Used.{called_used}
-use Rattle.soundness.proofs.Around.{IsFar}
 use Rattle.soundness.proofs.Waits.{led_waits}
 use Rattle.soundness.proofs.Eased.{eased}
 use Rattle.soundness.specs.OwnedLoans.Views.{Around, known_gone, Views, IsMovedBy, AreClear as FactsAreClear, AreViews, Viewed, ViewedAlone, IsOuter}
 use Rattle.soundness.proofs.OwnedLoans.Moves.{parts_on, view_on, reached}
 use Rattle.soundness.proofs.ViewedSoundness.Names.{parts_same}
 use Rattle.soundness.proofs.ViewedSoundness.ViewKinds.{bundle_view}
-use Rattle.soundness.specs.ViewedSoundness.Holds.{Holds, is_view, IsOwners}
-use Rattle.viewed_steps.specs.Awaited.{temporaries_of, lasting_of, awaited, WaitsAt, AreAwaited, AreOwnless, TakesPassed}
+use Rattle.soundness.specs.ViewedSoundness.Holds.{Holds, is_view}
+use Rattle.viewed_steps.specs.Awaited.{temporaries_of, lasting_of, AreAwaited, AreOwnless, TakesPassed}
 use Rattle.viewed_steps.proofs.Waited.{Shares}
-use Rattle.viewed_steps.specs.Sound.{IsCopiedBack, IsBeyond, AreUnmet, HoldsAt, ArePlaced, NoneAbove, ViewStage, stages_of, GoneElsewhere, Disturbs, IsWaiting, AreWaiting, LeadsAlong, IsResting, IsKindOfFormal, AreReturned, withheld, IsBareOf, HasTraversals, passed_roots, shown_at, shown_one, known_at}
+use Rattle.viewed_steps.specs.Sound.{IsBeyond, AreUnmet, HoldsAt, ArePlaced, NoneAbove, ViewStage, stages_of, GoneElsewhere, Disturbs, IsWaiting, AreWaiting, IsResting, IsKindOfFormal, AreReturned, withheld, IsBareOf, HasTraversals, passed_roots, shown_at, shown_one, known_at}
 use Rattle.viewed_steps.specs.Ready.{IsReady, IsCalled}
 use Rattle.viewed_steps.specs.Taken.{TakenBy, AreTaken, Lodge}
 use Rattle.viewed_steps.proofs.Apart.{moved_same}
@@ -64,14 +58,12 @@ use Rattle.viewed_steps.proofs.Entered.{ArePassedOn, IsOpen, AreBlank, not_above
 use Rattle.viewed_steps.proofs.Entering.{AreDeclared, Enter, formals_of_returns, all_declared, AtFirst}
 use Rattle.viewed_steps.proofs.Passed.{IsNamedBy, found_there, all_returned}
 use Rattle.viewed_steps.proofs.Cells.{IsCellNamed}
-use Rattle.viewed_steps.proofs.Standing.{or_right}
 use Rattle.viewed_steps.proofs.Uses.{called_writes}
 use Rattle.viewed_steps.proofs.Standing as standing
 use Rattle.viewed_steps.proofs.Packages as packages
 use Rattle.viewed_steps.proofs.Innermost as innermost
-use Rattle.viewed_steps.proofs.Views.{AreAccess, AreFar, AreLowFormals}
+use Rattle.viewed_steps.proofs.Views.{AreAccess, AreFar}
 use Rattle.viewed_steps.proofs.Shown.{same_cells}
-use Rattle.viewed_steps.proofs.Exclusive.{ChangesLent, AreLent}
 use Rattle.viewed_steps.proofs.CallTakes as call_takes
 use Rattle.viewed_steps.proofs.Calling as calling
 use Rattle.viewed_steps.proofs.Bared.{taken_bare}
@@ -80,7 +72,6 @@ use Rattle.viewed_steps.proofs.Showing.{IsShownOf, none_moved as none_shown}
 use Rattle.std.specs.Prelude.{flat_map}
 use Rattle.place_names.specs.declared.rule.Loan.TheVariants.{Observed}
 use Rattle.viewed_steps.proofs.CallShows as shows
-use Rattle.viewed_steps.proofs.Stilled.{still}
 use Rattle.viewed_steps.proofs.Supplied.{SuppliesAll}
 use Rattle.viewed_steps.specs.Seeing.{sees_in}
 
@@ -109,10 +100,6 @@ module _ (table : Table) (typed : TypedProgram) (effects : Effects) (input : Lis
   abbrev unmoved_stage : (e : Stage) → e.frame.sub ≡ 0 → (name : PlaceName) → Has (facts_of program effects e) (Moved name) → ⊥
   unmoved_stage = packages.unmoved_stage table typed effects input ready
 
-  abbrev first_point : (k : ℕ) (named : NamedSub) → IsNamedSub (flow_named table typed) k named → (p : NamedPoint) (rest : List NamedPoint) → named.points ≡ p ∷ rest
-      → is_some_point (path_points program effects (sub_of program k))
-  first_point = packages.first_point table typed effects input ready
-
   module _ (state : State) (top : Stage) (below : ViewStage) (more_frames : List ViewStage) (rest : List Frame) (named : NamedSub) (p : NamedPoint)
       (frames : state.frames ≡ top.frame ∷ (below.stage.frame ∷ rest)) (deep : top.depth ≡ suc (length rest))
       (stages : AreStages (stages_of (below ∷ more_frames)) (below.stage.frame ∷ rest))
@@ -140,9 +127,6 @@ module _ (table : Table) (typed : TypedProgram) (effects : Effects) (input : Lis
     abbrev other : Around (home s (suc (length rest)))
     other = beside_them table typed effects unmoved_stage local state (suc (length rest)) (below ∷ more_frames) between
 
-    abbrev alone : (w : Way) → IsNear (suc (length rest)) w → IsFar (suc (length rest)) (GoneElsewhere program effects (below ∷ more_frames)) w → ⊥
-    alone = innermost.alone table typed effects input ready state top below more_frames rest named p frames deep stages running awaiting of_sub at_point path views viewed_before kept scope holds placed_before above
-
     abbrev main_turn : Turn
     main_turn = standing.t table typed effects input ready state top older outer named p frames of_sub at_point
 
@@ -161,12 +145,6 @@ module _ (table : Table) (typed : TypedProgram) (effects : Effects) (input : Lis
     abbrev sub_less : top.frame.sub < length program.subs
     sub_less = innermost.sub_less table typed effects input ready state top below more_frames rest named p frames deep stages running awaiting of_sub at_point path views viewed_before kept scope holds placed_before above
 
-    abbrev viewed : Viewed (home s depth) sees other views (view_here s state) facts_now
-    viewed = innermost.viewed table typed effects input ready state top below more_frames rest named p frames deep stages running awaiting of_sub at_point path views viewed_before kept scope holds placed_before above
-
-    abbrev left_scope : List ℕ
-    left_scope = drop (taken p.instr) p.scope
-
     abbrev shared : Shares s (taken p.instr) top.frame.waits p.scope
     shared = innermost.shared table typed effects input ready state top below more_frames rest named p frames deep stages running awaiting of_sub at_point path views viewed_before kept scope holds placed_before above
 
@@ -182,16 +160,6 @@ module _ (table : Table) (typed : TypedProgram) (effects : Effects) (input : Lis
     abbrev viewed_easy : Plain → Viewed (home s depth) sees other views (view_here s easy.state) facts_now × Kept s state.memory (waiting_in easy.state)
     viewed_easy = innermost.ownless_easy table typed effects input ready state top below more_frames rest named p frames deep stages running awaiting of_sub at_point path views viewed_before kept scope holds placed_before above
 
-    abbrev others_await : returns_value p.instr ≡ false → AreAwaited table typed (awaited (sub_of program top.frame.sub) (top.frame.next ∷ top.before)) (stages_of older)
-    others_await = innermost.others_await table typed effects input ready state top below more_frames rest named p frames deep stages running awaiting of_sub at_point path views viewed_before kept scope holds placed_before above
-
-    -- where it leads, and how the frames come from those before
-    abbrev Along : Outcome → Type 0
-    Along outcome = LeadsAlong table typed effects p.instr state.memory (record { stage = top; views = views; cells = [] }) (below ∷ more_frames) outcome
-
-    abbrev ends_raised : (how : Exception) (m : Memory) → Along (steps.raised main_turn how m)
-    ends_raised = innermost.ends_raised table typed effects input ready state top below more_frames rest named p frames deep stages running awaiting of_sub at_point path views viewed_before kept scope holds placed_before above
-
     module _ (n : ℕ) (actuals : TypedTree) (result : Option ℕ) (e : p.instr ≡ Call n actuals result) where
       abbrev called : IsCalled table typed n actuals result
       called = calling.called table typed effects input ready state top below more_frames rest named p frames deep stages running awaiting of_sub at_point path views viewed_before kept scope holds placed_before above n actuals result e
@@ -205,41 +173,17 @@ module _ (table : Table) (typed : TypedProgram) (effects : Effects) (input : Lis
       abbrev plain_there : TakesPassed s actuals (temporaries_of s (take (taken p.instr) p.scope))
       plain_there = calling.plain_there table typed effects input ready state top below more_frames rest named p frames deep stages running awaiting of_sub at_point path views viewed_before kept scope holds placed_before above n actuals result e
 
-      abbrev procedure : Bool
-      procedure = calling.procedure table typed effects input ready state top below more_frames rest named p frames deep stages running awaiting of_sub at_point path views viewed_before kept scope holds placed_before above n actuals result e
-
-      abbrev ways_there : List Passing
-      ways_there = calling.ways_there table typed effects input ready state top below more_frames rest named p frames deep stages running awaiting of_sub at_point path views viewed_before kept scope holds placed_before above n actuals result e
-
       abbrev facts_called : List Fact
       facts_called = calling.facts_called table typed effects input ready state top below more_frames rest named p frames deep stages running awaiting of_sub at_point path views viewed_before kept scope holds placed_before above n actuals result e
 
       abbrev holds_now : Holds s sees depth views state.memory
       holds_now = calling.holds_now table typed effects input ready state top below more_frames rest named p frames deep stages running awaiting of_sub at_point path views viewed_before kept scope holds placed_before above n actuals result e
 
-      abbrev live_now : (w : Way) (l : ways.Loc) → IsOwners s w → ways.Reaches (seen s state.memory (waiting_in easy.state) state.leaks) w l
-          → (content s state.memory (waiting_in easy.state) (trunk l)).owns ≡ true
-      live_now = calling.live_now table typed effects input ready state top below more_frames rest named p frames deep stages running awaiting of_sub at_point path views viewed_before kept scope holds placed_before above n actuals result e
-
-      abbrev formals_low : AreLowFormals s depth views
-      formals_low = calling.formals_low table typed effects input ready state top below more_frames rest named p frames deep stages running awaiting of_sub at_point path views viewed_before kept scope holds placed_before above n actuals result e
-
-      abbrev by_callee : (((x : ℕ) → Has formals x → (object_at s x).mode ≡ mode.In) × ((x : ℕ) → Has formals x → IsCopiedBack s x → ⊥)
-          × ChangesLent s sees facts_now formals actuals)
-          ⊎ AreLent s sees facts_now formals actuals
-      by_callee = calling.by_callee table typed effects input ready state top below more_frames rest named p frames deep stages running awaiting of_sub at_point path views viewed_before kept scope holds placed_before above n actuals result e
-
       abbrev Given : List Passed → Type 0
       Given = calling.Given table typed effects input ready state top below more_frames rest named p frames deep stages running awaiting of_sub at_point path views viewed_before kept scope holds placed_before above n actuals result e
 
       abbrev taken_there : (on : List (List machine.Word)) × SuppliesAll s state.memory formals actuals given_words on
       taken_there = calling.taken_there table typed effects input ready state top below more_frames rest named p frames deep stages running awaiting of_sub at_point path views viewed_before kept scope holds placed_before above n actuals result e
-
-      abbrev then_now : Now
-      then_now = calling.then_now table typed effects input ready state top below more_frames rest named p frames deep stages running awaiting of_sub at_point path views viewed_before kept scope holds placed_before above n actuals result e
-
-      abbrev passed_quiet : Quiet then_now Given (all_passed (steps.here main_turn) ways_there formals actuals (start main_turn))
-      passed_quiet = calling.passed_quiet table typed effects input ready state top below more_frames rest named p frames deep stages running awaiting of_sub at_point path views viewed_before kept scope holds placed_before above n actuals result e
 
       abbrev view_now : ways.View
       view_now = calling.view_now table typed effects input ready state top below more_frames rest named p frames deep stages running awaiting of_sub at_point path views viewed_before kept scope holds placed_before above n actuals result e
@@ -252,9 +196,6 @@ module _ (table : Table) (typed : TypedProgram) (effects : Effects) (input : Lis
 
       abbrev facts_there : facts_before (path_points program effects (sub_of program top.frame.sub)) (top.frame.next ∷ top.before) ≡ facts_called
       facts_there = calling.facts_there table typed effects input ready state top below more_frames rest named p frames deep stages running awaiting of_sub at_point path views viewed_before kept scope holds placed_before above n actuals result e
-
-      abbrev none_new : (f : Fact) → Has (facts_before (path_points program effects (sub_of program top.frame.sub)) (top.frame.next ∷ top.before)) f → Has (facts_of program effects top) f
-      none_new = calling.none_new table typed effects input ready state top below more_frames rest named p frames deep stages running awaiting of_sub at_point path views viewed_before kept scope holds placed_before above n actuals result e
 
       abbrev spared_then : (name : PlaceName) → Has facts_called (Moved name) → is_package_object s name.root ≡ true → Uses effects n name.root → ⊥
       spared_then = calling.spared_then table typed effects input ready state top below more_frames rest named p frames deep stages running awaiting of_sub at_point path views viewed_before kept scope holds placed_before above n actuals result e
@@ -274,12 +215,6 @@ module _ (table : Table) (typed : TypedProgram) (effects : Effects) (input : Lis
 
       abbrev next_placed : ArePlaced program (suc (length rest)) facts_called views (at_successor.0).scope
       next_placed = calling.next_placed table typed effects input ready state top below more_frames rest named p frames deep stages running awaiting of_sub at_point path views viewed_before kept scope holds placed_before above n actuals result e
-
-      abbrev late : Option ℕ
-      late = calling.late table typed effects input ready state top below more_frames rest named p frames deep stages running awaiting of_sub at_point path views viewed_before kept scope holds placed_before above n actuals result e
-
-      abbrev waits_late : (ways_taken : List Way) → WaitsAt table typed late (waits_with ways_taken)
-      waits_late = calling.waits_late table typed effects input ready state top below more_frames rest named p frames deep stages running awaiting of_sub at_point path views viewed_before kept scope holds placed_before above n actuals result e
 
       abbrev next_there : List ℕ
       next_there = calling.next_there table typed effects input ready state top below more_frames rest named p frames deep stages running awaiting of_sub at_point path views viewed_before kept scope holds placed_before above n actuals result e
@@ -313,20 +248,11 @@ module _ (table : Table) (typed : TypedProgram) (effects : Effects) (input : Lis
         abbrev well_before : Viewed (home s depth) sees other_all views (view_here s easy.state) facts_now
         well_before = calling.well_before table typed effects input ready state top below more_frames rest named p frames deep stages running awaiting of_sub at_point path views viewed_before kept scope holds placed_before above n actuals result e passed given
 
-        abbrev around_names : Around (home s depth)
-        around_names = calling.around_names table typed effects input ready state top below more_frames rest named p frames deep stages running awaiting of_sub at_point path views viewed_before kept scope holds placed_before above n actuals result e passed given
-
-        abbrev names_all : Viewed (home s depth) sees around_names views (still (view_here s easy.state)) facts_all
-        names_all = calling.names_all table typed effects input ready state top below more_frames rest named p frames deep stages running awaiting of_sub at_point path views viewed_before kept scope holds placed_before above n actuals result e passed given
-
         abbrev views_called : AreViews (home s depth) sees views (view_here s easy.state) facts_called
         views_called = calling.views_called table typed effects input ready state top below more_frames rest named p frames deep stages running awaiting of_sub at_point path views viewed_before kept scope holds placed_before above n actuals result e passed given
 
         abbrev named_cell : (c : Lodge) → Has cells c → IsCellNamed s sees depth facts_all views view_now formals actuals passed c
         named_cell = calling.named_cell table typed effects input ready state top below more_frames rest named p frames deep stages running awaiting of_sub at_point path views viewed_before kept scope holds placed_before above n actuals result e passed given
-
-        abbrev cell_root : (c : Lodge) (has : Has cells c) → ways.number_of c.name ≡ ways.number_of (named_cell c has).whole
-        cell_root = calling.cell_root table typed effects input ready state top below more_frames rest named p frames deep stages running awaiting of_sub at_point path views viewed_before kept scope holds placed_before above n actuals result e passed given
 
         abbrev cell_plain : (c : Lodge) → Has cells c → ways.Named (home s depth) c.name × (sees (ways.number_of c.name) ≡ false)
         cell_plain = calling.cell_plain table typed effects input ready state top below more_frames rest named p frames deep stages running awaiting of_sub at_point path views viewed_before kept scope holds placed_before above n actuals result e passed given
@@ -374,9 +300,6 @@ module _ (table : Table) (typed : TypedProgram) (effects : Effects) (input : Lis
 
         abbrev after_call : State
         after_call = steps.leaking checks_there (entered main_turn ready.accepted.settled n actuals passed)
-
-        abbrev called_stage : Stage
-        called_stage = record { frame = frame_at_start n (returns_of formals passed); depth = suc depth; before = []; returns = [] }
 
         abbrev waits_stage : Stage
         waits_stage = waits_with all_passed_ways.0

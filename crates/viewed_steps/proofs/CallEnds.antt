@@ -180,9 +180,6 @@ module _ (table : Table) (typed : TypedProgram) (effects : Effects) (input : Lis
 
     -- ---- the end of a call
 
-    abbrev backs : List Return
-    backs = top.frame.returns
-
     -- a formal that has a number is copied back
     left_formal : p.instr ≡ Finish → (x : ℕ) (q : List Step) (n : ℕ)
         → word_in s.table (content s state.memory [] (OfRoot (OfVariable depth x))) q ≡ Held n → (r : Return) × Has top.frame.returns r × (r.formal ≡ x)
@@ -284,9 +281,6 @@ module _ (table : Table) (typed : TypedProgram) (effects : Effects) (input : Lis
         (is : p.instr ≡ Finish) where
       abbrev pub low : ℕ
       low = below.stage.depth
-
-      package_owns : (x : ℕ) → is_package_object s x ≡ true → sees x ≡ false
-      package_owns = innermost.package_owns table typed effects input ready state top below more_frames rest named p frames deep stages running awaiting of_sub at_point path views viewed_before kept scope holds placed_before above
 
       low_is : below.stage.depth ≡ length rest
       low_is = stages_there.1

@@ -34,7 +34,7 @@ use Rattle.soundness.proofs.Contents.{bool_cases}
 use Rattle.soundness.specs.Typed.{Kept}
 use Rattle.soundness.specs.Sound.{Stage, facts_of, AreStages, Uses, IsRunnable, InScope, IsNamedSub, IsAtPoint, view_of as view_here}
 use Rattle.soundness.proofs.Around.{package_named}
-use Rattle.soundness.specs.OwnedLoans.Views.{expand, Around, known_gone, Views, ViewedAlone, IsThrough, IsShared, on, Lifted, InPart}
+use Rattle.soundness.specs.OwnedLoans.Views.{expand, known_gone, Views, ViewedAlone, IsThrough, IsShared, on, Lifted, InPart}
 use Rattle.soundness.proofs.OwnedLoans.Ways.{under_on, lifted_way, stands_alone, on_named, on_under, in_part_way}
 use Rattle.soundness.proofs.ViewedSoundness.ViewKinds.{open_bundle, bundle_view, true_false}
 use Rattle.soundness.specs.ViewedSoundness.Holds.{Seeing, is_view, is_given, is_exclusive, is_bundle, GoesBy}
@@ -42,7 +42,7 @@ use Rattle.viewed_steps.specs.Awaited.{lasting_of, AreAwaited}
 use Rattle.viewed_steps.specs.Sound.{IsBeyond, HoldsAt, ArePlaced, NoneAbove, ViewStage, stages_of, GoneElsewhere, Disturbs, AreWaiting, IsResting, HasTraversals, passed_roots, LentBy, known_at}
 use Rattle.viewed_steps.specs.Ready.{IsReady, IsCalled}
 use Rattle.viewed_steps.proofs.Lent.{loans_stay}
-use Rattle.viewed_steps.proofs.Waiting.{StandsBetween, beside_them, handed, root_under}
+use Rattle.viewed_steps.proofs.Waiting.{StandsBetween, handed, root_under}
 use Rattle.flow_paths.specs.Effects.{written_by}
 use Rattle.viewed_steps.proofs.Standing as standing
 use Rattle.viewed_steps.proofs.Packages as packages
@@ -101,10 +101,6 @@ clear_named s sees facts (x ∷ formals) (More e rest) clear b has given plain w
 clear_named s sees facts [] actuals clear b has given plain w named = absurd has
 clear_named s sees facts (x ∷ formals) _ clear b has given plain w named = absurd has
 
-both_first : (a b : Bool) → a && b ≡ true → a ≡ true
-both_first true b e = refl
-both_first false b e = absurd (false≢true e)
-
 by_test : (b : Bool) → (if b then Borrowed else Observed) ≡ Borrowed → b ≡ true
 by_test true is = refl
 by_test false is = cc
@@ -160,9 +156,6 @@ module _ (table : Table) (typed : TypedProgram) (effects : Effects) (input : Lis
 
     abbrev between : (g : ViewStage) → Has (below ∷ more_frames) g → StandsBetween table typed effects unmoved_stage local state (suc (length rest)) (below ∷ more_frames) g
     between = innermost.between table typed effects input ready state top below more_frames rest named p frames deep stages running awaiting of_sub at_point path views viewed_before kept scope holds placed_before above
-
-    abbrev other : Around (home s (suc (length rest)))
-    other = beside_them table typed effects unmoved_stage local state (suc (length rest)) (below ∷ more_frames) between
 
     abbrev main_turn : Turn
     main_turn = standing.t table typed effects input ready state top older outer named p frames of_sub at_point

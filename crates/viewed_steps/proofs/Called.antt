@@ -27,7 +27,7 @@ use Rattle.soundness.specs.PartOffsets.Parts.{IsSettled}
 use Rattle.soundness.specs.Seen.{IsNear, content, trunk, seen, home}
 use Rattle.soundness.specs.Typed.{Matches, OwnsByShape, Kept}
 use Rattle.soundness.specs.Sound.{goes_through_none}
-use Rattle.typed_laws.specs.Needed.{Gives, Stays, IndexLaw, IsPlace as IsPlaceOf}
+use Rattle.soundness.specs.TypedLaws.Needed.{Gives, Stays, IndexLaw, IsPlace as IsPlaceOf}
 use Rattle.soundness.proofs.Contents.{bool_cases}
 use Rattle.soundness.proofs.Fixed.{matches_scalar}
 use Rattle.soundness.proofs.Scalars.{acts, acts_append, allows_both}

@@ -18,7 +18,7 @@ use Rattle.flow_paths.specs.declared.report.Effects.{Effects}
 use Rattle.flow_paths.specs.Instructions.{Call}
 use Rattle.flow_paths.specs.Objects.{Typing, object_at, is_anonymous, is_package_object, view_of, Passing}
 use Rattle.place_names.specs.Reports.{Report}
-use Rattle.flow_paths.specs.Aliases.{overlap_reports, passed_reports, call_reports}
+use Rattle.flow_paths.specs.Aliases.{overlap_reports}
 use Rattle.flow_paths.specs.Aliases as alias
 use Rattle.flow_paths.specs.Acts as flow
 use Rattle.flow_paths.specs.Views.{traversed_formal}
@@ -29,12 +29,11 @@ use Rattle.flow_paths.specs.Effects.{path_points, globals_of}
 use Rattle.flow_paths.specs.Scopes.{taken, brought, scope_behind, is_within, Leads}
 use Rattle.machine.specs.Words as machine
 use Rattle.machine.specs.Memory as memory
-use Rattle.machine.specs.Memory.{Memory, Place}
+use Rattle.machine.specs.Memory.{Place}
 use Rattle.machine.specs.Evaluate.{Now}
 use Rattle.machine.specs.States.{Frame, State, sub_of}
-use Rattle.machine.specs.Step.{Turn, turn, start, led, successor}
+use Rattle.machine.specs.Step.{Turn, start, successor}
 use Rattle.machine.specs.Step as steps
-use Rattle.machine.specs.Typed.{successors}
 use Rattle.machine.specs.Calls.{Passed, all_passed}
 use Rattle.machine.specs.Owners.{waiting_in}
 use Rattle.place_names.specs.declared.act.Mode.TheVariants as mode
@@ -220,9 +219,6 @@ module _ (table : Table) (typed : TypedProgram) (effects : Effects) (input : Lis
     abbrev inside_left : Inside s IsOld state.memory depth (lasting_of s left_scope)
     inside_left = innermost.inside_left table typed effects input ready state top below more_frames rest named p frames deep stages running awaiting of_sub at_point path views viewed_before kept scope holds placed_before above
 
-    abbrev successors_there : length main_turn.point.next ≡ successors p.instr
-    successors_there = innermost.successors_there table typed effects input ready state top below more_frames rest named p frames deep stages running awaiting of_sub at_point path views viewed_before kept scope holds placed_before above
-
     module _ (n : ℕ) (actuals : TypedTree) (result : Option ℕ) (e : p.instr ≡ Call n actuals result) where
       abbrev pub called : IsCalled table typed n actuals result
       called = acting.called table typed effects input ready state top below more_frames rest named p frames deep stages running awaiting of_sub at_point path views viewed_before kept scope holds placed_before above n actuals result e
@@ -253,9 +249,6 @@ module _ (table : Table) (typed : TypedProgram) (effects : Effects) (input : Lis
 
       abbrev copies_leave : facts_called ≡ after (acts copies) own_facts
       copies_leave = acting.copies_leave table typed effects input ready state top below more_frames rest named p frames deep stages running awaiting of_sub at_point path views viewed_before kept scope holds placed_before above n actuals result e
-
-      abbrev copies_own : AllowsAll own_facts (acts copies)
-      copies_own = acting.copies_own table typed effects input ready state top below more_frames rest named p frames deep stages running awaiting of_sub at_point path views viewed_before kept scope holds placed_before above n actuals result e
 
       abbrev pub globals_allowed : AllowsAll facts_called (globals_of program effects n)
       globals_allowed = acting.globals_allowed table typed effects input ready state top below more_frames rest named p frames deep stages running awaiting of_sub at_point path views viewed_before kept scope holds placed_before above n actuals result e

@@ -163,9 +163,6 @@ hand_differs p q = cc
 pub past_other : (u w : Way) (f x g y : ℕ) → base_of u ≡ OfRoot (OfVariable f x) → base_of w ≡ OfRoot (OfVariable g y) → (g ≡ f → ⊥) → Past u w → ⊥
 past_other u w f x g y base root off past = off (same_variable g y f x (sym root ∙ base_under u w (past_under u w past) ∙ base)).0
 
-frame_of : (f y e x : ℕ) → OfRoot (OfVariable f y) ≡ OfRoot (OfVariable e x) → f ≡ e
-frame_of f y e x is = cc
-
 -- ---- what goes
 
 module _ (s : Typing) (settled : IsSettled s.table) (home : ℕ → ℕ) (v : Views) (before_it gone : Way → Type 0) where

@@ -1,7 +1,7 @@
 -- Actuals that are copied back to in cells: nothing that was moved leads to them before the call, no place that
 -- the call takes lies above them, and each cell has a name.
 use Rattle.std.proofs.Common.{◌≡◌, refl, sym, ap, ◌∙◌, subst, ◌⊎◌, inl, inr, ℕ, Bool, true, false, ◌&&◌, ◌==◌, eqb-true, eq-eqb, List, [], ◌∷◌, ◌++◌, map, flat_map, Option, Some, None, is_some}
-use Rattle.std.proofs.lemmas.Bool.{false≢true}
+use Rattle.std.proofs.lemmas.Bool.{false≢true, true≢false}
 use Rattle.spark_base.specs.Lists.{Has}
 use Rattle.spark_base.specs.declared.position.Pos.{Pos}
 use Rattle.spark_base.proofs.Lists.{Has-append_left, Has-append_right, Has-append_cases, Has-map_from}
@@ -30,7 +30,7 @@ use Rattle.machine.specs.Memory.{Memory, Place}
 use Rattle.machine.specs.Memory as memory
 use Rattle.machine.specs.Calls.{Passed, Value, From, To}
 use Rattle.machine.specs.Owners.{is_in}
-use Rattle.soundness.specs.OwnedWays.Ways.{OfRoot, OfCell, Way, Under, Past, Named, Reaches, Allows, AllowsAll, after, number_of}
+use Rattle.soundness.specs.OwnedWays.Ways.{OfRoot, OfCell, Way, Under, Named, Reaches, Allows, AllowsAll, after, number_of}
 use Rattle.soundness.specs.OwnedWays.Ways as ways
 use Rattle.soundness.proofs.OwnedWays.Assigned.{kept_fact}
 use Rattle.soundness.specs.PartOffsets.Parts.{IsSettled}
@@ -126,7 +126,7 @@ passed_formal (x ∷ formals) actuals b has = absurd has
 -- ---- before the acts of the call
 
 not_in : (m : Mode) → is_in m ≡ false → m ≡ mode.In → ⊥
-not_in mode.In e is = cc
+not_in mode.In e is = true≢false e
 not_in mode.Out e is = absurd (false≢true (ap is_in_mode is))
 not_in mode.InOut e is = absurd (false≢true (ap is_in_mode is))
 
@@ -161,7 +161,7 @@ module _ (s : Typing) (sees : ℕ → Bool) (own_law : OwnsByShape s.table) (dep
     where
       by_fact : (w : Written) (g : Fact) → f ≡ g → is_moved_under w.name g ≡ true → (n : PlaceName) × (f ≡ Moved n) × (covers w.name n ≡ true)
       by_fact w (Moved n) is under = (n, is, under)
-      by_fact w (Lent l h n) is under = cc
+      by_fact w (Lent l h n) is under = absurd (false≢true under)
 
       by_written : (w : Option Written) → written e ≡ w → Has (after (acts (naming w (λ k. act.Actual k mode.Out owning access))) known) f
           ⊎ ((mode.Out ≡ mode.In → ⊥) × (z : Written) × (written e ≡ Some z) × (n : PlaceName) × (f ≡ Moved n) × (covers z.name n ≡ true))

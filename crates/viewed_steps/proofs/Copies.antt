@@ -14,7 +14,7 @@ use Rattle.typed_tree.specs.Trees.{TypedTree, Number, Literal, Text, Name, Compo
 use Rattle.soundness.specs.OwnedWays.Ways.{Allows, AllowsAll, Loc, Object, OfVariable, Reaches, Step, Way, after}
 use Rattle.soundness.specs.OwnedLoans.Views.{Around, Viewed, Views, expand}
 use Rattle.machine.specs.Evaluate.{AsValue, ConstraintError, Done, Evaluated, Here, Now, Raises, Traps, checked, evaluate, followed_by, held_or_taken, part_type, parts_of, steps_of, variable_place, waited, walked}
-use Rattle.typed_laws.specs.Needed.{Gives, GivesParts, IndexLaw, Leads, Stays}
+use Rattle.soundness.specs.TypedLaws.Needed.{Gives, GivesParts, IndexLaw, Leads, Stays}
 use Rattle.soundness.proofs.ViewedSoundness.Stays.{Goes as GoesAlong, name_quiet, steps_taking, taking}
 use Rattle.soundness.specs.ViewedSoundness.Holds.{Holds, IsNamed, IsOwners, PartsAreNamed, Seeing}
 use Rattle.soundness.specs.ViewedSoundness.Taken.{type_given, types_taken, TakesFit}

@@ -32,7 +32,7 @@ use Rattle.soundness.specs.PartOffsets.Parts.{offset_in, is_leaf, IsSettled}
 use Rattle.soundness.specs.Seen.{IsNear, is_view_formal, content, trunk, steps_in, word_in, owner_at, seen, home}
 use Rattle.soundness.specs.Changes.{Alike}
 use Rattle.soundness.specs.Typed.{OwnsByShape, Kept}
-use Rattle.typed_laws.specs.Needed.{Source, FirstSource}
+use Rattle.soundness.specs.TypedLaws.Needed.{Source, FirstSource}
 use Rattle.soundness.proofs.Near.{near_under, near_along}
 use Rattle.soundness.proofs.Contents.{bool_cases, word_yes, word_no, word_root}
 use Rattle.soundness.proofs.Memories.{put_other}
@@ -250,9 +250,6 @@ module _ (t : Turn) (sees : ℕ → Bool) (seeing : Seeing (typing t) sees) (set
   abbrev m : Memory
   m = t.state.memory
 
-  abbrev now : Now
-  now = record { memory = t.state.memory; waits = [] }
-
   -- with these values, which the instruction takes
   abbrev at : List (List machine.Word) → Now
   at ws = record { memory = m; waits = ws }
@@ -333,7 +330,7 @@ module _ (t : Turn) (sees : ℕ → Bool) (seeing : Seeing (typing t) sees) (set
               (word_root s.table (content s n.memory hands') root p ∙ word_yes s.table (content s n.memory hands' (OfRoot root)) p own leaf
               ∙ ap (owner_at now_there.word) gone)))
           | inr whole ↦ (
-              let was : old.gone ≡ false = is_false old.gone (λ g. (let no_more : true ≡ false = sym (one.gone g) ∙ whole in cc)) in
+              let was : old.gone ≡ false = is_false old.gone (λ g. (let no_more : true ≡ false = sym (one.gone g) ∙ whole in absurd (true≢false no_more))) in
               (λ j. owner_at (one.word j) (whole j)) ∙ ap (owner_at old.word) (sym was)
               ∙ sym (word_yes s.table (content s m [] (OfRoot root)) p own leaf) ∙ new p)
         ])

@@ -44,9 +44,9 @@ use Rattle.soundness.proofs.OwnedWays.Named.{longer}
 -- variables
 pub view_kinds : (a b c : Bool) → b || c ≡ true → a ≡ true → a && c ≡ false → a && b ≡ true
 view_kinds true true c any is none = refl
-view_kinds true false true any is none = cc
-view_kinds true false false any is none = cc
-view_kinds false b c any is none = cc
+view_kinds true false true any is none = sym none
+view_kinds true false false any is none = any
+view_kinds false b c any is none = is
 
 both_parts : (a b : Bool) → a && b ≡ true → (a ≡ true) × (b ≡ true)
 both_parts true b e = (refl, e)

@@ -275,12 +275,6 @@ hand_base e = cc
 module _ (s : Typing) (sees : ℕ → Bool) (settled : IsSettled s.table) (own_law : OwnsByShape s.table) (in_formals : AreAccess s)
     (hands : List Waiting) (leaks : List Leak) (depth : ℕ) (v : Views) (far : AreFar (home s depth) v depth)
     (only : AreOnly s v) (facts : List Fact) (scope : List ℕ) (cells : List Lodge) where
-  abbrev Home : ℕ → ℕ
-  Home = home s depth
-
-  abbrev Scalar : ℕ → Type 0
-  Scalar x = is_scalar (full s.table (object_at s x).of) ≡ true
-
   pub not_above : (y : ℕ) → home s depth y ≡ suc depth → ⊥
   not_above y e = by_package (is_package_object s y) e
     where

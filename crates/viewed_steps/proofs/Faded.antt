@@ -1,5 +1,7 @@
 -- Some observers give up their ways.
 use Rattle.std.proofs.Common.{◌≡◌, refl, sym, ap, ◌∙◌, inl, inr, ℕ, Bool, true, false, List, Some, None, if◌then◌else◌}
+use Rattle.std.proofs.lemmas.Bool.{false≢true}
+use Rattle.std.specs.Prelude.{is_some}
 use Rattle.place_names.specs.declared.fact.Fact.{Fact}
 use Rattle.soundness.specs.OwnedWays.Ways.{Step, OfVariable, OfHand, Way, Object, Lost, Into, All, View, number_of, name_of}
 use Rattle.soundness.specs.OwnedLoans.Views.{Around, Views, expand_root, expand_part, inner_steps, part_from, expand, Viewed}
@@ -19,7 +21,7 @@ pub had_way : (v : Views) (fades : ℕ → Bool) (x : ℕ) (w : Way) → (withou
 had_way v fades x w e = by_kind (fades x) refl e
   where
     by_kind : (b : Bool) → fades x ≡ b → (if b then None else v.way x) ≡ Some w → (fades x ≡ false) × (v.way x ≡ Some w)
-    by_kind true f has = cc
+    by_kind true f has = absurd (false≢true (ap is_some has))
     by_kind false f has = (f, has)
 
 pub has_way : (v : Views) (fades : ℕ → Bool) (x : ℕ) → fades x ≡ false → (without v fades).way x ≡ v.way x

@@ -14,6 +14,8 @@ use Rattle.soundness.proofs.Used.{globals_are, called_are}
 use Rattle.soundness.proofs.Passing.{signature_is}
 use Rattle.soundness.specs.Sound.{Stage, IsNamedSub, IsAtPoint}
 use Rattle.std.proofs.Common.{◌≡◌, refl, sym, ap, ◌∙◌, subst, ◌⊎◌, inl, inr, ℕ, Bool, true, false, List, [], ◌∷◌, ◌++◌, map, Option, Some, None, if◌then◌else◌}
+use Rattle.std.proofs.lemmas.Bool.{false≢true}
+use Rattle.std.specs.Prelude.{is_some}
 use Rattle.spark_base.specs.Lists.{Has}
 use Rattle.place_names.specs.declared.act.Mode.TheVariants as mode
 use Rattle.place_names.specs.declared.act.Placed.{Placed}
@@ -53,12 +55,12 @@ is_traversing program n f traversed = by_result (sub_of program n).result (sub_o
   where
     by_result : (r : Option ℕ) (formals : List ℕ) → (sub_of program n).result ≡ r → (sub_of program n).formals ≡ formals
         → traversed_of (traverses (flow_typing program).table r) formals ≡ Some f → IsTraversing program n f
-    by_result None formals result are is = cc
+    by_result None formals result are is = absurd (false≢true (ap is_some is))
     by_result (Some t) formals result are is = by_kind (traverses (flow_typing program).table (Some t)) refl formals are is
       where
         by_kind : (b : Bool) → traverses (flow_typing program).table (Some t) ≡ b → (formals : List ℕ) → (sub_of program n).formals ≡ formals → traversed_of b formals ≡ Some f → IsTraversing program n f
-        by_kind false none formals are is = cc
-        by_kind true gives [] are is = cc
+        by_kind false none formals are is = absurd (false≢true (ap is_some is))
+        by_kind true gives [] are is = absurd (false≢true (ap is_some is))
         by_kind true gives (x ∷ rest) are is =
             let first : x ≡ f = some_is x f is in
             record {

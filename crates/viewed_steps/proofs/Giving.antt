@@ -19,7 +19,7 @@ use Rattle.viewed_steps.specs.Traversals.{GivesView, IsSourceIn, SeesFirst, IsSo
 use Rattle.viewed_steps.proofs.Sources.{view_shape}
 use Rattle.spark_base.specs.declared.position.Pos.{Pos}
 use Rattle.soundness.proofs.ViewedSoundness.ViewKinds.{given_view, access_bundle, true_false}
-use Rattle.std.proofs.Common.{◌≡◌, refl, sym, ap, ◌∙◌, subst, ◌⊎◌, inl, inr, ℕ, suc, ◌<◌, Bool, true, false, List, [], ◌∷◌, ◌++◌, drop, length, Some, None, map, Option, ◌||◌, append-nil, not, take, if◌then◌else◌}
+use Rattle.std.proofs.Common.{◌≡◌, refl, sym, ap, ◌∙◌, subst, ◌⊎◌, inl, inr, ℕ, suc, ◌<◌, Bool, true, false, List, [], ◌∷◌, ◌++◌, drop, length, Some, None, Option, ◌||◌, append-nil, not, take, if◌then◌else◌}
 use Rattle.std.proofs.lemmas.Bool.{false≢true}
 use Rattle.spark_base.specs.Lists.{Has}
 use Rattle.place_names.specs.declared.act.Act.{Act}
@@ -34,46 +34,39 @@ use Rattle.flow_paths.specs.Instructions.{Instruction, EndScope, Declare, Assign
 use Rattle.flow_paths.specs.Objects.{Typing, is_anonymous, is_package_object, traverses}
 use Rattle.flow_paths.specs.Names.{waiting as waits_in, name_of}
 use Rattle.flow_paths.specs.Points.{NamedPoint}
-use Rattle.flow_paths.specs.Laid.{FlowProgram, NamedSub, typing_of, flow_typing, flow_program, flow_named, number_in, FlowSub, flow_sub}
+use Rattle.flow_paths.specs.Laid.{FlowProgram, NamedSub, typing_of, flow_typing, flow_program, flow_named, FlowSub, flow_sub}
 use Rattle.flow_paths.specs.Paths.{ControlPath}
 use Rattle.flow_paths.specs.Effects.{path_points}
 use Rattle.flow_paths.specs.Scopes.{taken, scope_behind}
-use Rattle.machine.specs.Words.{fits_type}
 use Rattle.machine.specs.Words as machine
 use Rattle.machine.specs.Evaluate as run
 use Rattle.soundness.proofs.Contents.{bool_cases}
 use Rattle.machine.specs.Memory.{given_up, Memory, cell}
-use Rattle.machine.specs.Evaluate.{Done, followed_by, place_of, Raises, Traps, Evaluated, Now, evaluate}
+use Rattle.machine.specs.Evaluate.{Done, followed_by, Raises, Traps, Evaluated, Now, evaluate}
 use Rattle.machine.specs.States.{Waiting, Frame, State, Outcome, sub_of, Goes}
-use Rattle.machine.specs.Step.{Turn, turn, start, successor}
+use Rattle.machine.specs.Step.{Turn, turn, start}
 use Rattle.machine.specs.Step as steps
 use Rattle.machine.specs.Owners.{waiting_in, WellOwned}
 use Rattle.soundness.specs.OwnedWays.Ways.{Step, OfVariable, OfRoot, Way, Held, after, AllowsAll}
 use Rattle.soundness.specs.Seen.{IsNear, content, word_in, home, seen}
 use Rattle.soundness.specs.Typed.{Kept, IsCell}
-use Rattle.typed_laws.specs.Needed.{IsFine, Source, Matches, Returns}
+use Rattle.soundness.specs.TypedLaws.Needed.{IsFine, Source, Matches, Returns}
 use Rattle.soundness.specs.ViewedSoundness.Taken.{GivesPlainly}
 use Rattle.soundness.specs.Sound.{IsNoCall, Stage, facts_of, AreStages, IsRunnable, returns_value, InScope, IsNamedSub, IsAtPoint, view_of as view_here, has_returned}
 use Rattle.soundness.proofs.Scoped.{Inside}
 use Rattle.soundness.proofs.Around.{IsFar}
-use Rattle.soundness.proofs.Waited.{FillsNone}
 use Rattle.soundness.proofs.Eased.{eased}
 use Rattle.soundness.specs.OwnedLoans.Views.{Around, known_gone, Views, Viewed, Go, ViewedAlone}
 use Rattle.soundness.specs.ViewedSoundness.Holds.{is_view, is_bundle, Seeing}
-use Rattle.soundness.proofs.ViewedSoundness.Outcomes.{Leads_on, IsGood}
-use Rattle.viewed_steps.specs.Awaited.{AreValues, lasting_of, AreAwaited, TakesAlone, TakesTogether, AreScalar, TakesScalars, temporaries_of}
-use Rattle.viewed_steps.proofs.Waited.{Shares}
+use Rattle.soundness.proofs.ViewedSoundness.Outcomes.{IsGood}
+use Rattle.viewed_steps.specs.Awaited.{lasting_of, AreAwaited, TakesAlone, TakesTogether, AreScalar, TakesScalars, temporaries_of}
 use Rattle.viewed_steps.specs.Sound.{IsBeyond, IsResting, HoldsAt, ArePlaced, NoneAbove, ViewStage, stages_of, GoneElsewhere, AreWaiting, IsStoredAt, LeadsAlong, HasTraversals, IsGivenBelow}
-use Rattle.viewed_steps.specs.Ready.{IsReady, AreOrderly}
-use Rattle.viewed_steps.proofs.Lent.{Spare}
+use Rattle.viewed_steps.specs.Ready.{IsReady}
 use Rattle.viewed_steps.proofs.Placed.{MayBe}
 use Rattle.viewed_steps.proofs.Waiting.{StandsBetween, beside_them, handed}
-use Rattle.viewed_steps.proofs.Standing.{or_right}
 use Rattle.viewed_steps.proofs.Standing as standing
 use Rattle.viewed_steps.proofs.Packages as packages
 use Rattle.viewed_steps.proofs.Innermost as innermost
-use Rattle.machine.specs.Step.{led}
-use Rattle.soundness.specs.Ready.{IsSupplied}
 use Rattle.viewed_steps.proofs.EachInstruction as each
 use Rattle.flow_paths.specs.Instructions.{Hold}
 use Rattle.soundness.specs.OwnedWays.Ways as ways
@@ -83,7 +76,6 @@ use Rattle.soundness.proofs.ViewedSoundness.Coming.{IsComing}
 use Rattle.viewed_steps.proofs.Blank.{reached_with, with_view, kept_with_view}
 use Rattle.viewed_steps.proofs.Sources.{view_scalar}
 use Rattle.viewed_steps.specs.Traversals.{IsGivenTo}
-use Rattle.viewed_steps.proofs.Views.{AreAccess}
 use Rattle.viewed_steps.specs.Seeing.{sees_in}
 use Rattle.viewed_steps.proofs.Sees.{sees_seeing}
 use Rattle.viewed_steps.proofs.Constructors.{is_assign_instruction, is_call_instruction, is_cell_word, is_declare_instruction, is_end_scope_instruction}
@@ -109,9 +101,6 @@ module _ (table : Table) (typed : TypedProgram) (effects : Effects) (input : Lis
 
   abbrev own : Typing
   own = typing_of table typed
-
-  abbrev in_formals : AreAccess s
-  in_formals = standing.in_formals table typed effects input ready
 
   abbrev local : (x : ℕ) → is_view s x ≡ true → is_package_object s x ≡ false
   local = standing.local table typed effects input ready
@@ -164,10 +153,6 @@ module _ (table : Table) (typed : TypedProgram) (effects : Effects) (input : Lis
     abbrev acts_of_main : Instruction → List Act
     acts_of_main i = standing.acts_here table typed effects input ready state top older outer named p frames of_sub at_point i
 
-    abbrev allowed_now : Spare s (standing.acts_by table typed effects input ready state top older outer named p frames of_sub at_point s p.instr) → AllowsAll own_facts (acts_of_main p.instr)
-        → AllowsAll facts_now (acts_of_main p.instr)
-    allowed_now = innermost.allowed_now table typed effects input ready state top below more_frames rest named p frames deep stages running awaiting of_sub at_point path views viewed_before kept scope holds placed_before above
-
     abbrev viewed : Viewed (home s depth) sees other views (view_here s state) facts_now
     viewed = innermost.viewed table typed effects input ready state top below more_frames rest named p frames deep stages running awaiting of_sub at_point path views viewed_before kept scope holds placed_before above
 
@@ -180,12 +165,6 @@ module _ (table : Table) (typed : TypedProgram) (effects : Effects) (input : Lis
     abbrev easy : Turn
     easy = eased main_turn
 
-    abbrev Left : List Waiting → Type 0
-    Left waits = AreValues s waits (scope_behind p)
-
-    abbrev left_after : FillsNone s p.instr → Left (steps.waiting main_turn)
-    left_after = innermost.left_after table typed effects input ready state top below more_frames rest named p frames deep stages running awaiting of_sub at_point path views viewed_before kept scope holds placed_before above
-
     abbrev IsOld : ℕ → ℕ → Type 0
     IsOld f x =
         (f < suc (length rest)) × ((f ≡ 0)
@@ -194,24 +173,12 @@ module _ (table : Table) (typed : TypedProgram) (effects : Effects) (input : Lis
     abbrev inside_left : Inside s IsOld state.memory depth (lasting_of s left_scope)
     inside_left = innermost.inside_left table typed effects input ready state top below more_frames rest named p frames deep stages running awaiting of_sub at_point path views viewed_before kept scope holds placed_before above
 
-    abbrev supplied_here : IsSupplied s p
-    supplied_here = innermost.supplied_here table typed effects input ready state top below more_frames rest named p frames deep stages running awaiting of_sub at_point path views viewed_before kept scope holds placed_before above
-
-    abbrev shared : Shares s (taken p.instr) top.frame.waits p.scope
-    shared = innermost.shared table typed effects input ready state top below more_frames rest named p frames deep stages running awaiting of_sub at_point path views viewed_before kept scope holds placed_before above
-
     -- where it leads, and how the frames come from those before
     abbrev Along : Outcome → Type 0
     Along outcome = LeadsAlong table typed effects p.instr state.memory (record { stage = top; views = views; cells = [] }) (below ∷ more_frames) outcome
 
     abbrev may : ℕ → ℕ → Type 0
     may x y = MayBe program (scope_behind p) x y × IsStoredAt p.instr x × IsSourceIn (sub_acts (sub_of program top.frame.sub)) x y
-
-    abbrev LeadsFrom : Instruction → Outcome → Type 0
-    LeadsFrom i outcome = Leads_on easy sees seeing ready.accepted.settled ready.owns other alone views ready.class.parts_named may refl refl (after (acts_of_main i) facts_now) outcome
-
-    abbrev orderly : AreOrderly program p (λ q. (n : ℕ) × Has (map (number_in named.points) p.next) n × IsAtPoint named.points n q)
-    orderly = innermost.orderly table typed effects input ready state top below more_frames rest named p frames deep stages running awaiting of_sub at_point path views viewed_before kept scope holds placed_before above
 
     abbrev raised_well : (m : Memory) → WellOwned s (steps.counted (record state { memory = given_up state.memory m }))
     raised_well = innermost.raised_well table typed effects input ready state top below more_frames rest named p frames deep stages running awaiting of_sub at_point path views viewed_before kept scope holds placed_before above

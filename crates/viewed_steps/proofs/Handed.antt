@@ -199,8 +199,8 @@ module _ (table : Table) (typed : TypedProgram) (effects : Effects)
   }
     where
       not_both : (b : Bool) → b ≡ true → b ≡ false → ⊥
-      not_both true e h = cc
-      not_both false e h = cc
+      not_both true e h = absurd (true≢false h)
+      not_both false e h = absurd (false≢true e)
 
       -- the frame's own loans are held by its own objects
       loan_kept : (x : ℕ) (w : Way) → v.way x ≡ Some w → (b : Bool) (n : Name) → HasLoan sees b x all n → HasLoan sees b x facts n

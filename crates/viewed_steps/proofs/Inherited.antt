@@ -3,7 +3,7 @@
 use Rattle.std.proofs.Common.{◌≡◌, refl, sym, ap, ◌∙◌, ◌⊎◌, inl, inr, ℕ, Bool, true, false, not, ◌&&◌, ◌||◌, ◌==◌, eq-eqb, eqb-true, List, [], ◌∷◌, map, None}
 use Rattle.std.specs.Prelude.{filter}
 use Rattle.std.specs.List.{list_any}
-use Rattle.std.proofs.lemmas.Bool.{true≢false}
+use Rattle.std.proofs.lemmas.Bool.{true≢false, false≢true}
 use Rattle.spark_base.specs.Lists.{Has}
 use Rattle.spark_base.proofs.Lists.{Has-append_left, Has-append_right, Has-append_cases, Has-filter, Has-filter_passes}
 use Rattle.place_names.specs.declared.selector.Sel.{Sel}
@@ -12,7 +12,7 @@ use Rattle.place_names.specs.declared.act.Mode.TheVariants as mode
 use Rattle.place_names.specs.declared.act.Act.{Act}
 use Rattle.place_names.specs.declared.act.Act.TheVariants as act
 use Rattle.place_names.specs.declared.fact.Fact.{Fact}
-use Rattle.place_names.specs.declared.fact.Fact.TheVariants.{Moved, Lent}
+use Rattle.place_names.specs.declared.fact.Fact.TheVariants.{Lent}
 use Rattle.place_names.specs.declared.rule.Loan.{Loan}
 use Rattle.place_names.specs.declared.rule.Loan.TheVariants.{Borrowed, Observed}
 use Rattle.place_names.specs.declared.rule.Rule.{Rule}
@@ -46,18 +46,18 @@ forbidden_none true r m f e = absurd (true≢false e)
 forbidden_none false r m f e = refl
 
 neither : (a b : Bool) → a ≡ false → b ≡ false → a || b ≡ false
-neither true b e h = cc
+neither true b e h = e
 neither false b e h = h
 
 no_kind : (a b : Bool) → a && b ≡ false → a && not b ≡ false → a ≡ false
-no_kind true true e h = cc
-no_kind true false e h = cc
+no_kind true true e h = e
+no_kind true false e h = h
 no_kind false b e h = refl
 
 not_so : (a b : Bool) → a ≡ true → b ≡ false → a ≡ b → ⊥
-not_so true true e h same = cc
-not_so true false e h same = cc
-not_so false b e h same = cc
+not_so true true e h same = absurd (true≢false h)
+not_so true false e h same = absurd (true≢false same)
+not_so false b e h same = absurd (false≢true e)
 
 module _ (s : Typing) (n : Name) (shared : is_package_object s n.root ≡ true)
     (local : (x : ℕ) → is_borrower s x ≡ true → is_package_object s x ≡ false) where
@@ -69,19 +69,6 @@ module _ (s : Typing) (n : Name) (shared : is_package_object s n.root ≡ true)
 
   apart_overlap : (m : Name) → (m.root == n.root) ≡ false → overlaps n m ≡ false
   apart_overlap m other = ap (λ b. b && agree_along n.sels m.sels) (other_root m.root other)
-
-  apart_lead : (m : Name) → (m.root == n.root) ≡ false → breaks_O2 m (Moved n) ≡ false
-  apart_lead m other = ap (λ b. (b && agrees_whole n.sels m.sels) || false) (other_root m.root other)
-
-  apart_fronts : (r : ℕ) → (r == n.root) ≡ false → (fronts : List (List Sel)) → list_any (λ p. breaks_O2 p (Moved n)) (map (λ front. record { root = r; sels = front }) fronts) ≡ false
-  apart_fronts r other [] = refl
-  apart_fronts r other (front ∷ fronts) =
-      ap (λ b. b || list_any (λ p. breaks_O2 p (Moved n)) (map (λ front. record { root = r; sels = front }) fronts))
-      (apart_lead (record { root = r; sels = front }) other)
-      ∙ apart_fronts r other fronts
-
-  apart_write : (m : Name) → (m.root == n.root) ≡ false → breaks_O3 m (Moved n) ≡ false
-  apart_write m other = ap (λ b. b || false) (apart_fronts m.root other _)
 
   -- an object of the frame is another one
   own_root : (x : ℕ) → is_package_object s x ≡ false → (x == n.root) ≡ false

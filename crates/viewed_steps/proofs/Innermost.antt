@@ -365,10 +365,6 @@ module _ (table : Table) (typed : TypedProgram) (effects : Effects) (input : Lis
 
     -- ---- its result
 
-    sub_result : (of : ℕ) → named.sub.result ≡ Some of → (sub_of program top.frame.sub).result ≡ Some of
-    sub_result of result =
-        ap (λ (z : FlowSub). z.result) (standing.sub_is table typed effects input ready state top older outer named p frames of_sub at_point) ∙ result
-
     -- what a function gives belongs to no package
     pub gives_own : (m : PlaceName) (b : Bool)
         → Has (standing.acts_here table typed effects input ready state top older outer named p frames of_sub at_point p.instr) (act.Give m b) → is_package_object s m.root ≡ false

@@ -1,13 +1,13 @@
 -- The end of a call: the variables of its frame are removed, and what the others have stays.
-use Rattle.std.proofs.Common.{◌≡◌, sym, ap, ◌∙◌, subst, inl, inr, ℕ, false, not, List, [], get_or, append-nil, if◌then◌else◌}
+use Rattle.std.proofs.Common.{◌≡◌, sym, ap, ◌∙◌, subst, inl, inr, ℕ, false, not, List, [], get_or, append-nil}
 use Rattle.std.proofs.lemmas.Bool.{false≢true}
-use Rattle.flow_paths.specs.Objects.{Typing, object_at, is_package_object}
+use Rattle.flow_paths.specs.Objects.{Typing, object_at}
 use Rattle.machine.specs.Words.{default}
 use Rattle.machine.specs.Words as machine
 use Rattle.machine.specs.Memory.{Memory, Slot, no_slot, variable_slots, without_frame}
 use Rattle.machine.specs.States.{Waiting, Leak}
-use Rattle.soundness.specs.OwnedWays.Ways.{Step, OfVariable, OfHand, Loc, OfRoot, OfCell, Inside, Way, Object, Lost, Into, All, Empty, Gone, Held, View, Reaches, Named, Owned, Covered, IsSame, part, base_of, number_of}
-use Rattle.soundness.specs.Seen.{content, trunk, steps_in, word_in, seen, home, is_view_formal}
+use Rattle.soundness.specs.OwnedWays.Ways.{Step, OfVariable, OfHand, Loc, OfRoot, OfCell, Inside, Way, Object, Lost, Into, All, Empty, Gone, Held, View, Reaches, Owned, Covered, IsSame, part, base_of}
+use Rattle.soundness.specs.Seen.{content, trunk, steps_in, word_in, seen, is_view_formal}
 use Rattle.soundness.proofs.Joined.{trunk_trunk, not_inside}
 use Rattle.soundness.proofs.Contents.{word_part}
 use Rattle.soundness.proofs.Defaults.{none_default, blank_word}
@@ -93,13 +93,6 @@ module _ (s : Typing) (m : Memory) (f : ℕ) (hands : List Waiting) (leaks : Lis
       let there : word_in s.table (content s left hands (OfRoot (OfVariable f x))) (steps_in l) ≡ Gone =
       subst (λ z. word_in s.table (content s left hands z) (steps_in l) ≡ Gone) (stays_there w l x base r) gone in
       let no : Empty ≡ Gone = sym (blank x (steps_in l)) ∙ there in absurd (false≢true (ap is_gone_word no))
-
-  base_there : (w : Way) → Named (home s f) w → is_package_object s (number_of w) ≡ false → base_of w ≡ OfRoot (OfVariable f (number_of w))
-  base_there (Object (OfVariable g x)) named own = (let e : g ≡ f = named ∙ ap (λ b. if b then 0 else f) own in ap (λ z. OfRoot (OfVariable z x)) e)
-  base_there (Object (OfHand h)) named own = absurd named
-  base_there (Lost n) named own = absurd named
-  base_there (Into w i) named own = base_there w named own
-  base_there (All w) named own = base_there w named own
 
 -- the variables of other frames stay, and those of the frame have no number
 module _ (s : Typing) (m : Memory) (f : ℕ) where

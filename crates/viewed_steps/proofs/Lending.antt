@@ -2,6 +2,7 @@
 -- overlap those of others.
 use Rattle.std.proofs.Common.{◌≡◌, refl, sym, ap, ◌∙◌, subst, ◌⊎◌, inl, inr, ℕ, Bool, true, false, not, ◌&&◌, ◌||◌, ◌==◌, eqb-true, eq-eqb, List, [], ◌∷◌, Option, Some, None, if◌then◌else◌}
 use Rattle.std.specs.Prelude.{flat_map, map}
+use Rattle.std.proofs.lemmas.Bool.{true≢false, false≢true}
 use Rattle.spark_base.specs.Lists.{Has}
 use Rattle.spark_base.proofs.Lists.{Has-append_left, Has-append_right, Has-append_cases}
 use Rattle.place_names.specs.declared.rule.Rule.TheVariants.{A1, O10}
@@ -104,8 +105,8 @@ module _ (s : Typing) (sees : ℕ → Bool) where
       by (alias.is_immutable s a.formal) (alias.is_immutable s b.formal) (alias.is_scalar_formal s a.formal) (alias.is_scalar_formal s b.formal) (mutable a.formal one) many
     where
       by : (i k x y : Bool) → i ≡ false → y ≡ false → ((i && k) || ((i && x) || (k && y)) ≡ false) × ((k && i) || ((k && y) || (i && x)) ≡ false)
-      by true k x y e f = cc
-      by false k x true e f = cc
+      by true k x y e f = absurd (true≢false e)
+      by false k x true e f = absurd (true≢false f)
       by false true x false e f = (refl, refl)
       by false false x false e f = (refl, refl)
 
@@ -184,7 +185,7 @@ module _ (s : Typing) (sees : ℕ → Bool) where
   pub borrowed_lent : (m : PlaceName) (f : Fact) → moved_or_borrowed m f ≡ true → moved_or_lent m f ≡ true
   borrowed_lent m (Moved n) over = over
   borrowed_lent m (Lent Borrowed h n) over = over
-  borrowed_lent m (Lent Observed h n) over = cc
+  borrowed_lent m (Lent Observed h n) over = absurd (false≢true over)
 
   -- A fact that overlaps the actual of such a formal is there still where its act comes: no act before it takes that back.
   pub record Comes (m : Written) (access : Bool) (f : Fact) : Type 0 where

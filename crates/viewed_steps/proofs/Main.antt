@@ -254,5 +254,5 @@ module _ (table : Table) (typed : TypedProgram) (effects : Effects) (input : Lis
       owned_at (Ends e t) leads = leads.1
 
       no_trap_at : (o : Outcome) → LeadsOn table typed effects o → (e : Ending) → ending_of o ≡ Some e → IsTrap e → ⊥
-      no_trap_at (Goes t) leads e is trap = cc
+      no_trap_at (Goes t) leads e is trap = false≢true (ap is_some is)
       no_trap_at (Ends f t) leads e is trap = (let same : f ≡ e = cc in leads.0 (subst IsTrap (sym same) trap))

@@ -29,7 +29,7 @@ use Rattle.type_definitions.specs.declared.table.Shape.TheVariants as shape
 use Rattle.type_definitions.specs.Types.{shape_of}
 use Rattle.soundness.specs.Seen.{IsNear, content, trunk, seen, home}
 use Rattle.soundness.specs.Typed.{OwnsByShape, Kept}
-use Rattle.typed_laws.specs.Needed.{IndexLaw}
+use Rattle.soundness.specs.TypedLaws.Needed.{IndexLaw}
 use Rattle.soundness.specs.OwnedLoans.Views.{Around, Views, AreViews, ExcusedBy, Viewed, with_view}
 use Rattle.soundness.specs.ViewedSoundness.Holds.{PartsAreNamed, is_view, IsOwners, Holds, PartsHold, is_given, is_bundle, GoesBy, Seeing}
 use Rattle.soundness.proofs.ViewedSoundness.Given.{IsLow, low_begins, low_there}

@@ -22,7 +22,7 @@ use Rattle.soundness.specs.OwnedWays.Ways as ways
 use Rattle.soundness.specs.PartOffsets.Parts.{IsSettled}
 use Rattle.soundness.specs.Seen.{in_hand, word_in, seen, home, IsNear}
 use Rattle.soundness.specs.Typed.{OwnsByShape, Kept}
-use Rattle.typed_laws.specs.Needed.{Stays}
+use Rattle.soundness.specs.TypedLaws.Needed.{Stays}
 use Rattle.soundness.proofs.Contents.{word_no}
 use Rattle.soundness.proofs.Steps.{no_leaf}
 use Rattle.soundness.proofs.Scalars.{acts}

@@ -38,7 +38,7 @@ use Rattle.soundness.specs.OwnedWays.Ways as ways
 use Rattle.soundness.proofs.OwnedWays.Locations.{reaches_along, named_along as rooted_along}
 use Rattle.soundness.specs.Seen.{IsNear, is_view_formal, content, word_in, home}
 use Rattle.soundness.specs.Typed.{Kept}
-use Rattle.typed_laws.specs.Needed.{IsFine}
+use Rattle.soundness.specs.TypedLaws.Needed.{IsFine}
 use Rattle.soundness.specs.Sound.{IsNoCall, IsRunnable, temporaries_in, Stage, facts_of, AreStages, IsPlain, InScope, IsNamedSub, IsAtPoint, view_of as view_here, is_temporary_object}
 use Rattle.soundness.proofs.Contents.{word_root}
 use Rattle.soundness.proofs.Paths.{facts_next}

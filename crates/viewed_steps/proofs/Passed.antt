@@ -36,7 +36,7 @@ use Rattle.flow_paths.specs.Points.{FlowPoint}
 use Rattle.flow_paths.specs.Laid.{FlowSub, FlowProgram, flow_typing}
 use Rattle.flow_paths.specs.Reports.{AreReports, on_actuals}
 use Rattle.flow_paths.specs.Aliases as alias
-use Rattle.flow_paths.specs.Aliases.{may_overlap, pair_reports, overlap_reports, passed_reports, call_reports, alias_reports}
+use Rattle.flow_paths.specs.Aliases.{may_overlap, pair_reports, overlap_reports, passed_reports, call_reports}
 use Rattle.flow_paths.specs.Scopes.{is_within}
 use Rattle.machine.specs.Words as machine
 use Rattle.machine.specs.Memory.{Memory, Place, slots_at}
@@ -130,8 +130,8 @@ covers_overlaps k n e =
     both_true (n.root == k.root) (agree_along n.sels k.sels) (eq-eqb n.root k.root (sym (eqb-true k.root n.root prefix.0))) (begins_agree k.sels n.sels prefix.1)
 
 refuted : (b : Bool) → b ≡ true → not b ≡ true → ⊥
-refuted true e none = cc
-refuted false e none = cc
+refuted true e none = absurd (false≢true none)
+refuted false e none = absurd (false≢true e)
 
 -- after an act of mode `out` no part of its place is known to be moved
 out_cleared : (k : PlaceName) (owning access : Bool) (facts : List Fact) (n : PlaceName) → Has (effect (act.Actual k mode.Out owning access) facts) (Moved n) → covers k n ≡ true → ⊥
@@ -142,11 +142,6 @@ out_cleared k owning access facts n has covered =
     ]
 
 -- ---- what the rules on actuals say
-
--- no report is given
-none_of : {A : Type 0} (xs : List A) → ((x : A) → Has xs x → ⊥) → xs ≡ []
-none_of [] none = refl
-none_of (x ∷ xs) none = absurd (none x (inl refl))
 
 pub flat_has : {A B : Type 0} (f : A → List B) (xs : List A) (x : A) (y : B) → Has xs x → Has (f x) y → Has (flat_map f xs) y
 flat_has f [] x y h k = absurd h

@@ -27,7 +27,7 @@ use Rattle.soundness.specs.PartOffsets.Parts.{type_in, offset_in, has_part, IsSe
 use Rattle.soundness.specs.Seen.{IsNear, content, trunk, steps_in, seen, home, is_view_formal}
 use Rattle.soundness.specs.Typed.{Matches, OwnsByShape, Kept, Spot, IsFixed, loc_of}
 use Rattle.soundness.specs.Sound.{goes_through_none}
-use Rattle.typed_laws.specs.Needed.{Stays, IndexLaw, IsPlace as IsPlaceOf, Leads, Gives}
+use Rattle.soundness.specs.TypedLaws.Needed.{Stays, IndexLaw, IsPlace as IsPlaceOf, Leads, Gives}
 use Rattle.soundness.proofs.Joined.{steps_part}
 use Rattle.soundness.proofs.Fixed.{plain_word}
 use Rattle.soundness.proofs.Scalars.{acts, number_along, named_along}

@@ -36,7 +36,7 @@ use Rattle.soundness.specs.PartOffsets.Parts.{IsSettled}
 use Rattle.soundness.specs.Seen.{IsNear, is_view_formal, content, trunk, seen, home}
 use Rattle.soundness.specs.Changes.{leaks_at}
 use Rattle.soundness.specs.Typed.{Matches, OwnsByShape, Spot}
-use Rattle.typed_laws.specs.Needed.{Leads}
+use Rattle.soundness.specs.TypedLaws.Needed.{Leads}
 use Rattle.soundness.proofs.Near.{near_under}
 use Rattle.soundness.proofs.Contents.{bool_cases}
 use Rattle.soundness.proofs.Walks.{way_along, Walked}

@@ -14,7 +14,7 @@ use Rattle.flow_paths.specs.Objects.{Typing, object_at}
 use Rattle.flow_paths.specs.Names.{Written, has_call, name_of}
 use Rattle.flow_paths.specs.Acts.{placed, naming, used, acts_in, index_acts}
 use Rattle.soundness.specs.Typed.{Matches, OwnsByShape}
-use Rattle.typed_laws.specs.Needed.{Stays, Leads, IsPlace as IsPlaceOf}
+use Rattle.soundness.specs.TypedLaws.Needed.{Stays, Leads, IsPlace as IsPlaceOf}
 use Rattle.soundness.proofs.Passing.{IsRead, AreReads, AddNone, plain_type}
 
 -- ---- acts that read

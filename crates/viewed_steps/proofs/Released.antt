@@ -1,6 +1,6 @@
 -- Releases: a cell is freed, or null is.
 use Rattle.std.proofs.Common.{None, ◌≡◌, refl, sym, ap, ◌∙◌, subst, inl, inr, ℕ, suc, Bool, true, false, not, List, [], ◌∷◌, ◌++◌, map, length, arith, ℤ}
-use Rattle.std.proofs.lemmas.Bool.{false≢true}
+use Rattle.std.proofs.lemmas.Bool.{false≢true, true≢false}
 use Rattle.spark_base.specs.Lists.{Has}
 use Rattle.spark_base.specs.declared.position.Pos.{Pos}
 use Rattle.place_names.specs.declared.act.Act.{Act}
@@ -25,7 +25,7 @@ use Rattle.machine.specs.States.{Waiting, Leak, Outcome}
 use Rattle.machine.specs.Step.{Turn, typing, here, goes, leaking_goes}
 use Rattle.machine.specs.Step as steps
 use Rattle.machine.specs.Owners.{waiting_in}
-use Rattle.soundness.specs.OwnedWays.Ways.{OfVariable, Loc, OfCell, Inside, Way, Object, Lost, Into, All, Empty, Gone, Held, View, Reaches, Below, IsRooted, Under, Named, IsMoved, Allows, part, after, AllowsAll, number_of}
+use Rattle.soundness.specs.OwnedWays.Ways.{OfVariable, Loc, OfCell, Inside, Way, Object, Lost, Into, All, Empty, Gone, Held, View, Reaches, Below, Under, Named, Allows, part, after, AllowsAll, number_of}
 use Rattle.soundness.specs.OwnedWays.Ways as ways
 use Rattle.soundness.proofs.OwnedWays.Locations.{under_itself, depth as depth_of}
 use Rattle.soundness.proofs.OwnedWays.Named.{covered_under}
@@ -35,7 +35,7 @@ use Rattle.soundness.proofs.PartOffsets.Ranges.{leaf_end, leaf_part}
 use Rattle.soundness.specs.Seen.{IsNear, is_view_formal, Content, content, trunk, steps_in, owner_at, owner_word, seen, home}
 use Rattle.soundness.specs.Changes.{Alike as AlikeTypes, Checks, leaks_at}
 use Rattle.soundness.specs.Typed.{Matches, OwnsByShape, Spot}
-use Rattle.typed_laws.specs.Needed.{Leads}
+use Rattle.soundness.specs.TypedLaws.Needed.{Leads}
 use Rattle.soundness.proofs.Contents.{bool_cases, word_yes, word_no, word_part, checks_made, all_checks}
 use Rattle.soundness.proofs.Joined.{trunk_trunk, below_cell}
 use Rattle.soundness.proofs.Walks.{both_true, way_along, Walked}
@@ -144,7 +144,7 @@ plain_word (machine.Int v) false no_cell e = refl
 plain_word (machine.Enumerated v) false no_cell e = refl
 plain_word machine.Null false no_cell e = refl
 plain_word (machine.Cell n) false no_cell e = absurd (no_cell n refl)
-plain_word x true no_cell e = cc
+plain_word x true no_cell e = absurd (true≢false e)
 
 no_null : (k : ℕ) → Has (machine.Null ∷ []) (machine.Cell k) → ⊥
 no_null k (inl e) = cc

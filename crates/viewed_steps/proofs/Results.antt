@@ -38,7 +38,7 @@ use Rattle.soundness.specs.OwnedWays.Ways.{Step, OfVariable, OfRoot, Way, Held, 
 use Rattle.soundness.specs.OwnedWays.Ways as ways
 use Rattle.soundness.specs.Seen.{IsNear, content, word_in, home, seen}
 use Rattle.soundness.specs.Typed.{Kept}
-use Rattle.typed_laws.specs.Needed.{Source}
+use Rattle.soundness.specs.TypedLaws.Needed.{Source}
 use Rattle.soundness.specs.Sound.{IsNoCall, Stage, facts_of, AreStages, IsRunnable, returns_value, InScope, IsNamedSub, IsAtPoint, view_of as view_here, has_returned}
 use Rattle.soundness.proofs.Scalars.{acts}
 use Rattle.soundness.proofs.Scoped.{Inside}

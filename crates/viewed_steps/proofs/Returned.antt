@@ -1,5 +1,7 @@
 -- What a traversal function returns: null, or what goes on from what its first formal sees.
 use Rattle.std.proofs.Common.{false, ◌≡◌, refl, sym, ap, ◌∙◌, subst, ◌⊎◌, inl, inr, ℕ, Bool, true, List, [], ◌∷◌, ◌++◌, length, Option, Some, None, if◌then◌else◌}
+use Rattle.std.proofs.lemmas.Bool.{false≢true}
+use Rattle.std.specs.Prelude.{is_some}
 use Rattle.spark_base.specs.declared.position.Pos.{Pos}
 use Rattle.place_names.specs.declared.act.Act.{Act}
 use Rattle.place_names.specs.declared.act.Act.TheVariants as act
@@ -26,7 +28,7 @@ use Rattle.soundness.proofs.OwnedWays.Locations.{same_loc}
 use Rattle.soundness.specs.PartOffsets.Parts.{IsSettled}
 use Rattle.soundness.specs.Seen.{IsNear, seen, home}
 use Rattle.soundness.specs.Typed.{OwnsByShape}
-use Rattle.typed_laws.specs.Needed.{Leads, Gives, Matches, Source}
+use Rattle.soundness.specs.TypedLaws.Needed.{Leads, Gives, Matches, Source}
 use Rattle.soundness.proofs.Numbers.{index_law}
 use Rattle.soundness.proofs.Scalars.{acts, acts_append, after_append, allows_both}
 use Rattle.soundness.proofs.Stays.{Quiet}

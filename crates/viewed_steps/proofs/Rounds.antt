@@ -21,7 +21,7 @@ use Rattle.soundness.specs.OwnedWays.Ways.{OfVariable, Loc, OfRoot, Way, Reaches
 use Rattle.soundness.specs.PartOffsets.Parts.{offset_in, IsSettled}
 use Rattle.soundness.specs.Seen.{IsNear, content, trunk, seen, home}
 use Rattle.soundness.specs.Typed.{OwnsByShape, Kept, Spot}
-use Rattle.typed_laws.specs.Needed.{Stays, Writes}
+use Rattle.soundness.specs.TypedLaws.Needed.{Stays, Writes}
 use Rattle.soundness.proofs.Contents.{bool_cases}
 use Rattle.soundness.proofs.Memories.{put_other, removed_other}
 use Rattle.soundness.proofs.Steps.{plain_shape}

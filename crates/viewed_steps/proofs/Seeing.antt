@@ -21,7 +21,7 @@ use Rattle.soundness.specs.OwnedWays.Ways as ways
 use Rattle.soundness.specs.PartOffsets.Parts.{IsSettled, has_part, type_in, offset_in}
 use Rattle.soundness.specs.Seen.{IsNear, content, trunk, seen, home, is_view_formal}
 use Rattle.soundness.specs.Typed.{IsCell, OwnsByShape, Kept}
-use Rattle.typed_laws.specs.Needed.{IndexLaw, Matches}
+use Rattle.soundness.specs.TypedLaws.Needed.{IndexLaw, Matches}
 use Rattle.soundness.proofs.Scalars.{acts}
 use Rattle.soundness.proofs.Stays.{Quiet}
 use Rattle.soundness.proofs.Taking.{Takes, takes_zero}

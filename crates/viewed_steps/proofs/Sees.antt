@@ -94,9 +94,9 @@ module _ (s : Typing) (acts : List Act) where
 
   source_within : (steps x : ℕ) → sees_within steps s acts x ≡ true → sees_only s x ≡ false
       → (less : ℕ) × (m : Name) × Has acts (Borrow x m) × (sees_within less s acts m.root ≡ true)
-  source_within zero x is plain = absurd (let no : false ≡ true = sym plain ∙ zero_within x is in absurd (false≢true no))
+  source_within zero x is plain = absurd (let no : false ≡ true = sym plain ∙ zero_within x is in false≢true no)
   source_within (suc steps) x is plain = elim (from_within steps x is) [
-    | inl only ↦ absurd (let no : false ≡ true = sym plain ∙ only in absurd (false≢true no))
+    | inl only ↦ absurd (let no : false ≡ true = sym plain ∙ only in false≢true no)
     | inr (borrows, m, has, from) ↦ (steps, m, has, from)
   ]
 

@@ -30,7 +30,7 @@ use Rattle.machine.specs.Owners.{waiting_in}
 use Rattle.soundness.specs.OwnedWays.Ways.{Step, OfVariable, OfRoot, Way, Held, after, AllowsAll}
 use Rattle.soundness.specs.Seen.{IsNear, content, word_in, home}
 use Rattle.soundness.specs.Typed.{Kept}
-use Rattle.typed_laws.specs.Needed.{IsFine, Stays}
+use Rattle.soundness.specs.TypedLaws.Needed.{IsFine, Stays}
 use Rattle.soundness.specs.Sound.{IsNoCall, Stage, facts_of, AreStages, IsRunnable, returns_value, InScope, IsNamedSub, IsAtPoint, view_of as view_here, is_temporary_object}
 use Rattle.soundness.proofs.Scalars.{acts}
 use Rattle.soundness.proofs.Scoped.{Inside}

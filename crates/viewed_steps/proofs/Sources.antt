@@ -22,7 +22,7 @@ use Rattle.soundness.specs.OwnedWays.Ways.{Way, after, AllowsAll}
 use Rattle.soundness.specs.PartOffsets.Parts.{IsSettled}
 use Rattle.soundness.specs.Seen.{IsNear, home}
 use Rattle.soundness.specs.Typed.{OwnsByShape}
-use Rattle.typed_laws.specs.Needed.{Leads, Gives, Source}
+use Rattle.soundness.specs.TypedLaws.Needed.{Leads, Gives, Source}
 use Rattle.soundness.proofs.Scalars.{acts}
 use Rattle.soundness.proofs.Taking.{Takes}
 use Rattle.soundness.specs.OwnedLoans.Views.{Around, Views, Unused}

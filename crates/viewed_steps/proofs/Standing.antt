@@ -28,7 +28,7 @@ use Rattle.machine.specs.Run.{no_point, stepped, step}
 use Rattle.soundness.specs.OwnedWays.Ways.{after, AllowsAll}
 use Rattle.soundness.specs.Seen.{home}
 use Rattle.soundness.specs.Typed.{Kept}
-use Rattle.typed_laws.specs.Needed.{IsFine}
+use Rattle.soundness.specs.TypedLaws.Needed.{IsFine}
 use Rattle.soundness.specs.Sound.{IsNoCall, Stage, facts_of, AreStages, InScope, IsNamedSub, IsAtPoint, view_of as view_here}
 use Rattle.soundness.specs.Ready.{IsSupplied}
 use Rattle.soundness.proofs.Passing.{signature_is}

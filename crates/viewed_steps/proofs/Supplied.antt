@@ -13,7 +13,7 @@ use Rattle.machine.specs.Words as machine
 use Rattle.machine.specs.Memory.{Memory}
 use Rattle.machine.specs.States.{Waiting}
 use Rattle.machine.specs.Typed.{is_array, is_record}
-use Rattle.typed_laws.specs.Needed.{Gives, IsPlace, Matches}
+use Rattle.soundness.specs.TypedLaws.Needed.{Gives, IsPlace, Matches}
 use Rattle.soundness.specs.PartOffsets.Parts.{IsSettled}
 use Rattle.soundness.specs.Seen.{in_hand}
 use Rattle.soundness.specs.Typed.{Kept, OwnsByShape, Points}
@@ -136,12 +136,12 @@ takes_supplied s settled m e before on scalar supplied =
 -- ---- which are scalar
 
 no_parts : (sh : Shape) → is_scalar (view_of sh) ≡ true → is_record sh || is_array sh ≡ true → ⊥
-no_parts (shape.Fields cs) plain made = cc
-no_parts (shape.Elements low high element) plain made = cc
-no_parts (shape.Whole a b) plain made = cc
-no_parts (shape.Listed l a b) plain made = cc
-no_parts (shape.Access d c n) plain made = cc
-no_parts (shape.Same of) plain made = cc
+no_parts (shape.Fields cs) plain made = false≢true plain
+no_parts (shape.Elements low high element) plain made = false≢true plain
+no_parts (shape.Whole a b) plain made = false≢true made
+no_parts (shape.Listed l a b) plain made = false≢true made
+no_parts (shape.Access d c n) plain made = false≢true plain
+no_parts (shape.Same of) plain made = false≢true plain
 
 array_parts : (sh : Shape) → is_array sh ≡ true → is_record sh || is_array sh ≡ true
 array_parts (shape.Elements low high element) array = refl
@@ -152,7 +152,7 @@ array_parts (shape.Access d c n) array = array
 array_parts (shape.Same of) array = array
 
 no_access : (sh : Shape) (d : ℕ) (c n : Bool) → is_scalar (view_of sh) ≡ true → sh ≡ shape.Access d c n → ⊥
-no_access (shape.Access d c n) k e o plain is = cc
+no_access (shape.Access d c n) k e o plain is = false≢true plain
 no_access (shape.Fields cs) k e o plain is = absurd (false≢true (ap is_access_shape is))
 no_access (shape.Elements low high element) k e o plain is = absurd (false≢true (ap is_access_shape is))
 no_access (shape.Whole a b) k e o plain is = absurd (false≢true (ap is_access_shape is))

@@ -20,7 +20,7 @@ use Rattle.soundness.proofs.OwnedLoans.Allowed.{Cleared, borrow_clears, observe_
 use Rattle.viewed_steps.specs.Traversals.{IsSeer, IsViewTaker, TraversalCall, call_in, traversed_name}
 
 sight : (a b : Bool) → a || b ≡ true → a ≡ false → b ≡ true
-sight true b is none = cc
+sight true b is none = absurd (true≢false none)
 sight false b is none = is
 
 module _ (s : Typing) (n : ℕ) (c : TraversalCall) where

@@ -60,7 +60,7 @@ module _ (s : Typing) (n : ℕ) (c : TraversalCall) (result : Option ℕ) (roots
           → Acts IsNaming (if borrows then index_acts s (call_in n c) ++ reborrow (target_pos p (written (Name q x NoMore t))) x (source (call_in n c))
           else (if observes then source_acts s (call_in n c) (observe s x) else stored_acts s (Name q x NoMore t) (call_in n c)))
       by_kind true false kind own only none = absurd (none refl (own refl))
-      by_kind true true kind own only none = absurd (let never : true ≡ false = only refl in absurd (true≢false never))
+      by_kind true true kind own only none = absurd (let never : true ≡ false = only refl in true≢false never)
       by_kind false true kind own only none = (placed c.name_pos (observe s x (traversed_name c)), inl refl, inr itself)
       by_kind false false (inl never) own only none = cc
       by_kind false false (inr (none_there, never)) own only none = cc

@@ -18,7 +18,7 @@ use Rattle.soundness.specs.OwnedWays.Ways.{Loc, Way, Reaches, AllowsAll, after}
 use Rattle.soundness.specs.PartOffsets.Parts.{IsSettled}
 use Rattle.soundness.specs.Seen.{IsNear, content, trunk, seen, home}
 use Rattle.soundness.specs.Typed.{Kept, OwnsByShape}
-use Rattle.typed_laws.specs.Needed.{Leads, IndexLaw}
+use Rattle.soundness.specs.TypedLaws.Needed.{Leads, IndexLaw}
 use Rattle.soundness.proofs.Passing.{AreReads, reads_keep}
 use Rattle.soundness.proofs.Scalars.{acts, acts_append, after_append, allows_both}
 use Rattle.soundness.proofs.Stays.{Quiet, quiet_then, quiet_from}

@@ -201,7 +201,7 @@ given_formal s x given = by_kind (is_in_formal s x) (is_owning s.table (object_a
 
 one_kind : (f o a : Bool) → f ≡ true → o || a ≡ true → (f && o) || (f && a) ≡ true
 one_kind true o a e shown = shown
-one_kind false o a e shown = cc
+one_kind false o a e shown = e
 
 pub type_given : (s : Typing) (x : ℕ) → is_in_formal s x ≡ true → is_shown_type s x ≡ true → is_given s x ≡ true
 type_given s x formal shown = one_kind (is_in_formal s x) (is_owning s.table (object_at s x).of) (is_anonymous (view_of s x)) formal shown
@@ -230,8 +230,8 @@ AreAccess s =
 
 access_there : (a b : Bool) → a ≡ true → a && not b ≡ false → b ≡ true
 access_there true true e bare = refl
-access_there true false e bare = cc
-access_there false b e bare = cc
+access_there true false e bare = sym bare
+access_there false b e bare = absurd (false≢true e)
 
 pub formal_access : (s : Typing) → OwnsByShape s.table → AreAccess s
 formal_access s own_law x formal = (

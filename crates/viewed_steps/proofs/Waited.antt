@@ -24,10 +24,6 @@ split_list zero (x ∷ xs) = refl
 split_list (suc k) [] = refl
 split_list (suc k) (x ∷ xs) = ap (λ z. x ∷ z) (split_list k xs)
 
-first_of : ℕ → List ℕ → ℕ
-first_of d [] = d
-first_of d (x ∷ xs) = x
-
 any_either : (a b : Bool) → a || b ≡ true → (a ≡ true) ⊎ (b ≡ true)
 any_either true b e = inl refl
 any_either false b e = inr e

@@ -1,7 +1,7 @@
 -- Frames that wait for a call to end, with views: what they keep concerns the innermost frame as ways
 -- of others, and they wait still after its steps.
 use Rattle.soundness.specs.ViewedSoundness.Holds.{is_view}
-use Rattle.std.proofs.Common.{◌≡◌, refl, sym, ap, ◌∙◌, subst, ◌⊎◌, inl, inr, ℕ, ◌<◌, ◌≤◌, Bool, true, false, ◌&&◌, nat_lt, ltb-true, lt-ltb, List, [], ◌∷◌, ◌++◌, length, arith, Some, None, if◌then◌else◌, append-nil, is_some}
+use Rattle.std.proofs.Common.{◌≡◌, refl, sym, ap, ◌∙◌, subst, ◌⊎◌, inl, inr, ℕ, ◌<◌, ◌≤◌, Bool, true, false, nat_lt, ltb-true, lt-ltb, List, [], ◌∷◌, ◌++◌, length, arith, Some, None, if◌then◌else◌, append-nil, is_some}
 use Rattle.std.specs.Prelude.{flat_map}
 use Rattle.std.proofs.lemmas.Bool.{false≢true}
 use Rattle.spark_base.specs.Lists.{Has}
@@ -57,10 +57,6 @@ same_reaches s t e (Object r) l h = h
 same_reaches s t e (Lost n) l h = (e.leaked n ∙ h.0, h.1)
 same_reaches s t e (Into w i) l (m, h, is) = (m, same_reaches s t e w m h, is)
 same_reaches s t e (All w) l (m, n, h, held, is) = (m, n, same_reaches s t e w m h, e.word m ∙ held, is)
-
-both_first : (a b : Bool) → a && b ≡ true → a ≡ true
-both_first true b e = refl
-both_first false b e = absurd (false≢true e)
 
 -- the words of a cell, as owners see them
 pub cell_word : (s : Typing) (state : State) (n : ℕ) (p : List Step)
@@ -182,9 +178,6 @@ module _ (table : Table) (typed : TypedProgram) (effects : Effects)
       (waiting.0).unmoved name (subst (λ (z : ViewStage). Has (withheld program effects z) (Moved name)) (sym same) moved) shared used
   unused_there state callee backs (h ∷ (k ∷ older)) waiting g (inr has) name moved shared used =
       unused_there state h.stage.frame.sub h.stage.frame.returns (k ∷ older) waiting.1 g has name moved shared ((waiting.0).uses name.root used)
-
-  none_some : {A : Type 0} (o : ℕ) (w : Way) (v : Views) → v.way o ≡ None → v.way o ≡ Some w → A
-  none_some o w v none has = (let no : None ≡ Some w = sym none ∙ has in absurd (false≢true (ap is_some no)))
 
   -- The ways of others, with their cells.
   abbrev pub KeptElsewhere : List ViewStage → Way → ℕ → Type 0

@@ -151,4 +151,4 @@ module _ (program : FlowProgram) (effects : Effects) (are : AreEffects program e
     where
       spared : (b : Bool) → b ≡ true → forbidden_if b O9 name (Moved name) ≡ None → ⊥
       spared true e none = cc
-      spared false e none = cc
+      spared false e none = absurd (false≢true e)

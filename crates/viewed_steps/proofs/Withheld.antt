@@ -36,8 +36,8 @@ flat_from f (x ∷ xs) y h = elim (Has-append_cases (f x) (flat_map f xs) y h) [
 ]
 
 true_or_not : (b : Bool) → b ≡ true → not b ≡ true → ⊥
-true_or_not true e n = cc
-true_or_not false e n = cc
+true_or_not true e n = absurd (false≢true n)
+true_or_not false e n = absurd (false≢true e)
 
 module _ (program : FlowProgram) (effects : Effects) (g : ViewStage) where
   -- a fact on an object that isn't passed, or such an object

@@ -96,7 +96,7 @@ module _ (program : FlowProgram) (effects : Effects) (none : AreReports program 
         by_act (act.Free m) is e = by_change m (ap changes is) e
         by_act (act.Borrow h m) is e = by_lend m (ap lends is) e
         by_act (act.Actual m how owning access) is e = by_mode m how owning access is e
-        by_act x is e = cc
+        by_act x is e = false≢true e
 
     no_point : (p : FlowPoint) → Has sub.points p → (g : ℕ) → is_package_object s g ≡ true → point_writes g p ≡ true → ⊥
     no_point p there g shared writes = elim (either ((g == 0) && writes_text p.instr) _ writes) [
@@ -115,8 +115,8 @@ AreAnswered table typed =
 
 traversed_has : (b : Bool) (xs : List ℕ) (f : ℕ) → traversed_of b xs ≡ Some f → Has xs f
 traversed_has true (x ∷ xs) f e = inl (let same : x ≡ f = cc in same)
-traversed_has true [] f e = cc
-traversed_has false xs f e = cc
+traversed_has true [] f e = absurd (false≢true (ap is_some e))
+traversed_has false xs f e = absurd (false≢true (ap is_some e))
 
 module _ (table : Table) (typed : TypedProgram) (effects : Effects) (none : AreReports (flow_program table typed) effects [])
     (are : AreEffects (flow_program table typed) effects) (text : is_package_object (flow_typing (flow_program table typed)) 0 ≡ false)

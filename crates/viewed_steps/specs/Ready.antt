@@ -27,7 +27,7 @@ use Rattle.machine.specs.Owners.{is_in}
 use Rattle.soundness.specs.Typed.{OwnsByShape}
 use Rattle.soundness.specs.Sound.{Accepted, IsNamedSub, IsAtPoint, IsProcedure, IsRunnable, is_temporary_object, has_returned, IsEntered, goes_through_none}
 use Rattle.soundness.specs.Ready.{root_of, stored_at, AreScoped, AreNew, AreElaborated, AreReturning}
-use Rattle.typed_laws.specs.Needed.{Matches, Leads, Stays, Gives, IsPlace}
+use Rattle.soundness.specs.TypedLaws.Needed.{Matches, Leads, Stays, Gives, IsPlace}
 use Rattle.soundness.specs.Seen.{is_view_formal}
 use Rattle.soundness.specs.ViewedSoundness.Holds.{is_fixed, AllKeep, IsNamed, IsAccess, is_given, is_bundle}
 use Rattle.viewed_steps.specs.Awaited.{is_held, IsTakenAt, FillsTyped, TakesAlone}

@@ -21,7 +21,7 @@ use Rattle.soundness.specs.OwnedWays.Ways.{OfCell, Way, All, View, Reaches, Unde
 use Rattle.soundness.specs.OwnedWays.Ways as ways
 use Rattle.soundness.specs.OwnedLoans.Views.{Go, on, Views, expand}
 use Rattle.soundness.specs.Seen.{home}
-use Rattle.typed_laws.specs.Needed.{Matches}
+use Rattle.soundness.specs.TypedLaws.Needed.{Matches}
 use Rattle.soundness.specs.ViewedSoundness.Holds.{GoesBy}
 use Rattle.viewed_steps.specs.Awaited.{IsTakenBy}
 

@@ -11,9 +11,9 @@ use Rattle.laid_program.specs.declared.laid.Laid.{Laid}
 use Rattle.laid_program.specs.Programs.{program_of as laid_out}
 use Rattle.path_check.specs.declared.accepted.AcceptedProgram.{AcceptedProgram}
 use Rattle.program_check.specs.Sources.{flow_of}
-use Rattle.order_laws.specs.Orderly.{typed_of}
+use Rattle.settled_types.specs.OrderLaws.Orderly.{typed_of}
 use Rattle.sound_files.proofs.TypedFiles.Main.{parsed_steps}
-use Rattle.viewed_facts.proofs.NullPlaces.Typed.{typed_compared}
+use Rattle.recycled_runs.proofs.ViewedFacts.NullPlaces.Typed.{typed_compared}
 use Rattle.run_points.specs.Turns.{HasTypes}
 use Rattle.run_points.specs.Frames.{HasFrames}
 use Rattle.run_points.proofs.Lowering.{is_lowered}

@@ -9,13 +9,13 @@ use Rattle.flow_paths.specs.Laid.{FlowProgram, flow_typing}
 use Rattle.laid_program.specs.declared.laid.Laid.{Laid}
 use Rattle.laid_program.specs.Programs.{program_of as laid_out}
 use Rattle.program_check.specs.Sources.{flow_of}
-use Rattle.order_laws.specs.Orderly.{typed_of}
+use Rattle.settled_types.specs.OrderLaws.Orderly.{typed_of}
 use Rattle.sound_files.proofs.TypedFiles.Main.{parsed_steps}
 use Rattle.machine.specs.States.{sub_of}
 use Rattle.machine.specs.Run.{Run, run}
 use Rattle.handled_steps.specs.States.{Outcome, Goes, Ends, Wants, Fails}
 use Rattle.handled_steps.specs.Greatest.{EndsWithPeaks}
-use Rattle.viewed_facts.proofs.NullPlaces.Typed.{typed_compared}
+use Rattle.recycled_runs.proofs.ViewedFacts.NullPlaces.Typed.{typed_compared}
 use Rattle.run_codes.specs.Points.{is_declaring}
 use Rattle.run_points.specs.Turns.{HasTypes}
 use Rattle.run_points.specs.Frames.{HasFrames}

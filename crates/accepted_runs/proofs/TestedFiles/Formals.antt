@@ -9,11 +9,11 @@ use Rattle.type_definitions.specs.declared.table.Known.{Known}
 use Rattle.typed_tree.specs.Expressions.{Site, object_number}
 use Rattle.typed_tree.specs.Programs.{TypedSub, DeclaredObject, program_objects, site_of, subs_in, over_units, typed_program}
 use Rattle.flow_paths.specs.Laid.{declared_within}
-use Rattle.order_laws.specs.ScopeLaws.Code.{Once}
-use Rattle.order_laws.specs.Written.{is_unit}
-use Rattle.order_laws.proofs.Numbers.{numbers}
-use Rattle.order_laws.proofs.Parts.{number_of, number_here, number_later, IsPart}
-use Rattle.order_laws.proofs.Units.{IsBodyOf, units_of, body_objects}
+use Rattle.settled_types.specs.OrderLaws.ScopeLaws.Code.{Once}
+use Rattle.settled_types.specs.OrderLaws.Written.{is_unit}
+use Rattle.settled_types.proofs.OrderLaws.Numbers.{numbers}
+use Rattle.settled_types.proofs.OrderLaws.Parts.{number_of, number_here, number_later, IsPart}
+use Rattle.settled_types.proofs.OrderLaws.Units.{IsBodyOf, units_of, body_objects}
 use Rattle.run_ready.specs.Tests.{ascend}
 
 ascend_left : (low : ℕ) (xs ys : List ℕ) → ascend low (xs ++ ys) ≡ true → ascend low xs ≡ true

@@ -25,9 +25,9 @@ use Rattle.flow_paths.specs.Laid.{FlowProgram, flow_program}
 use Rattle.laid_program.specs.declared.laid.Laid.{Laid}
 use Rattle.laid_program.specs.Programs as laid_programs
 use Rattle.settled_types.proofs.NamedFiles.Library.{procedures}
-use Rattle.order_laws.specs.Written.{is_unit}
-use Rattle.order_laws.specs.Orderly.{typed_of}
-use Rattle.order_laws.proofs.Faults.{units_faultless}
+use Rattle.settled_types.specs.OrderLaws.Written.{is_unit}
+use Rattle.settled_types.specs.OrderLaws.Orderly.{typed_of}
+use Rattle.settled_types.proofs.OrderLaws.Faults.{units_faultless}
 use Rattle.sound_files.proofs.Once.{files_once}
 use Rattle.sound_files.proofs.Written.{files_written}
 use Rattle.settled_types.specs.TableLaws.Ranks.{IsFit}

@@ -5,7 +5,7 @@ use Rattle.type_definitions.specs.Types.{Table}
 use Rattle.typed_tree.specs.Programs.{TypedSub, TypedProgram}
 use Rattle.flow_paths.specs.Laid.{FlowProgram, flow_program}
 use Rattle.machine.specs.States.{sub_of}
-use Rattle.order_laws.specs.ReadyLaws.InOrder.{IsSub}
+use Rattle.settled_types.specs.OrderLaws.ReadyLaws.InOrder.{IsSub}
 use Rattle.run_ready.specs.Tests.{ascend}
 use Rattle.accepted_runs.specs.TestedFiles.RunTables.Calls.{CallsStand}
 use Rattle.accepted_runs.specs.TestedFiles.RunTables.Entered.{CanEnter}

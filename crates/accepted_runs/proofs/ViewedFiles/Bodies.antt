@@ -15,11 +15,11 @@ use Rattle.typed_tree.specs.Expressions.{Site, object_number}
 use Rattle.typed_tree.specs.Statements.{scope_count}
 use Rattle.typed_tree.specs.Programs.{TypedSub, DeclaredObject, Home, objects_in, object_of, in_package, package_text, scopes_in, subs_in, placed, over_units}
 use Rattle.flow_paths.specs.Objects.{Typing}
-use Rattle.order_laws.proofs.ScopeLaws.Lists.{and_first, and_second}
+use Rattle.settled_types.proofs.OrderLaws.ScopeLaws.Lists.{and_first, and_second}
 use Rattle.sound_files.specs.SeenFiles.Fits.{all_numbers, scope_after, unit_scope, Fits, UnitFits, AllFit}
 use Rattle.sound_files.proofs.SeenFiles.Entries.{is_object_entry}
 use Rattle.sound_files.proofs.SeenFiles.Typed.{units_seen}
-use Rattle.order_laws.specs.Written.{is_declaration, are_declarations, are_statements, is_body, are_parts, is_procedure, is_unit}
+use Rattle.settled_types.specs.OrderLaws.Written.{is_declaration, are_declarations, are_statements, is_body, are_parts, is_procedure, is_unit}
 use Rattle.accepted_runs.specs.ViewedFiles.Places.{AreAt, AreAround}
 use Rattle.accepted_runs.specs.ViewedFiles.Laid.{IsLaidBody}
 use Rattle.accepted_runs.proofs.ViewedFiles.Layers.{at_left, at_right, around_both}

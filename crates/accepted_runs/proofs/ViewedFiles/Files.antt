@@ -52,9 +52,9 @@ use Rattle.settled_types.specs.GatheredLaws.Made.{IsMade}
 use Rattle.settled_types.specs.GatheredLaws.Views.{AreViews}
 use Rattle.settled_types.proofs.GatheredLaws.Parts as parts
 use Rattle.settled_types.proofs.AnonymousTypes.Main as anonymous
-use Rattle.typed_laws.specs.Fine.{Laws, counts, lists}
-use Rattle.typed_laws.specs.TypedSteps.Steps.{AreTyped as AreStepsTyped}
-use Rattle.typed_laws.specs.TypedPoints.Meant.{AreMeantUnits, typing_meant}
+use Rattle.soundness.specs.TypedLaws.Fine.{Laws, counts, lists}
+use Rattle.soundness.specs.TypedLaws.TypedSteps.Steps.{AreTyped as AreStepsTyped}
+use Rattle.soundness.specs.TypedLaws.TypedPoints.Meant.{AreMeantUnits, typing_meant}
 use Rattle.machine.specs.Owners.{is_in, is_in_formal}
 use Rattle.soundness.specs.Seen.{is_view_formal}
 use Rattle.soundness.specs.Typed.{OwnsByShape}
@@ -63,12 +63,12 @@ use Rattle.soundness.specs.Sound.{Accepted, RunIsSound}
 use Rattle.soundness.proofs.Points.{flow_table}
 use Rattle.soundness.proofs.Typings.{Agree, flow_agrees}
 use Rattle.soundness.specs.ViewedSoundness.Holds.{IsAccess, PartsAreNamed, is_given}
-use Rattle.order_laws.specs.ReadyLaws.InOrder.{IsInOrder, IsSub, AreAnswered, AreStill, ArePassed}
-use Rattle.order_laws.proofs.ReadyLaws.Actuals.{typed_passed}
-use Rattle.order_laws.specs.Orderly.{typed_of, typing_in, bodies_of, IsOrderly}
-use Rattle.order_laws.proofs.Accepted.{is_in_order}
-use Rattle.order_laws.proofs.Faults.{units_faultless}
-use Rattle.order_laws.proofs.PackageValues.Main.{packages_still}
+use Rattle.settled_types.specs.OrderLaws.ReadyLaws.InOrder.{IsInOrder, IsSub, AreAnswered, AreStill, ArePassed}
+use Rattle.settled_types.proofs.OrderLaws.ReadyLaws.Actuals.{typed_passed}
+use Rattle.settled_types.specs.OrderLaws.Orderly.{typed_of, typing_in, bodies_of, IsOrderly}
+use Rattle.settled_types.proofs.OrderLaws.Accepted.{is_in_order}
+use Rattle.settled_types.proofs.OrderLaws.Faults.{units_faultless}
+use Rattle.settled_types.proofs.OrderLaws.PackageValues.Main.{packages_still}
 use Rattle.sound_files.specs.SeenFiles.Reached.{IsObjectIn}
 use Rattle.sound_files.proofs.SeenFiles.Files.{files_fit}
 use Rattle.sound_files.proofs.SeenFiles.Entries.{known_keeps}
@@ -77,7 +77,7 @@ use Rattle.sound_files.specs.MeantFiles.Typed.{AreTyped}
 use Rattle.sound_files.proofs.MeantFiles.Main.{files_denote}
 use Rattle.sound_files.proofs.MeantFiles.Main as meant
 use Rattle.sound_files.proofs.MeantFiles.Codes as codes
-use Rattle.order_laws.proofs.ScopeLaws.Lists.{and_second}
+use Rattle.settled_types.proofs.OrderLaws.ScopeLaws.Lists.{and_second}
 use Rattle.sound_files.proofs.Laws.{table_laws, files_declared, integers_scalar, truths_scalar}
 use Rattle.sound_files.proofs.Called.{files_bodies}
 use Rattle.sound_files.proofs.Mains.{main_formless}
@@ -112,11 +112,11 @@ unnamed_access (view.Access d k true) e = unnamed k e
     unnamed true e = cc
     unnamed false e = cc
 unnamed_access (view.Access d k false) e = refl
-unnamed_access w e = cc
+unnamed_access w e = absurd (false≢true e)
 
 is_mode_in : (m : Mode) → is_in m ≡ true → m ≡ mode.In
 is_mode_in mode.In e = refl
-is_mode_in m e = cc
+is_mode_in m e = absurd (false≢true e)
 
 out_apart : mode.Out ≡ mode.In → ⊥
 out_apart e = cc
@@ -156,7 +156,7 @@ whole_named z d c n whole is = cc
 
 formal_kind : (k : ObjectKind) → flow.is_formal_kind k ≡ true → flow.is_variable k ≡ true → ⊥
 formal_kind object_kind.Formal e f = cc
-formal_kind k e f = cc
+formal_kind k e f = absurd (false≢true e)
 
 module _ (files : List (List SourceUnit)) where
   abbrev p : Program

@@ -3,7 +3,7 @@
 use Rattle.std.proofs.Common.{◌≡◌, refl, ◌⊎◌, inl, inr, ℕ, ◌≤◌, Bool, true, false, not, ◌&&◌, ◌||◌, List, [], ◌∷◌, ◌++◌, arith, nat_lt, lt-ltb}
 use Rattle.std.specs.Prelude.{reverse}
 use Rattle.std.specs.List.{list_all}
-use Rattle.std.proofs.lemmas.Bool.{ltb-true}
+use Rattle.std.proofs.lemmas.Bool.{ltb-true, false≢true}
 use Rattle.spark_base.specs.Lists.{Has}
 use Rattle.spark_base.proofs.Lists.{Has-append_left, Has-append_right}
 use Rattle.typed_tree.specs.Trees.{TypedTree, TypedCode, Name, More}
@@ -15,9 +15,9 @@ use Rattle.flow_paths.specs.Layout.{declared}
 use Rattle.flow_paths.specs.Laid.{declared_within}
 use Rattle.flow_paths.specs.Scopes.{is_within}
 use Rattle.flow_paths.specs.Views.{encloses, scope_of}
-use Rattle.order_laws.specs.ScopeLaws.Code.{roots, are_seen, is_seen, is_each_seen}
-use Rattle.order_laws.proofs.ScopeLaws.Lists.{within_has, and_first, and_second, both_true}
-use Rattle.order_laws.specs.ScopeLaws.LayeredScopes.Layered.{is_older, are_of_scope, are_apart, is_layered, is_each_layered}
+use Rattle.settled_types.specs.OrderLaws.ScopeLaws.Code.{roots, are_seen, is_seen, is_each_seen}
+use Rattle.settled_types.proofs.OrderLaws.ScopeLaws.Lists.{within_has, and_first, and_second, both_true}
+use Rattle.settled_types.specs.OrderLaws.ScopeLaws.LayeredScopes.Layered.{is_older, are_of_scope, are_apart, is_layered, is_each_layered}
 use Rattle.accepted_runs.specs.ViewedFiles.ViewLaws.InOrder.{gives_view, is_rooted_in, gives_from, is_list_end, is_one_name_of, is_any, fits}
 use Rattle.accepted_runs.specs.ViewedFiles.Sources.{has_source, all_fit}
 
@@ -40,7 +40,7 @@ one_name_so : (test : ℕ → Bool) (v : TypedTree) → ((y : ℕ) → Has (root
 unfolding roots
 one_name_so test (More (Name p y steps t) rest) so is =
     both_true (test y) (is_list_end rest) (so y (inl refl)) (and_second true (is_list_end rest) is)
-one_name_so test v so is = cc
+one_name_so test v so is = absurd (false≢true is)
 
 actual_so : (test : ℕ → Bool) (actuals : TypedTree) → ((y : ℕ) → Has (roots actuals) y → test y ≡ true) → is_rooted_in test (first actuals) ≡ true
 unfolding roots
@@ -53,7 +53,7 @@ unfolding roots
 gives_first s test (More (typed.Call p sub actuals) rest) so gives =
     both_true (traverses s.table (sub_at s sub).result) (is_rooted_in test (first actuals)) gives
     (actual_so test actuals (λ y has. so y (Has-append_left (roots actuals) (roots rest) y has)))
-gives_first s test v so gives = cc
+gives_first s test v so gives = absurd (false≢true gives)
 
 module _ (s : Typing) (scopes : List ℕ) (k : ℕ) where
   abbrev older : ℕ → ℕ → Bool

@@ -24,9 +24,9 @@ use Rattle.typed_tree.specs.Programs.{DeclaredObject, Home, object_of, objects_i
 use Rattle.flow_paths.specs.Objects.{Typing, object_at, is_observer}
 use Rattle.flow_paths.specs.Layout.{declared}
 use Rattle.flow_paths.specs.Views.{encloses, scope_of}
-use Rattle.order_laws.proofs.ScopeLaws.Lists.{and_first, and_second, both_true}
-use Rattle.order_laws.specs.ScopeLaws.LayeredScopes.Layered.{is_older, are_of_scope, are_apart, is_layered, is_each_layered}
-use Rattle.order_laws.specs.Written.{is_declaration, are_declarations, are_statements, is_statement, are_branches, is_branch, are_alternatives, is_alternative}
+use Rattle.settled_types.proofs.OrderLaws.ScopeLaws.Lists.{and_first, and_second, both_true}
+use Rattle.settled_types.specs.OrderLaws.ScopeLaws.LayeredScopes.Layered.{is_older, are_of_scope, are_apart, is_layered, is_each_layered}
+use Rattle.settled_types.specs.OrderLaws.Written.{is_declaration, are_declarations, are_statements, is_statement, are_branches, is_branch, are_alternatives, is_alternative}
 use Rattle.accepted_runs.proofs.ViewedFiles.ViewLaws.Enclosing.{itself, transitive, outward, enclosing_less}
 use Rattle.accepted_runs.proofs.ViewedFiles.ViewLaws.Inner.{code_inner}
 use Rattle.accepted_runs.specs.ViewedFiles.Places.{AreAt, AreAround}

@@ -28,16 +28,16 @@ use Rattle.flow_paths.specs.Laid.{declared_within}
 use Rattle.flow_paths.specs.Layout.{declared}
 use Rattle.flow_paths.specs.Scopes.{is_within}
 use Rattle.flow_paths.specs.Views.{encloses, scope_of}
-use Rattle.order_laws.specs.ScopeLaws.Code.{Once, roots, are_seen, is_seen, body_seen}
-use Rattle.order_laws.proofs.ScopeLaws.Lists.{and_first, and_second, both_true, all_both, all_has, has_reverse, within_has}
-use Rattle.typed_laws.specs.Fine.{Laws}
-use Rattle.typed_laws.specs.TypedPoints.Meant.{AreMeantUnits}
-use Rattle.order_laws.specs.ScopeLaws.LayeredScopes.Layered.{is_older, are_of_scope, are_apart, is_layered, is_body_layered}
-use Rattle.order_laws.specs.Orderly.{typed_of, typing_in, bodies_of}
-use Rattle.order_laws.specs.Written.{is_unit}
-use Rattle.order_laws.proofs.Bodies.{IsDeclare}
-use Rattle.order_laws.proofs.First.{units_declare}
-use Rattle.order_laws.proofs.Numbers.{numbers, body_same, formals_same}
+use Rattle.settled_types.specs.OrderLaws.ScopeLaws.Code.{Once, roots, are_seen, is_seen, body_seen}
+use Rattle.settled_types.proofs.OrderLaws.ScopeLaws.Lists.{and_first, and_second, both_true, all_both, all_has, has_reverse, within_has}
+use Rattle.soundness.specs.TypedLaws.Fine.{Laws}
+use Rattle.soundness.specs.TypedLaws.TypedPoints.Meant.{AreMeantUnits}
+use Rattle.settled_types.specs.OrderLaws.ScopeLaws.LayeredScopes.Layered.{is_older, are_of_scope, are_apart, is_layered, is_body_layered}
+use Rattle.settled_types.specs.OrderLaws.Orderly.{typed_of, typing_in, bodies_of}
+use Rattle.settled_types.specs.OrderLaws.Written.{is_unit}
+use Rattle.settled_types.proofs.OrderLaws.Bodies.{IsDeclare}
+use Rattle.settled_types.proofs.OrderLaws.First.{units_declare}
+use Rattle.settled_types.proofs.OrderLaws.Numbers.{numbers, body_same, formals_same}
 use Rattle.sound_files.specs.MeantFiles.Denoted.{AreDenoted}
 use Rattle.sound_files.specs.MeantFiles.Typed.{AreTyped}
 use Rattle.sound_files.specs.SeenFiles.Fits.{AllFit}
@@ -91,7 +91,7 @@ formals_scope h n (g ∷ groups) =
 
 by_formals_apart : (k : ObjectKind) (a b : Bool) → is_formal_kind k ≡ true → not ((is_variable k && a) && b) ≡ true
 by_formals_apart object_kind.Formal a b e = refl
-by_formals_apart k a b e = cc
+by_formals_apart k a b e = absurd (false≢true e)
 
 -- No formal is an observer.
 formals_apart : (own : Typing) (n : ℕ) (xs : List ℕ) → ((x : ℕ) → Has xs x → is_formal own x ≡ true) → are_apart own n xs ≡ true

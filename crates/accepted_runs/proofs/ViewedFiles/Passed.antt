@@ -15,17 +15,17 @@ use Rattle.flow_paths.specs.Points.{FlowPoint}
 use Rattle.flow_paths.specs.Laid.{FlowSub, FlowProgram, flow_typing}
 use Rattle.machine.specs.States.{sub_of}
 use Rattle.soundness.specs.Typed.{OwnsByShape}
-use Rattle.typed_laws.specs.Fine.{Has, Agree, counts, lists}
-use Rattle.typed_laws.specs.Needed.{Matches, Gives, IsPlace}
-use Rattle.typed_laws.proofs.Sound.{matches, leads, gives}
-use Rattle.typed_laws.specs.TypedSteps.Steps.{IsViewed, Taken, IsPlaceOf, IsActual, ActualsTaken}
+use Rattle.soundness.specs.TypedLaws.Fine.{Has, Agree, counts, lists}
+use Rattle.soundness.specs.TypedLaws.Needed.{Matches, Gives, IsPlace}
+use Rattle.soundness.proofs.TypedLaws.Sound.{matches, leads, gives}
+use Rattle.soundness.specs.TypedLaws.TypedSteps.Steps.{IsViewed, Taken, IsPlaceOf, IsActual, ActualsTaken}
 use Rattle.sound_files.specs.TypedFiles.TypedRuns.Code.{IsNamedOwner, NamesOwner, NamesOwners, IsName, NamesFirst, IsTypedUse}
 use Rattle.soundness.proofs.Contents.{bool_cases}
 use Rattle.soundness.proofs.Passing.{signature_there}
 use Rattle.soundness.specs.ViewedSoundness.Holds.{IsNamed}
 use Rattle.soundness.proofs.ViewedSoundness.ViewKinds.{access_bundle}
-use Rattle.order_laws.proofs.ReadyLaws.Actuals.{taken_stays}
-use Rattle.order_laws.specs.ScopeLaws.Code.{Once}
+use Rattle.settled_types.proofs.OrderLaws.ReadyLaws.Actuals.{taken_stays}
+use Rattle.settled_types.specs.OrderLaws.ScopeLaws.Code.{Once}
 use Rattle.flow_paths.specs.Views.{traversed_of}
 use Rattle.viewed_steps.specs.Ready.{IsSeen, IsValueTo, is_shown_type}
 use Rattle.viewed_steps.proofs.Copies.{no_cell}

@@ -6,8 +6,8 @@ use Rattle.typed_tree.specs.declared.object.Object.{Object}
 use Rattle.typed_tree.specs.Expressions.{Site, object_number}
 use Rattle.typed_tree.specs.Programs.{DeclaredObject, text_io}
 use Rattle.flow_paths.specs.Objects.{Typing, object_at}
-use Rattle.order_laws.specs.ScopeLaws.Code.{Once}
-use Rattle.order_laws.proofs.Parts.{either, same_number, number_here, number_later}
+use Rattle.settled_types.specs.OrderLaws.ScopeLaws.Code.{Once}
+use Rattle.settled_types.proofs.OrderLaws.Parts.{either, same_number, number_here, number_later}
 use Rattle.accepted_runs.specs.ViewedFiles.Places.{AreAt, AreAround}
 
 -- ---- lists

@@ -1,6 +1,7 @@
 -- No name in code denotes a formal of an anonymous access type, if no formal of the program is of one.
 use Rattle.std.proofs.Common.{◌≡◌, refl, sym, ap, ◌∙◌, subst, inl, inr, ℕ, suc, ◌+◌, true, List, [], ◌∷◌, ◌++◌, map, flat_map}
 use Rattle.std.specs.List.{AllByRecursion}
+use Rattle.std.proofs.lemmas.Bool.{false≢true}
 use Rattle.spark_base.specs.Lists.{Has}
 use Rattle.place_names.specs.declared.act.Mode.{Mode}
 use Rattle.place_names.specs.declared.act.Mode.TheVariants as mode
@@ -18,7 +19,7 @@ use Rattle.typed_tree.specs.Statements.{scope_count}
 use Rattle.typed_tree.specs.Programs.{DeclaredObject, Home, object_of, objects_in, formals_of, front_formals, local, in_package, package_text, kind_of, entry_kind, over_units}
 use Rattle.flow_paths.specs.Objects.{Typing, object_at, view_of, is_anonymous}
 use Rattle.flow_paths.specs.Objects as flow
-use Rattle.order_laws.proofs.ScopeLaws.Lists.{all_both}
+use Rattle.settled_types.proofs.OrderLaws.ScopeLaws.Lists.{all_both}
 use Rattle.sound_files.specs.SeenFiles.Fits.{AllFit}
 use Rattle.sound_files.specs.MeantFiles.Denoted.{AreDenoted}
 use Rattle.sound_files.proofs.MeantFiles.Objects.{object_numbers, units_same}
@@ -97,7 +98,7 @@ numbered s own known k (o ∷ os) at all d (inr has) = numbered s own known (suc
 
 formal_known : (k : Kind) → is_formal_kind k ≡ true → flow.is_formal_kind (kind_of k) ≡ true
 formal_known kind.Formal e = refl
-formal_known k e = cc
+formal_known k e = absurd (false≢true e)
 
 module _ (s : Site) (own : Typing) (units : List Code) (h : Home) (object : ℕ → Type 0) (names : (d : ℕ) → is_object_entry (entry_of h.known d) ≡ true → object d)
     (at : AreAt s own 1 (over_units (objects_in units h 0) 1 units)) where

@@ -45,14 +45,14 @@ use Rattle.flow_paths.specs.Instructions.{Declare}
 use Rattle.flow_paths.specs.Objects.{Typing, Signature, object_at, sub_at, is_variable as is_variable_object}
 use Rattle.flow_paths.specs.Objects as flow
 use Rattle.flow_paths.specs.Names.{first, whole, whole_object}
-use Rattle.typed_laws.specs.Fine.{Laws, IsMeant, Denotes, AreSuffixes, counts}
-use Rattle.typed_laws.proofs.Agreeing.{holds, nil_left, nil_right}
-use Rattle.typed_laws.proofs.Readings.{call_of}
-use Rattle.typed_laws.specs.TypedPoints.Meant.{AreDeclared, AreNumbers, IsMeantOptional}
-use Rattle.typed_laws.proofs.TypedPoints.Flags.{flagged, reading_same}
+use Rattle.soundness.specs.TypedLaws.Fine.{Laws, IsMeant, Denotes, AreSuffixes, counts}
+use Rattle.soundness.proofs.TypedLaws.Agreeing.{holds, nil_left, nil_right}
+use Rattle.soundness.proofs.TypedLaws.Readings.{call_of}
+use Rattle.soundness.specs.TypedLaws.TypedPoints.Meant.{AreDeclared, AreNumbers, IsMeantOptional}
+use Rattle.soundness.proofs.TypedLaws.TypedPoints.Flags.{flagged, reading_same}
 use Rattle.sound_files.specs.SeenFiles.Uses.{Uses}
 use Rattle.sound_files.specs.MeantFiles.Typed.{AreIndicated, AreOf, IsGroupTyped, AreGroupsTyped, IsFrontTyped, AreIntegers}
-use Rattle.order_laws.proofs.ScopeLaws.Lists.{all_both, and_first, and_second}
+use Rattle.settled_types.proofs.OrderLaws.ScopeLaws.Lists.{all_both, and_first, and_second}
 use Rattle.accepted_runs.specs.ViewedFiles.ViewLaws.InOrder.{gives_view, is_name_of, is_one_name_of, is_any, stores_name}
 use Rattle.accepted_runs.specs.ViewedFiles.Sources.{has_source, all_fit}
 
@@ -70,12 +70,12 @@ true_false false e f = cc
 
 pub counts_plain : (z : Shape) → counts z ≡ true → flow.is_anonymous (view_of z) ≡ false
 counts_plain (shape.Whole low high) e = refl
-counts_plain z e = cc
+counts_plain z e = absurd (false≢true e)
 
 pub scalar_plain : (w : View) → is_scalar w ≡ true → flow.is_anonymous w ≡ false
 scalar_plain (view.Whole low high) e = refl
 scalar_plain (view.Listed low high) e = refl
-scalar_plain w e = cc
+scalar_plain w e = absurd (false≢true e)
 
 -- An object of an anonymous access type is a variable, and of no package; or it is a formal.
 abbrev pub IsLocalView : Table → DeclaredObject → Type 0
@@ -92,7 +92,7 @@ view_anonymous : (w : View) → is_anonymous w ≡ true → flow.is_anonymous w 
 view_anonymous (view.Access d k true) e = cc
 view_anonymous (view.Access d true false) e = refl
 view_anonymous (view.Access d false false) e = refl
-view_anonymous w e = cc
+view_anonymous w e = absurd (false≢true e)
 
 no_source : (a b : Bool) → a ≡ false → a && b ≡ true → ⊥
 no_source true b e f = cc
@@ -144,7 +144,7 @@ goes_on on rest u Stops e = cc
 other_anonymous : (w : View) → flow.is_anonymous w ≡ true → is_anonymous w ≡ true
 other_anonymous (view.Access d k true) e = cc
 other_anonymous (view.Access d k false) e = refl
-other_anonymous w e = cc
+other_anonymous w e = absurd (false≢true e)
 
 one_place : (t u : ℕ) → reading.Place t ≡ reading.Place u → t ≡ u
 one_place t u e = cc

@@ -2,7 +2,7 @@
 -- formal of mode `in` is assigned in a program without reports.
 use Rattle.std.specs.Prelude.{IsTrue}
 use Rattle.std.proofs.Common.{◌≡◌, refl, sym, ap, ◌∙◌, subst, ◌⊎◌, inl, inr, ℕ, ◌<◌, Bool, true, false, not, ◌&&◌, ◌||◌, nat_lt, List, [], ◌∷◌, map, length, filter}
-use Rattle.std.proofs.lemmas.Bool.{ltb-true, lt-ltb}
+use Rattle.std.proofs.lemmas.Bool.{ltb-true, lt-ltb, false≢true}
 use Rattle.spark_base.specs.Lists.{Has}
 use Rattle.spark_base.proofs.Lists.{Has-append_right, Has-map_from, Has-filter}
 use Rattle.spark_base.specs.declared.position.Pos.{Pos}
@@ -29,17 +29,17 @@ use Rattle.machine.specs.Owners.{is_in, is_in_formal}
 use Rattle.soundness.specs.Sound.{Accepted}
 use Rattle.soundness.proofs.Points.{flow_at}
 use Rattle.soundness.proofs.Typings.{Agree, flow_agrees, formal_same}
-use Rattle.order_laws.proofs.ScopeLaws.Begun.{Begins, sub_begun, package_begun}
-use Rattle.order_laws.specs.ScopeLaws.Code.{roots}
-use Rattle.order_laws.specs.ScopeLaws.Order.{named_in}
-use Rattle.order_laws.specs.ScopeLaws.Supplied.{IsKept}
-use Rattle.order_laws.proofs.ScopeLaws.Kept.{sub_kept}
-use Rattle.order_laws.proofs.ScopeLaws.Filled.{temporaries_of, object_before}
-use Rattle.order_laws.proofs.ScopeLaws.Lists.{all_has, within_has}
-use Rattle.order_laws.specs.ReadyLaws.InOrder.{IsInOrder, AreStill, own_nothing}
-use Rattle.order_laws.proofs.ReadyLaws.Elaborated.{package_declares}
-use Rattle.order_laws.proofs.ReadyLaws.Ready.{seen_has}
-use Rattle.order_laws.proofs.ReadyLaws.Subs.{setting_from, named_cases}
+use Rattle.settled_types.proofs.OrderLaws.ScopeLaws.Begun.{Begins, sub_begun, package_begun}
+use Rattle.settled_types.specs.OrderLaws.ScopeLaws.Code.{roots}
+use Rattle.settled_types.specs.OrderLaws.ScopeLaws.Order.{named_in}
+use Rattle.settled_types.specs.OrderLaws.ScopeLaws.Supplied.{IsKept}
+use Rattle.settled_types.proofs.OrderLaws.ScopeLaws.Kept.{sub_kept}
+use Rattle.settled_types.proofs.OrderLaws.ScopeLaws.Filled.{temporaries_of, object_before}
+use Rattle.settled_types.proofs.OrderLaws.ScopeLaws.Lists.{all_has, within_has}
+use Rattle.settled_types.specs.OrderLaws.ReadyLaws.InOrder.{IsInOrder, AreStill, own_nothing}
+use Rattle.settled_types.proofs.OrderLaws.ReadyLaws.Elaborated.{package_declares}
+use Rattle.settled_types.proofs.OrderLaws.ReadyLaws.Ready.{seen_has}
+use Rattle.settled_types.proofs.OrderLaws.ReadyLaws.Subs.{setting_from, named_cases}
 use Rattle.viewed_steps.specs.Sound.{IsStoredAt}
 
 true_is : {A : Type 0} → true ≡ false → A
@@ -55,7 +55,7 @@ both_second false b e = cc
 
 no_variable : (k : ObjectKind) → is_formal_kind k ≡ true → is_variable k ≡ false
 no_variable object_kind.Formal e = refl
-no_variable k e = cc
+no_variable k e = absurd (false≢true e)
 
 -- A formal of mode `in` of an anonymous access type isn't changed as a whole.
 changed_here : (function formal inn access whole : Bool) → formal ≡ true → inn ≡ true → access ≡ false

@@ -1,6 +1,7 @@
 -- What typing says of traversal functions at points: their first actuals are names; what they give is taken by views, or
 -- returned by such functions; and these return null, names, or what such functions give.
 use Rattle.std.proofs.Common.{◌≡◌, refl, sym, ap, ◌∙◌, subst, ◌⊎◌, inl, inr, ℕ, Bool, true, false, List, ◌∷◌, Option, Some, None}
+use Rattle.std.proofs.lemmas.Bool.{false≢true}
 use Rattle.spark_base.specs.declared.position.Pos.{Pos}
 use Rattle.type_definitions.specs.declared.table.Shape.{Shape}
 use Rattle.type_definitions.specs.declared.table.Shape.TheVariants as shape
@@ -10,10 +11,10 @@ use Rattle.typed_tree.specs.Trees as typed
 use Rattle.flow_paths.specs.Instructions.{Declare, Assign, Call, Hold}
 use Rattle.flow_paths.specs.Objects.{Typing, object_at, sub_at, traverses, is_anonymous}
 use Rattle.machine.specs.Words.{element_of, component_type}
-use Rattle.typed_laws.specs.Fine.{Has, Leads}
-use Rattle.typed_laws.proofs.Sound.{matches}
-use Rattle.typed_laws.proofs.Agreeing.{agree_access}
-use Rattle.typed_laws.specs.TypedSteps.Steps.{Taken, ActualsTaken, IsCall}
+use Rattle.soundness.specs.TypedLaws.Fine.{Has, Leads}
+use Rattle.soundness.proofs.TypedLaws.Sound.{matches}
+use Rattle.soundness.proofs.TypedLaws.Agreeing.{agree_access}
+use Rattle.soundness.specs.TypedLaws.TypedSteps.Steps.{Taken, ActualsTaken, IsCall}
 use Rattle.sound_files.specs.TypedFiles.TypedRuns.Code.{IsName, NamesFirst, ArePassed, WithinSource, IsViewSource, IsTypedUse}
 use Rattle.soundness.specs.ViewedSoundness.Holds.{IsNamed, PartsAreNamed}
 use Rattle.viewed_steps.specs.Traversals.{GivesView, IsSourceName}
@@ -28,7 +29,7 @@ pub shape_there : (z : Shape) → is_anonymous (view_of z) ≡ true → (d : ℕ
 shape_there (shape.Access d c false) e = (d, c, false, refl, refl)
 shape_there (shape.Access d true true) e = cc
 shape_there (shape.Access d false true) e = cc
-shape_there z e = cc
+shape_there z e = absurd (false≢true e)
 
 module _ (s : Typing) where
   traverses_type : (r : Option ℕ) (t : ℕ) → r ≡ Some t → traverses s.table r ≡ true → is_anonymous (full s.table t) ≡ true

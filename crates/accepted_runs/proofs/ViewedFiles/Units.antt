@@ -16,11 +16,11 @@ use Rattle.typed_tree.specs.Expressions.{Site}
 use Rattle.typed_tree.specs.Statements.{scope_count, statements}
 use Rattle.typed_tree.specs.Programs.{TypedSub, DeclaredObject, Home, objects_in, formals_of, front_formals, local, in_package as packaged, package_text, subs_in, elaborated, placed, over_units, site_of}
 use Rattle.flow_paths.specs.Objects.{Typing, Signature}
-use Rattle.typed_laws.specs.Fine.{Laws}
-use Rattle.typed_laws.proofs.Agreeing.{nil_left, nil_right}
-use Rattle.typed_laws.specs.TypedPoints.Meant.{IsMeantCode, AreMeantBodies, AreMeantObjects}
-use Rattle.order_laws.proofs.ScopeLaws.Lists.{and_first, and_second, all_both}
-use Rattle.order_laws.specs.Written.{is_declaration, are_declarations, are_statements, is_body, are_parts, is_procedure, is_unit}
+use Rattle.soundness.specs.TypedLaws.Fine.{Laws}
+use Rattle.soundness.proofs.TypedLaws.Agreeing.{nil_left, nil_right}
+use Rattle.soundness.specs.TypedLaws.TypedPoints.Meant.{IsMeantCode, AreMeantBodies, AreMeantObjects}
+use Rattle.settled_types.proofs.OrderLaws.ScopeLaws.Lists.{and_first, and_second, all_both}
+use Rattle.settled_types.specs.OrderLaws.Written.{is_declaration, are_declarations, are_statements, is_body, are_parts, is_procedure, is_unit}
 use Rattle.sound_files.specs.MeantFiles.Denoted.{AreDenoted}
 use Rattle.sound_files.specs.MeantFiles.Typed.{AreTyped}
 use Rattle.accepted_runs.specs.ViewedFiles.Sources.{has_source, all_fit}

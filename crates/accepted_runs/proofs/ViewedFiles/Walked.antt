@@ -23,13 +23,13 @@ use Rattle.typed_tree.specs.Expressions.{Site}
 use Rattle.typed_tree.specs.Statements.{scope_count, statements, typed_call, call_of, predefined_call, typed_body}
 use Rattle.typed_tree.specs.Programs.{DeclaredObject, Home, objects_in}
 use Rattle.flow_paths.specs.Objects.{Typing, Signature}
-use Rattle.typed_laws.specs.Fine.{Laws}
-use Rattle.typed_laws.proofs.Agreeing.{nil_left, nil_right}
-use Rattle.typed_laws.specs.TypedPoints.Meant.{IsMeantCode, AreAlternatives}
-use Rattle.typed_laws.proofs.TypedPoints.Flags.{flagged}
-use Rattle.typed_laws.proofs.TypedPoints.Statements.{parameter_scalar}
-use Rattle.order_laws.proofs.ScopeLaws.Lists.{and_first, and_second, both_true, all_both}
-use Rattle.order_laws.specs.Written.{is_declaration, are_declarations, are_statements, is_statement, are_branches, is_branch, are_alternatives, is_alternative}
+use Rattle.soundness.specs.TypedLaws.Fine.{Laws}
+use Rattle.soundness.proofs.TypedLaws.Agreeing.{nil_left, nil_right}
+use Rattle.soundness.specs.TypedLaws.TypedPoints.Meant.{IsMeantCode, AreAlternatives}
+use Rattle.soundness.proofs.TypedLaws.TypedPoints.Flags.{flagged}
+use Rattle.soundness.proofs.TypedLaws.TypedPoints.Statements.{parameter_scalar}
+use Rattle.settled_types.proofs.OrderLaws.ScopeLaws.Lists.{and_first, and_second, both_true, all_both}
+use Rattle.settled_types.specs.OrderLaws.Written.{is_declaration, are_declarations, are_statements, is_statement, are_branches, is_branch, are_alternatives, is_alternative}
 use Rattle.sound_files.specs.MeantFiles.Denoted.{AreDenoted}
 use Rattle.sound_files.specs.MeantFiles.Typed.{AreTyped}
 use Rattle.accepted_runs.specs.ViewedFiles.Sources.{has_source, all_fit}

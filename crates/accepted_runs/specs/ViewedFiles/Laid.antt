@@ -5,8 +5,8 @@ use Rattle.resolved_tree.specs.Trees.{Code, SubBody}
 use Rattle.typed_tree.specs.Expressions.{Site}
 use Rattle.typed_tree.specs.Programs.{TypedSub, Home, objects_in, scopes_in, typed_sub}
 use Rattle.flow_paths.specs.Objects.{Typing}
-use Rattle.order_laws.specs.ScopeLaws.Code.{body_seen}
-use Rattle.order_laws.specs.Written.{are_declarations, are_statements}
+use Rattle.settled_types.specs.OrderLaws.ScopeLaws.Code.{body_seen}
+use Rattle.settled_types.specs.OrderLaws.Written.{are_declarations, are_statements}
 use Rattle.accepted_runs.specs.ViewedFiles.Places.{AreAt, AreAround}
 
 -- What it names is its own, or has a lesser number than its objects.

@@ -1,5 +1,7 @@
 -- What two runs leave, by hand.
 use Rattle.std.proofs.Common.{◌≡◌, refl, ap, ◌∙◌, ℕ, zero, suc, ◌==◌, Bool, true, false, true≢false, arith, List, [], ◌∷◌, map, Some, None, pos, if◌then◌else◌}
+use Rattle.std.proofs.lemmas.Bool.{false≢true}
+use Rattle.std.specs.Prelude.{is_some}
 use Rattle.run_values.specs.declared.value.Value.{Value}
 use Rattle.run_values.specs.declared.value.Value.TheVariants as value
 use Rattle.machine.specs.Words.{Word, Int, Null, Cell}
@@ -50,7 +52,7 @@ is_live : (c d : HeapCell) → Some c ≡ Some d → d.freed ≡ false → c.fre
 is_live c d is there = ap (λ (x : HeapCell). x.freed) (some_same c d is) ∙ there
 
 none_some : {A : Type 0} (a : A) → None ≡ Some a → ⊥
-none_some a is = cc
+none_some a is = false≢true (ap is_some is)
 
 two_zero : ◌≡◌ {A = ℕ} 2 0 → ⊥
 two_zero is = omega (arith, is)

@@ -1,5 +1,7 @@
 -- The law: as a run ends, the heap has the cells of the machine's last state.
 use Rattle.std.proofs.Common.{◌≡◌, refl, sym, ap, ◌∙◌, subst, ℕ, zero, suc, Bool, true, false, nat_le, List, [], ◌∷◌, ◌++◌, length, None, Option, Some, ℤ, if◌then◌else◌}
+use Rattle.std.proofs.lemmas.Bool.{false≢true}
+use Rattle.std.specs.Prelude.{is_some}
 use Rattle.type_definitions.specs.Types.{Table}
 use Rattle.run_values.specs.declared.value.Kind.{Kind}
 use Rattle.flow_paths.specs.Laid.{FlowProgram, flow_typing}
@@ -11,12 +13,12 @@ use Rattle.machine.specs.Run.{ended, then_on, within, empty_memory}
 use Rattle.machine.specs.Run as machine_run
 use Rattle.slot_heap.specs.Heaps.{no_heap}
 use Rattle.soundness.specs.PartOffsets.Parts.{IsSettled}
-use Rattle.viewed_facts.specs.NullPlaces.Cleared.{cleared_state}
-use Rattle.viewed_facts.specs.NullPlaces.Agrees.{Agrees, SameState}
-use Rattle.viewed_facts.proofs.NullPlaces.Memories.{itself, agrees_right}
-use Rattle.viewed_facts.proofs.NullPlaces.Only.{OnlyOwners}
-use Rattle.viewed_facts.proofs.NullPlaces.Instructions.{SameStepBy}
-use Rattle.viewed_facts.proofs.NullPlaces.Runs.{GoesOn}
+use Rattle.recycled_runs.specs.ViewedFacts.NullPlaces.Cleared.{cleared_state}
+use Rattle.recycled_runs.specs.ViewedFacts.NullPlaces.Agrees.{Agrees, SameState}
+use Rattle.recycled_runs.proofs.ViewedFacts.NullPlaces.Memories.{itself, agrees_right}
+use Rattle.recycled_runs.proofs.ViewedFacts.NullPlaces.Only.{OnlyOwners}
+use Rattle.recycled_runs.proofs.ViewedFacts.NullPlaces.Instructions.{SameStepBy}
+use Rattle.recycled_runs.proofs.ViewedFacts.NullPlaces.Runs.{GoesOn}
 use Rattle.run_codes.specs.Codes.{Point}
 use Rattle.run_codes.specs.Points.{Frame, State, Return}
 use Rattle.run_codes.specs.Points as points
@@ -220,7 +222,7 @@ module _ (program : FlowProgram) (p : Program) (input : List ℕ) (has : HasType
 -- ---- the start
 
 none_some : {A : Type 0} (a : A) → None ≡ Some a → ⊥
-none_some a is = cc
+none_some a is = false≢true (ap is_some is)
 
 none_has : HasCells [] no_heap
 none_has = record {

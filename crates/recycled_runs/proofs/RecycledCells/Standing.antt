@@ -1,5 +1,7 @@
 -- Where the memories stand beside each other, the heap has the machine's cells.
 use Rattle.std.proofs.Common.{◌≡◌, refl, sym, ap, ◌∙◌, subst, inl, inr, ℕ, zero, suc, ◌<◌, ◌-◌, arith, Bool, true, false, true≢false, nat_lt, List, [], ◌∷◌, ◌++◌, map, length, get_or, slice_get, Some, None, pos, negsuc, if◌then◌else◌}
+use Rattle.std.proofs.lemmas.Bool.{false≢true}
+use Rattle.std.specs.Prelude.{is_some}
 use Rattle.type_definitions.specs.Types.{Table}
 use Rattle.run_values.specs.declared.value.Value.{Value}
 use Rattle.run_values.specs.declared.value.Value.TheVariants as value
@@ -14,8 +16,8 @@ use Rattle.numbered_cells.specs.Follows as numbered
 use Rattle.numbered_cells.specs.Follows.{handled, Follows}
 use Rattle.run_codes.specs.Flat.{Flat, kind_of, word_of, words_in, gone_from}
 use Rattle.run_codes.specs.Related.{types, SlotStands, AllStand, AllKinds, CellStands, HaveCells}
-use Rattle.viewed_facts.proofs.NullPlaces.Lists.{pair_same}
-use Rattle.viewed_facts.specs.NullPlaces.Agrees.{Pairwise, AgreeSlot, AgreeSlots, AgreeCell}
+use Rattle.recycled_runs.proofs.ViewedFacts.NullPlaces.Lists.{pair_same}
+use Rattle.recycled_runs.specs.ViewedFacts.NullPlaces.Agrees.{Pairwise, AgreeSlot, AgreeSlots, AgreeCell}
 use Rattle.recycled_runs.specs.RecycledCells.Cells.{handled_word, handled_slot, IsThere, IsBack, HasCells}
 
 -- ---- lists
@@ -26,7 +28,7 @@ get_there (x ∷ xs) zero d less = refl
 get_there (x ∷ xs) (suc n) d less = get_there xs n d (omega (arith, less))
 
 there_within : {A : Type 0} (xs : List A) (n : ℕ) (a : A) → slice_get xs n ≡ Some a → n < length xs
-there_within [] n a is = cc
+there_within [] n a is = absurd (false≢true (ap is_some is))
 there_within (x ∷ xs) zero a is = omega arith
 there_within (x ∷ xs) (suc n) a is = let less = there_within xs n a is in omega (arith, less)
 
@@ -34,7 +36,7 @@ same_some : {A : Type 0} (a b : A) → Some a ≡ Some b → a ≡ b
 same_some a b is = cc
 
 none_some : {A : Type 0} (a : A) → None ≡ Some a → ⊥
-none_some a is = cc
+none_some a is = false≢true (ap is_some is)
 
 -- ---- kinds
 
@@ -160,14 +162,14 @@ abbrev Other : (HeapCell → HeapCell → Type 0) → List HeapCell → ℕ → 
 Other R others n c = (d : HeapCell) × (slice_get others n ≡ Some d) × R c d
 
 right_there : (cells others : List HeapCell) → Pairwise AgreeCell cells others → (n : ℕ) (c : HeapCell) → slice_get cells n ≡ Some c → Other AgreeCell others n c
-right_there [] [] agree n c is = cc
+right_there [] [] agree n c is = absurd (false≢true (ap is_some is))
 right_there (a ∷ cells) (b ∷ others) agree zero c is = (b, refl, subst (λ (x : HeapCell). AgreeCell x b) (same_some a c is) agree.0)
 right_there (a ∷ cells) (b ∷ others) agree (suc n) c is = right_there cells others agree.1 n c is
 right_there [] (b ∷ others) agree n c is = absurd agree
 right_there (a ∷ cells) [] agree n c is = absurd agree
 
 left_there : (cells others : List HeapCell) → Pairwise AgreeCell cells others → (n : ℕ) (c : HeapCell) → slice_get others n ≡ Some c → Other (λ c d. AgreeCell d c) cells n c
-left_there [] [] agree n c is = cc
+left_there [] [] agree n c is = absurd (false≢true (ap is_some is))
 left_there (a ∷ cells) (b ∷ others) agree zero c is = (a, refl, subst (λ (x : HeapCell). AgreeCell a x) (same_some b c is) agree.0)
 left_there (a ∷ cells) (b ∷ others) agree (suc n) c is = left_there cells others agree.1 n c is
 left_there [] (b ∷ others) agree n c is = absurd agree

@@ -16,7 +16,7 @@ use Rattle.type_definitions.specs.Declarations.{body_faults, in_body, in_loop, s
 use Rattle.type_definitions.specs.Whole.{unit_faults, main_faults, outside, known_of, type_fault}
 use Rattle.type_sizes.specs.Formed.{is_formed, are_alternatives, is_alternative, all_formed}
 use Rattle.settled_types.proofs.Faultless.{no_faults}
-use Rattle.typed_laws.proofs.Agreeing.{nil_left, nil_right}
+use Rattle.soundness.proofs.TypedLaws.Agreeing.{nil_left, nil_right}
 use Rattle.settled_types.specs.GatheredLaws.Views.{front_result, body_results}
 use Rattle.settled_types.specs.AnonymousTypes.Fronts.{AllFronts, IsFrontFaultless, IsBodyFaultless}
 

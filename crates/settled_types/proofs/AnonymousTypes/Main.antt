@@ -33,7 +33,7 @@ use Rattle.settled_types.specs.Orderly.{Past, at_start, IsOrderly}
 use Rattle.settled_types.specs.Stamped.{AllOpen}
 use Rattle.settled_types.proofs.Faultless.{program_open}
 use Rattle.settled_types.proofs.Main.{end}
-use Rattle.typed_laws.proofs.Agreeing.{of_known, nil_left, nil_right, holds, and_left, and_right}
+use Rattle.soundness.proofs.TypedLaws.Agreeing.{of_known, nil_left, nil_right, holds, and_left, and_right}
 use Rattle.settled_types.specs.GatheredLaws.Made.{indicated_numbers, result_numbers}
 use Rattle.settled_types.specs.GatheredLaws.DefinitionKinds.{kind}
 use Rattle.settled_types.specs.GatheredLaws.Views.{named_numbers, front_result, AreViewsApart, IsViewRow, AreViews}
@@ -55,8 +55,8 @@ some_same a b e = cc
 
 mode_in : (m : Mode) → is_in m ≡ true → m ≡ mode.In
 mode_in mode.In e = refl
-mode_in mode.Out e = cc
-mode_in mode.InOut e = cc
+mode_in mode.Out e = absurd (false≢true e)
+mode_in mode.InOut e = absurd (false≢true e)
 
 -- The row of a number without a name where that is an anonymous access type.
 unnamed_view : (t : ℕ) (o : Option Info) → shape_found o ≡ shape.Fields [] → meant_type_found t o ≡ t

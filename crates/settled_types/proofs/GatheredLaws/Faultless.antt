@@ -21,7 +21,7 @@ use Rattle.type_definitions.specs.Declarations.{bound_faults, constraint_faults,
 use Rattle.type_definitions.specs.Whole.{unit_faults, main_faults, outside, known_of, type_fault}
 use Rattle.type_sizes.specs.Formed.{is_formed, are_alternatives, is_alternative, all_formed}
 use Rattle.settled_types.proofs.Faultless.{no_faults}
-use Rattle.typed_laws.proofs.Agreeing.{nil_left, nil_right, holds}
+use Rattle.soundness.proofs.TypedLaws.Agreeing.{nil_left, nil_right, holds}
 use Rattle.settled_types.specs.GatheredLaws.Faultless.{IsFaultless}
 
 and_first : (a b : Bool) → IsTrue (a && b) → IsTrue a

@@ -1,8 +1,8 @@
 -- What gathering adds speaks of types alone.
 use Rattle.std.proofs.Common.{◌≡◌, inl, inr, refl, sym, ap, subst, ℕ, zero, suc, ◌+◌, ◌<◌, ◌≤◌, Bool, true, false, not, ◌||◌, List, [], ◌∷◌, ◌++◌, flat_map, set, get_or, nat_eq, arith, ℤ, Option, Some, None, if◌then◌else◌}
-use Rattle.std.specs.Prelude.{slice_get}
+use Rattle.std.specs.Prelude.{slice_get, is_some}
 use Rattle.std.specs.List.{AllByRecursion}
-use Rattle.std.proofs.lemmas.Bool.{eqb-true}
+use Rattle.std.proofs.lemmas.Bool.{eqb-true, false≢true}
 use Rattle.spark_base.specs.declared.position.Pos.{Pos}
 use Rattle.spark_base.specs.Lists.{Has}
 use Rattle.spark_base.proofs.Lists.{Has-append_left, Has-append_right, Has-map}
@@ -226,7 +226,7 @@ module _ (is : ℕ → Type 0) (low : (t : ℕ) → t < 5 → is t) where
 
   result_made : (known : Known) (d : ℕ) (result : Code) → AllNew (result_numbers d result) → AreTypes is known → (t : ℕ) → result_indicated known d result ≡ Some t → is t
   result_made known d (More i rest) new are t e = let same : indicated known d i ≡ t = cc in subst is same (indicated_made known d i new are)
-  result_made known d result new are t e = cc
+  result_made known d result new are t e = absurd (false≢true (ap is_some e))
 
   -- the formals of a profile
   formals_both : (xs ys : List FormalInfo) → AllByRecursion (λ (f : FormalInfo). is f.of) xs → AllByRecursion (λ (f : FormalInfo). is f.of) ys

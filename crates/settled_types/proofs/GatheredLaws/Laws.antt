@@ -10,7 +10,7 @@ use Rattle.settled_types.specs.Orderly.{IsOrderly}
 use Rattle.settled_types.specs.Stamped.{AllOpen}
 use Rattle.settled_types.proofs.Faultless.{program_open}
 use Rattle.settled_types.proofs.Main.{whole as whole_types}
-use Rattle.typed_laws.specs.Fine.{Laws}
+use Rattle.soundness.specs.TypedLaws.Fine.{Laws}
 use Rattle.settled_types.specs.GatheredLaws.Left.{Left}
 use Rattle.settled_types.specs.GatheredLaws.Views.{AreViews}
 use Rattle.settled_types.specs.GatheredLaws.Made.{IsMade, AreTypes}

@@ -1,8 +1,8 @@
 -- What is known of a program speaks of types alone, after both turns of gathering; and what follows of
 -- what typed expressions ask of tables.
 use Rattle.std.proofs.Common.{◌≡◌, ◌⊎◌, inl, inr, refl, sym, ap, ◌∙◌, subst, ℕ, zero, suc, ◌-◌, ◌<◌, ◌≤◌, Bool, true, false, List, [], ◌∷◌, ◌++◌, flat_map, get_or, nat_eq, replicate, arith, ℤ, Option, Some, None}
-use Rattle.std.specs.Prelude.{slice_get}
-use Rattle.std.proofs.lemmas.Bool.{eqb-true}
+use Rattle.std.specs.Prelude.{slice_get, is_some}
+use Rattle.std.proofs.lemmas.Bool.{eqb-true, false≢true}
 use Rattle.std.specs.List.{AllByRecursion}
 use Rattle.spark_base.specs.Lists.{Has}
 use Rattle.spark_base.proofs.Lists.{Has-append_left, Has-append_right}
@@ -24,7 +24,7 @@ use Rattle.type_definitions.specs.Gathered.{gather}
 use Rattle.type_definitions.specs.Whole.{predefined_types, predefined_entries, at_first, outside, gather_units, known_from, known_of}
 use Rattle.settled_types.specs.Orderly.{IsOrderly}
 use Rattle.machine.specs.Words.{component_type, no_component}
-use Rattle.typed_laws.specs.Fine.{counts, lists}
+use Rattle.soundness.specs.TypedLaws.Fine.{counts, lists}
 use Rattle.settled_types.specs.GatheredLaws.Made.{type_numbers, IsMade, IsMadeOf, SpeaksOf, AreTypes}
 use Rattle.settled_types.proofs.GatheredLaws.Numbered.{program_high}
 use Rattle.settled_types.proofs.GatheredLaws.Gathered.{Good, gathered}
@@ -194,7 +194,7 @@ module _ (is : ℕ → Type 0) (low : (t : ℕ) → t < 5 → is t) (known : Kno
     where
       by : (x : Entry) → SpeaksOf is d x → (profile_of x).result ≡ Some t → is t
       by (entry.Subprogram p) speaks f = speaks.0 t f
-      by x speaks f = cc
+      by x speaks f = absurd (false≢true (ap is_some f))
 
   listed_formal : (fs : List FormalInfo) (i : ℕ) → AllByRecursion (λ (f : FormalInfo). is f.of) fs → is (get_or fs i no_formal).of
   listed_formal [] i all = low 0 (omega arith)

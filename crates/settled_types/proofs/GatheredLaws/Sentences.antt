@@ -18,7 +18,7 @@ use Rattle.type_definitions.specs.Gathered.{declared_number, actual_type, is_for
 use Rattle.type_definitions.specs.Declarations.{is_named_access, names_type, all_types}
 use Rattle.type_definitions.specs.Whole.{predefined_types, predefined_entries, outside, gather_units, known_of}
 use Rattle.machine.specs.Typed.{same_kind}
-use Rattle.typed_laws.specs.Fine.{Agree, counts, lists}
+use Rattle.soundness.specs.TypedLaws.Fine.{Agree, counts, lists}
 use Rattle.settled_types.specs.Wholes.{written}
 use Rattle.settled_types.specs.Orderly.{Past, at_start, IsOrderly}
 use Rattle.settled_types.specs.Stamped.{AllOpen}

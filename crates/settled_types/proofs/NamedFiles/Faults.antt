@@ -1,5 +1,7 @@
 -- Where a list of events breaks no rule of names, its parts break none.
-use Rattle.std.proofs.Common.{◌≡◌, List, [], ◌∷◌, ◌++◌, Option, Some, None, refl}
+use Rattle.std.proofs.Common.{◌≡◌, List, [], ◌∷◌, ◌++◌, Option, Some, None, refl, ap}
+use Rattle.std.proofs.lemmas.Bool.{true≢false}
+use Rattle.std.specs.Prelude.{is_some}
 use Rattle.name_events.specs.declared.event.Event.{Event}
 use Rattle.name_events.specs.Known.{Known}
 use Rattle.name_events.specs.KnownBehind.{known_behind, known_behind_all}
@@ -10,11 +12,11 @@ use Rattle.name_events.specs.Faults.{fault, first_fault}
 
 or_first : {A : Type 0} (a b : Option A) → or_else a b ≡ None → a ≡ None
 or_first None b e = refl
-or_first (Some x) b e = cc
+or_first (Some x) b e = absurd (true≢false (ap is_some e))
 
 or_second : {A : Type 0} (a b : Option A) → or_else a b ≡ None → b ≡ None
 or_second None b e = e
-or_second (Some x) b e = cc
+or_second (Some x) b e = absurd (true≢false (ap is_some e))
 
 or_both : {A : Type 0} (a b : Option A) → a ≡ None → b ≡ None → or_else a b ≡ None
 or_both None b e f = f

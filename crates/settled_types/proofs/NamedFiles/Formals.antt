@@ -112,7 +112,7 @@ declared_names (e.Declares new id ∷ rest) = id.name ∷ declared_names rest
 declared_names (event ∷ rest) = declared_names rest
 
 first_test : (x y : Fault) (b c : Bool) → (if b then Some x else if c then Some y else None) ≡ None → b ≡ false
-first_test x y true c none = cc
+first_test x y true c none = absurd (true≢false (ap is_some none))
 first_test x y false c none = refl
 
 none_there : (o : Option Declaration) (z : Bool) → is_some o || z ≡ false → o ≡ None

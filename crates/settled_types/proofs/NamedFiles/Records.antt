@@ -1,6 +1,8 @@
 -- The components of each record in files that break no rule of names have names of their own.
 use Rattle.std.proofs.Common.{◌≡◌, inl, inr, ℕ, Bool, true, false, List, [], ◌∷◌, ◌++◌, map, refl, sym, ap, ◌∙◌, subst, Option, Some, None, if◌then◌else◌}
 use Rattle.std.specs.List.{flat_map}
+use Rattle.std.proofs.lemmas.Bool.{true≢false}
+use Rattle.std.specs.Prelude.{is_some}
 use Rattle.spark_base.specs.Lists.{Has}
 use Rattle.spark_base.proofs.Lists.{Has-append_cases}
 use Rattle.ada_tree.specs.declared.identifier.Identifier.{Identifier}
@@ -67,7 +69,7 @@ new_one now id none =
     by second (has_name (lower id.text) now.components) none
   where
     by : (x : Fault) (b : Bool) → (if b then Some x else None) ≡ None → b ≡ false
-    by x true none = cc
+    by x true none = absurd (true≢false (ap is_some none))
     by x false none = refl
 
 module _ (whole : Known) where

@@ -1,7 +1,8 @@
 -- No declaration of a subprogram stands in the region of library units.
 use Rattle.std.proofs.Common.{◌≡◌, inl, inr, ℕ, ◌≤◌, Bool, true, false, not, ◌&&◌, List, [], ◌∷◌, ◌++◌, map, filter, drop, nat_eq, refl, sym, ap, ◌∙◌, subst, arith, Option, Some, None, true≢false}
 use Rattle.std.specs.List.{flat_map}
-use Rattle.std.specs.Prelude.{nat_le, option_map}
+use Rattle.std.specs.Prelude.{nat_le, option_map, is_some}
+use Rattle.std.proofs.lemmas.Bool.{false≢true}
 use Rattle.spark_base.specs.Lists.{Has}
 use Rattle.spark_base.proofs.Lists.{Has-append_cases, Has-filter}
 use Rattle.name_events.specs.declared.event.Event.{Event}
@@ -126,7 +127,7 @@ package_found : (now : Known) (w : List ℕ) (d : Declaration) → Keeps now →
 package_found now w d keeps is = by (first_where (is_source w) now.ended) refl is
   where
     by : (o : Option Entry) → first_where (is_source w) now.ended ≡ o → option_map (λ (entry : Entry). entry.1) o ≡ Some d → 1 ≤ d.own_region
-    by None at is = cc
+    by None at is = absurd (false≢true (ap is_some is))
     by (Some x) at is =
         let f = found_in (is_source w) now.ended x at in
         let is_one : is_package x.1 ≡ true

@@ -1,9 +1,10 @@
 -- The code of files is in order, whose identifiers stand apart and whose full types end after the marks in them
 -- and before them.
 use Rattle.std.proofs.Common.{◌≡◌, inl, inr, ℕ, zero, suc, ◌+◌, ◌<◌, ◌≤◌, Bool, true, false, not, ◌&&◌, ◌||◌, List, [], ◌∷◌, ◌++◌, refl, sym, ap, ◌∙◌, arith, length, nat_eq, nat_lt, Option, Some, None, true≢false, subst, if◌then◌else◌, length-append}
-use Rattle.std.specs.Prelude.{slice_get, unwrap_or}
+use Rattle.std.specs.Prelude.{slice_get, unwrap_or, is_some}
 use Rattle.std.proofs.lemmas.List.{length-map}
 use Rattle.std.proofs.lemmas.Option.{slice_get_within}
+use Rattle.std.proofs.lemmas.Bool.{false≢true}
 use Rattle.spark_base.specs.declared.position.Pos.{Pos}
 use Rattle.spark_base.specs.Lists.{Has}
 use Rattle.spark_base.proofs.Lists.{Has-append_left, Has-append_right}
@@ -150,7 +151,7 @@ first_facts : (n : ℕ) (xs : List Entry) → are_first n xs ≡ true → (i : �
 first_facts n [] all i x is = absurd (none x is)
   where
     none : (x : Entry) → None ≡ Some x → ⊥
-    none x is = cc
+    none x is = false≢true (ap is_some is)
 first_facts n (y ∷ rest) all i x is = by (λ all i is. first_facts (suc n) rest all i x is) i is
   where
     both : (a b : Bool) → a && b ≡ true → (a ≡ true) × (b ≡ true)

@@ -1,8 +1,9 @@
 -- What each event keeps of declarations and regions.
 use Rattle.std.proofs.Common.{◌≡◌, ◌⊎◌, inl, inr, ℕ, zero, suc, ◌+◌, ◌<◌, ◌≤◌, Bool, true, false, not, ◌&&◌, ◌||◌, List, [], ◌∷◌, ◌++◌, refl, sym, ap, ◌∙◌, arith, length, filter, drop, nat_eq, Option, Some, None, true≢false, subst, if◌then◌else◌, length-append}
-use Rattle.std.specs.Prelude.{slice_get, nat_le, unwrap_or}
+use Rattle.std.specs.Prelude.{slice_get, nat_le, unwrap_or, is_some}
 use Rattle.std.specs.Option.{option_map}
 use Rattle.std.proofs.lemmas.List.Folds.{list_any-append}
+use Rattle.std.proofs.lemmas.Bool.{false≢true}
 use Rattle.spark_base.specs.Lists.{Has}
 use Rattle.spark_base.proofs.Lists.{Has-filter, Has-append_cases}
 use Rattle.name_events.specs.declared.event.Event.{Event}
@@ -32,7 +33,7 @@ module _ {A : Type 0} where
   get_kept [] ys i x is = absurd (none x is)
     where
       none : (x : A) → None ≡ Some x → ⊥
-      none x is = cc
+      none x is = false≢true (ap is_some is)
   get_kept (y ∷ rest) ys zero x is = is
   get_kept (y ∷ rest) ys (suc i) x is = get_kept rest ys i x is
 
@@ -47,7 +48,7 @@ module _ {A : Type 0} where
   get_more [] x y (suc i) is = absurd (none x is)
     where
       none : (x : A) → None ≡ Some x → ⊥
-      none x is = cc
+      none x is = false≢true (ap is_some is)
   get_more (z ∷ rest) x y zero is = inl is
   get_more (z ∷ rest) x y (suc i) is = elim (get_more rest x y i is) [
     | inl was ↦ inl was
@@ -63,7 +64,7 @@ module _ {A : Type 0} where
   found_in test [] x is = absurd (none x is)
     where
       none : (x : A) → None ≡ Some x → ⊥
-      none x is = cc
+      none x is = false≢true (ap is_some is)
   found_in test (y ∷ rest) x is = by (λ is. found_in test rest x is) (test y) refl is
     where
       by : (first_where test rest ≡ Some x → Has rest x × (test x ≡ true)) → (b : Bool) → test y ≡ b
@@ -223,7 +224,7 @@ completion now new w d indexed is = by (awaiting now.declared (here now) w) refl
     some None c e = absurd (none c e)
       where
         none : (c : Declaration) → None ≡ Some c → ⊥
-        none c e = cc
+        none c e = false≢true (ap is_some e)
     some (Some x) c e = (x, refl, unsome e)
 
     same_region : (a b : ℕ) → nat_eq a b ≡ true → b ≡ a
@@ -238,13 +239,13 @@ completion now new w d indexed is = by (awaiting now.declared (here now) w) refl
     asked false c e = absurd (none d e)
       where
         none : (c : Declaration) → None ≡ Some c → ⊥
-        none c e = cc
+        none c e = false≢true (ap is_some e)
 
     by : (o : Option Declaration) → awaiting now.declared (here now) w ≡ o → if_completes now new o ≡ Some d → IsCompletion now new d
     by None at e = absurd (none d e)
       where
         none : (c : Declaration) → None ≡ Some c → ⊥
-        none c e = cc
+        none c e = false≢true (ap is_some e)
     by (Some c) at e =
         let a = asked (may_complete now && (completes_form c.form c.part new (part_here now) && not (has_number c.number now.completed))) c e in
         let b = both (may_complete now) (completes_form c.form c.part new (part_here now) && not (has_number c.number now.completed)) a.0 in
@@ -311,7 +312,7 @@ source_low : (now : Known) (w : Name) (d : Declaration) → AreRegions now → s
 source_low now w d are is = by (first_where (is_source w) now.ended) refl is
   where
     none : (c : Declaration) → None ≡ Some c → ⊥
-    none c e = cc
+    none c e = false≢true (ap is_some e)
 
     by : (o : Option Entry) → first_where (is_source w) now.ended ≡ o → option_map (λ (entry : Entry). entry.1) o ≡ Some d → d.own_region < now.region_count
     by None at e = absurd (none d e)

@@ -1,5 +1,6 @@
 -- What runs ask of tables of types holds of those that are fit.
 use Rattle.std.proofs.Common.{◌≡◌, true, false, [], ◌∷◌, refl}
+use Rattle.std.proofs.lemmas.Bool.{false≢true}
 use Rattle.type_definitions.specs.declared.table.Shape.{Shape}
 use Rattle.type_definitions.specs.declared.table.Shape.TheVariants as shape
 use Rattle.type_definitions.specs.Types.{Table, shape_of, view_of}
@@ -14,7 +15,7 @@ use Rattle.settled_types.proofs.TableLaws.Ranked.{ranked_finite, few_words}
 use Rattle.settled_types.proofs.TableLaws.Tables.{is_table, has_parts, truth_sorts}
 
 never : false ≡ true → ⊥
-never is = cc
+never is = absurd (false≢true is)
 
 module _ (table : Table) (fit : IsFit table) where
   finite : AreFinite table

@@ -1,6 +1,7 @@
 -- A part of a type stands among the sorts of its words, and access values stand at its access offsets.
 use Rattle.std.proofs.Common.{◌≡◌, ℕ, zero, suc, ◌*◌, true, false, List, [], ◌∷◌, ◌++◌, map, take, sum, length, get_or, refl, sym, ap, subst, ◌∙◌, arith, Some, slice_get, nat_lt}
 use Rattle.std.specs.Prelude.{flat_map}
+use Rattle.std.proofs.lemmas.Bool.{false≢true}
 use Rattle.spark_base.specs.Lists.{Has}
 use Rattle.type_definitions.specs.declared.table.Component.{Component}
 use Rattle.type_definitions.specs.declared.table.Shape.{Shape}
@@ -99,23 +100,23 @@ module _ (table : Table) (law : (t : ℕ) → sorts table t ≡ sorts_of (sorts 
   owning_sorts t (shape.Whole low high) is owns = absurd (never owns)
     where
       never : false ≡ true → ⊥
-      never x = cc
+      never x = absurd (false≢true x)
   owning_sorts t (shape.Listed literals low high) is owns = absurd (never owns)
     where
       never : false ≡ true → ⊥
-      never x = cc
+      never x = absurd (false≢true x)
   owning_sorts t (shape.Fields cs) is owns = absurd (never owns)
     where
       never : false ≡ true → ⊥
-      never x = cc
+      never x = absurd (false≢true x)
   owning_sorts t (shape.Elements low high element) is owns = absurd (never owns)
     where
       never : false ≡ true → ⊥
-      never x = cc
+      never x = absurd (false≢true x)
   owning_sorts t (shape.Same of) is owns = absurd (never owns)
     where
       never : false ≡ true → ⊥
-      never x = cc
+      never x = absurd (false≢true x)
 
   first_at : (front rest : List Sort) (k : Sort) (n : ℕ) → length front ≡ n → slice_get (front ++ ((k ∷ []) ++ rest)) n ≡ Some k
   first_at [] rest k zero long = refl

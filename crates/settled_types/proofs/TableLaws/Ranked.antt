@@ -2,7 +2,7 @@
 use Rattle.std.proofs.Common.{◌≡◌, inl, inr, ℕ, zero, suc, ◌<◌, ◌≤◌, Bool, true, false, not, ◌&&◌, List, [], ◌∷◌, refl, sym, ap, ◌∙◌, arith, length, nat_eq, nat_lt, nat_le, Option, Some, None}
 use Rattle.std.specs.Prelude.{slice_get}
 use Rattle.std.specs.List.{list_all}
-use Rattle.std.proofs.lemmas.Bool.{cases_lt}
+use Rattle.std.proofs.lemmas.Bool.{cases_lt, false≢true}
 use Rattle.std.proofs.lemmas.Option.{slice_get_past}
 use Rattle.type_definitions.specs.declared.table.Component.{Component}
 use Rattle.type_definitions.specs.declared.table.Info.{Info}
@@ -17,7 +17,7 @@ use Rattle.settled_types.proofs.Ringless.{or_cases, is_same}
 use Rattle.settled_types.specs.TableLaws.Ranks.{rank, is_below, shape_all, parent_all, is_ranked, is_same_as, is_plain, fits}
 
 never : false ≡ true → ⊥
-never is = cc
+never is = absurd (false≢true is)
 
 both : (a b : Bool) → a && b ≡ true → (a ≡ true) × (b ≡ true)
 both true b is = (refl, is)

@@ -1,6 +1,7 @@
 -- What runs ask of tables of types in which no type has itself in it.
 use Rattle.std.proofs.Common.{◌≡◌, ◌≤◌, ℕ, true, false, Bool, ◌||◌, [], ◌∷◌, refl, sym, ap, ◌∙◌, arith, slice_get, nat_eq}
 use Rattle.std.specs.Prelude.{flat_map}
+use Rattle.std.proofs.lemmas.Bool.{false≢true}
 use Rattle.type_definitions.specs.declared.table.Shape.{Shape}
 use Rattle.type_definitions.specs.declared.table.Shape.TheVariants as shape
 use Rattle.type_definitions.specs.Types.{Table, shape_found, shape_of, meant_type, words, parts, parts_of, is_owning, owns_of}
@@ -35,7 +36,7 @@ module _ (table : Table) (finite : AreFinite table) (small : (t : ℕ) → words
   scalar_same t u _ _ is other same = absurd (never same)
     where
       never : false ≡ true → ⊥
-      never x = cc
+      never x = absurd (false≢true x)
 
   same_number : (a b : ℕ) → nat_eq a b ≡ true → a ≡ b
   same_number a b is = grind arith
@@ -63,7 +64,7 @@ module _ (table : Table) (finite : AreFinite table) (small : (t : ℕ) → words
   named_parts d constant false is = absurd (never is)
     where
       never : false ≡ true → ⊥
-      never x = cc
+      never x = absurd (false≢true x)
 
   own_offsets : (t : ℕ) → parts table t ≡ [] ∷ [] → access_offsets table t ≡ 0 ∷ []
   unfolding offsets

@@ -22,7 +22,7 @@ use Rattle.flow_paths.specs.Layout.{laid}
 use Rattle.flow_paths.specs.Laid.{NamedSub, around_body, procedure_end, function_end, body_points, sub_points, sub_temporaries, named_subs, all_named, flow_sub, FlowProgram, typing_of, flow_program}
 use Rattle.machine.specs.States.{no_sub, sub_of}
 use Rattle.machine.specs.Run.{no_point}
-use Rattle.order_laws.proofs.ScopeLaws.Lists.{all_both, all_if, all_one}
+use Rattle.settled_types.proofs.OrderLaws.ScopeLaws.Lists.{all_both, all_if, all_one}
 use Rattle.sound_files.specs.CalledSubs.Called.{PointCalls, CodeCalls, is_subprogram_entry, HaveBodies}
 use Rattle.sound_files.proofs.CalledSubs.Points.{IsAsked, Asked, laid_asked, ends_asked}
 use Rattle.sound_files.proofs.CalledSubs.Statements.{IsFineSub, all_subs_fine}

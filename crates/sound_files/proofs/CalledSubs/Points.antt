@@ -11,7 +11,7 @@ use Rattle.flow_paths.specs.Names.{has_call}
 use Rattle.flow_paths.specs.Points.{Place, PointName, row_at, NamedPoint, point, entry}
 use Rattle.flow_paths.specs.Prep.{Setting, with_held, prep}
 use Rattle.flow_paths.specs.Layout.{Around, within_loop, within_block, with_scope, declared, from, ending, ends, closing, uses, uses_both, uses_second_first, laid, laid_branches, laid_branch, laid_whens, laid_when}
-use Rattle.order_laws.proofs.ScopeLaws.Lists.{all_both, all_one}
+use Rattle.settled_types.proofs.OrderLaws.ScopeLaws.Lists.{all_both, all_one}
 use Rattle.sound_files.specs.CalledSubs.Called.{Calls, CodeCalls, PointCalls}
 
 module _ (asked : ℕ → TypedTree → Type 0) where

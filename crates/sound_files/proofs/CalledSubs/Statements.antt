@@ -22,7 +22,7 @@ use Rattle.typed_tree.specs.Expressions.{Site, sub_number, typed_expression, typ
 use Rattle.typed_tree.specs.Statements.{scope_count, typed_object, type_read, predefined_call, call_of, typed_call, returned_type, bounds_seen, array_seen, range_of, typed_range, plain_statements, statements, typed_body}
 use Rattle.typed_tree.specs.Programs.{TypedSub, placed, subs_in, over_units}
 use Rattle.typed_tree.specs.Programs as programs
-use Rattle.order_laws.proofs.ScopeLaws.Lists.{all_both}
+use Rattle.settled_types.proofs.OrderLaws.ScopeLaws.Lists.{all_both}
 use Rattle.sound_files.specs.CalledSubs.Called.{Calls, CodeCalls, is_subprogram_entry}
 use Rattle.sound_files.proofs.CalledSubs.Trees.{expression_fine, actuals_fine, first_fine, optional_fine}
 

@@ -1,6 +1,7 @@
 -- The code of files declares as many as there are, with their kinds, and each subprogram of it has a body.
 use Rattle.std.proofs.Common.{◌≡◌, ◌⊎◌, inl, inr, ℕ, zero, suc, ◌+◌, true, false, List, [], ◌∷◌, ◌++◌, flat_map, length, refl, sym, ap, ◌∙◌, arith, subst, Some, None, true≢false}
-use Rattle.std.specs.Prelude.{slice_get, unwrap_or}
+use Rattle.std.specs.Prelude.{slice_get, unwrap_or, is_some}
+use Rattle.std.proofs.lemmas.Bool.{false≢true}
 use Rattle.spark_base.specs.Lists.{Has}
 use Rattle.spark_base.proofs.Lists.{Has-append_cases, Has-append_left, Has-append_right}
 use Rattle.ada_tree.specs.declared.unit.SourceUnit.{SourceUnit}
@@ -92,7 +93,7 @@ AreFirst n [] = Unit {0}
 AreFirst n (x ∷ rest) = (x.1.number ≡ n) × (awaits x.1.form ≡ false) × AreFirst (suc n) rest
 
 first_at : (n : ℕ) (xs : List Entry) → AreFirst n xs → (i : ℕ) (x : Entry) → slice_get xs i ≡ Some x → (x.1.number ≡ n + i) × (awaits x.1.form ≡ false)
-first_at n [] are i x is = cc
+first_at n [] are i x is = absurd (false≢true (ap is_some is))
 first_at n (y ∷ rest) are zero x is =
     let same = ap (λ o. unwrap_or o y) is in
     let number = ap (λ (x : Entry). x.1.number) (sym same) ∙ are.0 in

@@ -35,8 +35,8 @@ use Rattle.flow_paths.specs.Objects.{Typing}
 use Rattle.expression_lowering.specs.LoweredExpressions.{Numbers, lowered_expr, lowered_name, lowered_range}
 use Rattle.tree_lowering.specs.Lowered as tree
 use Rattle.tree_lowering.specs.Lowered.{declared_all, lowered_indication, lowered_subtype, lowered_type, lowered_declaration, item_before, before_all, lowered_items, lowered_simple, lowered_stmts, lowered_stmt_box, stmts_row, lowered_stmt, lowered_stmts_box, elsifs_row, lowered_elsif, lowered_when_box, whens_row, lowered_when, lowered_subspec, lowered_subprogram, decl_before, part_before, lowered_decls, lowered_private, lowered_package, lowered_package_body, lowered_unit, lowered_files}
-use Rattle.typed_laws.specs.Fine.{Denotes, IsMeant, AreSuffixes, IsSuffix, AreArguments}
-use Rattle.typed_laws.specs.TypedPoints.Meant.{AreDeclared, AreNumbers, IsParameter, IsMeantRange, IsMeantCode, AreAlternatives, AreMeantBodies, AreMeantObjects}
+use Rattle.soundness.specs.TypedLaws.Fine.{Denotes, IsMeant, AreSuffixes, IsSuffix, AreArguments}
+use Rattle.soundness.specs.TypedLaws.TypedPoints.Meant.{AreDeclared, AreNumbers, IsParameter, IsMeantRange, IsMeantCode, AreAlternatives, AreMeantBodies, AreMeantObjects}
 use Rattle.sound_files.specs.SeenFiles.Uses.{Uses}
 use Rattle.sound_files.specs.SeenFiles.Fits.{all_numbers, AreObjects}
 use Rattle.sound_files.specs.MeantFiles.Denoted.{RangeDenoted, AreDenoted}

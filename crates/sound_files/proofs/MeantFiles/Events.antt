@@ -1,7 +1,7 @@
 -- How the events of a text number what they declare, and that each subprogram has a body where no rule of names
 -- is broken.
 use Rattle.std.proofs.Common.{◌≡◌, ◌⊎◌, inl, inr, ℕ, suc, ◌≤◌, Bool, true, false, not, ◌||◌, List, [], ◌∷◌, ◌++◌, length, refl, sym, ap, ◌∙◌, arith, nat_eq, Option, Some, None, subst, true≢false, length-append, if◌then◌else◌}
-use Rattle.std.specs.Prelude.{slice_get}
+use Rattle.std.specs.Prelude.{slice_get, is_some}
 use Rattle.std.proofs.lemmas.List.Folds.{list_any-append}
 use Rattle.std.proofs.lemmas.Option.{slice_get_within}
 use Rattle.spark_base.specs.Lists.{Has}
@@ -226,15 +226,15 @@ module _ (numbers : List Identified) where
 
   or_first : {A : Type 0} (a b : Option A) → or_else a b ≡ None → a ≡ None
   or_first None b e = refl
-  or_first (Some x) b e = cc
+  or_first (Some x) b e = absurd (true≢false (ap is_some e))
 
   or_second : {A : Type 0} (a b : Option A) → or_else a b ≡ None → b ≡ None
   or_second None b e = e
-  or_second (Some x) b e = cc
+  or_second (Some x) b e = absurd (true≢false (ap is_some e))
 
   none_second : (second incomplete : Bool) (x y : Fault) → (if second then Some x else if incomplete then Some y else None) ≡ None → incomplete ≡ false
-  none_second true incomplete x y e = cc
-  none_second false true x y e = cc
+  none_second true incomplete x y e = absurd (true≢false (ap is_some e))
+  none_second false true x y e = absurd (true≢false (ap is_some e))
   none_second false false x y e = refl
 
   not_false : (b : Bool) → not b ≡ false → b ≡ true

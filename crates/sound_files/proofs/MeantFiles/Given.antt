@@ -69,6 +69,9 @@ abbrev pub is_put : Entry → Bool
 is_put entry.Nothing = false
 is_put _ = true
 
+itself : (k : ℕ) → k ≤ k
+itself k = omega arith
+
 module _ (kind_at : ℕ → DeclKind) where
   -- An entry is one of a type where its number is that of a type, and so it is with objects and subprograms.
   abbrev pub IsRight : ℕ → Entry → Type 0
@@ -346,12 +349,12 @@ module _ (kind_at : ℕ → DeclKind) where
           free = g.free;
           kept = λ is. g.kept (entry_put (λ m e. is_put e ≡ true) inner.known.entries n h x entry.Nothing refl (indication_kept n of c h is));
         }
-    names_given h of ids c k L j goes free = record { to = k; below = λ new m has. absurd has; more = omega arith; goes = goes; free = free; kept = λ is. is }
+    names_given h of ids c k L j goes free = record { to = k; below = λ new m has. absurd has; more = itself k; goes = goes; free = free; kept = λ is. is }
 
     pub group_given : (h : ℕ) (group : Code) (c : Context) (k : ℕ) (L : Declarations) (j : ℕ) → Goes limit k (group_declarations group ++ L) j → Open c h k
         → Formed (group_declarations group) h k L j c (with_formal_group group c)
     group_given h (Formals names m of) c k L j goes free = names_given h of names c k L j goes free
-    group_given h group c k L j goes free = record { to = k; below = λ new m has. absurd has; more = omega arith; goes = goes; free = free; kept = λ is. is }
+    group_given h group c k L j goes free = record { to = k; below = λ new m has. absurd has; more = itself k; goes = goes; free = free; kept = λ is. is }
 
     pub groups_given : (h : ℕ) (formals : Code) (c : Context) (k : ℕ) (L : Declarations) (j : ℕ) → Goes limit k (formal_declarations formals ++ L) j → Open c h k
         → Formed (formal_declarations formals) h k L j c (each with_formal_group formals c)
@@ -371,7 +374,7 @@ module _ (kind_at : ℕ → DeclKind) where
           free = g.free;
           kept = λ is. g.kept (f.kept is);
         }
-    groups_given h formals c k L j goes free = record { to = k; below = λ new m has. absurd has; more = omega arith; goes = goes; free = free; kept = λ is. is }
+    groups_given h formals c k L j goes free = record { to = k; below = λ new m has. absurd has; more = itself k; goes = goes; free = free; kept = λ is. is }
 
     no_front : (k : ℕ) (new : DeclarationForm) (L : Declarations) (j : ℕ) → Goes limit k ((new, 0) ∷ L) j → ⊥
     no_front k new L j goes =

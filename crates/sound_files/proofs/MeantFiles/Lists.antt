@@ -1,6 +1,7 @@
 -- Lists with one element put, and numbers that are compared.
 use Rattle.std.proofs.Common.{◌≡◌, ◌⊎◌, inl, inr, ℕ, zero, suc, ◌<◌, ◌≤◌, List, [], ◌∷◌, ◌++◌, length, set, get_or, refl, ap, arith, Some, None}
-use Rattle.std.specs.Prelude.{slice_get}
+use Rattle.std.specs.Prelude.{slice_get, is_some}
+use Rattle.std.proofs.lemmas.Bool.{true≢false}
 
 -- ---- lists
 
@@ -43,7 +44,7 @@ row_there (y ∷ rest) (suc d) i = row_there rest d i
 
 pub row_within : {A : Type 0} (table : List A) (d : ℕ) → d < length table → slice_get table d ≡ None → ⊥
 row_within [] d less none = omega (arith, less)
-row_within (y ∷ rest) zero less none = cc
+row_within (y ∷ rest) zero less none = true≢false (ap is_some none)
 row_within (y ∷ rest) (suc d) less none = row_within rest d (omega (arith, less)) none
 
 pub append_nothing : {A : Type 0} (xs : List A) → xs ++ [] ≡ xs

@@ -23,9 +23,9 @@ use Rattle.type_definitions.specs.Names.{Context}
 use Rattle.type_definitions.specs.Whole.{predefined_types, predefined_entries, at_first, outside, known_from, known_of}
 use Rattle.typed_tree.specs.Programs.{site_of}
 use Rattle.settled_types.specs.FilePositions.Order.{Ascends, event_positions}
-use Rattle.typed_laws.specs.Fine.{Denotes}
-use Rattle.typed_laws.specs.TypedPoints.Meant.{typing_meant, AreMeantUnits}
-use Rattle.typed_laws.proofs.TypedPoints.Numbers.{denotes}
+use Rattle.soundness.specs.TypedLaws.Fine.{Denotes}
+use Rattle.soundness.specs.TypedLaws.TypedPoints.Meant.{typing_meant, AreMeantUnits}
+use Rattle.soundness.proofs.TypedLaws.TypedPoints.Numbers.{denotes}
 use Rattle.settled_types.specs.GatheredLaws.Made.{type_numbers}
 use Rattle.settled_types.specs.GatheredLaws.Views.{AreViewsApart}
 use Rattle.sound_files.proofs.MeantFiles.Apart.{views_apart}

@@ -1,5 +1,7 @@
 -- What is known to be a subprogram is declared as one.
-use Rattle.std.proofs.Common.{◌≡◌, inl, inr, ℕ, zero, suc, ◌+◌, ◌-◌, Bool, true, false, List, [], ◌∷◌, ◌++◌, flat_map, get_or, replicate, refl, subst, Some, if◌then◌else◌}
+use Rattle.std.proofs.Common.{◌≡◌, inl, inr, ℕ, zero, suc, ◌+◌, ◌-◌, Bool, true, false, List, [], ◌∷◌, ◌++◌, flat_map, get_or, replicate, refl, subst, Some, if◌then◌else◌, ap}
+use Rattle.std.proofs.lemmas.Bool.{false≢true}
+use Rattle.std.specs.Prelude.{is_some}
 use Rattle.spark_base.specs.Lists.{Has}
 use Rattle.spark_base.proofs.Lists.{Has-append_left, Has-append_right}
 use Rattle.resolved_tree.specs.Trees.{More, Code, Anonymous, Enumeration, Incomplete, Private, TypeDecl, Subtype, ConstrainedSubtype, Objects, Numbers, Instance, Formals, Front, SubDecl, SubBody, Package, PackageBody, If, Branch, Case, When, Loop, While, For, Block, Program}
@@ -193,10 +195,10 @@ module _ (p : Program) where
     where
       by : (e : Entry) → (profile_of e).result ≡ Some t → SaidOf IsSub d e → IsSub d
       by (entry.Subprogram p) is said = said
-      by entry.Nothing is said = cc
-      by entry.Package is said = cc
-      by entry.Type is said = cc
-      by (entry.Object o) is said = cc
-      by (entry.Literal t n) is said = cc
-      by (entry.Instance t) is said = cc
-      by (entry.Predefined w) is said = cc
+      by entry.Nothing is said = absurd (false≢true (ap is_some is))
+      by entry.Package is said = absurd (false≢true (ap is_some is))
+      by entry.Type is said = absurd (false≢true (ap is_some is))
+      by (entry.Object o) is said = absurd (false≢true (ap is_some is))
+      by (entry.Literal t n) is said = absurd (false≢true (ap is_some is))
+      by (entry.Instance t) is said = absurd (false≢true (ap is_some is))
+      by (entry.Predefined w) is said = absurd (false≢true (ap is_some is))

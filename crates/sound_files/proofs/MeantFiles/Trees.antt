@@ -38,7 +38,7 @@ use Rattle.resolved_tree.specs.Trees as t
 use Rattle.typed_tree.specs.Expressions.{Site}
 use Rattle.flow_paths.specs.Objects.{Typing}
 use Rattle.expression_lowering.specs.LoweredExpressions.{Numbers, chained, lowered_name, lowered_suffixes, lowered_suffix, box_before, args_row, next_arg_before, arg_before, lowered_expr_box, lowered_expr, operands_row, lowered_operand, short_operands_row, lowered_short_operand, lowered_rel_box, lowered_rel, lowered_sum_box, lowered_sum, terms_row, lowered_next_term, lowered_term, factors_row, lowered_next_factor, lowered_factor, lowered_primary, lowered_name_box, lowered_aggregate_box, lowered_aggregate, selected_numbers}
-use Rattle.typed_laws.specs.Fine.{Denotes, IsMeant, AreSuffixes, IsSuffix, AreArguments}
+use Rattle.soundness.specs.TypedLaws.Fine.{Denotes, IsMeant, AreSuffixes, IsSuffix, AreArguments}
 
 module _ (numbers : Numbers) (s : Site) (y : Typing) (all : (d : ℕ) → Denotes s y d) where
   -- ---- lists

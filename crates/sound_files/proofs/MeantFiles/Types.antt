@@ -1,7 +1,7 @@
 -- Objects and formals have the types that are indicated for them.
-use Rattle.std.proofs.Common.{◌≡◌, ◌⊎◌, inl, inr, ℕ, suc, ◌<◌, ◌≤◌, Bool, true, false, List, [], ◌∷◌, ◌++◌, flat_map, set, get_or, length, append_assoc, refl, sym, ap, ◌∙◌, arith, subst, Option, Some, None, true≢false, if◌then◌else◌}
+use Rattle.std.proofs.Common.{◌≡◌, ◌⊎◌, inl, inr, ℕ, zero, suc, ◌<◌, ◌≤◌, Bool, true, false, List, [], ◌∷◌, ◌++◌, flat_map, set, get_or, length, append_assoc, refl, sym, ap, ◌∙◌, arith, subst, Option, Some, None, true≢false, if◌then◌else◌}
 use Rattle.std.specs.Prelude.{slice_get}
-use Rattle.std.proofs.lemmas.Bool.{cases_eq}
+use Rattle.std.proofs.lemmas.Bool.{cases_eq, false≢true}
 use Rattle.spark_base.specs.Lists.{Has}
 use Rattle.spark_base.proofs.Lists.{Has-append_cases, Has-append_left, Has-append_right}
 use Rattle.resolved_tree.specs.declared.node.Mark.{Mark}
@@ -26,7 +26,7 @@ use Rattle.type_definitions.specs.Names.{Context}
 use Rattle.type_definitions.specs.Gathered.{gather, each, with_entry, with_indication, own_info, with_object, object_info, constant_value, indicated, with_number, number_info, initial_value, with_formal, with_formal_group, with_formals, with_result, with_front, with_body_front, profile, front_number, is_subprogram, plain_object, parameter_type, in_subprogram, in_visible, in_hidden, declared_number}
 use Rattle.type_definitions.specs.Whole.{gather_units}
 use Rattle.settled_types.specs.GatheredLaws.Made.{indicated_numbers, all_numbers, front_numbers, type_numbers}
-use Rattle.typed_laws.specs.TypedPoints.Meant.{IsIndicated}
+use Rattle.soundness.specs.TypedLaws.TypedPoints.Meant.{IsIndicated}
 use Rattle.sound_files.specs.MeantFiles.Declarations.{Declarations, each_as, group_declarations, formal_declarations, front_declarations, body_form, declarations, last_from, IsLow, IsLowIndication, IsLowRange, IsLowGroup, AreLowGroups, IsLowFront, AreLow, AllLow}
 use Rattle.sound_files.specs.MeantFiles.Counted.{is_completing, Counts}
 use Rattle.sound_files.specs.MeantFiles.Typed.{IsParameterOf, AreIndicated, AreIntegers, AreOf, IsGroupTyped, AreGroupsTyped, IsFrontTyped, AreTyped}
@@ -38,17 +38,25 @@ use Rattle.sound_files.proofs.MeantFiles.Stays.{Without, Quiet, stays, objects_s
 use Rattle.settled_types.specs.SteadyTypes.Alike.{AreAlike}
 use Rattle.settled_types.specs.SteadyTypes.Steady.{IsSteady, AreSteady}
 
+abbrev is_nought : ℕ → Bool
+is_nought zero = true
+is_nought (suc n) = false
+
+none_between : (k n j : ℕ) → k ≡ j → k ≤ n → n < j → ⊥
+none_between k n j same more less = omega (arith, same, more, less)
+
+at_end : (k n j : ℕ) → k ≡ j → n < k → n < j
+at_end k n j same less = omega (arith, same, less)
+
 module _ (kind_at : ℕ → DeclKind) (limit : ℕ) where
   -- ---- types
 
   type_kind : (k : DeclKind) → kind_class k ≡ 0 → is_type_kind k ≡ true
   type_kind kinds.TypeName is = refl
-  type_kind kinds.Object is = cc
-  type_kind kinds.Parameter is = cc
-  type_kind _ is = cc
+  type_kind _ is = absurd (false≢true (ap is_nought is))
 
   pub other_kind : (k : DeclKind) (n : ℕ) → kind_class k ≡ suc n → is_type_kind k ≡ false
-  other_kind kinds.TypeName n is = cc
+  other_kind kinds.TypeName n is = absurd (true≢false (ap is_nought is))
   other_kind _ n is = refl
 
   is_as : (n : ℕ) (e : Entry) → IsRight kind_at n e → is_put e ≡ true → is_type e ≡ is_type_kind (kind_at n)
@@ -192,13 +200,13 @@ module _ (kind_at : ℕ → DeclKind) (limit : ℕ) where
         | inl same ↦ ap (λ m. is_type_kind (kind_at m)) (sym same ∙ sym f.0) ∙ (ap is_type_kind (sym f.2) ∙ plain)
         | inr over ↦ each_kinds new never plain rest (suc k) j f.1 n over less
       ]
-  each_kinds new never plain ids k j goes n more less = let a = goes.0 in absurd (omega (arith, a, more, less))
+  each_kinds new never plain ids k j goes n more less = absurd (none_between k n j goes.0 more less)
 
   last_low : (new : DeclarationForm) → is_completing new ≡ false → (n : ℕ) (ids : Code) (k j : ℕ) → n < k → Goes kind_at limit k (each_as new ids) j → last_from n ids < j
   last_low new never n (More d rest) k j less goes =
       let f = object_form k (declared_number d) (each_as new rest) j new never goes in
       last_low new never (declared_number d) rest (suc k) j (let a = f.0 in omega (arith, a)) f.1
-  last_low new never n ids k j less goes = let a = goes.0 in omega (arith, a, less)
+  last_low new never n ids k j less goes = at_end k n j goes.0 less
 
   sure_later : (k m n : ℕ) → k ≤ m → IsSure k n → IsSure m n
   sure_later k m n more (inl less) = inl (omega (arith, more, less))

@@ -1,6 +1,8 @@
 -- The events of files declare what their code declares, in one order; each body stands where bodies are looked
 -- for; and marks of objects and of parameters of loops denote nothing that is declared after these.
 use Rattle.std.proofs.Common.{◌≡◌, inl, inr, ℕ, suc, ◌<◌, ◌≤◌, false, List, [], ◌∷◌, ◌++◌, map, flat_map, length, refl, sym, ap, ◌∙◌, arith, Option, Some, None, subst, append_assoc, length-append, unwrap_or, true≢false, true}
+use Rattle.std.proofs.lemmas.Bool.{false≢true}
+use Rattle.std.specs.Prelude.{is_some}
 use Rattle.spark_base.specs.Lists.{Has}
 use Rattle.spark_base.proofs.Lists.{Has-append_cases, Has-append_left, Has-append_right}
 use Rattle.spark_base.specs.declared.position.Pos.{Pos}
@@ -129,8 +131,8 @@ module _ (numbers : Numbers) where
   part_same k (part ∷ rest) n is = by (number_at numbers (part_name part).pos) is (λ m e. part_same m rest n e)
     where
       never : (rest : List NextPart) → last_part numbers None rest ≡ Some n → ⊥
-      never [] is = cc
-      never (part ∷ rest) is = cc
+      never [] is = false≢true (ap is_some is)
+      never (part ∷ rest) is = false≢true (ap is_some is)
 
       by : (o : Option ℕ) → last_part numbers o rest ≡ Some n
           → ((m : ℕ) → last_part numbers (Some m) rest ≡ Some n

@@ -2,7 +2,7 @@
 -- denote of objects is in scope.
 use Rattle.std.proofs.Common.{◌≡◌, ◌⊎◌, inl, inr, ℕ, ◌+◌, ◌<◌, Bool, true, false, not, ◌&&◌, List, [], ◌∷◌, ◌++◌, map, filter, drop, nat_eq, refl, sym, ap, ◌∙◌, subst, arith, append_assoc, Option, Some, None, true≢false, if◌then◌else◌}
 use Rattle.std.specs.List.{flat_map}
-use Rattle.std.specs.Prelude.{nat_le, option_map, unwrap_or}
+use Rattle.std.specs.Prelude.{nat_le, option_map, unwrap_or, is_some}
 use Rattle.spark_base.specs.Lists.{Has}
 use Rattle.spark_base.proofs.Lists.{Has-append_cases, Has-filter}
 use Rattle.ada_tree.specs.declared.identifier.Identifier.{Identifier}
@@ -45,6 +45,7 @@ use Rattle.settled_types.specs.FilePositions.Order.{Ascends, event_positions}
 use Rattle.std.specs.Prelude.{slice_get, nat_lt}
 use Rattle.std.proofs.Common.{suc, ◌||◌}
 use Rattle.std.specs.List.{list_all}
+use Rattle.std.proofs.lemmas.Bool.{false≢true}
 use Rattle.name_events.specs.Predefined.{predefined_entries}
 use Rattle.name_events.specs.KnownBehind.{known_at_first}
 use Rattle.name_events.specs.Denotes.{Files, known_of}
@@ -195,7 +196,7 @@ source_found now w d is = from now.ended is
 
     from : (xs : List Entry) → option_map (λ (x : Entry). x.1) (first_where (is_source w) xs) ≡ Some d
         → (h : Entry) × Has xs h × (is_package h.1 ≡ true) × (h.1 ≡ d)
-    from [] is = cc
+    from [] is = absurd (false≢true (ap is_some is))
     from (x ∷ rest) is = by (is_source w x) refl is (λ is. from rest is)
       where
         unsome : (a b : Declaration) → Some a ≡ Some b → a ≡ b

@@ -1,7 +1,7 @@
 -- Declarations stand at their numbers, and a `use` clause names packages.
 use Rattle.std.proofs.Common.{◌≡◌, inl, inr, ℕ, Bool, true, false, not, zero, suc, List, [], ◌∷◌, ◌++◌, map, filter, drop, length, nat_eq, refl, sym, ap, subst, Option, Some, None, if◌then◌else◌}
-use Rattle.std.specs.Prelude.{slice_get}
-use Rattle.std.proofs.lemmas.Bool.{eqb-true}
+use Rattle.std.specs.Prelude.{slice_get, is_some}
+use Rattle.std.proofs.lemmas.Bool.{eqb-true, false≢true}
 use Rattle.spark_base.specs.Lists.{Has}
 use Rattle.spark_base.proofs.Lists.{Has-append_cases, Has-append_left, Has-filter, Has-map_from}
 use Rattle.name_events.specs.declared.event.Event.{Event}
@@ -24,7 +24,7 @@ use Rattle.name_events.proofs.VisibilityLaws.{seen_says, selected_says}
 
 module _ {A : Type 0} where
   pub get_front : (xs ys : List A) (i : ℕ) (x : A) → slice_get xs i ≡ Some x → slice_get (xs ++ ys) i ≡ Some x
-  get_front [] ys i x is = cc
+  get_front [] ys i x is = absurd (false≢true (ap is_some is))
   get_front (y ∷ rest) ys zero x is = is
   get_front (y ∷ rest) ys (suc i) x is = get_front rest ys i x is
 
@@ -122,7 +122,7 @@ seen_ended now w d is = elim (seen_says now w d is) [
 
 along_ended : (now : Known) (o : Option Declaration) (ws : List Name) (d : Declaration) → ((x : Declaration) → o ≡ Some x → HasEnded now x)
     → selected_along now o ws ≡ Some d → HasEnded now d
-along_ended now None ws d ended is = cc
+along_ended now None ws d ended is = absurd (false≢true (ap is_some is))
 along_ended now (Some x) [] d ended is = ended d is
 along_ended now (Some x) (w ∷ rest) d ended is = by (is_package x) is (λ is. along_ended now (selected now x w) rest d (λ y e. member y e) is)
   where
@@ -132,7 +132,7 @@ along_ended now (Some x) (w ∷ rest) d ended is = by (is_package x) is (λ is. 
     by : (b : Bool) → (if b then selected_along now (selected now x w) rest else None) ≡ Some d
         → (selected_along now (selected now x w) rest ≡ Some d → HasEnded now d) → HasEnded now d
     by true e on = on e
-    by false e on = cc
+    by false e on = absurd (false≢true (ap is_some e))
 
 -- ---- one event
 

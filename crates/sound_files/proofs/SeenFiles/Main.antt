@@ -11,8 +11,8 @@ use Rattle.type_definitions.specs.Whole.{known_of}
 use Rattle.typed_tree.specs.Programs.{TypedSub, DeclaredObject, program_objects, site_of, elaboration}
 use Rattle.flow_paths.specs.Objects.{is_package_object}
 use Rattle.settled_types.specs.FilePositions.Order.{Ascends, event_positions}
-use Rattle.order_laws.specs.ScopeLaws.Code.{Once, body_seen}
-use Rattle.order_laws.specs.Orderly.{typing_in, bodies_of}
+use Rattle.settled_types.specs.OrderLaws.ScopeLaws.Code.{Once, body_seen}
+use Rattle.settled_types.specs.OrderLaws.Orderly.{typing_in, bodies_of}
 use Rattle.sound_files.specs.SeenFiles.Fits.{AllFit}
 use Rattle.sound_files.specs.SeenFiles.Reached.{IsObjectIn}
 use Rattle.sound_files.proofs.SeenFiles.Files.{files_fit}

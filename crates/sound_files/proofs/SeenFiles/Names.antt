@@ -28,9 +28,9 @@ use Rattle.typed_tree.specs.Trees.{TypedTree, typed_list}
 use Rattle.typed_tree.specs.Trees as typed
 use Rattle.typed_tree.specs.Expressions.{Site, object_number, number, value_of_type, designating, component_number, element, object_type, typed_name, compared, operands, has_name, named_value, arranged, role_names, arguments_given, called_function, typed_expression, typed_steps, typed_step, typed_actuals, typed_imaged, typed_first, typed_values, typed_optional}
 use Rattle.flow_paths.specs.Scopes.{is_within}
-use Rattle.order_laws.specs.ScopeLaws.Code.{roots, are_seen}
-use Rattle.order_laws.proofs.ScopeLaws.Lists.{both_true}
-use Rattle.order_laws.proofs.ScopeLaws.Seen.{seen_both}
+use Rattle.settled_types.specs.OrderLaws.ScopeLaws.Code.{roots, are_seen}
+use Rattle.settled_types.proofs.OrderLaws.ScopeLaws.Lists.{both_true}
+use Rattle.settled_types.proofs.OrderLaws.ScopeLaws.Seen.{seen_both}
 use Rattle.sound_files.specs.SeenFiles.Uses.{Uses}
 use Rattle.sound_files.proofs.SeenFiles.Entries.{is_object_entry}
 

@@ -18,8 +18,8 @@ use Rattle.typed_tree.specs.Expressions.{object_number}
 use Rattle.typed_tree.specs.Statements.{scope_count}
 use Rattle.typed_tree.specs.Programs.{kind_of, entry_kind, DeclaredObject, Home, object_of, package_text, objects_in, over_units, program_objects, text_io, site_of, typed_program}
 use Rattle.flow_paths.specs.Objects.{is_state, is_package_object}
-use Rattle.order_laws.specs.ScopeLaws.Code.{Once}
-use Rattle.order_laws.specs.Orderly.{typing_in}
+use Rattle.settled_types.specs.OrderLaws.ScopeLaws.Code.{Once}
+use Rattle.settled_types.specs.OrderLaws.Orderly.{typing_in}
 use Rattle.sound_files.specs.SeenFiles.Fits.{all_numbers, scope_after, unit_scope, units_scope}
 
 -- It is one of a package.

@@ -1,7 +1,7 @@
 -- What is told of the names of a text that breaks no rule of names, and whose identifiers stand in the order of the
 -- text.
 use Rattle.std.proofs.Common.{◌≡◌, inl, inr, ℕ, Bool, true, false, ◌&&◌, List, [], ◌∷◌, ◌++◌, map, length, nat_eq, refl, sym, ap, ◌∙◌, subst, arith, Option, Some, None, true≢false, append_assoc, if◌then◌else◌}
-use Rattle.std.specs.Prelude.{slice_get, unwrap_or}
+use Rattle.std.specs.Prelude.{slice_get, unwrap_or, is_some}
 use Rattle.std.specs.List.{flat_map}
 use Rattle.spark_base.specs.declared.position.Pos.{Pos}
 use Rattle.spark_base.specs.Positions.{Precedes}
@@ -121,11 +121,11 @@ meant (Some x) rule d is = cc
 
 or_rest : {A : Type 0} (a b : Option A) → or_else a b ≡ None → b ≡ None
 or_rest None b e = e
-or_rest (Some x) b e = cc
+or_rest (Some x) b e = absurd (true≢false (ap is_some e))
 
 or_one : {A : Type 0} (a b : Option A) → or_else a b ≡ None → a ≡ None
 or_one None b e = refl
-or_one (Some x) b e = cc
+or_one (Some x) b e = absurd (true≢false (ap is_some e))
 
 member_stands : (now : Known) (holder d : Declaration) (w : Name) → is_package holder ≡ true → Standing now holder → selected now holder w ≡ Some d
     → Standing now d
@@ -165,8 +165,8 @@ module _ (whole now : Known) where
       → Ascends (places_of id rest) → After later (places_of id rest) → ((d : Declaration) → m ≡ Denotes d → Standing now d)
       → first_some (occurrence_fault now) (occurrences_from whole now id m rest) ≡ None
       → Read now (done ++ (flat_map identified_use (occurrences_from whole now id m rest) ++ later)) id rest
-  read_from id (Breaks rule) [] done later before up after stands none = cc
-  read_from id (Breaks rule) (next ∷ rest) done later before up after stands none = cc
+  read_from id (Breaks rule) [] done later before up after stands none = absurd (true≢false (ap is_some none))
+  read_from id (Breaks rule) (next ∷ rest) done later before up after stands none = absurd (true≢false (ap is_some none))
   read_from id (Denotes d) [] done later before up after stands none = record {
     number = d.number;
     first = found id d.number done later (λ x has. before_differs x.pos id.pos (before x has id.pos (inl refl)));
@@ -322,7 +322,7 @@ module _ (whole : Known) (numbers : Numbers) where
         allowed : (b : Bool) → (if b then first_some (occurrence_fault now) (occurrences whole now name) else Some (Unknown, name.first.pos)) ≡ None
             → first_some (occurrence_fault now) (occurrences whole now name) ≡ None
         allowed true e = e
-        allowed false e = cc
+        allowed false e = absurd (true≢false (ap is_some e))
     told (e.Declares new id) rest grows all is before up after none =
         let n : ℕ = number_declared now new id.name in
         let number : unwrap_or (number_at numbers id.pos) 0 ≡ n

@@ -26,9 +26,9 @@ use Rattle.typed_tree.specs.Statements.{scope_count, statements, typed_object, t
 use Rattle.typed_tree.specs.Programs.{TypedSub, placed, formal_numbers, front_formals, subs_in, elaborated, elaboration, over_units}
 use Rattle.flow_paths.specs.Scopes.{is_within}
 use Rattle.flow_paths.specs.Layout.{declared}
-use Rattle.order_laws.specs.ScopeLaws.Code.{roots, are_seen, is_seen, is_each_seen, body_seen}
-use Rattle.order_laws.proofs.ScopeLaws.Lists.{and_first, and_second, both_true}
-use Rattle.order_laws.proofs.ScopeLaws.Seen.{seen_both, seen_more}
+use Rattle.settled_types.specs.OrderLaws.ScopeLaws.Code.{roots, are_seen, is_seen, is_each_seen, body_seen}
+use Rattle.settled_types.proofs.OrderLaws.ScopeLaws.Lists.{and_first, and_second, both_true}
+use Rattle.settled_types.proofs.OrderLaws.ScopeLaws.Seen.{seen_both, seen_more}
 use Rattle.sound_files.specs.SeenFiles.Uses.{Uses}
 use Rattle.sound_files.specs.SeenFiles.Fits.{all_numbers, group_numbers, front_numbers, scope_after, unit_scope, units_scope, IsKept, RangeFits, Fits, AreFitting, IsFitting, UnitFits, AllFit}
 use Rattle.sound_files.proofs.SeenFiles.Entries.{is_object_entry}

@@ -14,8 +14,8 @@ use Rattle.typed_tree.specs.Expressions.{object_number}
 use Rattle.typed_tree.specs.Programs.{DeclaredObject, program_objects, text_io, typed_program}
 use Rattle.flow_paths.specs.Objects.{object_at}
 use Rattle.flow_paths.specs.Laid.{flow_program}
-use Rattle.typed_laws.specs.Fine.{Denotes}
-use Rattle.typed_laws.specs.TypedPoints.Meant.{typing_meant}
+use Rattle.soundness.specs.TypedLaws.Fine.{Denotes}
+use Rattle.soundness.specs.TypedLaws.TypedPoints.Meant.{typing_meant}
 use Rattle.sound_files.specs.TypedFiles.TypedRuns.Meant.{typed_in, laid_in, site_in, typing_laid}
 
 -- What stands in a list has a place in it.

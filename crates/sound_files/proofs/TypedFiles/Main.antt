@@ -46,7 +46,7 @@ use Rattle.settled_types.proofs.AnonymousTypes.Main.{are_views as program_views}
 use Rattle.settled_types.proofs.NamedFiles.Library.{procedures}
 use Rattle.settled_types.proofs.NamedFiles.Records.{records_apart}
 use Rattle.settled_types.proofs.NamedFiles.Formals.{formals_are_apart}
-use Rattle.order_laws.specs.ScopeLaws.Code.{Once}
+use Rattle.settled_types.specs.OrderLaws.ScopeLaws.Code.{Once}
 use Rattle.sound_files.specs.SeenFiles.Reached.{IsObjectIn}
 use Rattle.sound_files.proofs.SeenFiles.Entries.{is_object_entry, known_keeps}
 use Rattle.sound_files.proofs.SeenFiles.Files.{files_fit}
@@ -59,8 +59,8 @@ use Rattle.sound_files.proofs.MeantFiles.Bodies.{files_have_bodies}
 use Rattle.sound_files.proofs.MeantFiles.Denoted.{units_denoted}
 use Rattle.sound_files.proofs.MeantFiles.Main.{followed, files_apart, files_bodied, files_kept, files_typed}
 use Rattle.sound_files.proofs.MeantFiles.Codes as codes
-use Rattle.order_laws.specs.Written.{is_unit}
-use Rattle.order_laws.proofs.Faults.{units_faultless}
+use Rattle.settled_types.specs.OrderLaws.Written.{is_unit}
+use Rattle.settled_types.proofs.OrderLaws.Faults.{units_faultless}
 use Rattle.settled_types.specs.SteadyTypes.Flat.{IsFlatUnit}
 use Rattle.settled_types.proofs.SteadyTypes.Main.{alike, steady}
 use Rattle.settled_types.proofs.Main.{second, rows_first, rows_second}
@@ -68,10 +68,10 @@ use Rattle.sound_files.proofs.Flat.{unit_flat}
 use Rattle.sound_files.proofs.Once.{files_once}
 use Rattle.sound_files.proofs.Written.{files_written}
 use Rattle.sound_files.proofs.Fronts.{files_fronts}
-use Rattle.typed_laws.specs.Fine.{Denotes, Laws}
-use Rattle.typed_laws.specs.Needed.{AreFine}
-use Rattle.typed_laws.proofs.TypedPoints.Numbers.{object_numbered, denotes}
-use Rattle.typed_laws.specs.TypedSteps.Steps.{AreTyped, AreCounted}
+use Rattle.soundness.specs.TypedLaws.Fine.{Denotes, Laws}
+use Rattle.soundness.specs.TypedLaws.Needed.{AreFine}
+use Rattle.soundness.proofs.TypedLaws.TypedPoints.Numbers.{object_numbered, denotes}
+use Rattle.soundness.specs.TypedLaws.TypedSteps.Steps.{AreTyped, AreCounted}
 use Rattle.sound_files.specs.TypedFiles.TypedRuns.Code.{IsTypedUse, IsTypedCode}
 use Rattle.sound_files.specs.TypedFiles.TypedRuns.Formals.{AreProfiled}
 use Rattle.sound_files.specs.TypedFiles.TypedRuns.Meant.{typed_in, laid_in, site_in, typing_laid}

@@ -4,7 +4,7 @@ use Rattle.std.specs.Prelude.{flat_map, is_some}
 use Rattle.std.specs.List.{AllByRecursion, position_or_len}
 use Rattle.std.specs.Cmp.Lexicographic.{pointwise}
 use Rattle.std.specs.Char.{to_ascii_lowercase}
-use Rattle.std.proofs.lemmas.Bool.{eqb-true, eq-eqb, false≢true}
+use Rattle.std.proofs.lemmas.Bool.{eqb-true, eq-eqb, false≢true, true≢false}
 use Rattle.spark_base.specs.Lists.{Has}
 use Rattle.spark_base.proofs.Lists.{Has-append_left, Has-append_right, Has-map}
 use Rattle.place_names.specs.declared.act.Mode.{Mode}
@@ -20,7 +20,7 @@ use Rattle.type_definitions.specs.declared.table.Known.{Known}
 use Rattle.type_definitions.specs.declared.table.Shape.TheVariants as shape
 use Rattle.type_definitions.specs.declared.table.ObjectInfo.{ObjectInfo}
 use Rattle.type_definitions.specs.declared.table.Profile.{Profile}
-use Rattle.type_definitions.specs.Types.{Table, base, full, is_scalar, is_untyped, is_same, same_bounds, shape_of, view_of}
+use Rattle.type_definitions.specs.Types.{is_nil, Table, base, full, is_scalar, is_untyped, is_same, same_bounds, shape_of, view_of}
 use Rattle.type_definitions.specs.Faults.{demand}
 use Rattle.type_definitions.specs.Entries.{entry_of, same_word, denotes_type, marked, is_complete}
 use Rattle.type_definitions.specs.Names.{Context, seen}
@@ -34,13 +34,13 @@ use Rattle.typed_tree.specs.Statements.{scope_count}
 use Rattle.typed_tree.specs.Programs.{TypedSub, DeclaredObject, Home, object_of, formals_of as home_formals, front_formals, formal_numbers, local, in_package, package_text, objects_in, over_units, bodies_in, placed, subs_in, elaboration, program_objects, text_io, typed_program}
 use Rattle.flow_paths.specs.Objects.{Typing, Signature, object_at, sub_at, traverses, is_anonymous as anonymous_view}
 use Rattle.flow_paths.specs.Laid.{signature}
-use Rattle.typed_laws.specs.Fine.{Agree, Laws}
-use Rattle.typed_laws.proofs.Agreeing.{of_known, holds, nil_left, nil_right, and_left, and_right}
-use Rattle.order_laws.specs.ScopeLaws.Code.{Once}
+use Rattle.soundness.specs.TypedLaws.Fine.{Agree, Laws}
+use Rattle.soundness.proofs.TypedLaws.Agreeing.{of_known, holds, nil_left, nil_right, and_left, and_right}
+use Rattle.settled_types.specs.OrderLaws.ScopeLaws.Code.{Once}
 use Rattle.name_events.proofs.Searches.{same_is}
-use Rattle.typed_laws.proofs.Steps.{seen_access}
-use Rattle.typed_laws.proofs.Cases.{is_access_view}
-use Rattle.typed_laws.proofs.TypedPoints.Sources.{anonymous_shape}
+use Rattle.soundness.proofs.TypedLaws.Steps.{seen_access}
+use Rattle.soundness.proofs.TypedLaws.Cases.{is_access_view}
+use Rattle.soundness.proofs.TypedLaws.TypedPoints.Sources.{anonymous_shape}
 use Rattle.settled_types.specs.GatheredLaws.Components.{AreWordsApart}
 use Rattle.settled_types.specs.GatheredLaws.Views.{AreViewsApart}
 use Rattle.settled_types.specs.AnonymousTypes.Fronts.{AllFronts}
@@ -132,8 +132,8 @@ by_its_name (f ∷ fs) k v apart less same = by (same_word v f.name) refl (λ n 
 split : (a b c d : Bool) → a && (b && (c || d)) ≡ true → c ≡ false → (a ≡ true) × (b ≡ true) × (d ≡ true)
 split true true false d e f = (refl, refl, e)
 split true true true d e f = absurd (true≢false f)
-split true false c d e f = cc
-split false b c d e f = cc
+split true false c d e f = absurd (false≢true e)
+split false b c d e f = absurd (false≢true e)
 
 mode_is : (m n : Mode) → same_mode m n ≡ true → n ≡ m
 mode_is mode.In mode.In e = refl
@@ -145,13 +145,13 @@ mode_is m n e = absurd (false≢true e)
 module _ (table : Table) where
   named_so : (fs gs : List FormalInfo) → same_formals table fs gs ≡ true → (v : List ℕ) → Has (names_in fs) v → (w : List ℕ) × Has (names_in gs) w × (same_word v w ≡ true)
   named_so [] gs same v has = absurd has
-  named_so (f ∷ fs) [] same v has = cc
+  named_so (f ∷ fs) [] same v has = absurd (false≢true same)
   named_so (f ∷ fs) (g ∷ gs) same v (inl is) = (g.name, inl refl, subst (λ z. same_word z g.name ≡ true) is (and_left _ _ (and_left _ _ same)))
   named_so (f ∷ fs) (g ∷ gs) same v (inr has) = let more = named_so fs gs (and_right _ _ same) v has in (more.0, inr more.1, more.2)
 
   names_apart : (fs gs : List FormalInfo) → same_formals table fs gs ≡ true → AreWordsApart (names_in gs) → AreWordsApart (names_in fs)
   names_apart [] gs same apart = tt
-  names_apart (f ∷ fs) [] same apart = cc
+  names_apart (f ∷ fs) [] same apart = absurd (false≢true same)
   names_apart (f ∷ fs) (g ∷ gs) same apart = ((λ v has. by v (named_so fs gs (and_right _ _ same) v has)), names_apart fs gs (and_right _ _ same) apart.1)
     where
       by : (v : List ℕ) → (w : List ℕ) × Has (names_in gs) w × (same_word v w ≡ true) → same_word f.name v ≡ false
@@ -391,7 +391,7 @@ module _ (p : Program) (formed : IsTrue (all_formed p.units)) (orderly : IsOrder
       → ((fs : List FormalInfo) → AllMade fs → same_formals table fs more ≡ true → AreFormals y xs fs)
       → (fs : List FormalInfo) → AllMade fs → same_formals table fs (formal_group known first m of ids ++ more) ≡ true
       → AreFormals y (map (λ d. object_number s (declared_number d)) (code_items ids) ++ xs) fs
-  fit_ids first m of (More d rest) more xs declared typed none on [] make same = cc
+  fit_ids first m of (More d rest) more xs declared typed none on [] make same = absurd (false≢true same)
   fit_ids first m of (More d rest) more xs declared typed none on (f ∷ fs) make same = (
     is_formal f m of (declared_number d) first (declared_text d) make.0.0 make.0.1 declared.0 typed.0 none (and_left _ _ same),
     fit_ids false m of rest more xs declared.1 typed.1 none on fs make.1 (and_right _ _ same),
@@ -520,10 +520,10 @@ module _ (p : Program) (formed : IsTrue (all_formed p.units)) (orderly : IsOrder
       head_same e = cc
   first_access k same f r (More (Formals ids m of) more) first none declared typed o rest e = absurd first
   first_access k same f r (More group more) first none declared typed o rest e = absurd first
-  first_access k same f r formals first none declared typed o rest e = cc
+  first_access k same f r formals first none declared typed o rest e = absurd (true≢false (ap is_nil e))
 
   pub seen_anonymous : (v : View) → anonymous_view v ≡ true → is_anonymous v ≡ true
-  seen_anonymous (view.Access d constant true) e = cc
+  seen_anonymous (view.Access d constant true) e = absurd (false≢true e)
   seen_anonymous (view.Access d constant false) e = refl
   seen_anonymous (view.Whole low high) e = absurd (true≢false (sym e))
   seen_anonymous (view.Listed low high) e = absurd (true≢false (sym e))

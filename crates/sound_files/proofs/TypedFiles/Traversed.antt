@@ -31,11 +31,12 @@ use Rattle.flow_paths.specs.Laid.{signature}
 use Rattle.flow_paths.specs.Views.{traversed_of}
 use Rattle.std.specs.List.{position_or_len}
 use Rattle.std.specs.Prelude.{nat_eq}
-use Rattle.typed_laws.specs.Fine.{Laws}
-use Rattle.typed_laws.proofs.Agreeing.{of_known, holds, nil_left, nil_right, and_left, and_right}
-use Rattle.typed_laws.proofs.Steps.{seen_access}
-use Rattle.typed_laws.proofs.Cases.{is_access_view}
-use Rattle.order_laws.specs.ScopeLaws.Code.{Once}
+use Rattle.std.proofs.lemmas.Bool.{false≢true, true≢false}
+use Rattle.soundness.specs.TypedLaws.Fine.{Laws}
+use Rattle.soundness.proofs.TypedLaws.Agreeing.{of_known, holds, nil_left, nil_right, and_left, and_right}
+use Rattle.soundness.proofs.TypedLaws.Steps.{seen_access}
+use Rattle.soundness.proofs.TypedLaws.Cases.{is_access_view}
+use Rattle.settled_types.specs.OrderLaws.ScopeLaws.Code.{Once}
 use Rattle.settled_types.specs.GatheredLaws.Views.{AreViewsApart}
 use Rattle.settled_types.proofs.AnonymousTypes.Main as views
 use Rattle.type_sizes.specs.Formed.{all_formed}
@@ -57,34 +58,34 @@ at_index R (n ∷ ns) [] i fallback h = absurd h
 
 function_entry : (e : Entry) (t : ℕ) → (profile_of e).result ≡ Some t → (q : Profile) × (e ≡ entry.Subprogram q)
 function_entry (entry.Subprogram q) t is = (q, refl)
-function_entry e t is = cc
+function_entry e t is = absurd (false≢true (ap is_some is))
 
 view_shown : (v : View) → is_anonymous v ≡ true → anonymous_view v ≡ true
 view_shown (view.Access d true false) e = refl
 view_shown (view.Access d false false) e = refl
-view_shown (view.Access d k true) e = cc
-view_shown v e = cc
+view_shown (view.Access d k true) e = absurd (false≢true e)
+view_shown v e = absurd (false≢true e)
 
 mode_in : (m : Mode) → is_in m ≡ true → m ≡ mode.In
 mode_in mode.In e = refl
-mode_in mode.Out e = cc
-mode_in mode.InOut e = cc
+mode_in mode.Out e = absurd (false≢true e)
+mode_in mode.InOut e = absurd (false≢true e)
 
 abbrev no_signature : Signature
 no_signature = record { formals = []; result = None }
 
 plain_view : (v : View) → is_anonymous v ≡ false → anonymous_view v ≡ false
 plain_view (view.Access d k true) e = refl
-plain_view (view.Access d k false) e = cc
+plain_view (view.Access d k false) e = absurd (true≢false e)
 plain_view (view.Whole low high) e = refl
 plain_view (view.Listed low high) e = refl
 plain_view (view.Elements low high of) e = refl
 plain_view v e = refl
 
 some_there : (a b : Bool) → a ≡ true → not (a && b) ≡ true → b ≡ false
-some_there true true is h = cc
+some_there true true is h = sym h
 some_there true false is h = refl
-some_there false b is h = cc
+some_there false b is h = absurd (false≢true is)
 
 module _ (p : Program) (formed : IsTrue (all_formed p.units)) (orderly : IsOrderly p) (none_broken : type_fault p ≡ None) (own_numbers : AreViewsApart p.units)
     (made : ℕ → Type 0) (laws : Laws (known_of p) made) (once : Once (map (λ (o : DeclaredObject). o.number) (program_objects (known_of p) p.units)))
@@ -238,7 +239,7 @@ module _ (p : Program) (formed : IsTrue (all_formed p.units)) (orderly : IsOrder
       )
   first_there k same f r (More (Formals ids m of) more) first some none declared typed = absurd first
   first_there k same f r (More group more) first some none declared typed = absurd first
-  first_there k same f r NoMore first some none declared typed = cc
+  first_there k same f r NoMore first some none declared typed = absurd (true≢false some)
   first_there k same f r formals first some none declared typed = absurd first
 
   traversed_first : (x formals result : Code) (good : IsGoodFront known all (Front x formals result)) (r : Option ℕ) → r ≡ (profile_of (entry_of known (declared_number x))).result

@@ -10,7 +10,7 @@ use Rattle.type_definitions.specs.declared.table.Known.{Known}
 use Rattle.type_definitions.specs.Entries.{entry_of, integer}
 use Rattle.type_definitions.specs.Names.{Context}
 use Rattle.type_definitions.specs.Gathered.{indicated, object_kind, parameter_type, declared_number, in_subprogram, in_visible, in_hidden}
-use Rattle.typed_laws.specs.TypedPoints.Meant.{IsIndicated}
+use Rattle.soundness.specs.TypedLaws.TypedPoints.Meant.{IsIndicated}
 
 -- What this number declares is an object of this type and this kind.
 abbrev pub IsOf : Known → ℕ → ℕ → Kind → Type 0

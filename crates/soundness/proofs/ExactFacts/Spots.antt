@@ -30,7 +30,7 @@ use Rattle.soundness.specs.OwnedWays.Ways.{after}
 use Rattle.soundness.specs.Sound.{IsNoCall, is_temporary_object}
 use Rattle.soundness.proofs.Scalars.{acts}
 use Rattle.soundness.proofs.Typings.{Agree, wide, wide_is, instruction_same, passings_same}
-use Rattle.typed_laws.specs.Needed.{IsFine}
+use Rattle.soundness.specs.TypedLaws.Needed.{IsFine}
 use Rattle.soundness.proofs.Constructors.{is_call_instruction}
 
 abbrev temporaries_of : NamedSub → List Temporary

@@ -1,5 +1,7 @@
 -- Along acts that are allowed, facts stay apart.
 use Rattle.std.proofs.Common.{◌≡◌, refl, sym, ap, ◌∙◌, subst, ◌⊎◌, inl, inr, Bool, true, false, not, ◌==◌, ℕ, List, [], ◌∷◌, ◌++◌, filter, None}
+use Rattle.std.proofs.lemmas.Bool.{true≢false}
+use Rattle.std.specs.Prelude.{is_some}
 use Rattle.spark_base.specs.Lists.{Has}
 use Rattle.spark_base.proofs.Lists.{Has-append_cases, Has-filter, Has-map_from}
 use Rattle.place_names.specs.declared.selector.Sel.{Sel}
@@ -40,7 +42,7 @@ still_false true c up isnt = let is = sym (up refl) ∙ isnt in cc
 
 not_found : (test : Bool) (r : Rule) (m : Name) (f : Fact) → forbidden_if test r m f ≡ None → test ≡ false
 not_found false r m f e = refl
-not_found true r m f e = cc
+not_found true r m f e = absurd (true≢false (ap is_some e))
 
 -- neither fact clashes with the other one
 abbrev Agree : Fact → Fact → Type 0

@@ -25,7 +25,7 @@ use Rattle.soundness.proofs.Constructors.{is_moved_fact, is_observed_loan}
 -- a test that succeeds forbids
 pub refused : (b : Bool) (r : Rule) (m : Name) (f : Fact) → b ≡ true → forbidden_if b r m f ≡ None → ⊥
 refused true r m f e none = cc
-refused false r m f e none = cc
+refused false r m f e none = absurd (false≢true e)
 
 agree_longer : (a q b : List Sel) → agree_along (a ++ q) b ≡ true → agree_along a b ≡ true
 agree_longer [] q b e = refl

@@ -84,13 +84,6 @@ hand_under f (Lost x) n u = subst InHand u n
 hand_under f (Into w i) n u = elim u [ inl e ↦ subst InHand e n | inr u ↦ hand_under f w n u ]
 hand_under f (All w) n u = elim u [ inl e ↦ subst InHand e n | inr u ↦ hand_under f w n u ]
 
-unnamed : (home : ℕ → ℕ) (w : Way) → InHand w → Named home w → ⊥
-unnamed home (Object (OfVariable f x)) n m = n
-unnamed home (Object (OfHand h)) n m = m
-unnamed home (Lost x) n m = n
-unnamed home (Into w i) n m = unnamed home w n m
-unnamed home (All w) n m = unnamed home w n m
-
 same_reaches : (s t : View) → IsSame s t → (w : Way) (l : Loc) → Reaches s w l → Reaches t w l
 same_reaches s t e (Object r) l h = h
 same_reaches s t e (Lost n) l h = (e.leaked n ∙ h.0, h.1)

@@ -271,9 +271,6 @@ module _ (home : ℕ → ℕ) (observer : ℕ → Bool) (other : Around home) (v
 
 -- ---- the acts
 
-same_way : (a b : Way) → Some a ≡ Some b → a ≡ b
-same_way a b e = cc
-
 -- No fact of what was moved is taken back, and no loan.
 pub record Leaves (observer : ℕ → Bool) (facts after_it : List Fact) : Type 0 where
   pub moved : (m : Name) → Has facts (Moved m) → Has after_it (Moved m)

@@ -1,6 +1,6 @@
 -- How ways go on, and the names of owners that names through views stand for.
 use Rattle.std.proofs.Common.{◌≡◌, refl, sym, ap, ◌∙◌, subst, ◌⊎◌, inl, inr, ℕ, ◌==◌, eqb-true, eq-eqb, Bool, true, false, List, [], ◌∷◌, length, suc, ◌+◌, arith, Option, Some, None, is_some}
-use Rattle.std.proofs.lemmas.Bool.{true≢false}
+use Rattle.std.proofs.lemmas.Bool.{true≢false, false≢true}
 use Rattle.place_names.specs.Names.{overlaps}
 use Rattle.soundness.specs.OwnedWays.Ways.{Step, Root, OfVariable, OfHand, OfRoot, Way, Object, Lost, Into, All, Under, Named, along, base_of, number_of, name_of}
 use Rattle.soundness.proofs.OwnedWays.Locations.{depth, under_depth, under_itself}
@@ -207,10 +207,10 @@ at_root v (OfHand h) (Some w) e = cc
 pub part_found : (v : Views) (w : Way) (p : List Step) (o : Way) → part_from v w p ≡ Some o
     → (f : ℕ) × (x : ℕ) × (w ≡ along (Object (OfVariable f x)) (inner_steps w)) × (v.part_way x p ≡ Some o)
 part_found v (Object (OfVariable f x)) p o e = (f, x, refl, e)
-part_found v (Object (OfHand h)) p o e = cc
-part_found v (Lost n) p o e = cc
+part_found v (Object (OfHand h)) p o e = absurd (false≢true (ap is_some e))
+part_found v (Lost n) p o e = absurd (false≢true (ap is_some e))
 part_found v (Into w i) p o e = (let rest = part_found v w p o e in (rest.0, rest.1, ap (λ z. Into z i) rest.2, rest.3))
-part_found v (All w) p o e = cc
+part_found v (All w) p o e = absurd (false≢true (ap is_some e))
 
 -- each name stands for itself, or is rooted in a view with a value, or goes through a part
 abbrev pub Lifts : Views → Way → Type 0

@@ -22,7 +22,7 @@ use Rattle.soundness.proofs.OwnedWays.Moving.{Given, owned_after, covered_after,
 
 pub test_fails : (A : Type 0) (x : A) (b : Bool) → b ≡ true → (if b then Some x else None) ≡ None → ⊥
 test_fails A x true e f = cc
-test_fails A x false e f = cc
+test_fails A x false e f = absurd (false≢true e)
 
 pub either_left : (a b : Bool) → a ≡ true → a || b ≡ true
 either_left true b e = refl

@@ -26,7 +26,7 @@ use Rattle.soundness.specs.PartOffsets.Parts.{IsSettled, has_part, type_in, offs
 use Rattle.soundness.proofs.PartOffsets.Ranges.{all_within}
 use Rattle.soundness.specs.Seen.{IsNear, content, trunk, seen, home, in_hand, is_view_formal}
 use Rattle.soundness.specs.Typed.{OwnsByShape, Kept, Spot, Points}
-use Rattle.typed_laws.specs.Needed.{Leads, IndexLaw}
+use Rattle.soundness.specs.TypedLaws.Needed.{Leads, IndexLaw}
 use Rattle.soundness.proofs.Walks.{way_along, Walked}
 use Rattle.soundness.proofs.Scalars.{acts, number_along, named_along}
 use Rattle.soundness.proofs.Moments.{number_part}

@@ -4,6 +4,7 @@ use Rattle.std.proofs.Common.{◌≡◌, refl, sym, ap, ◌∙◌, subst, inl, i
 use Rattle.std.proofs.lemmas.List.{length-map}
 use Rattle.spark_base.specs.declared.position.Pos.{Pos}
 use Rattle.std.specs.Prelude.{nat_le}
+use Rattle.std.proofs.lemmas.Bool.{false≢true}
 use Rattle.place_names.specs.declared.act.Act.{Act}
 use Rattle.place_names.specs.declared.act.Act.TheVariants as act
 use Rattle.place_names.specs.declared.fact.Fact.{Fact}
@@ -30,7 +31,7 @@ use Rattle.soundness.specs.PartOffsets.Parts.{type_in, offset_in, has_part, owns
 use Rattle.soundness.specs.Seen.{IsNear, in_hand, owner_word, content, trunk, word_in, seen, home}
 use Rattle.soundness.specs.Changes.{Alike as AlikeTypes}
 use Rattle.soundness.specs.Typed.{Matches, OwnsByShape, Kept, Spot}
-use Rattle.typed_laws.specs.Needed.{Stays, Gives, GivesParts, GivesFirst, IndexLaw}
+use Rattle.soundness.specs.TypedLaws.Needed.{Stays, Gives, GivesParts, GivesFirst, IndexLaw}
 use Rattle.soundness.proofs.Near.{near_under}
 use Rattle.soundness.proofs.Contents.{bool_cases, word_yes, word_no}
 use Rattle.soundness.proofs.Steps.{no_leaf, plain_shape, matches_words, room, taken_slots, alike}
@@ -73,10 +74,10 @@ matches_named table t u (inr both) named d c n is = absurd (scalar_access (shape
 pub part_named : (table : Table) → PartsAreNamed table → (t i : ℕ) (sh : Shape) → shape_of table t ≡ sh → is_record sh || is_array sh ≡ true → IsNamed table (part_type sh i)
 part_named table named t i (shape.Fields cs) e made = subst (IsNamed table) (ap (λ z. (get_or (components_of z) i machine.no_component).of) e) (named.component t i)
 part_named table named t i (shape.Elements low high el) e made = subst (IsNamed table) (ap machine.element_of e) (named.element t)
-part_named table named t i (shape.Whole a b) e made = cc
-part_named table named t i (shape.Listed l a b) e made = cc
-part_named table named t i (shape.Access d c n) e made = cc
-part_named table named t i (shape.Same of) e made = cc
+part_named table named t i (shape.Whole a b) e made = absurd (false≢true made)
+part_named table named t i (shape.Listed l a b) e made = absurd (false≢true made)
+part_named table named t i (shape.Access d c n) e made = absurd (false≢true made)
+part_named table named t i (shape.Same of) e made = absurd (false≢true made)
 
 -- Where an expression takes nothing, or all results are of scalar types.
 pub gives_plainly : (s : Typing) (e : TypedTree) → TakesPlainly s (has_call e) → GivesPlainly s e

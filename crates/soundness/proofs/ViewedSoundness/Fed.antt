@@ -21,7 +21,7 @@ use Rattle.soundness.specs.OwnedWays.Ways.{Way, after, AllowsAll}
 use Rattle.soundness.specs.PartOffsets.Parts.{IsSettled}
 use Rattle.soundness.specs.Seen.{IsNear, home}
 use Rattle.soundness.specs.Typed.{Matches, OwnsByShape}
-use Rattle.typed_laws.specs.Needed.{Gives, GivesParts, GivesFirst, IndexLaw}
+use Rattle.soundness.specs.TypedLaws.Needed.{Gives, GivesParts, GivesFirst, IndexLaw}
 use Rattle.soundness.proofs.Evaluated.{regrouped, Keeps}
 use Rattle.soundness.proofs.Filling.{nth_part, words_to, words_none, words_next, part_there, part_is, part_offset, words_whole}
 use Rattle.soundness.proofs.Scalars.{after_append, allows_both, acts, acts_append}

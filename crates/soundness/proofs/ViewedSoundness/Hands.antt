@@ -16,7 +16,7 @@ use Rattle.soundness.specs.PartOffsets.Parts.{IsSettled}
 use Rattle.soundness.specs.Seen.{IsNear, in_hand, content, trunk, steps_in, word_in, seen, home}
 use Rattle.soundness.specs.Changes.{hand}
 use Rattle.soundness.specs.Typed.{OwnsByShape, Kept, Points}
-use Rattle.typed_laws.specs.Needed.{IndexLaw}
+use Rattle.soundness.specs.TypedLaws.Needed.{IndexLaw}
 use Rattle.soundness.proofs.Around.{same_or_not}
 use Rattle.soundness.proofs.Contents.{word_no}
 use Rattle.soundness.proofs.Defaults.{blank_word}

@@ -31,7 +31,7 @@ use Rattle.soundness.specs.PartOffsets.Parts.{IsSettled}
 use Rattle.soundness.specs.Seen.{IsNear, content, trunk, seen, home, is_view_formal}
 use Rattle.soundness.specs.Changes.{leaks_at}
 use Rattle.soundness.specs.Typed.{Matches, IsCell, OwnsByShape, Kept}
-use Rattle.typed_laws.specs.Needed.{Leads as LeadsTo}
+use Rattle.soundness.specs.TypedLaws.Needed.{Leads as LeadsTo}
 use Rattle.soundness.proofs.Contents.{all_checks}
 use Rattle.soundness.proofs.OwnedLoans.Clear.{clear_same}
 use Rattle.spark_base.specs.Lists.{Has}
@@ -77,15 +77,15 @@ same_some a b e = cc
 
 way_of : (z : machine.Word) (w k : Way) → way_from z w ≡ Some k → k ≡ w
 way_of (machine.Cell n) w k e = sym (same_some w k e)
-way_of (machine.Int n) w k e = cc
-way_of (machine.Enumerated n) w k e = cc
-way_of machine.Null w k e = cc
+way_of (machine.Int n) w k e = absurd (false≢true (ap is_some e))
+way_of (machine.Enumerated n) w k e = absurd (false≢true (ap is_some e))
+way_of machine.Null w k e = absurd (false≢true (ap is_some e))
 
 in_word : (z : machine.Word) (w k : Way) → way_from z w ≡ Some k → (n : ℕ) × (z ≡ machine.Cell n)
 in_word (machine.Cell n) w k e = (n, refl)
-in_word (machine.Int n) w k e = cc
-in_word (machine.Enumerated n) w k e = cc
-in_word machine.Null w k e = cc
+in_word (machine.Int n) w k e = absurd (false≢true (ap is_some e))
+in_word (machine.Enumerated n) w k e = absurd (false≢true (ap is_some e))
+in_word machine.Null w k e = absurd (false≢true (ap is_some e))
 
 same_designated : (k d : ℕ) (e o c n : Bool) → shape.Access k e o ≡ shape.Access d c n → k ≡ d
 same_designated k d e o c n is = cc
@@ -252,9 +252,9 @@ module _ (t : Turn) (sees : ℕ → Bool) (seeing : Seeing (typing t) sees) (set
     where
       no_way : (z : machine.Word) (k : Way) → way_from z w ≡ Some k → ((k : ℕ) → z ≡ machine.Cell k → ⊥) → ⊥
       no_way (machine.Cell n) k e null = null n refl
-      no_way (machine.Int n) k e null = cc
-      no_way (machine.Enumerated n) k e null = cc
-      no_way machine.Null k e null = cc
+      no_way (machine.Int n) k e null = false≢true (ap is_some e)
+      no_way (machine.Enumerated n) k e null = false≢true (ap is_some e)
+      no_way machine.Null k e null = false≢true (ap is_some e)
 
       by_object : (q : ℕ) (k : Way) → views.way q ≡ Some k → (b : Bool) → (q == x) ≡ b → Same_here views q ⊎ ((y : ℕ) × may q y × Comes_here views facts q y k)
       by_object q k e true b = absurd (no_way z k (sym becomes.way_is ∙ ap views.way (sym (eqb-true q x b)) ∙ e) null)

@@ -137,14 +137,6 @@ sels_part w (i ∷ p) = ap (λ z. z ++ (sel_of i ∷ [])) (sels_part w p) ∙ jo
 name_part : (w : Way) (p : List Step) → name_of (along w p) ≡ extend (name_of w) (sels_along p)
 name_part w p = (λ j. record { root = number_part w p j; sels = sels_part w p j })
 
--- no way of a hand is one of a frame
-no_hand_named : (home : ℕ → ℕ) (w : Way) (h : ℕ) → Named home w → base_of w ≡ hand h → ⊥
-no_hand_named home (Object (OfVariable f x)) h n e = cc
-no_hand_named home (Object (OfHand k)) h n e = n
-no_hand_named home (Lost c) h n e = n
-no_hand_named home (Into w i) h n e = no_hand_named home w h n e
-no_hand_named home (All w) h n e = no_hand_named home w h n e
-
 abbrev whole_slots : Typing → Memory → Place → List Slot → List Slot
 whole_slots s m k slots = take k.at (slots_at s m k.base) ++ slots ++ drop (k.at + length slots) (slots_at s m k.base)
 

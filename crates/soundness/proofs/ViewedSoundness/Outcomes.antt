@@ -30,7 +30,7 @@ use Rattle.soundness.specs.Changes.{leaks_at, Checks}
 use Rattle.soundness.specs.Typed.{OwnsByShape, Kept}
 use Rattle.soundness.specs.Sound.{IsTrap}
 use Rattle.soundness.specs.Sound as sound
-use Rattle.typed_laws.specs.Needed.{Stays, Leads, Gives}
+use Rattle.soundness.specs.TypedLaws.Needed.{Stays, Leads, Gives}
 use Rattle.soundness.proofs.Contents.{bool_cases, all_checks, checks_made}
 use Rattle.soundness.proofs.Steps.{alike}
 use Rattle.soundness.proofs.OwnedLoans.Clear.{refused}

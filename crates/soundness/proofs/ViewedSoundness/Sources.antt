@@ -22,7 +22,7 @@ use Rattle.soundness.proofs.OwnedWays.Locations.{under_itself}
 use Rattle.soundness.specs.PartOffsets.Parts.{IsSettled}
 use Rattle.soundness.specs.Seen.{IsNear, content, trunk, seen, home, is_view_formal}
 use Rattle.soundness.specs.Typed.{OwnsByShape, IsCell, Kept}
-use Rattle.typed_laws.specs.Needed.{Leads, IndexLaw}
+use Rattle.soundness.specs.TypedLaws.Needed.{Leads, IndexLaw}
 use Rattle.soundness.proofs.Walks.{way_along, Walked}
 use Rattle.soundness.proofs.Scalars.{acts, number_along, named_along}
 use Rattle.soundness.proofs.Stays.{Quiet, quiet_then}

@@ -28,7 +28,7 @@ use Rattle.soundness.specs.OwnedWays.Ways as ways
 use Rattle.soundness.specs.PartOffsets.Parts.{IsSettled}
 use Rattle.soundness.specs.Seen.{IsNear, content, trunk, seen, home}
 use Rattle.soundness.specs.Typed.{OwnsByShape, Kept, Spot}
-use Rattle.typed_laws.specs.Needed.{Stays, Leads, IndexLaw}
+use Rattle.soundness.specs.TypedLaws.Needed.{Stays, Leads, IndexLaw}
 use Rattle.soundness.proofs.Walks.{way_along, Walked}
 use Rattle.soundness.proofs.Stays.{Quiet, quiet_then, quiet_from, Any, One, scalar_owns}
 use Rattle.soundness.proofs.Contents.{bool_cases}

@@ -25,7 +25,7 @@ use Rattle.soundness.specs.PartOffsets.Parts.{type_in, offset_in, has_part, IsSe
 use Rattle.soundness.specs.Seen.{IsNear, content, trunk, steps_in, seen, home, is_view_formal}
 use Rattle.soundness.specs.Changes.{leaks_at}
 use Rattle.soundness.specs.Typed.{Matches, OwnsByShape, Kept, Spot, loc_of}
-use Rattle.typed_laws.specs.Needed.{Leads, Gives, IndexLaw}
+use Rattle.soundness.specs.TypedLaws.Needed.{Leads, Gives, IndexLaw}
 use Rattle.soundness.proofs.Near.{near_under}
 use Rattle.soundness.proofs.Walks.{way_along, Walked}
 use Rattle.soundness.proofs.Scalars.{after_append, allows_both, acts, acts_append, number_along, named_along}

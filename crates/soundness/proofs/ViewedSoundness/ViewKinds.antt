@@ -51,16 +51,16 @@ view_access (shape.Elements a b el) e = absurd (false≢true e)
 view_access (shape.Same of) e = absurd (false≢true e)
 
 clash : (c n : Bool) → (not n && not c) || (not n && c) ≡ true → n ≡ true → ⊥
-clash c true e is = cc
-clash c false e is = cc
+clash c true e is = absurd (false≢true e)
+clash c false e is = absurd (false≢true is)
 
 view_unnamed : (sh : Shape) → is_anonymous (view_of_shape sh) ≡ true → ((d : ℕ) (c n : Bool) → sh ≡ shape.Access d c n → n ≡ true) → ⊥
 view_unnamed (shape.Access d c n) e named = let is = named d c n refl in clash c n e is
-view_unnamed (shape.Whole a b) e named = cc
-view_unnamed (shape.Listed l a b) e named = cc
-view_unnamed (shape.Fields cs) e named = cc
-view_unnamed (shape.Elements a b el) e named = cc
-view_unnamed (shape.Same of) e named = cc
+view_unnamed (shape.Whole a b) e named = false≢true e
+view_unnamed (shape.Listed l a b) e named = false≢true e
+view_unnamed (shape.Fields cs) e named = false≢true e
+view_unnamed (shape.Elements a b el) e named = false≢true e
+view_unnamed (shape.Same of) e named = false≢true e
 
 -- the type of a view is anonymous
 pub not_view : (table : Table) (t : ℕ) → is_anonymous (full table t) ≡ true → IsNamed table t → ⊥
@@ -80,12 +80,6 @@ plain_observer s x plain = no_and (is_variable (object_at s x).kind) (is_observi
 and_true : (a b : Bool) → a && b ≡ true → (a ≡ true) × (b ≡ true)
 and_true true b e = (refl, e)
 and_true false b e = absurd (false≢true e)
-
--- what isn't a view isn't given
-plain_given : (s : Typing) (x : ℕ) → is_view s x ≡ false → is_given s x ≡ false
-plain_given s x plain =
-    let none = neither (is_anonymous (view_of s x)) (is_view_formal s x) plain in
-    both_no (is_view_formal s x) (is_in_formal s x && is_anonymous (view_of s x)) none.1 (no_and (is_in_formal s x) (is_anonymous (view_of s x)) none.0)
 
 pub given_view : (s : Typing) (x : ℕ) → is_given s x ≡ true → is_view s x ≡ true
 given_view s x given = by (is_view_formal s x) (is_in_formal s x) (is_anonymous (view_of s x)) given
@@ -227,15 +221,15 @@ only_seeing s = record {
         absurd (true_false (sees_only s x) any (both_no (is_observer s x) (is_given s x && not (is_exclusive s x)) is (ap (λ b. b && not (is_exclusive s x)) given)))
 
     lent : (a b c : Bool) → b ≡ true → a || (b && not c) ≡ false → c ≡ true
-    lent true b c is e = cc
+    lent true b c is e = absurd (true≢false e)
     lent false true true is e = refl
-    lent false true false is e = cc
-    lent false false c is e = cc
+    lent false true false is e = sym e
+    lent false false c is e = absurd (false≢true is)
 
     changed : (a b c : Bool) → a ≡ false → c ≡ true → a || (b && not c) ≡ false
-    changed true b c none is = cc
+    changed true b c none is = none
     changed false true true none is = refl
-    changed false true false none is = cc
+    changed false true false none is = sym is
     changed false false c none is = refl
 
     given_formal : (f i o a : Bool) → ((f && i) && o) || ((f && i) && a) ≡ true → f ≡ true

@@ -2,6 +2,7 @@
 -- view.
 use Rattle.std.proofs.Common.{◌≡◌, refl, sym, ap, ◌∙◌, subst, inl, inr, ℕ, ◌<◌, ◌==◌, eqb-true, eq-eqb, Bool, true, false, ◌&&◌, ◌||◌, ◌⊎◌, List, [], ◌∷◌, length, get_or, Option, Some, None}
 use Rattle.std.proofs.lemmas.Bool.{false≢true}
+use Rattle.std.specs.Prelude.{is_some}
 use Rattle.place_names.specs.declared.act.Act.TheVariants.{Borrow, Observe, Reborrow}
 use Rattle.spark_base.specs.Lists.{Has}
 use Rattle.place_names.specs.Names.{Name as PlaceName}
@@ -68,9 +69,9 @@ pub reached_by : (v : Views) (s : View) (k : Way) (z : machine.Word) → IsReach
     → (w : Way) → way_from z (expand v k) ≡ Some w → (w ≡ expand v k) × Reaches s w (OfCell (number_in z))
 reached_by v s k (machine.Cell n) is w e =
     let same = same_some (expand v k) w e in (sym same, subst (λ q. Reaches s q (OfCell n)) same (is n refl))
-reached_by v s k (machine.Int n) is w e = cc
-reached_by v s k (machine.Enumerated n) is w e = cc
-reached_by v s k machine.Null is w e = cc
+reached_by v s k (machine.Int n) is w e = absurd (false≢true (ap is_some e))
+reached_by v s k (machine.Enumerated n) is w e = absurd (false≢true (ap is_some e))
+reached_by v s k machine.Null is w e = absurd (false≢true (ap is_some e))
 
 -- ---- names that have the number of a cell
 
@@ -295,15 +296,15 @@ module _ (s : Typing) (sees : ℕ → Bool) (settled : IsSettled s.table) where
 
 word_way : (z : machine.Word) (w q : Way) → way_from z w ≡ Some q → ((n : ℕ) × (z ≡ machine.Cell n)) × (w ≡ q)
 word_way (machine.Cell n) w q e = ((n, refl), cc)
-word_way (machine.Int k) w q e = cc
-word_way (machine.Enumerated k) w q e = cc
-word_way machine.Null w q e = cc
+word_way (machine.Int k) w q e = absurd (false≢true (ap is_some e))
+word_way (machine.Enumerated k) w q e = absurd (false≢true (ap is_some e))
+word_way machine.Null w q e = absurd (false≢true (ap is_some e))
 
 of_word : (z : machine.Word) (w q : Way) → way_from z w ≡ Some q → w ≡ q
 of_word (machine.Cell n) w q e = cc
-of_word (machine.Int k) w q e = cc
-of_word (machine.Enumerated k) w q e = cc
-of_word machine.Null w q e = cc
+of_word (machine.Int k) w q e = absurd (false≢true (ap is_some e))
+of_word (machine.Enumerated k) w q e = absurd (false≢true (ap is_some e))
+of_word machine.Null w q e = absurd (false≢true (ap is_some e))
 
 module _ (s : Typing) (sees : ℕ → Bool) (settled : IsSettled s.table) (frame : ℕ) (other : Around (home s frame)) (v t : Views) (m : Memory) (hands : List Waiting) (leaks : List Leak)
     (facts : List Fact) (viewed : Viewed (home s frame) sees other v (seen s m hands leaks) facts) (kept : Kept s m hands)
@@ -400,6 +401,6 @@ module _ (s : Typing) (sees : ℕ → Bool) (settled : IsSettled s.table) (frame
     where
       no_way : (z : machine.Word) (y : Way) → way_from z w ≡ Some y → ((k : ℕ) → z ≡ machine.Cell k → ⊥) → ⊥
       no_way (machine.Cell k) y e null = null k refl
-      no_way (machine.Int k) y e null = cc
-      no_way (machine.Enumerated k) y e null = cc
-      no_way machine.Null y e null = cc
+      no_way (machine.Int k) y e null = false≢true (ap is_some e)
+      no_way (machine.Enumerated k) y e null = false≢true (ap is_some e)
+      no_way machine.Null y e null = false≢true (ap is_some e)

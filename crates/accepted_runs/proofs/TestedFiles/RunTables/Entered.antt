@@ -12,14 +12,14 @@ use Rattle.typed_tree.specs.Expressions.{Site}
 use Rattle.typed_tree.specs.Programs.{TypedSub, TypedProgram, DeclaredObject, program_objects, text_io, site_of, subs_in, elaboration, over_units, typed_program}
 use Rattle.flow_paths.specs.Objects.{Typing, is_package_object, is_state}
 use Rattle.flow_paths.specs.Laid.{typing_of, declared_within}
-use Rattle.order_laws.specs.ScopeLaws.Code.{Once}
-use Rattle.order_laws.specs.ScopeLaws.Code as code
-use Rattle.order_laws.proofs.ScopeLaws.Lists.{all_has}
-use Rattle.order_laws.specs.ReadyLaws.InOrder.{IsSub}
-use Rattle.order_laws.specs.Written.{is_unit}
-use Rattle.order_laws.proofs.Mains.{main_unit, main_at}
-use Rattle.order_laws.proofs.Parts.{number_of, part_numbers_once, part_numbers_within, part_object}
-use Rattle.order_laws.proofs.Units.{IsLocal, IsBodyOf, units_of, body_objects}
+use Rattle.settled_types.specs.OrderLaws.ScopeLaws.Code.{Once}
+use Rattle.settled_types.specs.OrderLaws.ScopeLaws.Code as code
+use Rattle.settled_types.proofs.OrderLaws.ScopeLaws.Lists.{all_has}
+use Rattle.settled_types.specs.OrderLaws.ReadyLaws.InOrder.{IsSub}
+use Rattle.settled_types.specs.OrderLaws.Written.{is_unit}
+use Rattle.settled_types.proofs.OrderLaws.Mains.{main_unit, main_at}
+use Rattle.settled_types.proofs.OrderLaws.Parts.{number_of, part_numbers_once, part_numbers_within, part_object}
+use Rattle.settled_types.proofs.OrderLaws.Units.{IsLocal, IsBodyOf, units_of, body_objects}
 use Rattle.accepted_runs.specs.TestedFiles.RunTables.Entered.{CanEnter}
 
 first_once : (xs ys : List ℕ) → Once (xs ++ ys) → Once xs

@@ -14,8 +14,8 @@ use Rattle.flow_paths.specs.Layout.{ending, ends, laid}
 use Rattle.flow_paths.specs.Prep.{Setting}
 use Rattle.flow_paths.specs.Laid.{Temporary, temporary_object, FlowSub, FlowProgram, NamedSub, typing_of, flow_typing, around_body, scope_at_end, function_end, procedure_end, body_points, sub_points, sub_temporaries, named_sub, named_subs, all_named, flow_sub, flow_named, flow_program, number_in, kept_roots, sub_facts, frame_of, numbers_from}
 use Rattle.machine.specs.States.{no_sub, sub_of}
-use Rattle.order_laws.specs.ScopeLaws.Code.{Once}
-use Rattle.order_laws.specs.ReadyLaws.InOrder.{IsSub}
+use Rattle.settled_types.specs.OrderLaws.ScopeLaws.Code.{Once}
+use Rattle.settled_types.specs.OrderLaws.ReadyLaws.InOrder.{IsSub}
 use Rattle.run_points.specs.Frames.{AreDifferent, IsCallable, HasFrames}
 use Rattle.accepted_runs.specs.TestedFiles.RunTables.Calls.{CallsStand}
 use Rattle.accepted_runs.specs.TestedFiles.RunTables.Entered.{CanEnter}

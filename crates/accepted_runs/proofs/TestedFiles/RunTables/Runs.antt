@@ -30,8 +30,8 @@ use Rattle.sound_files.proofs.MeantFiles.Told.{files_followed}
 use Rattle.sound_files.proofs.MeantFiles.Bodies.{files_have_bodies}
 use Rattle.sound_files.specs.CalledSubs.Called.{HaveBodies}
 use Rattle.sound_files.proofs.CalledSubs.Main.{calls_within}
-use Rattle.order_laws.specs.Orderly.{typed_of}
-use Rattle.order_laws.proofs.Faults.{units_faultless}
+use Rattle.settled_types.specs.OrderLaws.Orderly.{typed_of}
+use Rattle.settled_types.proofs.OrderLaws.Faults.{units_faultless}
 use Rattle.sound_files.proofs.Once.{files_once}
 use Rattle.sound_files.proofs.Written.{files_written}
 use Rattle.run_codes.specs.Related.{IsTable}

@@ -33,7 +33,7 @@ use Rattle.machine.specs.Owners.{is_in}
 use Rattle.soundness.specs.Typed.{OwnsByShape}
 use Rattle.soundness.specs.Sound.{IsNoCall}
 use Rattle.soundness.proofs.Passing.{IsRead, AreReads}
-use Rattle.typed_laws.specs.Needed.{Matches, Stays, Leads, Gives, GivesParts, GivesFirst, Writes, FirstWrites, Source, FirstSource, IsPlace, FirstStays, Returns, IsFine}
+use Rattle.soundness.specs.TypedLaws.Needed.{Matches, Stays, Leads, Gives, GivesParts, GivesFirst, Writes, FirstWrites, Source, FirstSource, IsPlace, FirstStays, Returns, IsFine}
 use Rattle.soundness.specs.ViewedSoundness.Holds.{IsNamed, PartsAreNamed}
 use Rattle.soundness.proofs.ViewedSoundness.Evaluated.{matches_named}
 use Rattle.viewed_steps.specs.Sound.{IsCopiedBack, IsKindOfFormal, IsStoredAt}
@@ -41,8 +41,8 @@ use Rattle.accepted_runs.specs.ViewedFiles.ViewLaws.Program.{IsPassedTo, ArePass
 use Rattle.viewed_steps.proofs.Read.{scalar_named}
 use Rattle.viewed_steps.proofs.Called.{way_to}
 use Rattle.viewed_steps.proofs.Views.{given_formal}
-use Rattle.order_laws.specs.ScopeLaws.Code.{roots}
-use Rattle.order_laws.specs.ScopeLaws.Order.{named_in}
+use Rattle.settled_types.specs.OrderLaws.ScopeLaws.Code.{roots}
+use Rattle.settled_types.specs.OrderLaws.ScopeLaws.Order.{named_in}
 use Rattle.accepted_runs.specs.ViewedFiles.ViewLaws.InOrder.{is_call, IsTraversed, NamesSource}
 
 -- ---- types

@@ -1,5 +1,6 @@
 -- A borrower that only sees goes back to a formal of its function.
 use Rattle.std.proofs.Common.{◌≡◌, refl, sym, ap, ◌∙◌, subst, inl, inr, ℕ, zero, suc, true, false, map, None}
+use Rattle.std.proofs.lemmas.Bool.{false≢true}
 use Rattle.spark_base.specs.Lists.{Has}
 use Rattle.spark_base.proofs.Lists.{Has-map}
 use Rattle.place_names.specs.declared.act.Act.TheVariants as act
@@ -16,7 +17,7 @@ use Rattle.flow_paths.specs.Views.{Roots, borrows, is_function, lends, sub_acts}
 use Rattle.machine.specs.Owners.{is_in}
 use Rattle.soundness.proofs.Points.{flow_at}
 use Rattle.soundness.proofs.Typings.{package_same}
-use Rattle.order_laws.specs.ScopeLaws.Code.{objects_of}
+use Rattle.settled_types.specs.OrderLaws.ScopeLaws.Code.{objects_of}
 use Rattle.soundness.specs.ViewedSoundness.Holds.{is_given, is_exclusive, sees_only}
 use Rattle.viewed_steps.specs.Seeing.{sees_within, program_acts, sees_in}
 use Rattle.viewed_steps.proofs.Sees.{from_within, zero_within, kind_within, within_seen}
@@ -34,7 +35,7 @@ use Rattle.accepted_runs.proofs.ViewedFiles.ViewLaws.Sees.{borrower_anonymous, b
 
 no_variable : (k : ObjectKind) → is_formal_kind k ≡ true → is_variable k ≡ false
 no_variable object_kind.Formal is = refl
-no_variable k is = cc
+no_variable k is = absurd (false≢true is)
 
 module _ (table : Table) (typed : TypedProgram) (effects : Effects) (given : IsViewProgram table typed effects) where
   abbrev program : FlowProgram

@@ -18,10 +18,10 @@ use Rattle.machine.specs.States.{sub_of}
 use Rattle.soundness.specs.Typed.{OwnsByShape}
 use Rattle.soundness.proofs.Successors.{call_or}
 use Rattle.soundness.proofs.Passing.{AreReads}
-use Rattle.typed_laws.specs.Needed.{Leads, IsFine}
+use Rattle.soundness.specs.TypedLaws.Needed.{Leads, IsFine}
 use Rattle.soundness.specs.ViewedSoundness.Holds.{PartsAreNamed}
-use Rattle.order_laws.specs.ScopeLaws.Code.{roots}
-use Rattle.order_laws.specs.ScopeLaws.Order.{named_in}
+use Rattle.settled_types.specs.OrderLaws.ScopeLaws.Code.{roots}
+use Rattle.settled_types.specs.OrderLaws.ScopeLaws.Order.{named_in}
 use Rattle.viewed_steps.specs.Sound.{IsKindOfFormal, IsStoredAt}
 use Rattle.viewed_steps.specs.Traversals.{TraversalCall}
 use Rattle.viewed_steps.proofs.Called.{way_to, owning_of, head_of, head_values_are, head_of_reads, values_are_read, passes_to}

@@ -24,9 +24,9 @@ use Rattle.flow_paths.specs.Views.{changes, lends, ConstantView, holds_loans, of
 use Rattle.machine.specs.Owners.{is_in, is_in_formal}
 use Rattle.soundness.specs.Seen.{is_view_formal}
 use Rattle.soundness.proofs.Points.{flow_at}
-use Rattle.typed_laws.specs.Needed.{IsFine}
+use Rattle.soundness.specs.TypedLaws.Needed.{IsFine}
 use Rattle.soundness.specs.ViewedSoundness.Holds.{is_given, is_of_procedure, is_exclusive}
-use Rattle.order_laws.specs.ScopeLaws.Order.{named_in}
+use Rattle.settled_types.specs.OrderLaws.ScopeLaws.Order.{named_in}
 use Rattle.accepted_runs.specs.ViewedFiles.ViewLaws.Program.{IsViewProgram}
 use Rattle.accepted_runs.proofs.ViewedFiles.ViewLaws.Calls.{point_good}
 use Rattle.accepted_runs.proofs.ViewedFiles.ViewLaws.Reports.{unchanged}

@@ -28,7 +28,7 @@ use Rattle.flow_paths.specs.Scopes.{Leads, Silent, taken, is_last, is_within, is
 use Rattle.machine.specs.Run.{no_point}
 use Rattle.soundness.specs.OwnedWays.Ways.{after}
 use Rattle.soundness.specs.Typed.{OwnsByShape}
-use Rattle.typed_laws.specs.Needed.{IsFine, AreFine}
+use Rattle.soundness.specs.TypedLaws.Needed.{IsFine, AreFine}
 use Rattle.soundness.specs.Sound.{IsAtPoint, is_temporary_object, temporaries_in}
 use Rattle.soundness.proofs.Scalars.{acts}
 use Rattle.soundness.proofs.Paths.{facts_next}
@@ -38,7 +38,7 @@ use Rattle.soundness.proofs.Waited.{within_left}
 use Rattle.soundness.proofs.Passing.{signature_there}
 use Rattle.soundness.proofs.Used.{called_add_none}
 use Rattle.soundness.proofs.Waits.{drop_none}
-use Rattle.order_laws.specs.ScopeLaws.Order.{IsOrdered, named_in}
+use Rattle.settled_types.specs.OrderLaws.ScopeLaws.Order.{IsOrdered, named_in}
 use Rattle.soundness.specs.ViewedSoundness.Holds.{PartsAreNamed}
 use Rattle.viewed_steps.specs.Awaited.{is_held}
 use Rattle.viewed_steps.specs.Sound.{IsStoredAt}

@@ -1,5 +1,6 @@
 -- What is changed or lent may be: it isn't named through what only sees.
 use Rattle.std.proofs.Common.{◌≡◌, refl, sym, ap, ◌∙◌, subst, inl, inr, ℕ, Bool, true, false, not, ◌&&◌, ◌||◌, ◌<◌, arith, List, [], ◌∷◌, map, length, Option, Some, is_some}
+use Rattle.std.proofs.lemmas.Bool.{false≢true}
 use Rattle.spark_base.specs.declared.position.Pos.{Pos}
 use Rattle.spark_base.specs.Lists.{Has}
 use Rattle.spark_base.proofs.Lists.{Has-append_left, Has-append_right, Has-map, Has-map_from}
@@ -34,12 +35,12 @@ use Rattle.viewed_steps.proofs.Called.{way_to, passes_to}
 use Rattle.soundness.specs.Seen.{is_view_formal}
 use Rattle.soundness.proofs.Points.{flow_at}
 use Rattle.soundness.proofs.Typings.{package_same}
-use Rattle.typed_laws.specs.Needed.{Leads, IsPlace}
+use Rattle.soundness.specs.TypedLaws.Needed.{Leads, IsPlace}
 use Rattle.soundness.specs.Sound.{goes_through_none}
 use Rattle.soundness.specs.ViewedSoundness.Holds.{is_given, is_exclusive, sees_only, is_fixed, KeepsObserved, AllKeep}
 use Rattle.viewed_steps.specs.Seeing.{sees_in}
 use Rattle.viewed_steps.proofs.Sees.{kind_seen}
-use Rattle.order_laws.specs.ScopeLaws.Order.{named_in}
+use Rattle.settled_types.specs.OrderLaws.ScopeLaws.Order.{named_in}
 use Rattle.accepted_runs.specs.ViewedFiles.ViewLaws.Program.{IsPassedTo, ArePassedTo, IsViewProgram}
 use Rattle.accepted_runs.proofs.ViewedFiles.ViewLaws.Calls.{IsPlainCall, IsThroughCall}
 use Rattle.viewed_steps.proofs.Followed.{is_traversing}
@@ -94,7 +95,7 @@ all_keep fixed (a ∷ acts) h g =
 
 unnamed_access : (v : Shape) → is_named_access (types.view_of v) ≡ true → (d : ℕ) × (k : Bool) × (n : Bool) × (v ≡ shape.Access d k n)
 unnamed_access (shape.Access d k n) is = (d, k, n, refl)
-unnamed_access v is = cc
+unnamed_access v is = absurd (false≢true is)
 
 module _ (table : Table) (typed : TypedProgram) (effects : Effects) (given : IsViewProgram table typed effects) where
   abbrev program : FlowProgram

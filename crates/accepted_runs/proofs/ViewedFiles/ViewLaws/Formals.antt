@@ -18,7 +18,7 @@ use Rattle.flow_paths.specs.Scopes.{Leads, is_settled, is_within}
 use Rattle.flow_paths.proofs.ScopesFlow.{leads_same, Starts}
 use Rattle.flow_paths.proofs.StatementScopes.{laid_starts, after}
 use Rattle.soundness.specs.Ready.{root_of}
-use Rattle.order_laws.specs.ScopeLaws.Code.{Once, roots}
+use Rattle.settled_types.specs.OrderLaws.ScopeLaws.Code.{Once, roots}
 use Rattle.viewed_steps.specs.Ready.{roots_passed, AreDifferent}
 
 left_empty : (ps qs : List NamedPoint) → ps ++ qs ≡ [] → ps ≡ []

@@ -11,13 +11,13 @@ use Rattle.flow_paths.specs.Points.{NamedPoint}
 use Rattle.flow_paths.specs.Laid.{NamedSub, declared_within, sub_points, flow_typing, flow_program, flow_named, typing_of}
 use Rattle.flow_paths.specs.Scopes.{is_within}
 use Rattle.soundness.proofs.Typings.{formal_same}
-use Rattle.order_laws.specs.ScopeLaws.Code.{objects_of}
-use Rattle.order_laws.specs.ScopeLaws.Order.{named_in}
-use Rattle.order_laws.specs.ScopeLaws.Supplied.{IsKept}
-use Rattle.order_laws.proofs.ScopeLaws.Lists.{within_has, all_has}
-use Rattle.order_laws.proofs.ScopeLaws.Kept.{sub_kept}
-use Rattle.order_laws.proofs.ReadyLaws.Subs.{setting_from, IsOfBody}
-use Rattle.order_laws.proofs.ReadyLaws.Ready.{seen_has}
+use Rattle.settled_types.specs.OrderLaws.ScopeLaws.Code.{objects_of}
+use Rattle.settled_types.specs.OrderLaws.ScopeLaws.Order.{named_in}
+use Rattle.settled_types.specs.OrderLaws.ScopeLaws.Supplied.{IsKept}
+use Rattle.settled_types.proofs.OrderLaws.ScopeLaws.Lists.{within_has, all_has}
+use Rattle.settled_types.proofs.OrderLaws.ScopeLaws.Kept.{sub_kept}
+use Rattle.settled_types.proofs.OrderLaws.ReadyLaws.Subs.{setting_from, IsOfBody}
+use Rattle.settled_types.proofs.OrderLaws.ReadyLaws.Ready.{seen_has}
 use Rattle.accepted_runs.specs.ViewedFiles.ViewLaws.Program.{IsViewProgram}
 use Rattle.accepted_runs.proofs.ViewedFiles.ViewLaws.Scoped as scoped
 use Rattle.accepted_runs.proofs.ViewedFiles.ViewLaws.Valued as valued

@@ -3,6 +3,7 @@
 use Rattle.std.proofs.Common.{◌≡◌, refl, subst, ◌⊎◌, inl, inr, ℕ, Bool, true, false, not, ◌&&◌, ◌||◌, List, [], ◌∷◌, ◌++◌, ap, ◌∙◌}
 use Rattle.std.specs.Prelude.{reverse}
 use Rattle.std.specs.List.{AllByRecursion}
+use Rattle.std.proofs.lemmas.Bool.{false≢true}
 use Rattle.spark_base.specs.Lists.{Has}
 use Rattle.spark_base.proofs.Lists.{Has-append_left, Has-append_right, Has-append_cases}
 use Rattle.type_definitions.specs.Types.{is_owning}
@@ -17,9 +18,9 @@ use Rattle.flow_paths.specs.Prep.{Setting, with_held, prep}
 use Rattle.flow_paths.specs.Layout.{Around, with_scope, declared, laid}
 use Rattle.flow_paths.specs.Laid.{declared_within, around_body, elaboration_points}
 use Rattle.flow_paths.specs.Scopes.{is_within}
-use Rattle.order_laws.specs.ScopeLaws.Code.{roots, are_seen, is_seen}
-use Rattle.order_laws.proofs.ScopeLaws.Lists.{and_first, and_second, all_both, all_one, all_if, all_has, has_reverse, within_has}
-use Rattle.order_laws.specs.ReadyLaws.InOrder.{declares_only, own_nothing, names_no_owner}
+use Rattle.settled_types.specs.OrderLaws.ScopeLaws.Code.{roots, are_seen, is_seen}
+use Rattle.settled_types.proofs.OrderLaws.ScopeLaws.Lists.{and_first, and_second, all_both, all_one, all_if, all_has, has_reverse, within_has}
+use Rattle.settled_types.specs.OrderLaws.ReadyLaws.InOrder.{declares_only, own_nothing, names_no_owner}
 use Rattle.accepted_runs.specs.ViewedFiles.ViewLaws.InOrder.{no_views, names_no_view}
 
 -- What is declared at a point is no view, and is declared with a value that names none.
@@ -86,7 +87,7 @@ module _ (t : Typing) (s : Setting) where
       subst (λ z. not (is_anonymous (view_of t z)) && no_views t (roots u) ≡ true) object
       (subst (λ z. not (is_anonymous (view_of t x)) && no_views t (roots z) ≡ true) value none)))
   laid_plain typed.NoMore at w k only none = tt
-  laid_plain _ at w k only none = cc
+  laid_plain _ at w k only none = absurd (false≢true only)
 
   pub package_plain : (sub : TypedSub) → declares_only sub.body ≡ true → names_no_view t sub.body ≡ true → (p : NamedPoint) → Has (elaboration_points s sub) p
       → IsPlain t p
@@ -158,4 +159,4 @@ module _ (t u : Typing) (same_table : t.table ≡ u.table) (outer : ℕ → Bool
         | inr before ↦ same x before
       ]) (λ x has. own x (Has-append_right (declared_within a) (declared_within rest) x has)) (and_second (names_no_owner u a) (names_no_owner u rest) none))
   owners_same typed.NoMore scope only seen same own none = refl
-  owners_same _ scope only seen same own none = cc
+  owners_same _ scope only seen same own none = absurd (false≢true only)

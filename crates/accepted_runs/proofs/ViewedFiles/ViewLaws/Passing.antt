@@ -18,14 +18,14 @@ use Rattle.soundness.specs.Typed.{OwnsByShape}
 use Rattle.soundness.specs.Sound.{Accepted, IsNamedSub, IsRunnable}
 use Rattle.soundness.proofs.Points.{sub_there}
 use Rattle.soundness.proofs.Typings.{Agree, flow_agrees, package_same, formal_object}
-use Rattle.order_laws.specs.ScopeLaws.Code.{objects_of}
-use Rattle.order_laws.specs.ScopeLaws.Order.{named_in}
-use Rattle.order_laws.proofs.ScopeLaws.Lists.{has_reverse, within_has, once_left}
-use Rattle.order_laws.specs.ReadyLaws.InOrder.{IsSub, IsInOrder, AreAnswered, AreStill}
-use Rattle.order_laws.specs.ReadyLaws.InOrder as in_order
-use Rattle.order_laws.proofs.ReadyLaws.Subs.{setting_from, body_at, one_named}
-use Rattle.order_laws.proofs.ReadyLaws.Ready as ordered
-use Rattle.order_laws.proofs.ReadyLaws.Ready.{seen_has}
+use Rattle.settled_types.specs.OrderLaws.ScopeLaws.Code.{objects_of}
+use Rattle.settled_types.specs.OrderLaws.ScopeLaws.Order.{named_in}
+use Rattle.settled_types.proofs.OrderLaws.ScopeLaws.Lists.{has_reverse, within_has, once_left}
+use Rattle.settled_types.specs.OrderLaws.ReadyLaws.InOrder.{IsSub, IsInOrder, AreAnswered, AreStill}
+use Rattle.settled_types.specs.OrderLaws.ReadyLaws.InOrder as in_order
+use Rattle.settled_types.proofs.OrderLaws.ReadyLaws.Subs.{setting_from, body_at, one_named}
+use Rattle.settled_types.proofs.OrderLaws.ReadyLaws.Ready as ordered
+use Rattle.settled_types.proofs.OrderLaws.ReadyLaws.Ready.{seen_has}
 use Rattle.viewed_steps.specs.Ready.{is_shown_type, AreDifferent, ArePassed, AreActualsTo, IsCalled, AreCalled}
 use Rattle.viewed_steps.proofs.Placed.{within_on}
 use Rattle.accepted_runs.proofs.ViewedFiles.ViewLaws.Formals.{first_scope, has_within, has_reversed, once_different, passed_named}

@@ -5,7 +5,7 @@ use Rattle.std.specs.Prelude.{nat_lt}
 use Rattle.std.specs.Bool.{Decides}
 use Rattle.std.specs.List.{AllByRecursion, position_or_len}
 use Rattle.std.specs.Cmp.Lexicographic.{pointwise_decides}
-use Rattle.std.proofs.lemmas.Bool.{ltb-true}
+use Rattle.std.proofs.lemmas.Bool.{ltb-true, false≢true}
 use Rattle.std.proofs.lemmas.Bool.Decides.{Decides-eqb}
 use Rattle.std.proofs.lemmas.List.Folds.{list_any-append}
 use Rattle.spark_base.specs.Lists.{Has}
@@ -32,17 +32,17 @@ use Rattle.soundness.specs.Sound.{IsAtPoint, is_temporary_object}
 use Rattle.soundness.proofs.Points.{flow_at, next_there}
 use Rattle.soundness.proofs.Typings.{package_same, formal_same}
 use Rattle.soundness.proofs.Waits.{drop_none}
-use Rattle.typed_laws.specs.Needed.{Leads, FirstSource, IsFine}
+use Rattle.soundness.specs.TypedLaws.Needed.{Leads, FirstSource, IsFine}
 use Rattle.machine.specs.Owners.{is_in, is_in_formal}
 use Rattle.soundness.specs.Seen.{is_view_formal}
-use Rattle.order_laws.proofs.ScopeLaws.Begun.{Begins, sub_begun, package_begun}
-use Rattle.order_laws.specs.ScopeLaws.Order.{named_in}
-use Rattle.order_laws.specs.ScopeLaws.Code.{roots}
-use Rattle.order_laws.proofs.ScopeLaws.Lists.{all_has, within_has, and_first, and_second}
-use Rattle.order_laws.specs.ScopeLaws.LayeredScopes.Layered.{is_older}
-use Rattle.order_laws.specs.ScopeLaws.LayeredScopes.Points.{GoesOn, AreFading}
-use Rattle.order_laws.proofs.ReadyLaws.Ready.{seen_has}
-use Rattle.order_laws.proofs.ReadyLaws.Subs.{setting_from}
+use Rattle.settled_types.proofs.OrderLaws.ScopeLaws.Begun.{Begins, sub_begun, package_begun}
+use Rattle.settled_types.specs.OrderLaws.ScopeLaws.Order.{named_in}
+use Rattle.settled_types.specs.OrderLaws.ScopeLaws.Code.{roots}
+use Rattle.settled_types.proofs.OrderLaws.ScopeLaws.Lists.{all_has, within_has, and_first, and_second}
+use Rattle.settled_types.specs.OrderLaws.ScopeLaws.LayeredScopes.Layered.{is_older}
+use Rattle.settled_types.specs.OrderLaws.ScopeLaws.LayeredScopes.Points.{GoesOn, AreFading}
+use Rattle.settled_types.proofs.OrderLaws.ReadyLaws.Ready.{seen_has}
+use Rattle.settled_types.proofs.OrderLaws.ReadyLaws.Subs.{setting_from}
 use Rattle.viewed_steps.specs.Traversals.{GivesView, IsSourceName}
 use Rattle.viewed_steps.specs.Sound.{IsStoredAt}
 use Rattle.accepted_runs.specs.ViewedFiles.ViewLaws.InOrder.{is_name_of, is_list_end, is_one_name_of, is_any, is_call, gives_view, gives_from, IsTraversed, NamesSource, fits}
@@ -96,7 +96,7 @@ one_kind (view.Access d true true) sees = refl
 one_kind (view.Access d true false) sees = refl
 one_kind (view.Access d false true) sees = cc
 one_kind (view.Access d false false) sees = cc
-one_kind _ sees = cc
+one_kind _ sees = absurd (false≢true sees)
 
 and_none : (a b : Bool) → b ≡ false → a && b ≡ false
 and_none true b e = e
@@ -110,18 +110,18 @@ NamedBy test is = (q : Pos) × (y : ℕ) × (path : TypedTree) × (u : ℕ) × i
 
 name_is : (test : ℕ → Bool) (e : TypedTree) → is_name_of test e ≡ true → NamedBy test (λ n. e ≡ n)
 name_is test (Name q y path u) h = (q, y, path, u, refl, h)
-name_is test _ h = cc
+name_is test _ h = absurd (false≢true h)
 
 end_is : (e : TypedTree) → is_list_end e ≡ true → e ≡ NoMore
 end_is NoMore h = refl
-end_is _ h = cc
+end_is _ h = absurd (false≢true h)
 
 one_name_is : (test : ℕ → Bool) (e : TypedTree) → is_one_name_of test e ≡ true → NamedBy test (λ n. e ≡ More n NoMore)
 one_name_is test (More e rest) h =
     let found = name_is test e (and_first (is_name_of test e) (is_list_end rest) h) in
     let none = end_is rest (and_second (is_name_of test e) (is_list_end rest) h) in
     (found.0, found.1, found.2, found.3, ap (λ z. More z rest) found.4 ∙ ap (More (Name found.0 found.1 found.2 found.3)) none, found.5)
-one_name_is test _ h = cc
+one_name_is test _ h = absurd (false≢true h)
 
 first_root : (q : Pos) (y : ℕ) (path : TypedTree) (u : ℕ) (rest : TypedTree) → Has (roots (More (Name q y path u) rest)) y
 unfolding roots

@@ -1,5 +1,6 @@
 -- What follows of V1, V2 and V4 where nothing is reported.
 use Rattle.std.proofs.Common.{◌≡◌, refl, ap, ◌∙◌, subst, inl, ℕ, Bool, true, false, not, ◌&&◌, ◌==◌, eqb-true, List, [], ◌∷◌, ◌++◌, Some}
+use Rattle.std.proofs.lemmas.Bool.{false≢true}
 use Rattle.spark_base.specs.Lists.{Has}
 use Rattle.spark_base.specs.declared.position.Pos.{Pos}
 use Rattle.place_names.specs.declared.act.Act.TheVariants as act
@@ -35,11 +36,11 @@ one_kind (view.Access d true true) borrows sight = cc
 one_kind (view.Access d true false) borrows sight = cc
 one_kind (view.Access d false true) borrows sight = cc
 one_kind (view.Access d false false) borrows sight = cc
-one_kind _ borrows sight = cc
+one_kind _ borrows sight = absurd (false≢true borrows)
 
 no_kind : (k : ObjectKind) → is_variable k ≡ true → is_formal_kind k ≡ true → ⊥
 no_kind object_kind.Variable is other = cc
-no_kind _ is other = cc
+no_kind _ is other = absurd (false≢true is)
 
 first : (a b : Bool) → a && b ≡ true → a ≡ true
 first true b e = refl

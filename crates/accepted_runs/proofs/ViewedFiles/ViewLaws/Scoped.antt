@@ -3,6 +3,7 @@
 use Rattle.std.proofs.Common.{◌≡◌, refl, sym, ap, ◌∙◌, subst, ◌⊎◌, inl, inr, ℕ, suc, Bool, true, false, not, ◌&&◌, ◌||◌, List, [], ◌∷◌, map, get_or, nat_lt, Option, None, Some}
 use Rattle.std.specs.Prelude.{reverse}
 use Rattle.std.specs.List.{AllByRecursion}
+use Rattle.std.proofs.lemmas.Bool.{false≢true}
 use Rattle.spark_base.specs.declared.position.Pos.{Pos}
 use Rattle.spark_base.specs.Lists.{Has}
 use Rattle.spark_base.proofs.Lists.{Has-map, Has-map_from, Has-append_left, Has-append_right}
@@ -43,23 +44,23 @@ use Rattle.soundness.proofs.Points.{IsLaid, flow_at}
 use Rattle.soundness.proofs.Typings.{Agree, flow_agrees, instruction_same, package_same}
 use Rattle.soundness.proofs.Contents.{bool_cases}
 use Rattle.soundness.proofs.Passing.{signature_there, signature_is as signature_of}
-use Rattle.order_laws.specs.ScopeLaws.Alone.{GivesScalar, GivesOwnless, GivesNamed, GivesSeen}
-use Rattle.order_laws.proofs.ScopeLaws.Followed.{IsFollowed, sub_followed}
-use Rattle.order_laws.proofs.ScopeLaws.Given.{Takes, sub_given}
-use Rattle.order_laws.specs.ScopeLaws.Code.{roots, objects_of}
-use Rattle.order_laws.specs.ScopeLaws.Order.{named_in, IsSeen}
-use Rattle.order_laws.specs.ScopeLaws.Supplied.{IsLeft}
-use Rattle.order_laws.proofs.ScopeLaws.Lists.{and_second, all_has, has_reverse}
-use Rattle.order_laws.proofs.ScopeLaws.Filled.{temporaries_of, object_before}
-use Rattle.order_laws.specs.ScopeLaws.LayeredScopes.Layered.{is_older}
-use Rattle.order_laws.specs.ScopeLaws.LayeredScopes.Points.{IsAbove, AreFading}
-use Rattle.order_laws.proofs.ScopeLaws.LayeredScopes.Layered.{sub_good}
-use Rattle.order_laws.specs.ReadyLaws.InOrder.{names_no_owner}
-use Rattle.order_laws.proofs.ReadyLaws.Elaborated.{Declares, package_declares, owns_none}
-use Rattle.order_laws.proofs.ReadyLaws.Subs.{setting_from, IsOfBody}
-use Rattle.order_laws.proofs.ReadyLaws.Ready as ordered
-use Rattle.order_laws.proofs.ReadyLaws.Ready.{seen_has}
-use Rattle.typed_laws.specs.Needed.{IsFine}
+use Rattle.settled_types.specs.OrderLaws.ScopeLaws.Alone.{GivesScalar, GivesOwnless, GivesNamed, GivesSeen}
+use Rattle.settled_types.proofs.OrderLaws.ScopeLaws.Followed.{IsFollowed, sub_followed}
+use Rattle.settled_types.proofs.OrderLaws.ScopeLaws.Given.{Takes, sub_given}
+use Rattle.settled_types.specs.OrderLaws.ScopeLaws.Code.{roots, objects_of}
+use Rattle.settled_types.specs.OrderLaws.ScopeLaws.Order.{named_in, IsSeen}
+use Rattle.settled_types.specs.OrderLaws.ScopeLaws.Supplied.{IsLeft}
+use Rattle.settled_types.proofs.OrderLaws.ScopeLaws.Lists.{and_second, all_has, has_reverse}
+use Rattle.settled_types.proofs.OrderLaws.ScopeLaws.Filled.{temporaries_of, object_before}
+use Rattle.settled_types.specs.OrderLaws.ScopeLaws.LayeredScopes.Layered.{is_older}
+use Rattle.settled_types.specs.OrderLaws.ScopeLaws.LayeredScopes.Points.{IsAbove, AreFading}
+use Rattle.settled_types.proofs.OrderLaws.ScopeLaws.LayeredScopes.Layered.{sub_good}
+use Rattle.settled_types.specs.OrderLaws.ReadyLaws.InOrder.{names_no_owner}
+use Rattle.settled_types.proofs.OrderLaws.ReadyLaws.Elaborated.{Declares, package_declares, owns_none}
+use Rattle.settled_types.proofs.OrderLaws.ReadyLaws.Subs.{setting_from, IsOfBody}
+use Rattle.settled_types.proofs.OrderLaws.ReadyLaws.Ready as ordered
+use Rattle.settled_types.proofs.OrderLaws.ReadyLaws.Ready.{seen_has}
+use Rattle.soundness.specs.TypedLaws.Needed.{IsFine}
 use Rattle.viewed_steps.specs.Awaited.{is_held}
 use Rattle.soundness.specs.ViewedSoundness.Holds.{IsAccess, is_given}
 use Rattle.soundness.proofs.ViewedSoundness.ViewKinds.{true_false}
@@ -107,7 +108,7 @@ stored_gives false f b is none e = cc
 
 by_kind_variable_lasts : (k : ObjectKind) → is_variable k ≡ true → is_temporary k ≡ false
 by_kind_variable_lasts object_kind.Variable is = refl
-by_kind_variable_lasts k is = cc
+by_kind_variable_lasts k is = absurd (false≢true is)
 
 some_same : (a b : ℕ) → Some a ≡ Some b → a ≡ b
 some_same a b is = cc

@@ -2,6 +2,7 @@
 -- borrower that does has a formal of its function for a root.
 use Rattle.std.specs.Prelude.{flat_map}
 use Rattle.std.proofs.Common.{◌≡◌, refl, sym, ap, ◌∙◌, subst, inl, inr, ℕ, ◌<◌, Bool, true, false, not, ◌&&◌, ◌||◌, List, [], ◌∷◌, map, length, Some, if◌then◌else◌}
+use Rattle.std.proofs.lemmas.Bool.{false≢true}
 use Rattle.spark_base.specs.Lists.{Has}
 use Rattle.spark_base.proofs.Lists.{Has-append_left, Has-append_right, Has-append_cases, Has-map, Has-map_from}
 use Rattle.place_names.specs.declared.act.Act.{Act}
@@ -27,10 +28,10 @@ use Rattle.flow_paths.specs.Views.{sub_acts}
 use Rattle.machine.specs.Owners.{is_in}
 use Rattle.soundness.proofs.Points.{flow_at}
 use Rattle.soundness.proofs.Scalars.{acts}
-use Rattle.order_laws.specs.ScopeLaws.Code.{Once, objects_of}
-use Rattle.order_laws.proofs.ScopeLaws.Lists.{and_first, and_second, once_right}
-use Rattle.order_laws.proofs.ScopeLaws.Values.{IsDeclared, declared_there, one_value, sub_declared}
-use Rattle.order_laws.proofs.ReadyLaws.Subs.{setting_from, object_named}
+use Rattle.settled_types.specs.OrderLaws.ScopeLaws.Code.{Once, objects_of}
+use Rattle.settled_types.proofs.OrderLaws.ScopeLaws.Lists.{and_first, and_second, once_right}
+use Rattle.settled_types.proofs.OrderLaws.ScopeLaws.Values.{IsDeclared, declared_there, one_value, sub_declared}
+use Rattle.settled_types.proofs.OrderLaws.ReadyLaws.Subs.{setting_from, object_named}
 use Rattle.soundness.specs.ViewedSoundness.Holds.{is_given, is_exclusive, sees_only}
 use Rattle.viewed_steps.specs.Seeing.{program_acts, sees_in}
 use Rattle.viewed_steps.specs.Traversals.{IsSourceName}
@@ -68,7 +69,7 @@ one_kind (view.Access d true true) is = cc
 one_kind (view.Access d true false) is = cc
 one_kind (view.Access d false true) is = cc
 one_kind (view.Access d false false) is = refl
-one_kind v is = cc
+one_kind v is = absurd (false≢true is)
 
 module _ (s : Typing) (x : ℕ) (borrows : is_borrower s x ≡ true) where
   pub borrower_anonymous : is_anonymous (view_of s x) ≡ true
@@ -82,7 +83,7 @@ module _ (s : Typing) (x : ℕ) (borrows : is_borrower s x ≡ true) where
 -- it isn't one that sees by itself
 no_formal : (k : ObjectKind) → is_variable k ≡ true → is_formal_kind k ≡ false
 no_formal object_kind.Variable is = refl
-no_formal k is = cc
+no_formal k is = absurd (false≢true is)
 
 unseen : (observes given exclusive : Bool) → observes ≡ false → given ≡ false → observes || (given && not exclusive) ≡ false
 unseen true given exclusive none other = cc

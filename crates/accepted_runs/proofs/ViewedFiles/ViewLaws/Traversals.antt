@@ -19,10 +19,10 @@ use Rattle.machine.specs.Owners.{is_in}
 use Rattle.machine.specs.States.{sub_of}
 use Rattle.soundness.specs.Sound.{IsNamedSub, IsAtPoint}
 use Rattle.soundness.proofs.Points.{flow_at, one_point}
-use Rattle.order_laws.proofs.ScopeLaws.Followed.{IsFollowed}
-use Rattle.order_laws.proofs.ScopeLaws.Given.{Takes}
-use Rattle.order_laws.proofs.ScopeLaws.Lists.{and_first}
-use Rattle.order_laws.proofs.ReadyLaws.Ready as ordered
+use Rattle.settled_types.proofs.OrderLaws.ScopeLaws.Followed.{IsFollowed}
+use Rattle.settled_types.proofs.OrderLaws.ScopeLaws.Given.{Takes}
+use Rattle.settled_types.proofs.OrderLaws.ScopeLaws.Lists.{and_first}
+use Rattle.settled_types.proofs.OrderLaws.ReadyLaws.Ready as ordered
 use Rattle.soundness.specs.ViewedSoundness.Holds.{is_given, IsAccess}
 use Rattle.viewed_steps.specs.Traversals.{TraversalCall, call_in, IsSeer, IsViewTaker}
 use Rattle.viewed_steps.specs.Ready.{AreTraversing, IsTraversalCall}

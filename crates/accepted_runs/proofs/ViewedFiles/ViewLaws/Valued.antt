@@ -3,6 +3,7 @@
 use Rattle.std.proofs.Common.{◌≡◌, refl, sym, ap, ◌∙◌, subst, ◌⊎◌, inl, inr, ℕ, ◌<◌, Bool, true, false, ◌&&◌, ◌||◌, List, [], ◌∷◌, ◌++◌, map, take, drop, length, get_or, arith, Option, Some, None, is_some, if◌then◌else◌}
 use Rattle.std.specs.Prelude.{filter, not, nat_lt}
 use Rattle.std.specs.List.{AllByRecursion}
+use Rattle.std.proofs.lemmas.Bool.{false≢true}
 use Rattle.spark_base.specs.declared.position.Pos.{Pos}
 use Rattle.spark_base.specs.Lists.{Has}
 use Rattle.spark_base.proofs.Lists.{Has-append_right, Has-filter, Has-map}
@@ -23,7 +24,7 @@ use Rattle.flow_paths.specs.Points.{NamedPoint}
 use Rattle.flow_paths.specs.Laid.{FlowProgram, NamedSub, temporary_object, result_of, named_subs, all_named, sub_points, flow_sub, typing_of, flow_typing, flow_program, flow_named}
 use Rattle.flow_paths.specs.Scopes.{taken, is_temporary}
 use Rattle.machine.specs.States.{sub_of}
-use Rattle.typed_laws.specs.Needed.{IsFine, FirstSource, IsPlace, Returns}
+use Rattle.soundness.specs.TypedLaws.Needed.{IsFine, FirstSource, IsPlace, Returns}
 use Rattle.soundness.specs.Sound.{calls_procedures, is_temporary_object, IsEntered, IsNamedSub, IsNoCall}
 use Rattle.soundness.specs.Ready.{stored_at, Fills}
 use Rattle.soundness.proofs.Points.{flow_at, named_has}
@@ -34,24 +35,24 @@ use Rattle.soundness.proofs.Waits.{no_waits}
 use Rattle.soundness.specs.ViewedSoundness.Taken.{GivesPlainly, type_given, types_taken, AreScalarTypes, TakesFit}
 use Rattle.soundness.proofs.ViewedSoundness.Evaluated.{gives_plainly}
 use Rattle.soundness.proofs.ViewedSoundness.Outcomes.{named_plain}
-use Rattle.order_laws.specs.ScopeLaws.Code.{roots}
-use Rattle.order_laws.specs.ScopeLaws.Alone.{CallsFit, CallsOnly, PassedFit, SourceFits, InstructionFits, GivesScalar, GivesOwnless, GivesNamed, GivesSeen}
-use Rattle.order_laws.specs.ScopeLaws.Fitted.{types, types_at, Pairs, FillsFit, RightFits, IsFitted}
-use Rattle.order_laws.specs.ScopeLaws.Supplied.{IsKept}
-use Rattle.order_laws.specs.ScopeLaws.Order.{named_in}
-use Rattle.order_laws.proofs.ScopeLaws.Lists.{within_has, all_has}
-use Rattle.order_laws.proofs.ScopeLaws.Given.{Takes as TakesIt, sub_given}
-use Rattle.order_laws.proofs.ScopeLaws.Kept.{sub_kept}
-use Rattle.order_laws.proofs.ScopeLaws.Fitted.{sub_fit}
-use Rattle.order_laws.proofs.ScopeLaws.Filled.{temporaries_of, object_before}
-use Rattle.order_laws.proofs.ScopeLaws.Results.{Gives, filled_typed}
-use Rattle.order_laws.specs.ScopeLaws.LayeredScopes.Layered.{is_older}
-use Rattle.order_laws.specs.ScopeLaws.LayeredScopes.Points.{IsAbove}
-use Rattle.order_laws.proofs.ScopeLaws.LayeredScopes.Layered.{sub_good}
-use Rattle.order_laws.specs.ReadyLaws.InOrder.{IsBody}
-use Rattle.order_laws.proofs.ReadyLaws.Subs.{setting_from, IsOfBody, subs_of}
-use Rattle.order_laws.proofs.ReadyLaws.Ready as ordered
-use Rattle.order_laws.proofs.ReadyLaws.Ready.{seen_has, stored_named}
+use Rattle.settled_types.specs.OrderLaws.ScopeLaws.Code.{roots}
+use Rattle.settled_types.specs.OrderLaws.ScopeLaws.Alone.{CallsFit, CallsOnly, PassedFit, SourceFits, InstructionFits, GivesScalar, GivesOwnless, GivesNamed, GivesSeen}
+use Rattle.settled_types.specs.OrderLaws.ScopeLaws.Fitted.{types, types_at, Pairs, FillsFit, RightFits, IsFitted}
+use Rattle.settled_types.specs.OrderLaws.ScopeLaws.Supplied.{IsKept}
+use Rattle.settled_types.specs.OrderLaws.ScopeLaws.Order.{named_in}
+use Rattle.settled_types.proofs.OrderLaws.ScopeLaws.Lists.{within_has, all_has}
+use Rattle.settled_types.proofs.OrderLaws.ScopeLaws.Given.{Takes as TakesIt, sub_given}
+use Rattle.settled_types.proofs.OrderLaws.ScopeLaws.Kept.{sub_kept}
+use Rattle.settled_types.proofs.OrderLaws.ScopeLaws.Fitted.{sub_fit}
+use Rattle.settled_types.proofs.OrderLaws.ScopeLaws.Filled.{temporaries_of, object_before}
+use Rattle.settled_types.proofs.OrderLaws.ScopeLaws.Results.{Gives, filled_typed}
+use Rattle.settled_types.specs.OrderLaws.ScopeLaws.LayeredScopes.Layered.{is_older}
+use Rattle.settled_types.specs.OrderLaws.ScopeLaws.LayeredScopes.Points.{IsAbove}
+use Rattle.settled_types.proofs.OrderLaws.ScopeLaws.LayeredScopes.Layered.{sub_good}
+use Rattle.settled_types.specs.OrderLaws.ReadyLaws.InOrder.{IsBody}
+use Rattle.settled_types.proofs.OrderLaws.ReadyLaws.Subs.{setting_from, IsOfBody, subs_of}
+use Rattle.settled_types.proofs.OrderLaws.ReadyLaws.Ready as ordered
+use Rattle.settled_types.proofs.OrderLaws.ReadyLaws.Ready.{seen_has, stored_named}
 use Rattle.viewed_steps.specs.Awaited.{is_held, Fits, AreScalar, TakesScalars, IsMadeFor, types_for, AreFilled, StoresNone, IsTaken, AreOwnless, TakesPassed, IsTakenAt, TakesAlone, FillsTyped}
 use Rattle.viewed_steps.proofs.Sources.{leads_or}
 use Rattle.viewed_steps.specs.Sound.{IsScalarObject}
@@ -115,7 +116,7 @@ first_of false b e = cc
 -- what a traversal function gives that is called with such a name
 pub from_gives : (s : Typing) (test : ℕ → Bool) (e : TypedTree) → gives_from test s e ≡ true → gives_view s e ≡ true
 from_gives s test (typed_tree.Call p sub actuals) is = first_of (traverses s.table (sub_at s sub).result) (is_rooted_in test (first actuals)) is
-from_gives s test e is = cc
+from_gives s test e is = absurd (false≢true is)
 
 gives_so : (n g h : Bool) → (g ≡ true → h ≡ true) → n || g ≡ true → n || h ≡ true
 gives_so true g h so e = refl
@@ -129,7 +130,7 @@ stored_fit false f n g view none e = cc
 -- a variable is no formal
 no_formal : (k : ObjectKind) → is_variable k ≡ true → is_formal_kind k ≡ false
 no_formal object_kind.Variable is = refl
-no_formal k is = cc
+no_formal k is = absurd (false≢true is)
 
 module _ (table : Table) (typed : TypedProgram) (effects : Effects) (given : IsViewProgram table typed effects) where
   abbrev program : FlowProgram
@@ -575,7 +576,7 @@ module _ (table : Table) (typed : TypedProgram) (effects : Effects) (given : IsV
   unfolding CallsFit
   name_only test (Name q y steps t) fit asked = asked
   name_only test (typed_tree.Call q n a) fit asked = (let never : true ≡ false = sym fit ∙ no_traversal n asked.0 in cc)
-  name_only test e fit asked = cc
+  name_only test e fit asked = absurd (false≢true fit)
 
   -- an object that is no temporary is as the text has it
   view_same : (x : ℕ) → is_temporary_object s x ≡ false → is_anonymous (view_of s x) ≡ is_anonymous (view_of own x)

@@ -16,15 +16,15 @@ use Rattle.flow_paths.specs.Points.{NamedPoint}
 use Rattle.flow_paths.specs.Laid.{FlowProgram, NamedSub, elaboration_points, unnumbered, typing_of, flow_typing, flow_program, flow_named}
 use Rattle.soundness.specs.Sound.{is_temporary_object}
 use Rattle.soundness.proofs.Typings.{Agree, flow_agrees}
-use Rattle.order_laws.specs.ScopeLaws.Order.{named_in, IsSeen}
-use Rattle.order_laws.proofs.ScopeLaws.Alone.{code_all}
-use Rattle.order_laws.proofs.ScopeLaws.Given.{Takes}
-use Rattle.order_laws.proofs.ScopeLaws.Lists.{all_has, within_has}
-use Rattle.order_laws.proofs.ScopeLaws.Lone.{IsLone, sub_lone, package_lone}
-use Rattle.order_laws.proofs.ScopeLaws.Seen.{package_seen}
-use Rattle.order_laws.proofs.ReadyLaws.Subs.{setting_from, IsOfBody}
-use Rattle.order_laws.proofs.ReadyLaws.Ready as ordered
-use Rattle.order_laws.proofs.ReadyLaws.Ready.{seen_has}
+use Rattle.settled_types.specs.OrderLaws.ScopeLaws.Order.{named_in, IsSeen}
+use Rattle.settled_types.proofs.OrderLaws.ScopeLaws.Alone.{code_all}
+use Rattle.settled_types.proofs.OrderLaws.ScopeLaws.Given.{Takes}
+use Rattle.settled_types.proofs.OrderLaws.ScopeLaws.Lists.{all_has, within_has}
+use Rattle.settled_types.proofs.OrderLaws.ScopeLaws.Lone.{IsLone, sub_lone, package_lone}
+use Rattle.settled_types.proofs.OrderLaws.ScopeLaws.Seen.{package_seen}
+use Rattle.settled_types.proofs.OrderLaws.ReadyLaws.Subs.{setting_from, IsOfBody}
+use Rattle.settled_types.proofs.OrderLaws.ReadyLaws.Ready as ordered
+use Rattle.settled_types.proofs.OrderLaws.ReadyLaws.Ready.{seen_has}
 use Rattle.viewed_steps.specs.Awaited.{TakesAlone}
 use Rattle.viewed_steps.specs.Ready.{AreNamedIn, AreValued}
 use Rattle.accepted_runs.specs.ViewedFiles.ViewLaws.Program.{IsViewProgram}

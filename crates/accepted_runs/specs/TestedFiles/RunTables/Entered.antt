@@ -5,8 +5,8 @@ use Rattle.type_definitions.specs.Types.{Table}
 use Rattle.typed_tree.specs.Programs.{TypedSub, TypedProgram}
 use Rattle.flow_paths.specs.Objects.{is_package_object}
 use Rattle.flow_paths.specs.Laid.{typing_of}
-use Rattle.order_laws.specs.ScopeLaws.Code.{Once}
-use Rattle.order_laws.specs.ReadyLaws.InOrder.{IsSub}
+use Rattle.settled_types.specs.OrderLaws.ScopeLaws.Code.{Once}
+use Rattle.settled_types.specs.OrderLaws.ReadyLaws.InOrder.{IsSub}
 
 -- The formals of each subprogram are different objects, none of packages, and the main procedure has a body.
 pub record CanEnter (table : Table) (program : TypedProgram) : Type 0 where

@@ -13,9 +13,9 @@ use Rattle.flow_paths.specs.Objects.{Typing, object_at, sub_at, traverses, is_va
 use Rattle.flow_paths.specs.Names.{first, whole}
 use Rattle.flow_paths.specs.Laid.{declared_within, typing_of}
 use Rattle.machine.specs.Owners.{is_in_formal}
-use Rattle.typed_laws.specs.Needed.{Leads}
-use Rattle.order_laws.specs.ScopeLaws.Code.{roots, body_seen}
-use Rattle.order_laws.specs.ScopeLaws.LayeredScopes.Layered.{is_older, is_body_layered}
+use Rattle.soundness.specs.TypedLaws.Needed.{Leads}
+use Rattle.settled_types.specs.OrderLaws.ScopeLaws.Code.{roots, body_seen}
+use Rattle.settled_types.specs.OrderLaws.ScopeLaws.LayeredScopes.Layered.{is_older, is_body_layered}
 
 -- ---- what views are declared and assigned with
 

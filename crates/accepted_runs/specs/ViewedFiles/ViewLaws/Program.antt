@@ -16,10 +16,10 @@ use Rattle.flow_paths.specs.Points.{FlowPoint}
 use Rattle.flow_paths.specs.Laid.{FlowSub, FlowProgram, typing_of, flow_typing, flow_program}
 use Rattle.machine.specs.States.{sub_of}
 use Rattle.soundness.specs.Typed.{OwnsByShape}
-use Rattle.typed_laws.specs.Needed.{Matches, IsPlace}
+use Rattle.soundness.specs.TypedLaws.Needed.{Matches, IsPlace}
 use Rattle.soundness.specs.Sound.{Accepted}
-use Rattle.order_laws.specs.ScopeLaws.Alone.{ResultsFit}
-use Rattle.order_laws.specs.ReadyLaws.InOrder.{IsInOrder, AreAnswered, AreStill, ArePassed}
+use Rattle.settled_types.specs.OrderLaws.ScopeLaws.Alone.{ResultsFit}
+use Rattle.settled_types.specs.OrderLaws.ReadyLaws.InOrder.{IsInOrder, AreAnswered, AreStill, ArePassed}
 use Rattle.soundness.specs.Seen.{is_view_formal}
 use Rattle.soundness.specs.ViewedSoundness.Holds.{IsAccess, PartsAreNamed, is_given, is_exclusive}
 use Rattle.viewed_steps.specs.Traversals.{GivesView, IsSourceName}

@@ -7,8 +7,8 @@ use Rattle.run_codes.specs.Codes.{ByValue, Checked}
 use Rattle.slot_calls.proofs.Values.{passed_by, word_reads, word_stops, word_out, word_passes}
 use Rattle.slot_calls.proofs.actuals.pass_word.Goals as goal
 
-pub word-requires-clause-whole : goal.word-requires-clause-whole
-word-requires-clause-whole g c =
+pub operand-requires-clause-whole : goal.operand-requires-clause-whole
+operand-requires-clause-whole g c =
     word_reads g.R.Store.Means c.args.memory.now c.args.table.now (code_at c.args.nodes.now c.args.value) c.args.low c.args.high c.requires.whole
 
 pub returns-in_err-given : goal.returns-in_err-given

@@ -37,8 +37,8 @@ free_point-requires g c =
     at_point g.R.Store.Means c.args.codes.now c.args.table.now c.steps.parts can c.requires.whole c.steps.invariant.1.1 c.point_at-point.result.now at c.point_at-point.ensures.there
     c.in-Some.k c.in-Some.ensures.latest c.take.new.memory c.in-Some.ensures.taken
 
-pub steps-preserved : goal.steps-preserved
-steps-preserved g c =
+pub steps-preserved-in-Goes : goal.steps-preserved-in-Goes
+steps-preserved-in-Goes g c =
     let can = can_now g.R.Store.Means c.args.codes.now c.args.table.now c.args.limit c.args.parts.now c.requires.can c.steps.made c.steps.parts c.steps-test.true c.steps.invariant.0 in
     let at : slice_get (program_of c.args.codes.now).points c.steps.parts.frames.frame.next ≡ Some (point_of c.args.codes.now c.point_at-point.result.now) =
     subst (λ (f : Frame). slice_get (program_of c.args.codes.now).points f.next ≡ Some (point_of c.args.codes.now c.point_at-point.result.now)) c.frame.ensures c.point_at-point.ensures.point in
@@ -62,15 +62,37 @@ turn_point-requires g c =
     (at_point g.R.Store.Means c.args.codes.now c.args.table.now c.steps.parts can c.requires.whole c.steps.invariant.1.1 c.point_at-point.result.now at c.point_at-point.ensures.there
     c.in-Some.k c.in-Some.ensures.latest c.take.new.memory c.in-Some.ensures.taken)
 
-pub returns-in-Stays : goal.returns-in-Stays
-returns-in-Stays g c =
+pub steps-preserved : goal.steps-preserved
+steps-preserved g c =
     let can = can_now g.R.Store.Means c.args.codes.now c.args.table.now c.args.limit c.args.parts.now c.requires.can c.steps.made c.steps.parts c.steps-test.true c.steps.invariant.0 in
     let at : slice_get (program_of c.args.codes.now).points c.steps.parts.frames.frame.next ≡ Some (point_of c.args.codes.now c.point_at-point.result.now) =
     subst (λ (f : Frame). slice_get (program_of c.args.codes.now).points f.next ≡ Some (point_of c.args.codes.now c.point_at-point.result.now)) c.frame.ensures c.point_at-point.ensures.point in
     let t =
     turn_is g.R.Store.Means c.args.codes.now c.args.table.now c.steps.parts can c.requires.whole c.steps.invariant.1.1 c.point_at-point.result.now at c.point_at-point.ensures.there
     c.in-Some.k c.in-Some.ensures.latest c.take.new.memory
-    c.turn_point.new.parts c.in_ok-over-in-Stays.over c.in-Some.ensures.taken
-    (subst (λ q. IsPointTurn g.R.Store.Means c.args.codes.now c.args.table.now c.point_at-point.result.now c.in_ok-over-in-Stays.over q c.turn_point.new.parts)
-    (c.in-Stays.ensures.stays refl) c.in_ok-over-in-Stays.ensures) in
-    last_made g.R.Store.Means c.args.codes.now c.args.table.now c.args.limit c.args.parts.now c.requires.can c.steps.made c.steps.parts c.steps-test.true c.steps.invariant.0 c.in_ok-over-in-Stays.over c.turn_point.new.parts c.steps.invariant.2 t
+    c.turn_point.new.parts None c.in-Some.ensures.taken
+    (subst (λ q. IsPointTurn g.R.Store.Means c.args.codes.now c.args.table.now c.point_at-point.result.now None q c.turn_point.new.parts)
+    (c.in-Stays.ensures.stays refl)
+    (subst (λ o. IsPointTurn g.R.Store.Means c.args.codes.now c.args.table.now c.point_at-point.result.now o c.free_point.new.parts c.turn_point.new.parts)
+    c.in-None.is c.in_ok-turn_point-in-Stays.ensures)) in
+    let below = c.steps-test.true in (
+      one_more g.R.Store.Means c.args.codes.now c.args.table.now c.args.limit c.args.parts.now c.requires.can c.steps.made c.steps.parts c.steps-test.true c.steps.invariant.0 None c.turn_point.new.parts t,
+      t.kept,
+      t.lent ∙ c.steps.invariant.2,
+      omega (arith, below),
+    )
+
+pub returns-in-Some-2 : goal.returns-in-Some-2
+returns-in-Some-2 g c =
+    let can = can_now g.R.Store.Means c.args.codes.now c.args.table.now c.args.limit c.args.parts.now c.requires.can c.steps.made c.steps.parts c.steps-test.true c.steps.invariant.0 in
+    let at : slice_get (program_of c.args.codes.now).points c.steps.parts.frames.frame.next ≡ Some (point_of c.args.codes.now c.point_at-point.result.now) =
+    subst (λ (f : Frame). slice_get (program_of c.args.codes.now).points f.next ≡ Some (point_of c.args.codes.now c.point_at-point.result.now)) c.frame.ensures c.point_at-point.ensures.point in
+    let t =
+    turn_is g.R.Store.Means c.args.codes.now c.args.table.now c.steps.parts can c.requires.whole c.steps.invariant.1.1 c.point_at-point.result.now at c.point_at-point.ensures.there
+    c.in-Some.k c.in-Some.ensures.latest c.take.new.memory
+    c.turn_point.new.parts (Some c.in-Some-2.over) c.in-Some.ensures.taken
+    (subst (λ q. IsPointTurn g.R.Store.Means c.args.codes.now c.args.table.now c.point_at-point.result.now (Some c.in-Some-2.over) q c.turn_point.new.parts)
+    (c.in-Stays.ensures.stays refl)
+    (subst (λ o. IsPointTurn g.R.Store.Means c.args.codes.now c.args.table.now c.point_at-point.result.now o c.free_point.new.parts c.turn_point.new.parts)
+    c.in-Some-2.is c.in_ok-turn_point-in-Stays.ensures)) in
+    last_made g.R.Store.Means c.args.codes.now c.args.table.now c.args.limit c.args.parts.now c.requires.can c.steps.made c.steps.parts c.steps-test.true c.steps.invariant.0 (Some c.in-Some-2.over) c.turn_point.new.parts c.steps.invariant.2 t

@@ -5,9 +5,9 @@ use Rattle.spark_base.proofs.Lists.{Has-append_left, Has-append_right, Has-appen
 use Rattle.typed_tree.specs.Trees.{TypedCode}
 use Rattle.typed_tree.specs.Trees as typed
 use Rattle.flow_paths.specs.Laid.{declared_within}
-use Rattle.order_laws.specs.ScopeLaws.Code.{Once}
-use Rattle.order_laws.proofs.ScopeLaws.Lists.{once_left, once_right, once_apart}
-use Rattle.order_laws.specs.Placed.{parameters}
+use Rattle.settled_types.specs.OrderLaws.ScopeLaws.Code.{Once}
+use Rattle.settled_types.proofs.OrderLaws.ScopeLaws.Lists.{once_left, once_right, once_apart}
+use Rattle.settled_types.specs.OrderLaws.Placed.{parameters}
 use Rattle.sound_files.specs.TypedFiles.LoweredFiles.Code.{plain_objects}
 
 in_both : (xs ys ds es : List ℕ) (x : ℕ) → (Has xs x → Has ds x) → (Has ys x → Has es x) → Has (xs ++ ys) x → Has (ds ++ es) x

@@ -15,7 +15,7 @@ use Rattle.flow_paths.specs.Points.{Place, PointName, row_at, NamedPoint, point,
 use Rattle.flow_paths.specs.Prep.{Setting, with_held, prep}
 use Rattle.flow_paths.specs.Layout.{Around, within_loop, within_block, with_scope, declared, from, ending, ends, closing, uses, uses_both, uses_second_first, choices_of, laid, laid_branches, laid_branch, laid_whens, laid_when}
 use Rattle.flow_paths.specs.Laid.{around_body, body_points, sub_points, procedure_end, function_end, elaboration_points}
-use Rattle.order_laws.proofs.ScopeLaws.Lists.{all_both, all_one, all_has, all_if, has_reverse}
+use Rattle.settled_types.proofs.OrderLaws.ScopeLaws.Lists.{all_both, all_one, all_has, all_if, has_reverse}
 
 -- What steps are asked. `closes` says of which objects the scopes may end.
 pub record Asks (asked : Instruction → Type 0) (closes : ℕ → Type 0) : Type 0 where

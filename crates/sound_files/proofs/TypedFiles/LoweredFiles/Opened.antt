@@ -13,8 +13,8 @@ use Rattle.flow_paths.specs.Prep.{Setting, with_held, prep}
 use Rattle.flow_paths.specs.Layout.{Around, within_loop, within_block, with_scope, declared, ending, ends, laid, laid_branches, laid_branch, laid_whens}
 use Rattle.flow_paths.specs.Laid.{declared_within}
 use Rattle.flow_paths.specs.Scopes.{is_declaration, is_undeclaring}
-use Rattle.order_laws.proofs.ScopeLaws.Lists.{and_first, and_second}
-use Rattle.order_laws.specs.Placed.{is_placed, are_placed_branches, is_placed_branch, are_placed_alternatives, is_placed_alternative}
+use Rattle.settled_types.proofs.OrderLaws.ScopeLaws.Lists.{and_first, and_second}
+use Rattle.settled_types.specs.OrderLaws.Placed.{is_placed, are_placed_branches, is_placed_branch, are_placed_alternatives, is_placed_alternative}
 
 -- What a step gives room.
 abbrev pub Opens : ℕ → Instruction → Type 0
@@ -83,8 +83,8 @@ module _ (s : Setting) (x : ℕ) where
         let out : List NamedPoint = ends at 0 end (ending s stmts) (reverse (declared stmts) ++ w.scope) k in
         in_left x (laid s stmts (0 ∷ at) (within_block (ending s stmts) w) (entry out k)) out
         (stands stmts (0 ∷ at) (within_block (ending s stmts) w) (entry out k) h has)
-    stands (typed.Branch p e stmts) at w k h has = cc
-    stands (typed.When choices stmts) at w k h has = cc
+    stands (typed.Branch p e stmts) at w k h has = absurd (false≢true h)
+    stands (typed.When choices stmts) at w k h has = absurd (false≢true h)
     stands _ at w k h has = absurd has
 
     branches_stand : (c : TypedCode) (at : Place) (w : Around) (k otherwise : List PointName) → are_placed_branches c ≡ true → Has (declared_within c) x

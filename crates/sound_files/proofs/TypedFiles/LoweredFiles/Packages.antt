@@ -22,12 +22,12 @@ use Rattle.typed_tree.specs.Statements.{scope_count, statements}
 use Rattle.typed_tree.specs.Programs.{DeclaredObject, Home, objects_in, object_of, formals_of, front_formals, local, in_package, package_text, kind_of, entry_kind, placed, elaborated, over_units, text_io}
 use Rattle.flow_paths.specs.Objects.{is_state}
 use Rattle.flow_paths.specs.Laid.{declared_within}
-use Rattle.order_laws.specs.ScopeLaws.Code.{Once}
-use Rattle.order_laws.proofs.ScopeLaws.Lists.{and_first, and_second, all_both, all_has}
-use Rattle.order_laws.specs.Written.{is_declaration, are_declarations, are_statements, is_statement, are_branches, is_branch, are_alternatives, is_alternative, is_procedure, is_body, are_parts, is_unit}
-use Rattle.order_laws.proofs.Numbers.{numbers, declared_in, two, one_declaration}
-use Rattle.order_laws.proofs.Parts.{IsPart, part_whole, part_none, part_both, part_object, number_here, number_later, number_of, either, same_number}
-use Rattle.order_laws.proofs.Parts as parts
+use Rattle.settled_types.specs.OrderLaws.ScopeLaws.Code.{Once}
+use Rattle.settled_types.proofs.OrderLaws.ScopeLaws.Lists.{and_first, and_second, all_both, all_has}
+use Rattle.settled_types.specs.OrderLaws.Written.{is_declaration, are_declarations, are_statements, is_statement, are_branches, is_branch, are_alternatives, is_alternative, is_procedure, is_body, are_parts, is_unit}
+use Rattle.settled_types.proofs.OrderLaws.Numbers.{numbers, declared_in, two, one_declaration}
+use Rattle.settled_types.proofs.OrderLaws.Parts.{IsPart, part_whole, part_none, part_both, part_object, number_here, number_later, number_of, either, same_number}
+use Rattle.settled_types.proofs.OrderLaws.Parts as parts
 
 -- ---- objects of packages, and others
 
@@ -159,7 +159,7 @@ module _ (units : List Code) (h : Home) (outside : h.identifier ≡ None) where
 
 or_first : (x y : Bool) → x ≡ true → x || y ≡ true
 or_first true y e = refl
-or_first false y e = cc
+or_first false y e = absurd (false≢true e)
 
 module _ (units : List Code) where
   abbrev AllLocal : List DeclaredObject → Type 0
@@ -273,7 +273,7 @@ itself n = eq-eqb n n refl
 -- What has the k-th number is one of the objects.
 at_number : (all : List DeclaredObject) → Once (map number_of all) → (k : ℕ) → is_packaged (get_or (map parts.object_of all) k text_io) ≡ true
     → (o : DeclaredObject) × Has all o × (get_or (map parts.object_of all) k text_io ≡ o.object) × (position_or_len (nat_eq o.number) (map number_of all) ≡ k)
-at_number [] once k is = cc
+at_number [] once k is = absurd (false≢true is)
 at_number (o ∷ all) once zero is = (o, inl refl, refl, number_here o.number o.number (map number_of all) (itself o.number))
 at_number (o ∷ all) once (suc k) is =
     let more = at_number all once.1 k is in (
@@ -294,13 +294,13 @@ at_number (o ∷ all) once (suc k) is =
     other d has = differs (nat_eq d o.number) (λ same. once.0 (subst (λ z. Has (map number_of all) z) (same_number d o.number same) has))
 
 refused : false ≡ true → ⊥
-refused e = cc
+refused e = absurd (false≢true e)
 
 module _ (units : List Code) (s : Site) (all : List DeclaredObject) (same : s.objects ≡ map number_of all) (once : Once (map number_of all)) where
   -- what the code declares, of which all is split
   module _ (cs : List TypedCode) (split : IsSplit units s cs all) where
     pub declared_package : (x : ℕ) → is_packaged (get_or (text_io ∷ map parts.object_of all) x text_io) ≡ true → Has (declared_in s cs) x
-    declared_package zero is = cc
+    declared_package zero is = absurd (false≢true is)
     declared_package (suc k) is =
         let found = at_number all once k is in
         let number : object_number s (found.0).number ≡ suc k =

@@ -20,13 +20,13 @@ use Rattle.flow_paths.specs.Points.{NamedPoint, FlowPoint, entry, flow_point}
 use Rattle.flow_paths.specs.Layout.{declared, laid}
 use Rattle.flow_paths.specs.Laid.{temporary_object, FlowSub, FlowProgram, NamedSub, typing_of, flow_typing, around_body, unnumbered, numbers_from, number_in, frame_of, kept_roots, sub_facts, procedure_end, function_end, sub_temporaries, named_sub, named_subs, elaborated, all_named, flow_sub, flow_named, flow_program, declared_within}
 use Rattle.machine.specs.States.{no_sub, sub_of}
-use Rattle.order_laws.specs.ScopeLaws.Code.{objects_of}
-use Rattle.order_laws.specs.ScopeLaws.Order.{named_in}
-use Rattle.order_laws.proofs.ScopeLaws.Lists.{and_first, and_second, all_has, has_reverse, once_right, once_apart}
-use Rattle.order_laws.proofs.ScopeLaws.Ordered.{declared_within_has}
-use Rattle.order_laws.specs.ReadyLaws.InOrder.{declares_only}
-use Rattle.order_laws.specs.Placed.{is_placed, parameters}
-use Rattle.order_laws.proofs.PackageValues.Declared.{Declares as IsDeclared, package_declares}
+use Rattle.settled_types.specs.OrderLaws.ScopeLaws.Code.{objects_of}
+use Rattle.settled_types.specs.OrderLaws.ScopeLaws.Order.{named_in}
+use Rattle.settled_types.proofs.OrderLaws.ScopeLaws.Lists.{and_first, and_second, all_has, has_reverse, once_right, once_apart}
+use Rattle.settled_types.proofs.OrderLaws.ScopeLaws.Ordered.{declared_within_has}
+use Rattle.settled_types.specs.OrderLaws.ReadyLaws.InOrder.{declares_only}
+use Rattle.settled_types.specs.OrderLaws.Placed.{is_placed, parameters}
+use Rattle.settled_types.proofs.OrderLaws.PackageValues.Declared.{Declares as IsDeclared, package_declares}
 use Rattle.laid_program.proofs.Successors.{all_numbers}
 use Rattle.run_codes.specs.Lowered.{Kept, Site, max_position}
 use Rattle.run_codes.specs.Programs.{kept, has_room, rooms_of, is_loop}

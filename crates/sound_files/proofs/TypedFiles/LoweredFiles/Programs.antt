@@ -14,21 +14,21 @@ use Rattle.typed_tree.specs.Expressions.{Site}
 use Rattle.typed_tree.specs.Programs.{TypedSub, TypedProgram, DeclaredObject, Home, program_objects, text_io, site_of, subs_in, elaborated, elaboration, over_units, typed_program}
 use Rattle.flow_paths.specs.Objects.{Typing, is_package_object, is_state}
 use Rattle.flow_paths.specs.Laid.{typing_of, flow_program, declared_within}
-use Rattle.order_laws.specs.ScopeLaws.Code.{Once, body_seen}
-use Rattle.order_laws.specs.ScopeLaws.Code as code
-use Rattle.order_laws.proofs.ScopeLaws.Lists.{all_has}
-use Rattle.order_laws.specs.Written.{is_unit}
-use Rattle.order_laws.specs.Placed.{is_placed}
-use Rattle.order_laws.proofs.Bodies.{IsDeclare, typed_body_written}
-use Rattle.order_laws.proofs.First.{units_declare, declares_alone, declares_placed}
-use Rattle.order_laws.proofs.Parts.{number_of, part_numbers_once, part_numbers_within, part_object, object_of}
-use Rattle.order_laws.proofs.Units.{IsLocal, IsBodyOf, units_of, body_objects}
-use Rattle.typed_laws.specs.TypedSteps.Steps.{AreTyped, AreCounted}
+use Rattle.settled_types.specs.OrderLaws.ScopeLaws.Code.{Once, body_seen}
+use Rattle.settled_types.specs.OrderLaws.ScopeLaws.Code as code
+use Rattle.settled_types.proofs.OrderLaws.ScopeLaws.Lists.{all_has}
+use Rattle.settled_types.specs.OrderLaws.Written.{is_unit}
+use Rattle.settled_types.specs.OrderLaws.Placed.{is_placed}
+use Rattle.settled_types.proofs.OrderLaws.Bodies.{IsDeclare, typed_body_written}
+use Rattle.settled_types.proofs.OrderLaws.First.{units_declare, declares_alone, declares_placed}
+use Rattle.settled_types.proofs.OrderLaws.Parts.{number_of, part_numbers_once, part_numbers_within, part_object, object_of}
+use Rattle.settled_types.proofs.OrderLaws.Units.{IsLocal, IsBodyOf, units_of, body_objects}
+use Rattle.soundness.specs.TypedLaws.TypedSteps.Steps.{AreTyped, AreCounted}
 use Rattle.run_codes.specs.Lowered.{max_position}
 use Rattle.run_codes.specs.Programs.{lowered_program}
 use Rattle.sound_files.specs.TypedFiles.LoweredLaws.Lowers.{AreDefined}
 use Rattle.sound_files.proofs.TypedFiles.LoweredLaws.Programs.{is_lowered}
-use Rattle.order_laws.specs.PackageValues.Calls.{calls_nothing}
+use Rattle.settled_types.specs.OrderLaws.PackageValues.Calls.{calls_nothing}
 use Rattle.sound_files.specs.TypedFiles.LoweredFiles.Code.{code_literals}
 use Rattle.sound_files.specs.TypedFiles.LoweredFiles.Arranged.{IsArrangedSub, IsArranged}
 use Rattle.sound_files.proofs.TypedFiles.LoweredFiles.Packages.{is_packaged, units_split, declared_package, package_declared}

@@ -1,6 +1,6 @@
 -- The objects that points give room.
 use Rattle.std.proofs.Common.{◌≡◌, refl, sym, ap, ◌∙◌, subst, inl, inr, ℕ, Bool, true, false, ◌||◌, ◌==◌, List, [], ◌∷◌, ◌++◌, map, if◌then◌else◌, arith}
-use Rattle.std.proofs.lemmas.Bool.{eq-eqb}
+use Rattle.std.proofs.lemmas.Bool.{eq-eqb, false≢true}
 use Rattle.std.proofs.lemmas.List.Folds.{list_any-append}
 use Rattle.spark_base.specs.Lists.{Has}
 use Rattle.spark_base.proofs.Lists.{Has-append_cases}
@@ -102,7 +102,7 @@ formals_loop x (y ∷ formals) lacks k (inl e) is = absurd (lacks (inl (subst (�
 formals_loop x (y ∷ formals) lacks k (inr has) is = formals_loop x formals (λ more. lacks (inr more)) k has is
 
 pub loop_is : (x : ℕ) (all : List Kept) → has_room x all ≡ true → Loops x all → is_loop x all ≡ true
-loop_is x [] has loops = cc
+loop_is x [] has loops = absurd (false≢true has)
 loop_is x (k ∷ all) has loops = by (k.object == x) refl (λ later. loop_is x all later (λ j more is. loops j (inr more) is))
   where
     after : (b : Bool) → b ≡ false → b || has_room x all ≡ true → has_room x all ≡ true

@@ -11,11 +11,11 @@ use Rattle.flow_paths.specs.Instructions as instruction
 use Rattle.flow_paths.specs.Layout.{declared}
 use Rattle.flow_paths.specs.Laid.{declared_within}
 use Rattle.flow_paths.specs.Scopes.{is_within}
-use Rattle.order_laws.specs.ScopeLaws.Code.{roots, are_seen, is_seen, is_each_seen}
-use Rattle.order_laws.specs.ScopeLaws.Order.{named_in}
-use Rattle.order_laws.proofs.ScopeLaws.Lists.{and_first, and_second, within_has, has_reverse}
-use Rattle.order_laws.proofs.ScopeLaws.Ordered.{declared_within_has}
-use Rattle.order_laws.specs.Placed.{parameters}
+use Rattle.settled_types.specs.OrderLaws.ScopeLaws.Code.{roots, are_seen, is_seen, is_each_seen}
+use Rattle.settled_types.specs.OrderLaws.ScopeLaws.Order.{named_in}
+use Rattle.settled_types.proofs.OrderLaws.ScopeLaws.Lists.{and_first, and_second, within_has, has_reverse}
+use Rattle.settled_types.proofs.OrderLaws.ScopeLaws.Ordered.{declared_within_has}
+use Rattle.settled_types.specs.OrderLaws.Placed.{parameters}
 use Rattle.run_codes.specs.Lowered.{max_position}
 use Rattle.sound_files.specs.TypedFiles.LoweredLaws.Lowers.{literals, literals_in}
 use Rattle.sound_files.specs.TypedFiles.LoweredFiles.Code.{code_literals, plain_objects}

@@ -1,6 +1,7 @@
 -- The actuals of a call, one for each formal, are lowered; and so are strings.
 use Rattle.std.proofs.Common.{◌≡◌, refl, sym, ◌∙◌, subst, inl, ℕ, ◌+◌, Bool, true, false, not, List, [], ◌∷◌, map, Option, Some, None, if◌then◌else◌}
 use Rattle.std.specs.Prelude.{is_some}
+use Rattle.std.proofs.lemmas.Bool.{false≢true, true≢false}
 use Rattle.spark_base.specs.declared.position.Pos.{Pos}
 use Rattle.place_names.specs.declared.act.Mode.{Mode}
 use Rattle.place_names.specs.declared.act.Mode.TheVariants as mode
@@ -13,9 +14,9 @@ use Rattle.flow_paths.specs.Objects.{Typing, object_at, sub_at, Passing, passing
 use Rattle.flow_paths.specs.Names.{waiting}
 use Rattle.machine.specs.Evaluate.{AsValue, AsView}
 use Rattle.machine.specs.Typed.{Sort}
-use Rattle.typed_laws.specs.Fine.{Agree, counts, lists, Has}
-use Rattle.typed_laws.proofs.Agreeing.{Owns}
-use Rattle.typed_laws.specs.TypedSteps.Steps.{Taken, IsPlaceOf, IsText, IsActual, ActualsTaken, IsCall}
+use Rattle.soundness.specs.TypedLaws.Fine.{Agree, counts, lists, Has}
+use Rattle.soundness.proofs.TypedLaws.Agreeing.{Owns}
+use Rattle.soundness.specs.TypedLaws.TypedSteps.Steps.{Taken, IsPlaceOf, IsText, IsActual, ActualsTaken, IsCall}
 use Rattle.run_codes.specs.Codes.{Actual, Piece}
 use Rattle.run_codes.specs.Codes as codes
 use Rattle.run_codes.specs.Lowered.{Site, Placed, Lowered, lowered, place, value, one_type, scalar_of, option_map}
@@ -40,13 +41,13 @@ append_found None b h g = absurd h
 -- ---- types that are no scalars
 
 view_scalar : (z : Shape) → is_scalar (view_of z) ≡ false → is_some (scalar_of z) ≡ false
-view_scalar (shape.Whole low high) e = cc
-view_scalar (shape.Listed k low high) e = cc
+view_scalar (shape.Whole low high) e = absurd (true≢false e)
+view_scalar (shape.Listed k low high) e = absurd (true≢false e)
 view_scalar z e = refl
 
 owned_scalar : (f : ℕ → Bool) (z : Shape) → owns_of f z ≡ true → is_some (scalar_of z) ≡ false
-owned_scalar f (shape.Whole low high) e = cc
-owned_scalar f (shape.Listed k low high) e = cc
+owned_scalar f (shape.Whole low high) e = absurd (false≢true e)
+owned_scalar f (shape.Listed k low high) e = absurd (false≢true e)
 owned_scalar f z e = refl
 
 module _ (c : Site) (owns : Owns c.typing.table) (whole : counts (shape_of c.typing.table integer) ≡ true) (listed : lists (shape_of c.typing.table boolean) ≡ true)

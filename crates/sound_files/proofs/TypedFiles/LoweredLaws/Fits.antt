@@ -3,7 +3,7 @@ use Rattle.std.proofs.Common.{inl, inr, refl, ℕ, ◌≤◌, List}
 use Rattle.spark_base.specs.Lists.{Has}
 use Rattle.spark_base.proofs.Lists.{Has-append_left, Has-append_right}
 use Rattle.typed_tree.specs.Trees.{TypedTree, Literal, Name, Component, Designated, Element, Parens, Image, Unary, Binary, Short, IsNull, Aggregate, Alike, New, More}
-use Rattle.order_laws.specs.ScopeLaws.Code.{roots}
+use Rattle.settled_types.specs.OrderLaws.ScopeLaws.Code.{roots}
 use Rattle.run_codes.specs.Lowered.{Site, max_position}
 use Rattle.sound_files.specs.TypedFiles.LoweredLaws.Lowers.{HasRoom, literals}
 

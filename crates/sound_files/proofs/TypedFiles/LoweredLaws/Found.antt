@@ -1,6 +1,7 @@
 -- What is found, and how: of options that follow on each other.
 use Rattle.std.proofs.Common.{◌≡◌, refl, sym, subst, Bool, true, false, Option, Some, None, if◌then◌else◌}
 use Rattle.std.specs.Prelude.{option_and_then}
+use Rattle.std.proofs.lemmas.Bool.{false≢true, true≢false}
 use Rattle.run_codes.specs.Lowered.{option_map}
 
 -- There is one, and it is as told.
@@ -22,11 +23,11 @@ map_found P Q f None p next = absurd p
 
 pub if_found : {A : Type 0} (Q : A → Type 0) (b : Bool) (o : Option A) → b ≡ true → Found Q o → Found Q (if b then o else None)
 if_found Q true o e h = h
-if_found Q false o e h = cc
+if_found Q false o e h = absurd (false≢true e)
 
 pub unless_found : {A : Type 0} (Q : A → Type 0) (b : Bool) (o : Option A) → b ≡ false → Found Q o → Found Q (if b then None else o)
 unless_found Q false o e h = h
-unless_found Q true o e h = cc
+unless_found Q true o e h = absurd (true≢false e)
 
 pub either_found : {A : Type 0} (Q : A → Type 0) (b : Bool) (o r : Option A) → Found Q o → Found Q r → Found Q (if b then o else r)
 either_found Q true o r h g = h

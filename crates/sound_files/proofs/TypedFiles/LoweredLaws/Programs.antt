@@ -7,8 +7,8 @@ use Rattle.flow_paths.specs.Objects.{Typing}
 use Rattle.flow_paths.specs.Points.{FlowPoint}
 use Rattle.flow_paths.specs.Laid.{FlowSub, FlowProgram, flow_typing}
 use Rattle.machine.specs.States.{sub_of, stack_words}
-use Rattle.order_laws.specs.ScopeLaws.Order.{named_in}
-use Rattle.typed_laws.specs.TypedSteps.Steps.{IsTypedStep, IsCounted, AreCounted}
+use Rattle.settled_types.specs.OrderLaws.ScopeLaws.Order.{named_in}
+use Rattle.soundness.specs.TypedLaws.TypedSteps.Steps.{IsTypedStep, IsCounted, AreCounted}
 use Rattle.run_codes.specs.Lowered.{Kept}
 use Rattle.run_codes.specs.Programs.{Around, point_takes, objects_of, with_takes, does, point, fallen, all_points, sub_points, around, points_from, lowered_program}
 use Rattle.sound_files.specs.TypedFiles.LoweredLaws.Lowers.{literals_in, Declares, IsPlaced, IsDeclaration, site_of, ArePlaced, IsLowerable}

@@ -6,8 +6,8 @@ use Rattle.type_definitions.specs.declared.table.Shape.{Shape}
 use Rattle.type_definitions.specs.declared.table.Shape.TheVariants as shape
 use Rattle.type_definitions.specs.Types.{Table, meant_type, shape_of, components_of, view_of, is_owning, is_scalar}
 use Rattle.machine.specs.Typed.{Sort, Whole, Position, Pointer, sorts, sorts_of, same_kind, same_designated, same_sort, same_sorts, is_pointer, points_to, is_record, is_array, field_count}
-use Rattle.typed_laws.specs.Fine.{Agree, counts, lists}
-use Rattle.typed_laws.proofs.Agreeing.{Owns, one_shape, either_left, scalar_owns}
+use Rattle.soundness.specs.TypedLaws.Fine.{Agree, counts, lists}
+use Rattle.soundness.proofs.TypedLaws.Agreeing.{Owns, one_shape, either_left, scalar_owns}
 use Rattle.run_codes.specs.Lowered.{sort_of, one_type, is_composite}
 
 -- ---- scalar types
@@ -58,13 +58,13 @@ pub no_pointer : (z : Shape) (so : Sort) (d : ℕ) (k n : Bool) → IsScalarOf z
 no_pointer z so d k n is e = subst (λ z. IsScalarOf z so) e is
 
 pub no_composite : (z : Shape) (so : Sort) → IsScalarOf z so → is_record z || is_array z ≡ true → ⊥
-no_composite (shape.Whole a b) so is e = cc
-no_composite (shape.Listed k a b) so is e = cc
+no_composite (shape.Whole a b) so is e = false≢true e
+no_composite (shape.Listed k a b) so is e = false≢true e
 no_composite z so is e = absurd is
 
 pub no_elements : (z : Shape) (so : Sort) → IsScalarOf z so → is_array z ≡ true → ⊥
-no_elements (shape.Whole a b) so is e = cc
-no_elements (shape.Listed k a b) so is e = cc
+no_elements (shape.Whole a b) so is e = false≢true e
+no_elements (shape.Listed k a b) so is e = false≢true e
 no_elements z so is e = absurd is
 
 -- ---- types that agree

@@ -1,7 +1,7 @@
 -- The step of a point is lowered.
 use Rattle.std.proofs.Common.{◌≡◌, refl, sym, ap, ◌∙◌, subst, inl, inr, ℕ, zero, suc, ◌+◌, ◌<◌, Bool, true, false, not, List, [], ◌∷◌, ◌++◌, length, lt-ltb, arith, Option, Some, None, if◌then◌else◌}
 use Rattle.std.specs.Prelude.{option_and_then, slice_get, nat_lt, is_some, ℤ}
-use Rattle.std.proofs.lemmas.Bool.{false≢true}
+use Rattle.std.proofs.lemmas.Bool.{false≢true, true≢false}
 use Rattle.spark_base.specs.Lists.{Has}
 use Rattle.spark_base.proofs.Lists.{Has-append_left, Has-append_right}
 use Rattle.typed_tree.specs.declared.node.ShortCircuit.{ShortCircuit}
@@ -17,11 +17,11 @@ use Rattle.flow_paths.specs.Names.{waiting}
 use Rattle.flow_paths.specs.Points.{FlowPoint}
 use Rattle.machine.specs.Evaluate.{AsValue}
 use Rattle.machine.specs.Typed.{Sort, Whole, Position, successors}
-use Rattle.order_laws.specs.ScopeLaws.Code.{roots}
-use Rattle.order_laws.specs.ScopeLaws.Order.{named_in}
-use Rattle.typed_laws.specs.Fine.{counts, lists, Has as HasType}
-use Rattle.typed_laws.proofs.Agreeing.{Owns}
-use Rattle.typed_laws.specs.TypedSteps.Steps.{Taken, FirstTaken, FirstHas, IsPlaceOf, FirstText, IsCall, Returned, IsTypedStep}
+use Rattle.settled_types.specs.OrderLaws.ScopeLaws.Code.{roots}
+use Rattle.settled_types.specs.OrderLaws.ScopeLaws.Order.{named_in}
+use Rattle.soundness.specs.TypedLaws.Fine.{counts, lists, Has as HasType}
+use Rattle.soundness.proofs.TypedLaws.Agreeing.{Owns}
+use Rattle.soundness.specs.TypedLaws.TypedSteps.Steps.{Taken, FirstTaken, FirstHas, IsPlaceOf, FirstText, IsCall, Returned, IsTypedStep}
 use Rattle.run_codes.specs.Codes.{Does, Choice}
 use Rattle.run_codes.specs.Codes as codes
 use Rattle.run_codes.specs.Lowered.{Site, Lowered, Scalar, scalar_of, offset_of, lowered, value, option_map}
@@ -43,15 +43,15 @@ at_index (x ∷ xs) zero lt = (x, refl, inl refl)
 at_index (x ∷ xs) (suc k) lt = let more = at_index xs k (omega (arith, lt)) in (more.0, more.1, inr more.2)
 
 found_has : {A : Type 0} (xs : List A) (k : ℕ) (x : A) → slice_get xs k ≡ Some x → Has xs x
-found_has [] k x e = cc
+found_has [] k x e = absurd (false≢true (ap is_some e))
 found_has (y ∷ xs) zero x e = inl (grind (arith, e))
 found_has (y ∷ xs) (suc k) x e = inr (found_has xs k x e)
 
 own_is : (b f : Bool) → b ≡ f → (if b then f else not f) ≡ true
 own_is true true e = refl
 own_is false false e = refl
-own_is true false e = cc
-own_is false true e = cc
+own_is true false e = absurd (true≢false e)
+own_is false true e = absurd (false≢true e)
 
 counted_shape : (z : Shape) → counts z ≡ true → (low : ℤ) × (high : ℤ) × (z ≡ shape.Whole low high)
 counted_shape (shape.Whole low high) e = (low, high, refl)

@@ -1,7 +1,7 @@
 -- A value of the type of its place is lowered.
 use Rattle.std.proofs.Common.{◌≡◌, refl, sym, ap, ◌∙◌, subst, inl, inr, ℕ, suc, ◌+◌, Bool, true, false, ◌&&◌, ◌||◌, ◌==◌, Option, Some, None, if◌then◌else◌}
 use Rattle.std.specs.Prelude.{option_and_then, slice_get}
-use Rattle.std.proofs.lemmas.Bool.{eq-eqb}
+use Rattle.std.proofs.lemmas.Bool.{eq-eqb, true≢false}
 use Rattle.type_definitions.specs.declared.table.Shape.{Shape}
 use Rattle.type_definitions.specs.declared.table.Shape.TheVariants as shape
 use Rattle.type_definitions.specs.Types.{Table, shape_of, is_owning}
@@ -19,9 +19,9 @@ use Rattle.flow_paths.specs.Laid.{result_of}
 use Rattle.machine.specs.Words.{element_of, element_type, element_count}
 use Rattle.machine.specs.Evaluate.{Use, AsValue, AsView, part_type}
 use Rattle.machine.specs.Typed.{Sort, Whole, Position, sorts, is_pointer, points_to, is_record, is_array, field_count, tree_count}
-use Rattle.typed_laws.specs.Fine.{Agree, counts, lists, Has, HasParts, HasFirst, Leads, operator_type}
-use Rattle.typed_laws.proofs.Agreeing.{Owns, agree_access}
-use Rattle.typed_laws.specs.TypedSteps.Steps.{Views, Taken}
+use Rattle.soundness.specs.TypedLaws.Fine.{Agree, counts, lists, Has, HasParts, HasFirst, Leads, operator_type}
+use Rattle.soundness.proofs.TypedLaws.Agreeing.{Owns, agree_access}
+use Rattle.soundness.specs.TypedLaws.TypedSteps.Steps.{Views, Taken}
 use Rattle.run_codes.specs.Codes.{Fill}
 use Rattle.run_codes.specs.Codes as codes
 use Rattle.run_codes.specs.Lowered.{Site, Placed, Lowered, object_place, lowered, led, place, scalar, Scalar, scalar_of, same_scalar, one_type, is_access, is_composite, are_composite, is_taken, is_nth, place_value, waited_value, both, value, parts, first_value, option_map}

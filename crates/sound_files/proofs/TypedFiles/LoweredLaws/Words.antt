@@ -4,7 +4,7 @@ use Rattle.std.proofs.Common.{◌≡◌, refl, sym, ap, ◌∙◌, subst, ℕ, �
 use Rattle.std.specs.Prelude.{option_and_then, slice_get, nat_le, nat_lt}
 use Rattle.std.specs.Ordering.{int_eq}
 use Rattle.std.proofs.lemmas.Cmp.{int_eq_equiv}
-use Rattle.std.proofs.lemmas.Bool.{eq-eqb}
+use Rattle.std.proofs.lemmas.Bool.{eq-eqb, false≢true}
 use Rattle.resolved_tree.specs.declared.operator.Operator.{Operator}
 use Rattle.resolved_tree.specs.declared.operator.Operator.TheVariants as operator
 use Rattle.resolved_tree.specs.declared.operator.UnaryOperator.{UnaryOperator}
@@ -23,8 +23,8 @@ use Rattle.flow_paths.specs.Laid.{result_of}
 use Rattle.machine.specs.Words.{component_type, element_of as type_of_element, element_type}
 use Rattle.machine.specs.Evaluate.{Use, AsValue, AsView}
 use Rattle.machine.specs.Typed.{Sort, Whole, Position, Pointer, is_not, takes_whole, takes_truth, compares_words, designates, has_bounds, is_record, is_array, field_count}
-use Rattle.typed_laws.specs.Fine.{Agree, counts, lists, Has, Pointed, Leads, Takes, is_plain, operator_type}
-use Rattle.typed_laws.proofs.Agreeing.{Owns}
+use Rattle.soundness.specs.TypedLaws.Fine.{Agree, counts, lists, Has, Pointed, Leads, Takes, is_plain, operator_type}
+use Rattle.soundness.proofs.TypedLaws.Agreeing.{Owns}
 use Rattle.run_codes.specs.Codes.{Place, Waiting}
 use Rattle.run_codes.specs.Lowered.{Kept, Site, Placed, Lowered, kept_words, offset_from, offset_of, package_offset, in_frame, in_packages, object_place, component_of, element_of, designated_of, sort_of, whole_code, is_taken, loaded, named, is_nth, waited, unary as lowered_unary, binary, short_circuit, null_test, max_position, lowered, led, option_map}
 use Rattle.run_codes.specs.Codes as codes
@@ -38,7 +38,7 @@ use Rattle.sound_files.proofs.TypedFiles.LoweredLaws.Takes.{IsAt, at_first, at_n
 -- ---- rooms
 
 pub room_offset : (s : Typing) (at : ℕ) (all : List Kept) (x : ℕ) → has_room x all ≡ true → Found Any (offset_from s at all x)
-room_offset s at [] x has = cc
+room_offset s at [] x has = absurd (false≢true has)
 room_offset s at (k ∷ all) x has = by (k.object == x) has (λ more. room_offset s (at + kept_words s k) all x more)
   where
     by : (b : Bool) → b || has_room x all ≡ true → (has_room x all ≡ true → Found Any (offset_from s (at + kept_words s k) all x))
@@ -146,9 +146,9 @@ module _ (c : Site) (owns : Owns c.typing.table) (whole : counts (shape_of c.typ
   binary_found operator.LessEqual t want so to a b plain agree takes scalar operand e f = less_found operator.LessEqual t want so to a b refl refl refl agree scalar operand e f
   binary_found operator.Greater t want so to a b plain agree takes scalar operand e f = less_found operator.Greater t want so to a b refl refl refl agree scalar operand e f
   binary_found operator.GreaterEqual t want so to a b plain agree takes scalar operand e f = less_found operator.GreaterEqual t want so to a b refl refl refl agree scalar operand e f
-  binary_found operator.AndThen t want so to a b plain agree takes scalar operand e f = cc
-  binary_found operator.OrElse t want so to a b plain agree takes scalar operand e f = cc
-  binary_found operator.Concatenate t want so to a b plain agree takes scalar operand e f = cc
+  binary_found operator.AndThen t want so to a b plain agree takes scalar operand e f = absurd (false≢true plain)
+  binary_found operator.OrElse t want so to a b plain agree takes scalar operand e f = absurd (false≢true plain)
+  binary_found operator.Concatenate t want so to a b plain agree takes scalar operand e f = absurd (false≢true plain)
 
   -- ---- names
 

@@ -28,13 +28,16 @@ use Rattle.sound_files.specs.TypedFiles.LoweredSources.Tokens.{token_count}
 
 -- ---- literals are declarations
 
+from_zero : (n : ℕ) → 0 ≤ n
+from_zero n = omega arith
+
 each_counted : (new : DeclarationForm) (ids : Code) → id_count ids ≤ length (each_as new ids)
 each_counted new (More d rest) = let more = each_counted new rest in omega (arith, more)
-each_counted new ids = omega arith
+each_counted new ids = from_zero (length (each_as new ids))
 
 defined_counted : (def : Code) → defined_count def ≤ length (literals_of def)
 defined_counted (Enumeration literals) = each_counted form.Literal literals
-defined_counted def = omega arith
+defined_counted def = from_zero (length (literals_of def))
 
 two : (a b : Code) → literal_count a ≤ length (declarations a) → literal_count b ≤ length (declarations b)
     → literal_count a + literal_count b ≤ length (declarations a ++ declarations b)
@@ -58,7 +61,7 @@ counted (While p x stmts) = counted stmts
 counted (For p d reversed range stmts) = let less = counted stmts in omega (arith, less)
 counted (Block p a b end) = two a b (counted a) (counted b)
 counted (More a b) = two a b (counted a) (counted b)
-counted code = omega arith
+counted code = from_zero (length (declarations code))
 
 unit_counted : (units : List Code) (u : Code) → Has units u → length (declarations u) ≤ length (flat_map declarations units)
 unit_counted [] u has = absurd has

@@ -25,9 +25,9 @@ use Rattle.settled_types.specs.FilePositions.Order.{Ascends, event_positions}
 use Rattle.settled_types.specs.FilePositions.Texts.{AreParsed}
 use Rattle.settled_types.proofs.FilePositions.Ascending.{events_ascend}
 use Rattle.settled_types.proofs.FilePositions.Main.{files_apart, files_ended}
-use Rattle.order_laws.specs.ScopeLaws.Code.{Once}
-use Rattle.order_laws.proofs.ScopeLaws.Lists.{all_has}
-use Rattle.order_laws.proofs.Faults.{units_faultless}
+use Rattle.settled_types.specs.OrderLaws.ScopeLaws.Code.{Once}
+use Rattle.settled_types.proofs.OrderLaws.ScopeLaws.Lists.{all_has}
+use Rattle.settled_types.proofs.OrderLaws.Faults.{units_faultless}
 use Rattle.sound_files.proofs.Once.{files_once}
 use Rattle.sound_files.proofs.SeenFiles.Main.{files_seen, files_values_seen}
 use Rattle.sound_files.specs.TypedFiles.TypedRuns.Meant.{typed_in, laid_in, site_in}
@@ -41,7 +41,7 @@ use Rattle.sound_files.specs.TypedFiles.LoweredFiles.Code.{code_literals}
 use Rattle.sound_files.proofs.TypedFiles.LoweredTexts.Main.{text_lowered}
 use Rattle.sound_files.specs.TypedFiles.LoweredSources.Words.{IsWord}
 use Rattle.sound_files.specs.TypedFiles.LoweredSources.Tokens.{token_count}
-use Rattle.order_laws.proofs.PackageValues.Packages.{package_values}
+use Rattle.settled_types.proofs.OrderLaws.PackageValues.Packages.{package_values}
 use Rattle.sound_files.proofs.TypedFiles.LoweredSources.Readings.{HasWords, IsWordEntry, HasWordsAll}
 use Rattle.sound_files.proofs.TypedFiles.LoweredSources.Statements.{IsWordedSub, all_worded}
 use Rattle.sound_files.proofs.TypedFiles.LoweredSources.Few.{literals_few}

@@ -6,17 +6,17 @@ use Rattle.type_definitions.specs.Whole.{known_of, type_fault}
 use Rattle.typed_tree.specs.Programs.{TypedSub, program_objects, elaboration, over_units, subs_in}
 use Rattle.flow_paths.specs.Objects.{is_package_object}
 use Rattle.flow_paths.specs.Laid.{typing_of}
-use Rattle.order_laws.specs.ScopeLaws.Code.{Once, body_seen}
-use Rattle.order_laws.proofs.Parts.{number_of}
+use Rattle.settled_types.specs.OrderLaws.ScopeLaws.Code.{Once, body_seen}
+use Rattle.settled_types.proofs.OrderLaws.Parts.{number_of}
 use Rattle.settled_types.specs.GatheredLaws.Made.{IsMade}
 use Rattle.settled_types.proofs.GatheredLaws.Laws.{program_laws}
-use Rattle.typed_laws.specs.Fine.{Laws}
+use Rattle.soundness.specs.TypedLaws.Fine.{Laws}
 use Rattle.sound_files.specs.TypedFiles.TypedRuns.Meant.{typed_in, laid_in, site_in}
 use Rattle.sound_files.specs.TypedFiles.TypedTexts.Meant.{IsMeant}
 use Rattle.sound_files.proofs.TypedFiles.TypedTexts.Main.{types_sorted, text_typed, text_counted}
 use Rattle.run_codes.specs.Lowered.{max_position}
 use Rattle.run_codes.specs.Programs.{lowered_program}
-use Rattle.order_laws.specs.PackageValues.Calls.{calls_nothing}
+use Rattle.settled_types.specs.OrderLaws.PackageValues.Calls.{calls_nothing}
 use Rattle.sound_files.specs.TypedFiles.LoweredFiles.Code.{code_literals}
 use Rattle.sound_files.proofs.TypedFiles.LoweredFiles.Programs.{code_lowered}
 

@@ -1,5 +1,5 @@
 -- Actuals: each is a value for its formal, or a place of its type.
-use Rattle.std.proofs.Common.{◌≡◌, ◌⊎◌, refl, sym, ap, ◌∙◌, subst, inl, inr, ℕ, suc, ◌+◌, ◌<◌, Bool, true, false, not, ◌||◌, List, [], ◌∷◌, ◌++◌, map, length, get_or, nat_eq, Some, None, if◌then◌else◌, arith}
+use Rattle.std.proofs.Common.{◌≡◌, ◌⊎◌, refl, sym, ap, ◌∙◌, subst, inl, inr, ℕ, zero, suc, ◌+◌, ◌<◌, Bool, true, false, not, ◌||◌, List, [], ◌∷◌, ◌++◌, map, length, get_or, nat_eq, Some, None, if◌then◌else◌, arith}
 use Rattle.std.specs.Prelude.{is_some}
 use Rattle.std.proofs.lemmas.Bool.{eqb-true, false≢true, true≢false}
 use Rattle.spark_base.specs.declared.position.Pos.{Pos}
@@ -27,10 +27,10 @@ use Rattle.typed_tree.specs.Expressions.{Site, sub_number, typed_expression, typ
 use Rattle.flow_paths.specs.Objects.{Typing, Signature, object_at, sub_at}
 use Rattle.flow_paths.specs.Objects as flow
 use Rattle.type_definitions.specs.Types.{is_owning}
-use Rattle.typed_laws.specs.Fine.{Agree, Has, Laws, IsMeant, AreArguments}
-use Rattle.typed_laws.proofs.Agreeing.{of_known, holds, nil_left, nil_right, and_left, and_right, agree_trans, agree_access, agree_owns, retyped, is_free}
-use Rattle.typed_laws.proofs.Assigns as assigns
-use Rattle.typed_laws.proofs.Main.{has_type}
+use Rattle.soundness.specs.TypedLaws.Fine.{Agree, Has, Laws, IsMeant, AreArguments}
+use Rattle.soundness.proofs.TypedLaws.Agreeing.{of_known, holds, nil_left, nil_right, and_left, and_right, agree_trans, agree_access, agree_owns, retyped, is_free}
+use Rattle.soundness.proofs.TypedLaws.Assigns as assigns
+use Rattle.soundness.proofs.TypedLaws.Main.{has_type}
 use Rattle.type_definitions.specs.declared.table.Shape.{Shape}
 use Rattle.typed_tree.specs.Trees.{NoMore}
 use Rattle.type_definitions.specs.Types.{is_same, view_of}
@@ -38,13 +38,13 @@ use Rattle.type_definitions.specs.Faults.{K6}
 use Rattle.type_definitions.specs.declared.judgement.Own.{Own}
 use Rattle.type_definitions.specs.Expressions.{own_owning, reading_access, traversed_fits, behind, way_of, is_object}
 use Rattle.machine.specs.Typed.{same_kind}
-use Rattle.typed_laws.proofs.Steps.{seen_access}
-use Rattle.typed_laws.proofs.Named.{named_has}
-use Rattle.typed_laws.proofs.Cases.{is_access_view, one_base}
-use Rattle.typed_laws.proofs.Main.{fine_suffixes}
-use Rattle.typed_laws.proofs.TypedPoints.Sources.{anonymous_shape}
-use Rattle.typed_laws.specs.TypedSteps.Steps.{IsViewed, Views}
-use Rattle.typed_laws.specs.TypedSteps.Steps.{Taken, IsPlaceOf, IsActual, ActualsTaken, IsCall}
+use Rattle.soundness.proofs.TypedLaws.Steps.{seen_access}
+use Rattle.soundness.proofs.TypedLaws.Named.{named_has}
+use Rattle.soundness.proofs.TypedLaws.Cases.{is_access_view, one_base}
+use Rattle.soundness.proofs.TypedLaws.Main.{fine_suffixes}
+use Rattle.soundness.proofs.TypedLaws.TypedPoints.Sources.{anonymous_shape}
+use Rattle.soundness.specs.TypedLaws.TypedSteps.Steps.{IsViewed, Views}
+use Rattle.soundness.specs.TypedLaws.TypedSteps.Steps.{Taken, IsPlaceOf, IsActual, ActualsTaken, IsCall}
 use Rattle.sound_files.specs.TypedFiles.TypedRuns.Code.{IsName, IsNamedOwner, NamesOwner, NamesOwners, NamesFirst, ArePassed}
 use Rattle.sound_files.specs.TypedFiles.TypedRuns.Formals.{AreSameViews, IsFormal, AreFormals, formals_of, IsProfiled}
 use Rattle.sound_files.proofs.TypedFiles.TypedRuns.Owners.{anonymous_apart, owner_named, object_named}
@@ -76,6 +76,10 @@ agree_back table t u (inr e) = inr (kind_back (shape_of table t) (shape_of table
     kind_back (shape.Whole u v) b e = absurd (false≢true e)
     kind_back (shape.Listed k u v) b e = absurd (false≢true e)
     kind_back a b e = absurd (false≢true e)
+
+abbrev is_nought : ℕ → Bool
+is_nought zero = true
+is_nought (suc n) = false
 
 module _ (s : Site) (objects : List Object) (subs : List Signature) (made : ℕ → Type 0) (laws : Laws s.context.known made) where
   abbrev y : Typing
@@ -411,13 +415,13 @@ module _ (s : Site) (objects : List Object) (subs : List Signature) (made : ℕ 
               (let n = count in omega (arith, n)) all meant.1 (nil_right (inside c info.traversed info.of e) _ later),
         )
     by_position (Argument (Some w) e more) i xs rest are same count all meant none = absurd (false≢true all)
-    by_position (Argument None e more) i [] [] are same count all meant none = cc
+    by_position (Argument None e more) i [] [] are same count all meant none = absurd (false≢true (ap is_nought count))
     by_position (Argument None e more) i (x ∷ xs) [] are same count all meant none = absurd are
     by_position (Argument None e more) i [] (k ∷ rest) are same count all meant none = absurd are
     by_position args i [] [] are same count all meant none = tt
     by_position args i (x ∷ xs) [] are same count all meant none = absurd are
     by_position args i [] (k ∷ rest) are same count all meant none = absurd are
-    by_position args i (x ∷ xs) (k ∷ rest) are same count all meant none = cc
+    by_position args i (x ∷ xs) (k ∷ rest) are same count all meant none = absurd (true≢false (ap is_nought count))
 
     -- The value that is given by a name.
     value_given : (args : Tree) (i x : ℕ) (k : FormalInfo) (w : List ℕ) → IsFormal y x k → made k.of

@@ -13,11 +13,11 @@ use Rattle.typed_tree.specs.declared.object.Object.{Object}
 use Rattle.typed_tree.specs.Expressions.{Site}
 use Rattle.typed_tree.specs.Statements.{scope_count, statements, typed_body}
 use Rattle.flow_paths.specs.Objects.{Typing, Signature}
-use Rattle.typed_laws.specs.Fine.{Laws}
-use Rattle.typed_laws.proofs.Agreeing.{nil_left, nil_right}
-use Rattle.typed_laws.specs.TypedPoints.Meant.{IsMeantCode, AreAlternatives}
-use Rattle.typed_laws.proofs.TypedPoints.Flags.{flagged}
-use Rattle.typed_laws.proofs.TypedPoints.Statements.{result_in}
+use Rattle.soundness.specs.TypedLaws.Fine.{Laws}
+use Rattle.soundness.proofs.TypedLaws.Agreeing.{nil_left, nil_right}
+use Rattle.soundness.specs.TypedLaws.TypedPoints.Meant.{IsMeantCode, AreAlternatives}
+use Rattle.soundness.proofs.TypedLaws.TypedPoints.Flags.{flagged}
+use Rattle.soundness.proofs.TypedLaws.TypedPoints.Statements.{result_in}
 use Rattle.sound_files.specs.TypedFiles.TypedRuns.Code.{IsTypedCode}
 use Rattle.sound_files.specs.TypedFiles.TypedRuns.Formals.{AreProfiled}
 use Rattle.sound_files.specs.TypedFiles.TypedRuns.Bounds.{HaveBounds}

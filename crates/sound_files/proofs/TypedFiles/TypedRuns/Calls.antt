@@ -27,11 +27,11 @@ use Rattle.typed_tree.specs.Expressions.{Site, sub_number, typed_expression, typ
 use Rattle.typed_tree.specs.Statements.{typed_text, typed_call, call_of, predefined_call}
 use Rattle.flow_paths.specs.Instructions as instruction
 use Rattle.flow_paths.specs.Objects.{Typing, Signature}
-use Rattle.typed_laws.specs.Fine.{Agree, Laws, IsMeant, AreSuffixes, IsSuffix, AreArguments}
-use Rattle.typed_laws.proofs.Agreeing.{holds, nil_left, nil_right, and_left, and_right, agree_access, agree_counts, is_free}
-use Rattle.typed_laws.proofs.TypedPoints.Flags.{flagged, at_flags, typed_same, meant_same}
-use Rattle.typed_laws.proofs.TypedPoints.Strings.{string_own}
-use Rattle.typed_laws.specs.TypedSteps.Steps.{IsPlaceOf, FirstText, IsText, IsCall}
+use Rattle.soundness.specs.TypedLaws.Fine.{Agree, Laws, IsMeant, AreSuffixes, IsSuffix, AreArguments}
+use Rattle.soundness.proofs.TypedLaws.Agreeing.{holds, nil_left, nil_right, and_left, and_right, agree_access, agree_counts, is_free}
+use Rattle.soundness.proofs.TypedLaws.TypedPoints.Flags.{flagged, at_flags, typed_same, meant_same}
+use Rattle.soundness.proofs.TypedLaws.TypedPoints.Strings.{string_own}
+use Rattle.soundness.specs.TypedLaws.TypedSteps.Steps.{IsPlaceOf, FirstText, IsText, IsCall}
 use Rattle.sound_files.specs.TypedFiles.TypedRuns.Code.{ArePassed, IsTypedUse, IsTypedCode, Within}
 use Rattle.sound_files.specs.TypedFiles.TypedRuns.Formals.{AreProfiled}
 use Rattle.sound_files.proofs.TypedFiles.TypedRuns.Actuals.{variable_placed}

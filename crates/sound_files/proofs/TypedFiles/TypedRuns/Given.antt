@@ -2,6 +2,7 @@
 -- value is made of it, or it stands alone for a place of an anonymous access type.
 use Rattle.std.proofs.Common.{◌≡◌, refl, sym, ap, ◌∙◌, subst, ◌⊎◌, inl, inr, ℕ, zero, suc, Bool, true, false, ◌||◌, List, [], ◌∷◌, get_or, Option, Some, None}
 use Rattle.std.proofs.lemmas.Bool.{false≢true, true≢false}
+use Rattle.std.specs.Prelude.{is_some}
 use Rattle.spark_base.specs.Lists.{Has as Holds}
 use Rattle.spark_base.specs.declared.position.Pos.{Pos}
 use Rattle.place_names.specs.declared.act.Mode.{Mode}
@@ -21,10 +22,10 @@ use Rattle.flow_paths.specs.Objects.{Typing, object_at, sub_at, traverses, is_an
 use Rattle.machine.specs.Evaluate.{part_type}
 use Rattle.machine.specs.Typed.{is_record, is_array, same_kind}
 use Rattle.machine.specs.Words.{component_type, element_type, element_of, no_component}
-use Rattle.typed_laws.specs.Fine.{Agree, Has, HasParts, HasFirst, Pointed, Leads}
-use Rattle.typed_laws.proofs.Agreeing.{Owns, one_shape, agree_owns}
-use Rattle.typed_laws.specs.TypedSteps.Steps.{Views, IsViewed, Taken, FirstTaken, FirstHas, IsPlaceOf, IsText, FirstText, IsActual, ActualsTaken, Returned}
-use Rattle.order_laws.specs.ScopeLaws.Alone.{CallsFit, CallsOnly, PassedFit, ValueFits, StoredFits, CodeFits, BranchesFit, BranchFits, AlternativesFit, AlternativeFits, GivesScalar, GivesOwnless, GivesNamed, GivesSeen}
+use Rattle.soundness.specs.TypedLaws.Fine.{Agree, Has, HasParts, HasFirst, Pointed, Leads}
+use Rattle.soundness.proofs.TypedLaws.Agreeing.{Owns, one_shape, agree_owns}
+use Rattle.soundness.specs.TypedLaws.TypedSteps.Steps.{Views, IsViewed, Taken, FirstTaken, FirstHas, IsPlaceOf, IsText, FirstText, IsActual, ActualsTaken, Returned}
+use Rattle.settled_types.specs.OrderLaws.ScopeLaws.Alone.{CallsFit, CallsOnly, PassedFit, ValueFits, StoredFits, CodeFits, BranchesFit, BranchFits, AlternativesFit, AlternativeFits, GivesScalar, GivesOwnless, GivesNamed, GivesSeen}
 use Rattle.sound_files.specs.TypedFiles.TypedRuns.Code.{IsName, IsNamedOwner, NamesOwner, NamesOwners, NamesFirst, GivesNoView, Within, WithinSource, FirstWithin, AssignedWithin, ReturnedWithin, IsTypedCode}
 
 -- ---- types

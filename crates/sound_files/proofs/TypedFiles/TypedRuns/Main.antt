@@ -1,7 +1,8 @@
 -- The law: the steps of a program without a fault of typing have expressions of the types of their places.
-use Rattle.std.proofs.Common.{◌≡◌, refl, subst, inl, inr, ℕ, ◌+◌, true, false, List, [], ◌∷◌, ◌++◌, Option, None, Some, if◌then◌else◌}
-use Rattle.std.specs.Prelude.{flat_map}
+use Rattle.std.proofs.Common.{◌≡◌, refl, subst, inl, inr, ℕ, ◌+◌, true, false, List, [], ◌∷◌, ◌++◌, Option, None, Some, if◌then◌else◌, ap}
+use Rattle.std.specs.Prelude.{flat_map, is_some}
 use Rattle.std.specs.List.{AllByRecursion}
+use Rattle.std.proofs.lemmas.Bool.{true≢false}
 use Rattle.spark_base.specs.Lists.{Has}
 use Rattle.resolved_tree.specs.Trees.{Code, More, SubBody, Package, PackageBody, Program}
 use Rattle.type_definitions.specs.declared.table.Known.{Known}
@@ -18,10 +19,10 @@ use Rattle.typed_tree.specs.Programs as programs
 use Rattle.flow_paths.specs.Objects.{Typing, Signature}
 use Rattle.flow_paths.specs.Points.{FlowPoint}
 use Rattle.flow_paths.specs.Laid.{FlowSub, flow_typing}
-use Rattle.typed_laws.specs.Fine.{Laws}
-use Rattle.typed_laws.proofs.Agreeing.{nil_left, nil_right}
-use Rattle.typed_laws.specs.TypedPoints.Meant.{AreMeantBodies, AreMeantObjects}
-use Rattle.typed_laws.specs.TypedSteps.Steps.{AreTyped}
+use Rattle.soundness.specs.TypedLaws.Fine.{Laws}
+use Rattle.soundness.proofs.TypedLaws.Agreeing.{nil_left, nil_right}
+use Rattle.soundness.specs.TypedLaws.TypedPoints.Meant.{AreMeantBodies, AreMeantObjects}
+use Rattle.soundness.specs.TypedLaws.TypedSteps.Steps.{AreTyped}
 use Rattle.sound_files.specs.TypedFiles.TypedRuns.Code.{IsTypedUse, IsTypedCode}
 use Rattle.sound_files.specs.TypedFiles.TypedRuns.Formals.{AreProfiled}
 use Rattle.sound_files.specs.TypedFiles.TypedRuns.Bounds.{HaveBounds}
@@ -32,7 +33,7 @@ use Rattle.sound_files.proofs.TypedFiles.TypedRuns.Laid.{laid_typing, laid_typed
 -- ---- faults
 
 noted_some : (f : Fault) (faults : List Fault) → first (f ∷ faults) ≡ None → ⊥
-noted_some f [] e = cc
+noted_some f [] e = true≢false (ap is_some e)
 noted_some f (g ∷ faults) e = noted_some (if precedes g f then g else f) faults e
 
 first_none : (faults : List Fault) → first faults ≡ None → faults ≡ []
@@ -41,12 +42,12 @@ first_none (f ∷ faults) e = absurd (noted_some f faults e)
 
 told_none : (found asked : Option TypeFault) → told found asked ≡ None → found ≡ None
 told_none None asked e = refl
-told_none (Some f) None e = cc
-told_none (Some f) (Some g) e = cc
+told_none (Some f) None e = absurd (true≢false (ap is_some e))
+told_none (Some f) (Some g) e = absurd (true≢false (ap is_some e))
 
 decided_none : (sizes sentences : Option Fault) → decided sizes sentences ≡ None → sentences ≡ None
-decided_none (Some f) k e = cc
-decided_none None (Some f) e = cc
+decided_none (Some f) k e = absurd (true≢false (ap is_some e))
+decided_none None (Some f) e = absurd (true≢false (ap is_some e))
 decided_none None None e = refl
 
 no_fault : (p : Program) → type_fault p ≡ None → sentence_faults (known_of p) p.units ≡ []

@@ -22,8 +22,8 @@ use Rattle.typed_tree.specs.Trees as typed
 use Rattle.typed_tree.specs.declared.object.Object.{Object}
 use Rattle.typed_tree.specs.Expressions.{Site, typed_expression, typed_name, typed_steps, typed_actuals, typed_imaged, called_function, object_type, operands}
 use Rattle.flow_paths.specs.Objects.{Typing, Signature}
-use Rattle.typed_laws.specs.Fine.{Agree, Has, Laws, counts, lists}
-use Rattle.typed_laws.proofs.Agreeing.{either_left, either_right, agree_counts, agree_lists, scalar_owns}
+use Rattle.soundness.specs.TypedLaws.Fine.{Agree, Has, Laws, counts, lists}
+use Rattle.soundness.proofs.TypedLaws.Agreeing.{either_left, either_right, agree_counts, agree_lists, scalar_owns}
 use Rattle.sound_files.specs.TypedFiles.TypedRuns.Code.{IsName, IsNamedOwner}
 
 module _ (s : Site) (objects : List Object) (subs : List Signature) (made : ℕ → Type 0) (laws : Laws s.context.known made) where

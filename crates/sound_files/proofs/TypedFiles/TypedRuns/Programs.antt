@@ -10,9 +10,9 @@ use Rattle.flow_paths.specs.Objects.{Typing}
 use Rattle.flow_paths.specs.Points.{FlowPoint}
 use Rattle.flow_paths.specs.Laid.{FlowSub, FlowProgram, flow_typing}
 use Rattle.machine.specs.Typed.{successors, is_typed_instruction, is_typed_point, is_typed_sub, is_elaboration, are_typed_subs, is_typed}
-use Rattle.typed_laws.specs.Fine.{counts, lists}
-use Rattle.typed_laws.proofs.Agreeing.{Owns}
-use Rattle.typed_laws.specs.TypedSteps.Steps.{IsTypedStep, AreTyped, IsCounted, AreElaborated, AreCounted}
+use Rattle.soundness.specs.TypedLaws.Fine.{counts, lists}
+use Rattle.soundness.proofs.TypedLaws.Agreeing.{Owns}
+use Rattle.soundness.specs.TypedLaws.TypedSteps.Steps.{IsTypedStep, AreTyped, IsCounted, AreElaborated, AreCounted}
 use Rattle.sound_files.proofs.TypedFiles.TypedRuns.Words.{SortsLaw, typed_step}
 
 both_true : (a b : Bool) → a ≡ true → b ≡ true → a && b ≡ true

@@ -26,14 +26,14 @@ use Rattle.typed_tree.specs.declared.object.Object.{Object}
 use Rattle.typed_tree.specs.Expressions.{Site, object_number}
 use Rattle.typed_tree.specs.Statements.{typed_range, range_of, bounds_seen, array_seen}
 use Rattle.flow_paths.specs.Objects.{Typing, Signature, object_at}
-use Rattle.typed_laws.specs.Fine.{Agree, Has, Laws, counts, lists}
+use Rattle.soundness.specs.TypedLaws.Fine.{Agree, Has, Laws, counts, lists}
 use Rattle.machine.specs.Typed.{same_kind}
-use Rattle.typed_laws.proofs.Agreeing.{of_known, holds, and_left, nil_left, nil_right, one_shape, retyped, is_free}
-use Rattle.typed_laws.proofs.Steps.{seen_elements}
-use Rattle.typed_laws.specs.TypedPoints.Meant.{IsParameter, IsMeantRange}
-use Rattle.typed_laws.proofs.TypedPoints.Flags.{flagged, reading_same, own_same}
-use Rattle.typed_laws.proofs.TypedPoints.Values.{seen_full, numbers, scalar_at}
-use Rattle.typed_laws.proofs.TypedPoints.Statements.{marked_made}
+use Rattle.soundness.proofs.TypedLaws.Agreeing.{of_known, holds, and_left, nil_left, nil_right, one_shape, retyped, is_free}
+use Rattle.soundness.proofs.TypedLaws.Steps.{seen_elements}
+use Rattle.soundness.specs.TypedLaws.TypedPoints.Meant.{IsParameter, IsMeantRange}
+use Rattle.soundness.proofs.TypedLaws.TypedPoints.Flags.{flagged, reading_same, own_same}
+use Rattle.soundness.proofs.TypedLaws.TypedPoints.Values.{seen_full, numbers, scalar_at}
+use Rattle.soundness.proofs.TypedLaws.TypedPoints.Statements.{marked_made}
 use Rattle.sound_files.specs.TypedFiles.TypedRuns.Code.{Within}
 use Rattle.sound_files.specs.TypedFiles.TypedRuns.Formals.{AreProfiled}
 use Rattle.sound_files.specs.TypedFiles.TypedRuns.Bounds.{HaveBounds}

@@ -1,6 +1,8 @@
 -- What functions give in the code of a program without a fault of typing is as it is asked for: of scalar types in names and scalar
 -- expressions; of types that own nothing in actuals; and of an anonymous access type only where it stands alone.
-use Rattle.std.proofs.Common.{◌≡◌, refl, sym, subst, inl, inr, ℕ, Bool, true, false, List, ◌∷◌, Some, None}
+use Rattle.std.proofs.Common.{◌≡◌, refl, sym, subst, inl, inr, ℕ, Bool, true, false, List, ◌∷◌, Some, None, ap}
+use Rattle.std.proofs.lemmas.Bool.{false≢true}
+use Rattle.std.specs.Prelude.{is_some}
 use Rattle.spark_base.specs.Lists.{Has}
 use Rattle.resolved_tree.specs.Trees.{Program}
 use Rattle.type_definitions.specs.declared.table.Shape.TheVariants as shape
@@ -12,9 +14,9 @@ use Rattle.flow_paths.specs.Objects.{Typing, sub_at, traverses, is_anonymous, vi
 use Rattle.flow_paths.specs.Laid.{typing_of, flow_typing}
 use Rattle.flow_paths.specs.Views.{traversed_of}
 use Rattle.machine.specs.Words.{component_type, element_type}
-use Rattle.typed_laws.proofs.Agreeing.{Owns}
-use Rattle.order_laws.specs.ScopeLaws.Code.{Once}
-use Rattle.order_laws.specs.ScopeLaws.Alone.{ResultsFit}
+use Rattle.soundness.proofs.TypedLaws.Agreeing.{Owns}
+use Rattle.settled_types.specs.OrderLaws.ScopeLaws.Code.{Once}
+use Rattle.settled_types.specs.OrderLaws.ScopeLaws.Alone.{ResultsFit}
 use Rattle.sound_files.specs.TypedFiles.TypedRuns.Code.{IsTypedCode}
 use Rattle.sound_files.specs.TypedFiles.TypedRuns.Meant.{typed_in, laid_in, typing_laid}
 use Rattle.sound_files.proofs.TypedFiles.TypedRuns.Given.{AreSettled, code_fits}
@@ -30,7 +32,7 @@ FormalsDiffer y = (n : ℕ) → Once (sub_at y n).formals
 
 first_there : (b : Bool) (x : ℕ) (rest : List ℕ) (z : ℕ) → traversed_of b (x ∷ rest) ≡ Some z → (b ≡ true) × (x ≡ z)
 first_there true x rest z is = (refl, (let same : Some x ≡ Some z = is in let one : x ≡ z = cc in one))
-first_there false x rest z is = (let never : None ≡ Some z = is in cc)
+first_there false x rest z is = (let never : None ≡ Some z = is in absurd (false≢true (ap is_some never)))
 
 module _ (p : Program) (owns : Owns (known_of p).table) (integers : is_scalar (full (known_of p).table integer) ≡ true) (truths : is_scalar (full (known_of p).table boolean) ≡ true)
     (component : (t i : ℕ) → is_anonymous (full (known_of p).table (component_type (known_of p).table t i)) ≡ false)

@@ -17,11 +17,11 @@ use Rattle.typed_tree.specs.declared.object.Object.{Object}
 use Rattle.typed_tree.specs.Trees.{TypedTree}
 use Rattle.typed_tree.specs.Expressions.{Site, typed_expression, typed_name, typed_steps, typed_actuals, typed_imaged, called_function, object_type}
 use Rattle.flow_paths.specs.Objects.{Typing, Signature}
-use Rattle.typed_laws.specs.Fine.{Has, Laws, IsMeant}
-use Rattle.typed_laws.proofs.Agreeing.{holds, nil_left, nil_right, and_left, is_free}
-use Rattle.typed_laws.proofs.TypedPoints.Flags.{flagged, at_flags, typed_same, meant_same}
-use Rattle.typed_laws.proofs.TypedPoints.Values.{has_at, unwanted, scalar_own_type}
-use Rattle.typed_laws.specs.TypedSteps.Steps.{Taken}
+use Rattle.soundness.specs.TypedLaws.Fine.{Has, Laws, IsMeant}
+use Rattle.soundness.proofs.TypedLaws.Agreeing.{holds, nil_left, nil_right, and_left, is_free}
+use Rattle.soundness.proofs.TypedLaws.TypedPoints.Flags.{flagged, at_flags, typed_same, meant_same}
+use Rattle.soundness.proofs.TypedLaws.TypedPoints.Values.{has_at, unwanted, scalar_own_type}
+use Rattle.soundness.specs.TypedLaws.TypedSteps.Steps.{Taken}
 use Rattle.sound_files.specs.TypedFiles.TypedRuns.Code.{Within, WithinSource, IsViewSource}
 use Rattle.sound_files.specs.TypedFiles.TypedRuns.Formals.{AreProfiled}
 use Rattle.sound_files.proofs.TypedFiles.TypedRuns.Views.{source_taken, return_taken, formal_taken}

@@ -26,14 +26,14 @@ use Rattle.typed_tree.specs.Expressions.{Site, typed_expression, typed_optional}
 use Rattle.typed_tree.specs.Statements.{type_read, typed_object, returned_type}
 use Rattle.flow_paths.specs.Objects.{Typing, Signature}
 use Rattle.flow_paths.specs.Objects as flow
-use Rattle.typed_laws.specs.Fine.{Has, Laws, IsMeant}
-use Rattle.typed_laws.proofs.Agreeing.{holds, and_left, nil_left, nil_right, is_free}
-use Rattle.typed_laws.proofs.Assigns as assigns
-use Rattle.typed_laws.specs.TypedPoints.Meant.{IsMeantOptional, AreDeclared, AreNumbers}
-use Rattle.typed_laws.proofs.TypedPoints.Flags.{flagged, at_flags, typed_same, meant_same, reading_same}
-use Rattle.typed_laws.proofs.TypedPoints.Values.{seen_full, scalar_at}
-use Rattle.typed_laws.proofs.TypedPoints.Statements.{result_given, marked_made}
-use Rattle.typed_laws.specs.TypedSteps.Steps.{FirstHas, FirstTaken, IsPlaceOf, Returned, Taken}
+use Rattle.soundness.specs.TypedLaws.Fine.{Has, Laws, IsMeant}
+use Rattle.soundness.proofs.TypedLaws.Agreeing.{holds, and_left, nil_left, nil_right, is_free}
+use Rattle.soundness.proofs.TypedLaws.Assigns as assigns
+use Rattle.soundness.specs.TypedLaws.TypedPoints.Meant.{IsMeantOptional, AreDeclared, AreNumbers}
+use Rattle.soundness.proofs.TypedLaws.TypedPoints.Flags.{flagged, at_flags, typed_same, meant_same, reading_same}
+use Rattle.soundness.proofs.TypedLaws.TypedPoints.Values.{seen_full, scalar_at}
+use Rattle.soundness.proofs.TypedLaws.TypedPoints.Statements.{result_given, marked_made}
+use Rattle.soundness.specs.TypedLaws.TypedSteps.Steps.{FirstHas, FirstTaken, IsPlaceOf, Returned, Taken}
 use Rattle.sound_files.specs.TypedFiles.TypedRuns.Code.{IsTypedCode, Within, WithinSource, FirstWithin, AssignedWithin, ReturnedWithin, IsViewSource}
 use Rattle.sound_files.specs.TypedFiles.TypedRuns.Formals.{AreProfiled}
 use Rattle.sound_files.proofs.TypedFiles.TypedRuns.Within.{view_plain, plain_within}

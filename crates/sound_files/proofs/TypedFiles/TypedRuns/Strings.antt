@@ -17,13 +17,13 @@ use Rattle.type_definitions.specs.Expressions.{own_of, own_type, inside, around,
 use Rattle.typed_tree.specs.declared.object.Object.{Object}
 use Rattle.typed_tree.specs.Expressions.{Site, typed_expression, typed_name, typed_imaged, typed_first, typed_steps, typed_actuals, object_type, called_function, operands}
 use Rattle.flow_paths.specs.Objects.{Typing, Signature}
-use Rattle.typed_laws.specs.Fine.{Has, Laws, IsMeant, AreSuffixes, IsSuffix, AreArguments}
-use Rattle.typed_laws.proofs.Agreeing.{nil_left, nil_right}
-use Rattle.typed_laws.proofs.Main.{has_type}
-use Rattle.typed_laws.proofs.TypedPoints.Statements.{based_scalar}
-use Rattle.typed_laws.proofs.TypedPoints.Strings.{string_own}
-use Rattle.typed_laws.specs.TypedSteps.Steps.{IsText}
-use Rattle.typed_laws.proofs.TypedPoints.Images.{IsImage, image_read, join_only}
+use Rattle.soundness.specs.TypedLaws.Fine.{Has, Laws, IsMeant, AreSuffixes, IsSuffix, AreArguments}
+use Rattle.soundness.proofs.TypedLaws.Agreeing.{nil_left, nil_right}
+use Rattle.soundness.proofs.TypedLaws.Main.{has_type}
+use Rattle.soundness.proofs.TypedLaws.TypedPoints.Statements.{based_scalar}
+use Rattle.soundness.proofs.TypedLaws.TypedPoints.Strings.{string_own}
+use Rattle.soundness.specs.TypedLaws.TypedSteps.Steps.{IsText}
+use Rattle.soundness.proofs.TypedLaws.TypedPoints.Images.{IsImage, image_read, join_only}
 use Rattle.sound_files.proofs.TypedFiles.TypedRuns.Within.{imaged_same}
 
 module _ (s : Site) (objects : List Object) (subs : List Signature) (made : ℕ → Type 0) (laws : Laws s.context.known made) where

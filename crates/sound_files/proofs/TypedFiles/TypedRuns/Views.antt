@@ -23,14 +23,14 @@ use Rattle.typed_tree.specs.declared.object.Object.{Object}
 use Rattle.typed_tree.specs.Expressions.{Site, typed_expression, typed_name, typed_steps, typed_actuals, typed_imaged, called_function, object_type}
 use Rattle.flow_paths.specs.Objects.{Typing, Signature}
 use Rattle.machine.specs.Typed.{is_record, is_array, same_kind}
-use Rattle.typed_laws.specs.Fine.{Agree, Has, Laws, IsMeant, counts, lists}
-use Rattle.typed_laws.proofs.Agreeing.{of_known, holds, nil_left, nil_right, and_left, and_right, agree_trans, agree_counts, agree_lists, one_shape, is_free}
-use Rattle.typed_laws.proofs.Steps.{seen_access}
-use Rattle.typed_laws.proofs.Named.{named_has}
-use Rattle.typed_laws.proofs.Cases.{is_access_view, not_off, one_base}
-use Rattle.typed_laws.proofs.Main.{fine, fine_suffixes}
-use Rattle.typed_laws.proofs.TypedPoints.Sources.{anonymous_shape}
-use Rattle.typed_laws.specs.TypedSteps.Steps.{Taken}
+use Rattle.soundness.specs.TypedLaws.Fine.{Agree, Has, Laws, IsMeant, counts, lists}
+use Rattle.soundness.proofs.TypedLaws.Agreeing.{of_known, holds, nil_left, nil_right, and_left, and_right, agree_trans, agree_counts, agree_lists, one_shape, is_free}
+use Rattle.soundness.proofs.TypedLaws.Steps.{seen_access}
+use Rattle.soundness.proofs.TypedLaws.Named.{named_has}
+use Rattle.soundness.proofs.TypedLaws.Cases.{is_access_view, not_off, one_base}
+use Rattle.soundness.proofs.TypedLaws.Main.{fine, fine_suffixes}
+use Rattle.soundness.proofs.TypedLaws.TypedPoints.Sources.{anonymous_shape}
+use Rattle.soundness.specs.TypedLaws.TypedSteps.Steps.{Taken}
 use Rattle.sound_files.proofs.TypedFiles.TypedRuns.Actuals.{agree_back}
 
 -- ---- shapes

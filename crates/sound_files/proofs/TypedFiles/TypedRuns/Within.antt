@@ -40,19 +40,19 @@ use Rattle.typed_tree.specs.declared.object.Object.{Object}
 use Rattle.typed_tree.specs.Expressions.{Site, number, value_of_type, sub_number, typed_expression, typed_name, typed_steps, typed_step, typed_actuals, typed_imaged, typed_first, typed_values, object_type, called_function, operands, designating, element, component_number, named_value, arranged, role_names}
 use Rattle.flow_paths.specs.Objects.{Typing, Signature, sub_at}
 use Rattle.flow_paths.specs.Objects as flow
-use Rattle.typed_laws.specs.Fine.{Has, Laws, IsMeant, AreSuffixes, IsSuffix, AreArguments}
-use Rattle.typed_laws.proofs.Agreeing.{holds, nil_left, nil_right, and_left, not_true}
-use Rattle.typed_laws.proofs.Readings.{call_of, place_along}
-use Rattle.typed_laws.proofs.Steps.{seen_elements}
-use Rattle.typed_laws.proofs.Cases.{mark_denotes, marked_is}
-use Rattle.typed_laws.proofs.Main.{fine, has_type}
-use Rattle.typed_laws.proofs.TypedPoints.Values.{unwanted, scalar_own_type}
-use Rattle.typed_laws.proofs.TypedPoints.Statements.{based_scalar}
-use Rattle.typed_laws.specs.TypedSteps.Steps.{IsCall}
+use Rattle.soundness.specs.TypedLaws.Fine.{Has, Laws, IsMeant, AreSuffixes, IsSuffix, AreArguments}
+use Rattle.soundness.proofs.TypedLaws.Agreeing.{holds, nil_left, nil_right, and_left, not_true}
+use Rattle.soundness.proofs.TypedLaws.Readings.{call_of, place_along}
+use Rattle.soundness.proofs.TypedLaws.Steps.{seen_elements}
+use Rattle.soundness.proofs.TypedLaws.Cases.{mark_denotes, marked_is}
+use Rattle.soundness.proofs.TypedLaws.Main.{fine, has_type}
+use Rattle.soundness.proofs.TypedLaws.TypedPoints.Values.{unwanted, scalar_own_type}
+use Rattle.soundness.proofs.TypedLaws.TypedPoints.Statements.{based_scalar}
+use Rattle.soundness.specs.TypedLaws.TypedSteps.Steps.{IsCall}
 use Rattle.sound_files.specs.TypedFiles.TypedRuns.Code.{ArePassed, GivesNoView, Within, WithinSource}
 use Rattle.sound_files.specs.TypedFiles.TypedRuns.Formals.{formals_of, IsProfiled, AreProfiled}
 use Rattle.sound_files.proofs.TypedFiles.TypedRuns.Actuals.{tight, traversed_named, call_given}
-use Rattle.typed_laws.proofs.TypedPoints.Images.{IsImage, image_read, join_only}
+use Rattle.soundness.proofs.TypedLaws.TypedPoints.Images.{IsImage, image_read, join_only}
 
 -- What stands within an expression; it may be what a traversal function gives where that may stand.
 abbrev WithinAs : Typing → Bool → TypedTree → Type 0

@@ -14,11 +14,11 @@ use Rattle.flow_paths.specs.Instructions.{Instruction, Skip, Declare, Assign, Ou
 use Rattle.flow_paths.specs.Instructions as instruction
 use Rattle.flow_paths.specs.Objects.{Typing, object_at, sub_at}
 use Rattle.machine.specs.Typed.{Sort, Whole, Position, Pointer, sorts, sorts_of, sorts_at, same_designated, same_sorts, is_whole, is_position, is_pointer, sorts_of_result, gives, leads, given_first, is_text, is_place, named_type, actuals_given, texts_given, is_typed_instruction}
-use Rattle.typed_laws.specs.Fine.{Agree, Has, counts, lists}
-use Rattle.typed_laws.specs.Fine as fine
-use Rattle.typed_laws.proofs.Agreeing.{Owns, and_right, either_left, either_right}
-use Rattle.typed_laws.proofs.Sorts.{words_given}
-use Rattle.typed_laws.specs.TypedSteps.Steps.{Views, IsViewed, Taken, FirstTaken, FirstHas, IsPlaceOf, IsText, FirstText, IsActual, ActualsTaken, Returned, IsTypedStep}
+use Rattle.soundness.specs.TypedLaws.Fine.{Agree, Has, counts, lists}
+use Rattle.soundness.specs.TypedLaws.Fine as fine
+use Rattle.soundness.proofs.TypedLaws.Agreeing.{Owns, and_right, either_left, either_right}
+use Rattle.soundness.proofs.TypedLaws.Sorts.{words_given}
+use Rattle.soundness.specs.TypedLaws.TypedSteps.Steps.{Views, IsViewed, Taken, FirstTaken, FirstHas, IsPlaceOf, IsText, FirstText, IsActual, ActualsTaken, Returned, IsTypedStep}
 
 both_true : (a b : Bool) → a ≡ true → b ≡ true → a && b ≡ true
 both_true a b e f = ap (λ x. x && b) e ∙ f

@@ -19,14 +19,14 @@ use Rattle.flow_paths.specs.Points.{Place, PointName, row_at, NamedPoint, point,
 use Rattle.flow_paths.specs.Prep.{Setting, with_held, prep}
 use Rattle.flow_paths.specs.Layout.{Around, with_scope, declared, laid}
 use Rattle.flow_paths.specs.Laid.{NamedSub, FlowSub, typing_of, named_sub, named_subs, sub_temporaries, numbers_from, unnumbered, around_body, elaboration_points, frame_of, kept_roots, sub_facts, number_in, flow_sub, flow_program}
-use Rattle.order_laws.specs.ScopeLaws.Code.{is_formed}
-use Rattle.order_laws.specs.ScopeLaws.Order as order
-use Rattle.order_laws.proofs.ScopeLaws.Successors.{prep_counted, sub_counted}
-use Rattle.order_laws.specs.Written.{is_unit}
-use Rattle.order_laws.proofs.Bodies.{IsDeclare, typed_body_written}
-use Rattle.order_laws.proofs.First.{units_declare}
-use Rattle.order_laws.proofs.Units.{IsBodyOf, units_of}
-use Rattle.typed_laws.specs.TypedSteps.Steps.{IsCounted, AreElaborated, AreCounted}
+use Rattle.settled_types.specs.OrderLaws.ScopeLaws.Code.{is_formed}
+use Rattle.settled_types.specs.OrderLaws.ScopeLaws.Order as order
+use Rattle.settled_types.proofs.OrderLaws.ScopeLaws.Successors.{prep_counted, sub_counted}
+use Rattle.settled_types.specs.OrderLaws.Written.{is_unit}
+use Rattle.settled_types.proofs.OrderLaws.Bodies.{IsDeclare, typed_body_written}
+use Rattle.settled_types.proofs.OrderLaws.First.{units_declare}
+use Rattle.settled_types.proofs.OrderLaws.Units.{IsBodyOf, units_of}
+use Rattle.soundness.specs.TypedLaws.TypedSteps.Steps.{IsCounted, AreElaborated, AreCounted}
 
 -- ---- points of subprograms
 

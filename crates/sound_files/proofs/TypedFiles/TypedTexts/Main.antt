@@ -16,16 +16,16 @@ use Rattle.typed_tree.specs.Programs.{TypedSub, typed_program}
 use Rattle.flow_paths.specs.Points.{FlowPoint}
 use Rattle.flow_paths.specs.Laid.{FlowSub, flow_typing, flow_program}
 use Rattle.machine.specs.Typed.{sorts, sorts_of, is_typed}
-use Rattle.typed_laws.specs.Fine.{Laws, counts, lists}
-use Rattle.typed_laws.specs.Needed.{AreFine}
-use Rattle.typed_laws.proofs.Cases.{shape_view}
-use Rattle.typed_laws.proofs.Agreeing.{either_right, Owns}
-use Rattle.typed_laws.proofs.Sound.{stays}
-use Rattle.typed_laws.specs.TypedPoints.Code.{AreEvaluated}
-use Rattle.typed_laws.proofs.TypedPoints.Main.{all_fine}
+use Rattle.soundness.specs.TypedLaws.Fine.{Laws, counts, lists}
+use Rattle.soundness.specs.TypedLaws.Needed.{AreFine}
+use Rattle.soundness.proofs.TypedLaws.Cases.{shape_view}
+use Rattle.soundness.proofs.TypedLaws.Agreeing.{either_right, Owns}
+use Rattle.soundness.proofs.TypedLaws.Sound.{stays}
+use Rattle.soundness.specs.TypedLaws.TypedPoints.Code.{AreEvaluated}
+use Rattle.soundness.proofs.TypedLaws.TypedPoints.Main.{all_fine}
 use Rattle.run_codes.specs.Related.{IsTable}
 use Rattle.settled_types.proofs.TableLaws.Tables.{is_table}
-use Rattle.typed_laws.specs.TypedSteps.Steps.{IsTypedStep, AreTyped, AreCounted}
+use Rattle.soundness.specs.TypedLaws.TypedSteps.Steps.{IsTypedStep, AreTyped, AreCounted}
 use Rattle.sound_files.specs.TypedFiles.TypedRuns.Code.{IsTypedUse, IsTypedCode}
 use Rattle.sound_files.specs.TypedFiles.TypedRuns.Meant.{typed_in, laid_in, typing_laid, IsMeantText}
 use Rattle.sound_files.proofs.TypedFiles.TypedRuns.Words.{SortsLaw}

@@ -5,11 +5,11 @@ use Rattle.type_definitions.specs.Types.{Table}
 use Rattle.typed_tree.specs.Programs.{TypedSub, TypedProgram}
 use Rattle.flow_paths.specs.Objects.{Typing, is_package_object}
 use Rattle.flow_paths.specs.Laid.{typing_of, declared_within}
-use Rattle.order_laws.specs.ScopeLaws.Code.{Once, objects_of, body_seen}
-use Rattle.order_laws.specs.ReadyLaws.InOrder.{declares_only}
-use Rattle.order_laws.specs.Placed.{is_placed}
+use Rattle.settled_types.specs.OrderLaws.ScopeLaws.Code.{Once, objects_of, body_seen}
+use Rattle.settled_types.specs.OrderLaws.ReadyLaws.InOrder.{declares_only}
+use Rattle.settled_types.specs.OrderLaws.Placed.{is_placed}
 use Rattle.run_codes.specs.Lowered.{max_position}
-use Rattle.order_laws.specs.PackageValues.Calls.{calls_nothing}
+use Rattle.settled_types.specs.OrderLaws.PackageValues.Calls.{calls_nothing}
 use Rattle.sound_files.specs.TypedFiles.LoweredFiles.Code.{code_literals}
 
 -- Of each subprogram: declarations stand where they may, its names are in scope or are objects of

@@ -14,9 +14,9 @@ use Rattle.flow_paths.specs.Points.{FlowPoint}
 use Rattle.flow_paths.specs.Laid.{FlowSub, FlowProgram, flow_typing}
 use Rattle.machine.specs.Typed.{sorts, sorts_of}
 use Rattle.machine.specs.States.{sub_of}
-use Rattle.order_laws.specs.ScopeLaws.Order.{named_in}
-use Rattle.typed_laws.specs.Fine.{counts, lists}
-use Rattle.typed_laws.specs.TypedSteps.Steps.{AreTyped, AreCounted}
+use Rattle.settled_types.specs.OrderLaws.ScopeLaws.Order.{named_in}
+use Rattle.soundness.specs.TypedLaws.Fine.{counts, lists}
+use Rattle.soundness.specs.TypedLaws.TypedSteps.Steps.{AreTyped, AreCounted}
 use Rattle.run_codes.specs.Lowered.{Site, max_position}
 use Rattle.run_codes.specs.Programs.{has_room, is_loop, objects_of}
 

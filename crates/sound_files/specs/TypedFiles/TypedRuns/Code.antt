@@ -10,8 +10,8 @@ use Rattle.flow_paths.specs.Instructions.{Instruction}
 use Rattle.flow_paths.specs.Instructions as instruction
 use Rattle.flow_paths.specs.Objects.{Typing, Signature, object_at, sub_at, traverses, is_anonymous}
 use Rattle.flow_paths.specs.Layout.{choices_of}
-use Rattle.typed_laws.specs.Fine.{Has}
-use Rattle.typed_laws.specs.TypedSteps.Steps.{IsCall, IsTypedStep}
+use Rattle.soundness.specs.TypedLaws.Fine.{Has}
+use Rattle.soundness.specs.TypedLaws.TypedSteps.Steps.{IsCall, IsTypedStep}
 
 -- What owns and is passed by a formal of mode `in` is null, or what a name of its type stands for; and what a traversal
 -- function goes through is what a name stands for.

@@ -11,8 +11,8 @@ use Rattle.type_definitions.specs.declared.table.Profile.{Profile}
 use Rattle.type_definitions.specs.Entries.{entry_of, same_word}
 use Rattle.type_definitions.specs.Expressions.{is_anonymous, by_name, no_formal, profile_of}
 use Rattle.flow_paths.specs.Objects.{Typing, object_at, sub_at, traverses}
-use Rattle.typed_laws.specs.Fine.{Agree}
-use Rattle.typed_laws.specs.TypedSteps.Steps.{GoesThrough}
+use Rattle.soundness.specs.TypedLaws.Fine.{Agree}
+use Rattle.soundness.specs.TypedLaws.TypedSteps.Steps.{GoesThrough}
 
 -- Two access types that designate one type.
 abbrev pub AreSameViews : Table → ℕ → ℕ → Type 0

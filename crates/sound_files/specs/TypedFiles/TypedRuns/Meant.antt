@@ -8,7 +8,7 @@ use Rattle.typed_tree.specs.Expressions.{Site}
 use Rattle.typed_tree.specs.Programs.{TypedProgram, site_of, typed_program}
 use Rattle.flow_paths.specs.Objects.{Typing}
 use Rattle.flow_paths.specs.Laid.{FlowProgram, signature, flow_program}
-use Rattle.typed_laws.specs.TypedPoints.Meant.{AreMeantBodies, AreMeantObjects}
+use Rattle.soundness.specs.TypedLaws.TypedPoints.Meant.{AreMeantBodies, AreMeantObjects}
 use Rattle.sound_files.specs.TypedFiles.TypedRuns.Formals.{AreProfiled}
 use Rattle.sound_files.specs.TypedFiles.TypedRuns.Bounds.{HaveBounds}
 

@@ -10,8 +10,8 @@ use Rattle.settled_types.specs.Orderly.{IsOrderly}
 use Rattle.settled_types.specs.GatheredLaws.Left.{Left}
 use Rattle.settled_types.specs.GatheredLaws.Made.{IsMade}
 use Rattle.settled_types.specs.GatheredLaws.Views.{AreViews}
-use Rattle.order_laws.specs.Written.{is_unit}
-use Rattle.typed_laws.specs.TypedPoints.Meant.{AreMeantBodies, AreMeantObjects}
+use Rattle.settled_types.specs.OrderLaws.Written.{is_unit}
+use Rattle.soundness.specs.TypedLaws.TypedPoints.Meant.{AreMeantBodies, AreMeantObjects}
 use Rattle.sound_files.specs.TypedFiles.TypedRuns.Formals.{AreProfiled}
 use Rattle.sound_files.specs.TypedFiles.TypedRuns.Meant.{site_in, typing_laid}
 

@@ -1,0 +1,121 @@
+-- A text with a procedure that takes an access value in a formal of mode `in out` and gives it back, and the law on runs of
+-- it.
+use Rattle.std.specs.Prelude.{codes}
+use Rattle.std.proofs.Common.{◌≡◌, ℕ, ◌+◌, true, List, [], ◌∷◌, refl, Some, None, Ok, Err}
+use Rattle.ada_lexer.specs.Tokens.{Cut, CutResult, tokens}
+use Rattle.ada_tree.specs.declared.declaration.Item.TheVariants as item
+use Rattle.ada_tree.specs.declared.declaration.Indication.TheVariants as indication
+use Rattle.ada_tree.specs.declared.expression.Arg.TheVariants as arg
+use Rattle.ada_tree.specs.declared.expression.Name.TheVariants as name
+use Rattle.ada_tree.specs.declared.expression.Suffix.TheVariants as suffix
+use Rattle.ada_tree.specs.declared.statement.Stmt.TheVariants as stmt
+use Rattle.ada_tree.specs.declared.subprogram.Decl.TheVariants as decl
+use Rattle.ada_tree.specs.declared.subprogram.Formal.TheVariants as formal
+use Rattle.ada_tree.specs.declared.subprogram.Subspec.{Subspec}
+use Rattle.ada_tree.specs.declared.subprogram.Subspec.TheVariants as subspec
+use Rattle.ada_tree.specs.declared.unit.BodyPart.TheVariants as part
+use Rattle.ada_tree.specs.declared.unit.Context.TheVariants as context
+use Rattle.ada_tree.specs.declared.unit.SourceUnit.{SourceUnit}
+use Rattle.ada_tree.specs.declared.unit.SourceUnit.TheVariants as unit
+use Rattle.ada_grammar.proofs.SmallSources.{IsTextOf, computes, source_of, at, id, mark, selected, expr_of, object, null_at, sole, formals_of, package_of, package_body_of, subprogram_of}
+use Rattle.name_events.specs.Faults.{name_fault}
+use Rattle.type_definitions.specs.Whole.{type_fault}
+use Rattle.typing_steps.specs.Programs.{program_of}
+use Rattle.flow_paths.specs.Laid.{FlowSub}
+use Rattle.flow_paths.specs.Effects.{asks_for_end, path_points}
+use Rattle.flow_paths.specs.Aliases.{alias_reports}
+use Rattle.flow_paths.specs.Views.{encloses_within}
+use Rattle.program_check.specs.Sources.{flow_of}
+use Rattle.settled_types.specs.FilePositions.Texts.{AreParsed}
+use Rattle.settled_types.proofs.FilePositions.Cuts.{cut_in_order}
+use Rattle.settled_types.specs.OrderLaws.Orderly.{typed_of}
+use Rattle.accepted_runs.proofs.ViewedFiles.Files.{parsed_called_sound}
+use Rattle.accepted_runs.proofs.Runs.{RunsAreSound}
+use Rattle.accepted_runs.proofs.AcceptedExamples.Naming.{naming}
+use Rattle.accepted_runs.proofs.AcceptedExamples.Typing.{typing}
+use Rattle.accepted_runs.proofs.AcceptedExamples.Lowering.{lowering}
+use Rattle.accepted_runs.proofs.AcceptedExamples.Quiet.{all_pass, each}
+use Rattle.accepted_runs.proofs.AcceptedExamples.Unreported.{path_passes, sub_passes, nothing, no_reports, no_effects}
+
+-- "procedure Q (X : in out T)", from its column on
+abbrev front : ℕ → Subspec
+front column =
+    subspec.Procedure (at column) (id (column + 10) "Q")
+    (Some (formals_of (column + 12) (formal.Moded (at (column + 13)) (id (column + 13) "X") [] (at (column + 15)) (Some (at (column + 17))) (Some (at (column + 20))) (mark (column + 24) "T")) []
+    (column + 25)))
+
+abbrev pub units : List SourceUnit
+units =
+    unit.OfPackage (at 1) []
+    (package_of 1 (id 9 "A") None 11 (decl.OfItem (at 14) (item.AccessType (at 14) (id 19 "T") (at 21) (at 24) (mark 31 "Integer") (at 38))
+    ∷ decl.Subprogram (at 40) (front 40) None (at 66) ∷ []) None 68 None 71)
+    ∷ unit.OfBody (at 73) []
+    (package_body_of 73 81 (id 86 "A") None 88 (part.Completed (at 91) (subprogram_of 91 (front 91) None 118 [] 121 (null_at 127) 133 None 136) ∷ []) 138 None 141)
+    ∷ unit.OfSubprogram (at 143) (context.With (at 143) (mark 148 "A") [] (at 149) ∷ [])
+    (subprogram_of 151 (subspec.Procedure (at 151) (id 161 "P") None) None 163
+    (item.Objects (at 166) (id 166 "Y") [] (at 168) None (indication.Mark (at 170) (selected 170 "A" 171 172 "T")) (at 173) ∷ []) 175
+    (sole 181 (stmt.Call (at 181) (name.Prefixed (at 181) (id 181 "A") (suffix.Selected (at 182) (id 183 "Q")
+    ∷ suffix.Applied (at 185) (arg.Positional (at 186) (expr_of 186 (object 186 "Y"))) [] (at 187) ∷ [])) (at 188))) 190 None 193)
+    ∷ []
+
+abbrev pub files : List (List SourceUnit)
+files = units ∷ []
+
+pub spelled : IsTextOf "package A is type T is access Integer; procedure Q (X : in out T); end; package body A is procedure Q (X : in out T) is begin null; end; end; with A; procedure P is Y : A.T; begin A.Q (Y); end;" units
+unfolding computes
+spelled = source_of (search) (search) refl
+
+pub named : name_fault files ≡ None
+unfolding computes naming
+named = refl
+
+pub typed : type_fault (program_of files) ≡ None
+unfolding computes naming typing lowering
+typed = refl
+
+-- ---- it has a main procedure
+
+pub is_main : (typed_of (program_of files)).main ≡ Some 2
+unfolding computes naming typing lowering
+is_main = refl
+
+-- ---- nothing is reported of it
+
+passes : all_pass (sub_passes (flow_of files)) (flow_of files).subs ≡ true
+unfolding computes naming typing lowering asks_for_end encloses_within
+passes = refl
+
+no_aliases : alias_reports (flow_of files) (nothing (flow_of files) passes) ≡ []
+unfolding computes naming typing lowering
+no_aliases = refl
+
+paths : all_pass (λ (sub : FlowSub). path_passes 9 (path_points (flow_of files) (nothing (flow_of files) passes) sub) [] 0) (flow_of files).subs ≡ true
+unfolding computes naming typing lowering
+paths = refl
+
+-- ---- so its runs are sound
+
+abbrev found : CutResult → List Cut
+found (Ok cuts) = cuts
+found (Err fault) = []
+
+abbrev text : List ℕ
+text = codes "package A is type T is access Integer; procedure Q (X : in out T); end; package body A is procedure Q (X : in out T) is begin null; end; end; with A; procedure P is Y : A.T; begin A.Q (Y); end;"
+
+abbrev cuts : List Cut
+cuts = found (tokens 0 text 1000)
+
+is_cut : tokens 0 text 1000 ≡ Ok cuts
+unfolding computes
+is_cut = refl
+
+parsed : AreParsed 0 (cuts ∷ []) files
+unfolding computes
+parsed = (cut_in_order 0 text 1000 cuts is_cut, spelled, tt)
+
+pub handed_sound : RunsAreSound files
+handed_sound input =
+    parsed_called_sound files (cuts ∷ []) parsed named typed 2 is_main (nothing (flow_of files) passes) (no_effects (flow_of files) passes)
+    (no_reports (flow_of files) passes no_aliases 9
+    (each (λ (sub : FlowSub). path_passes 9 (path_points (flow_of files) (nothing (flow_of files) passes) sub) [] 0) (flow_of files).subs paths))
+    input

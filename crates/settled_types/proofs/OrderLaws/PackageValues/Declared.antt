@@ -1,0 +1,97 @@
+-- The points of the package objects declare them, and do nothing else.
+use Rattle.std.proofs.Common.{◌≡◌, refl, ℕ, Bool, true, false, not, ◌||◌, List, [], ◌∷◌, ◌++◌, if◌then◌else◌}
+use Rattle.std.specs.List.{AllByRecursion}
+use Rattle.std.proofs.lemmas.Bool.{false≢true, true≢false}
+use Rattle.typed_tree.specs.Trees.{TypedTree, TypedCode, Name, Component, Designated, Element, Image, Parens, Unary, Binary, Short, IsNull, Aggregate, Alike, New}
+use Rattle.typed_tree.specs.Trees as typed
+use Rattle.typed_tree.specs.Programs.{TypedSub}
+use Rattle.flow_paths.specs.Instructions.{Declare}
+use Rattle.flow_paths.specs.Names.{has_call}
+use Rattle.flow_paths.specs.Points.{Place, PointName, row_at, NamedPoint, point, entry}
+use Rattle.flow_paths.specs.Prep.{Setting, with_held, prep}
+use Rattle.flow_paths.specs.Layout.{Around, with_scope, declared, laid}
+use Rattle.flow_paths.specs.Laid.{around_body, elaboration_points}
+use Rattle.settled_types.proofs.OrderLaws.ScopeLaws.Lists.{and_first, and_second, all_both, all_one}
+use Rattle.settled_types.specs.OrderLaws.ReadyLaws.InOrder.{declares_only}
+use Rattle.settled_types.specs.OrderLaws.PackageValues.Calls.{calls_nothing}
+
+neither : (a b : Bool) → a || b ≡ false → (a ≡ false) × (b ≡ false)
+neither false b e = (refl, e)
+neither true b e = absurd (true≢false e)
+
+no_call : (b : Bool) → not b ≡ true → b ≡ false
+no_call false e = refl
+no_call true e = absurd (false≢true e)
+
+abbrev IsNone : NamedPoint → Type 0
+IsNone p = ⊥
+
+abbrev Empty : List NamedPoint → Type 0
+Empty ps = AllByRecursion IsNone ps
+
+other : (b : Bool) (ps qs : List NamedPoint) → b ≡ false → Empty qs → Empty (if b then ps else qs)
+other false ps qs e h = h
+other true ps qs e h = absurd (true≢false e)
+
+-- An expression without calls has no points of its own.
+prep_none : (s : Setting) (e : TypedTree) (at : Place) (scope : List ℕ) (k : List PointName) → has_call e ≡ false → Empty (prep s e at scope k)
+unfolding prep has_call
+prep_none s (typed.Call p sub actuals) at scope k none = absurd (true≢false none)
+prep_none s (Short op p a q b) at scope k none =
+    let both = neither (has_call a) (has_call b) none in
+    let behind : List NamedPoint = prep s b (1 ∷ at) (with_held s a (0 ∷ at) scope) k in
+    other (has_call b) _ (prep s a (0 ∷ at) scope (entry behind k) ++ behind) both.1
+    (all_both IsNone (prep s a (0 ∷ at) scope (entry behind k)) behind (prep_none s a (0 ∷ at) scope (entry behind k) both.0)
+    (prep_none s b (1 ∷ at) (with_held s a (0 ∷ at) scope) k both.1))
+prep_none s (Binary op a b) at scope k none =
+    let both = neither (has_call a) (has_call b) none in
+    let behind : List NamedPoint = prep s b (1 ∷ at) (with_held s a (0 ∷ at) scope) k in
+    all_both IsNone (prep s a (0 ∷ at) scope (entry behind k)) behind (prep_none s a (0 ∷ at) scope (entry behind k) both.0)
+    (prep_none s b (1 ∷ at) (with_held s a (0 ∷ at) scope) k both.1)
+prep_none s (typed.More a b) at scope k none =
+    let both = neither (has_call a) (has_call b) none in
+    let behind : List NamedPoint = prep s b (1 ∷ at) (with_held s a (0 ∷ at) scope) k in
+    all_both IsNone (prep s a (0 ∷ at) scope (entry behind k)) behind (prep_none s a (0 ∷ at) scope (entry behind k) both.0)
+    (prep_none s b (1 ∷ at) (with_held s a (0 ∷ at) scope) k both.1)
+prep_none s (Element a low high b) at scope k none =
+    let both = neither (has_call a) (has_call b) none in
+    let behind : List NamedPoint = prep s b (1 ∷ at) (with_held s a (0 ∷ at) scope) k in
+    all_both IsNone (prep s a (0 ∷ at) scope (entry behind k)) behind (prep_none s a (0 ∷ at) scope (entry behind k) both.0)
+    (prep_none s b (1 ∷ at) (with_held s a (0 ∷ at) scope) k both.1)
+prep_none s (Name p x e t) at scope k none = prep_none s e (0 ∷ at) scope k none
+prep_none s (Component i e) at scope k none = prep_none s e (0 ∷ at) scope k none
+prep_none s (Designated e) at scope k none = prep_none s e (0 ∷ at) scope k none
+prep_none s (Image t e) at scope k none = prep_none s e (0 ∷ at) scope k none
+prep_none s (Parens e) at scope k none = prep_none s e (0 ∷ at) scope k none
+prep_none s (Unary op e) at scope k none = prep_none s e (0 ∷ at) scope k none
+prep_none s (IsNull equal e) at scope k none = prep_none s e (0 ∷ at) scope k none
+prep_none s (Aggregate t e) at scope k none = prep_none s e (0 ∷ at) scope k none
+prep_none s (Alike t e) at scope k none = prep_none s e (0 ∷ at) scope k none
+prep_none s (New t e) at scope k none = prep_none s e (0 ∷ at) scope k none
+prep_none s e at scope k none = tt
+
+abbrev pub Declares : NamedPoint → Type 0
+Declares p = (x : ℕ) × (v : TypedTree) × (p.instr ≡ Declare x v) × (has_call v ≡ false)
+
+none_declare : (ps : List NamedPoint) → Empty ps → AllByRecursion Declares ps
+none_declare [] h = tt
+none_declare (p ∷ ps) h = absurd h.0
+
+laid_declare : (s : Setting) (c : TypedCode) (at : Place) (w : Around) (k : List PointName) → declares_only c ≡ true → calls_nothing c ≡ true
+    → AllByRecursion Declares (laid s c at w k)
+unfolding laid declares_only calls_nothing
+laid_declare s (typed.More a rest) at w k only none =
+    let behind : List NamedPoint = laid s rest (1 ∷ at) (with_scope (declared a) w) k in
+    all_both Declares (laid s a (0 ∷ at) w (entry behind k)) behind
+    (laid_declare s a (0 ∷ at) w (entry behind k) (and_first (declares_only a) (declares_only rest) only) (and_first (calls_nothing a) (calls_nothing rest) none))
+    (laid_declare s rest (1 ∷ at) (with_scope (declared a) w) k (and_second (declares_only a) (declares_only rest) only)
+    (and_second (calls_nothing a) (calls_nothing rest) none))
+laid_declare s (typed.Declare p x v) at w k only none =
+    all_one Declares (prep s v (0 ∷ at) w.scope (row_at at 0 ∷ [])) (point (row_at at 0) p (Declare x v) (with_held s v (0 ∷ at) w.scope) k)
+    (none_declare (prep s v (0 ∷ at) w.scope (row_at at 0 ∷ [])) (prep_none s v (0 ∷ at) w.scope (row_at at 0 ∷ []) (no_call (has_call v) none))) (x, v, refl, no_call (has_call v) none)
+laid_declare s typed.NoMore at w k only none = tt
+laid_declare s _ at w k only none = absurd (false≢true only)
+
+pub package_declares : (s : Setting) (sub : TypedSub) → declares_only sub.body ≡ true → calls_nothing sub.body ≡ true → AllByRecursion Declares (elaboration_points s sub)
+package_declares s sub only none =
+    all_both Declares (laid s sub.body (0 ∷ []) (around_body s sub) []) [] (laid_declare s sub.body (0 ∷ []) (around_body s sub) [] only none) tt

@@ -1,0 +1,110 @@
+-- The package objects are declared one by one, and nothing is moved for them.
+use Rattle.std.proofs.Common.{◌≡◌, refl, ap, ◌∙◌, inl, inr, ℕ, Bool, true, false, not, List, [], ◌∷◌, ◌++◌}
+use Rattle.std.specs.List.{AllByRecursion}
+use Rattle.std.proofs.lemmas.Bool.{false≢true}
+use Rattle.spark_base.specs.Lists.{Has}
+use Rattle.type_definitions.specs.Types.{is_owning}
+use Rattle.typed_tree.specs.Trees.{TypedTree, Name, Component, Designated, Element, Image, Parens, Unary, Binary, Short, IsNull, Aggregate, Alike, New, TypedCode}
+use Rattle.typed_tree.specs.Trees as typed
+use Rattle.typed_tree.specs.Programs.{TypedSub}
+use Rattle.flow_paths.specs.Instructions.{Declare}
+use Rattle.flow_paths.specs.Objects.{Typing, object_at}
+use Rattle.flow_paths.specs.Names.{has_call}
+use Rattle.flow_paths.specs.Points.{Place, PointName, row_at, NamedPoint, point, entry}
+use Rattle.flow_paths.specs.Prep.{Setting, with_held, prep}
+use Rattle.flow_paths.specs.Layout.{Around, with_scope, declared, laid}
+use Rattle.flow_paths.specs.Laid.{around_body, elaboration_points}
+use Rattle.soundness.specs.Sound.{calls_procedures}
+use Rattle.settled_types.specs.OrderLaws.ScopeLaws.Code.{roots}
+use Rattle.settled_types.proofs.OrderLaws.ScopeLaws.Lists.{and_first, and_second, all_both, all_one, all_if, all_has}
+use Rattle.settled_types.specs.OrderLaws.ReadyLaws.InOrder.{declares_only, own_nothing, names_no_owner}
+
+-- ---- before a use
+
+-- A point with a call, or beside one.
+abbrev Calls : NamedPoint → Type 0
+Calls p = calls_procedures p.instr ≡ true → ⊥
+
+not_false : false ≡ true → ⊥
+not_false e = absurd (false≢true e)
+
+both : (ps qs : List NamedPoint) → AllByRecursion Calls ps → AllByRecursion Calls qs → AllByRecursion Calls (ps ++ qs)
+both ps qs h g = all_both Calls ps qs h g
+
+one_more : (ps : List NamedPoint) (p : NamedPoint) → AllByRecursion Calls ps → Calls p → AllByRecursion Calls (ps ++ p ∷ [])
+one_more ps p h g = all_one Calls ps p h g
+
+prep_calls : (s : Setting) (e : TypedTree) (at : Place) (scope : List ℕ) (k : List PointName) → AllByRecursion Calls (prep s e at scope k)
+unfolding prep
+prep_calls s (typed.Call p sub actuals) at scope k =
+    one_more (prep s actuals (0 ∷ at) scope (row_at at 0 ∷ [])) _ (prep_calls s actuals (0 ∷ at) scope (row_at at 0 ∷ [])) not_false
+prep_calls s (Short op p a q b) at scope k =
+    let right : List NamedPoint = prep s b (1 ∷ at) (s.temporary at ∷ scope) (row_at at 1 ∷ []) in
+    let behind : List NamedPoint = prep s b (1 ∷ at) (with_held s a (0 ∷ at) scope) k in
+    all_if Calls (has_call b) _ _
+    (both (prep s a (0 ∷ at) scope (row_at at 0 ∷ [])) _ (prep_calls s a (0 ∷ at) scope (row_at at 0 ∷ []))
+    (not_false, one_more right _ (prep_calls s b (1 ∷ at) (s.temporary at ∷ scope) (row_at at 1 ∷ [])) not_false))
+    (both (prep s a (0 ∷ at) scope (entry behind k)) behind (prep_calls s a (0 ∷ at) scope (entry behind k)) (prep_calls s b (1 ∷ at) (with_held s a (0 ∷ at) scope) k))
+prep_calls s (Binary op a b) at scope k =
+    let behind : List NamedPoint = prep s b (1 ∷ at) (with_held s a (0 ∷ at) scope) k in
+    both (prep s a (0 ∷ at) scope (entry behind k)) behind (prep_calls s a (0 ∷ at) scope (entry behind k)) (prep_calls s b (1 ∷ at) (with_held s a (0 ∷ at) scope) k)
+prep_calls s (typed.More a b) at scope k =
+    let behind : List NamedPoint = prep s b (1 ∷ at) (with_held s a (0 ∷ at) scope) k in
+    both (prep s a (0 ∷ at) scope (entry behind k)) behind (prep_calls s a (0 ∷ at) scope (entry behind k)) (prep_calls s b (1 ∷ at) (with_held s a (0 ∷ at) scope) k)
+prep_calls s (Element a low high b) at scope k =
+    let behind : List NamedPoint = prep s b (1 ∷ at) (with_held s a (0 ∷ at) scope) k in
+    both (prep s a (0 ∷ at) scope (entry behind k)) behind (prep_calls s a (0 ∷ at) scope (entry behind k)) (prep_calls s b (1 ∷ at) (with_held s a (0 ∷ at) scope) k)
+prep_calls s (Name p x e t) at scope k = prep_calls s e (0 ∷ at) scope k
+prep_calls s (Component i e) at scope k = prep_calls s e (0 ∷ at) scope k
+prep_calls s (Designated e) at scope k = prep_calls s e (0 ∷ at) scope k
+prep_calls s (Image t e) at scope k = prep_calls s e (0 ∷ at) scope k
+prep_calls s (Parens e) at scope k = prep_calls s e (0 ∷ at) scope k
+prep_calls s (Unary op e) at scope k = prep_calls s e (0 ∷ at) scope k
+prep_calls s (IsNull equal e) at scope k = prep_calls s e (0 ∷ at) scope k
+prep_calls s (Aggregate t e) at scope k = prep_calls s e (0 ∷ at) scope k
+prep_calls s (Alike t e) at scope k = prep_calls s e (0 ∷ at) scope k
+prep_calls s (New t e) at scope k = prep_calls s e (0 ∷ at) scope k
+prep_calls s _ at scope k = tt
+
+-- ---- declarations
+
+-- A point without calls declares an object, and its initial value names nothing that owns.
+abbrev pub Declares : Typing → NamedPoint → Type 0
+Declares t p = calls_procedures p.instr ≡ true → (x : ℕ) × (v : TypedTree) × (p.instr ≡ Declare x v) × (own_nothing t (roots v) ≡ true)
+
+calls_declare : (t : Typing) (ps : List NamedPoint) → AllByRecursion Calls ps → AllByRecursion (Declares t) ps
+calls_declare t [] h = tt
+calls_declare t (p ∷ ps) h = ((λ none. absurd (h.0 none)), calls_declare t ps h.1)
+
+laid_declare : (t : Typing) (s : Setting) (c : TypedCode) (at : Place) (w : Around) (k : List PointName) → declares_only c ≡ true → names_no_owner t c ≡ true
+    → AllByRecursion (Declares t) (laid s c at w k)
+unfolding laid declares_only names_no_owner
+laid_declare t s (typed.More a rest) at w k only none =
+    let behind : List NamedPoint = laid s rest (1 ∷ at) (with_scope (declared a) w) k in
+    all_both (Declares t) (laid s a (0 ∷ at) w (entry behind k)) behind
+    (laid_declare t s a (0 ∷ at) w (entry behind k) (and_first (declares_only a) (declares_only rest) only) (and_first (names_no_owner t a) (names_no_owner t rest) none))
+    (laid_declare t s rest (1 ∷ at) (with_scope (declared a) w) k (and_second (declares_only a) (declares_only rest) only)
+    (and_second (names_no_owner t a) (names_no_owner t rest) none))
+laid_declare t s (typed.Declare p x v) at w k only none =
+    all_one (Declares t) (prep s v (0 ∷ at) w.scope (row_at at 0 ∷ [])) (point (row_at at 0) p (Declare x v) (with_held s v (0 ∷ at) w.scope) k)
+    (calls_declare t (prep s v (0 ∷ at) w.scope (row_at at 0 ∷ [])) (prep_calls s v (0 ∷ at) w.scope (row_at at 0 ∷ []))) (λ calls. (x, v, refl, none))
+laid_declare t s typed.NoMore at w k only none = tt
+laid_declare t s _ at w k only none = absurd (false≢true only)
+
+pub package_declares : (t : Typing) (s : Setting) (sub : TypedSub) → declares_only sub.body ≡ true → names_no_owner t sub.body ≡ true
+    → (p : NamedPoint) → Has (elaboration_points s sub) p → Declares t p
+package_declares t s sub only none p has =
+    all_has (Declares t) (elaboration_points s sub) p
+    (all_both (Declares t) (laid s sub.body (0 ∷ []) (around_body s sub) []) [] (laid_declare t s sub.body (0 ∷ []) (around_body s sub) [] only none) tt) has
+
+-- what owns isn't among them
+pub owns_none : (t : Typing) (xs : List ℕ) (x : ℕ) → own_nothing t xs ≡ true → Has xs x → is_owning t.table (object_at t x).of ≡ true → ⊥
+owns_none t [] x none has owns = has
+owns_none t (y ∷ xs) x none (inl e) owns =
+    refused (is_owning t.table (object_at t y).of) (ap (λ z. is_owning t.table (object_at t z).of) e ∙ owns)
+    (and_first (not (is_owning t.table (object_at t y).of)) (own_nothing t xs) none)
+  where
+    refused : (b : Bool) → b ≡ true → not b ≡ true → ⊥
+    refused true e h = false≢true h
+    refused false e h = false≢true e
+owns_none t (y ∷ xs) x none (inr has) owns = owns_none t xs x (and_second (not (is_owning t.table (object_at t y).of)) (own_nothing t xs) none) has owns

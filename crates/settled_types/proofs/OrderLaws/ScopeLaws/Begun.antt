@@ -1,0 +1,178 @@
+-- What a point of a subprogram declares, or ends the scope of, is an object that the subprogram declares.
+use Rattle.std.proofs.Common.{refl, inl, inr, ℕ, suc, Bool, true, false, List, [], ◌∷◌, ◌++◌, None, if◌then◌else◌}
+use Rattle.std.specs.Prelude.{flat_map, is_some, reverse}
+use Rattle.std.specs.List.{AllByRecursion}
+use Rattle.spark_base.specs.declared.position.Pos.{Pos}
+use Rattle.spark_base.specs.Lists.{Has}
+use Rattle.spark_base.proofs.Lists.{Has-append_left, Has-append_right, Has-append_cases, Has-filter}
+use Rattle.typed_tree.specs.Trees.{TypedTree, Name, Component, Designated, Element, Image, Parens, Unary, Binary, Short, IsNull, Aggregate, Alike, New, TypedCode, Declare, Assign, Skip, Output, Input, Release, If, Branch, Case, When, Loop, While, For, Exit, Return, Block}
+use Rattle.typed_tree.specs.Trees as typed
+use Rattle.typed_tree.specs.Programs.{TypedSub}
+use Rattle.flow_paths.specs.Instructions.{Instruction}
+use Rattle.flow_paths.specs.Instructions as instruction
+use Rattle.flow_paths.specs.Names.{has_call}
+use Rattle.flow_paths.specs.Objects.{has_scope_end}
+use Rattle.flow_paths.specs.Points.{Place, PointName, row_at, NamedPoint}
+use Rattle.flow_paths.specs.Prep.{Setting, with_held, prep}
+use Rattle.flow_paths.specs.Layout.{Around, within_loop, within_block, with_scope, declared, ending, ends, uses, uses_both, laid, laid_branches, laid_branch, laid_whens, laid_when}
+use Rattle.flow_paths.specs.Laid.{declared_within, around_body, scope_at_end, function_end, procedure_end, sub_points, elaboration_points}
+use Rattle.settled_types.proofs.OrderLaws.ScopeLaws.Lists.{all_both, all_one, all_if, all_has, has_reverse}
+
+abbrev pub Begins : (ℕ → Type 0) → Instruction → Type 0
+Begins P (instruction.Declare x v) = P x
+Begins P (instruction.EndScope x) = P x
+Begins P i = Unit {0}
+
+abbrev IsBegun : (ℕ → Type 0) → NamedPoint → Type 0
+IsBegun P p = Begins P p.instr
+
+module _ (s : Setting) (P : ℕ → Type 0) where
+  abbrev Begun : List NamedPoint → Type 0
+  Begun ps = AllByRecursion (IsBegun P) ps
+
+  abbrev AllOf : List ℕ → Type 0
+  AllOf xs = (x : ℕ) → Has xs x → P x
+
+  both : (ps qs : List NamedPoint) → Begun ps → Begun qs → Begun (ps ++ qs)
+  both ps qs h g = all_both (IsBegun P) ps qs h g
+
+  one_more : (ps : List NamedPoint) (p : NamedPoint) → Begun ps → IsBegun P p → Begun (ps ++ p ∷ [])
+  one_more ps p h g = all_one (IsBegun P) ps p h g
+
+  two : (x y : Place) (a b : TypedTree) (scope inner : List ℕ) (k l : List PointName)
+      → ((scope : List ℕ) (k : List PointName) → Begun (prep s a x scope k)) → ((scope : List ℕ) (k : List PointName) → Begun (prep s b y scope k))
+      → Begun (prep s a x scope k ++ prep s b y inner l)
+  two x y a b scope inner k l first second = both (prep s a x scope k) (prep s b y inner l) (first scope k) (second inner l)
+
+  prep_begun : (e : TypedTree) (at : Place) (scope : List ℕ) (k : List PointName) → Begun (prep s e at scope k)
+  unfolding prep
+  prep_begun (typed.Call p sub actuals) at scope k =
+      one_more (prep s actuals (0 ∷ at) scope (row_at at 0 ∷ [])) _ (prep_begun actuals (0 ∷ at) scope (row_at at 0 ∷ [])) tt
+  prep_begun (Short op p a q b) at scope k =
+      let right : List NamedPoint = prep s b (1 ∷ at) (s.temporary at ∷ scope) (row_at at 1 ∷ []) in
+      all_if (IsBegun P) (has_call b) _ _
+      (both (prep s a (0 ∷ at) scope (row_at at 0 ∷ [])) _ (prep_begun a (0 ∷ at) scope (row_at at 0 ∷ []))
+      (tt, one_more right _ (prep_begun b (1 ∷ at) (s.temporary at ∷ scope) (row_at at 1 ∷ [])) tt))
+      (two (0 ∷ at) (1 ∷ at) a b scope _ _ k (prep_begun a (0 ∷ at)) (prep_begun b (1 ∷ at)))
+  prep_begun (Binary op a b) at scope k = two (0 ∷ at) (1 ∷ at) a b scope _ _ k (prep_begun a (0 ∷ at)) (prep_begun b (1 ∷ at))
+  prep_begun (typed.More a b) at scope k = two (0 ∷ at) (1 ∷ at) a b scope _ _ k (prep_begun a (0 ∷ at)) (prep_begun b (1 ∷ at))
+  prep_begun (Element a low high b) at scope k = two (0 ∷ at) (1 ∷ at) a b scope _ _ k (prep_begun a (0 ∷ at)) (prep_begun b (1 ∷ at))
+  prep_begun (Name p x e u) at scope k = prep_begun e (0 ∷ at) scope k
+  prep_begun (Component i e) at scope k = prep_begun e (0 ∷ at) scope k
+  prep_begun (Designated e) at scope k = prep_begun e (0 ∷ at) scope k
+  prep_begun (Image u e) at scope k = prep_begun e (0 ∷ at) scope k
+  prep_begun (Parens e) at scope k = prep_begun e (0 ∷ at) scope k
+  prep_begun (Unary op e) at scope k = prep_begun e (0 ∷ at) scope k
+  prep_begun (IsNull equal e) at scope k = prep_begun e (0 ∷ at) scope k
+  prep_begun (Aggregate u e) at scope k = prep_begun e (0 ∷ at) scope k
+  prep_begun (Alike u e) at scope k = prep_begun e (0 ∷ at) scope k
+  prep_begun (New u e) at scope k = prep_begun e (0 ∷ at) scope k
+  prep_begun _ at scope k = tt
+
+  uses_begun : (at : Place) (p : Pos) (e : TypedTree) (i : Instruction) (w : Around) (next : List PointName) → Begins P i → Begun (uses s at p e i w next)
+  uses_begun at p e i w next h = one_more (prep s e (0 ∷ at) w.scope (row_at at 0 ∷ [])) _ (prep_begun e (0 ∷ at) w.scope (row_at at 0 ∷ [])) h
+
+  ends_begun : (at : Place) (row : ℕ) (p : Pos) (xs scope : List ℕ) (k : List PointName) → AllOf xs → Begun (ends at row p xs scope k)
+  ends_begun at row p [] scope k all = tt
+  ends_begun at row p (x ∷ xs) scope k all = (all x (inl refl), ends_begun at (suc row) p xs _ k (λ y has. all y (inr has)))
+
+  all_of_both : (xs ys : List ℕ) → AllOf xs → AllOf ys → AllOf (xs ++ ys)
+  all_of_both xs ys h g x has = elim (Has-append_cases xs ys x has) [ inl l ↦ h x l | inr r ↦ g x r ]
+
+  declared_all : (c : TypedCode) → AllOf (declared_within c) → AllOf (declared c)
+  unfolding declared declared_within
+  declared_all (Declare p x v) all = all
+  declared_all (typed.More a rest) all =
+      all_of_both (declared a) (declared rest) (declared_all a (λ x has. all x (Has-append_left (declared_within a) (declared_within rest) x has)))
+      (declared_all rest (λ x has. all x (Has-append_right (declared_within a) (declared_within rest) x has)))
+  declared_all c all = λ x has. absurd has
+
+  ending_all : (c : TypedCode) → AllOf (declared_within c) → AllOf (ending s c)
+  ending_all c all x has = declared_all c all x (has_reverse (declared c) x (Has-filter (has_scope_end s.typing) (reverse (declared c)) x has).0)
+
+  abbrev IsFine : Around → Type 0
+  IsFine w = AllOf w.in_loop × AllOf w.in_all
+
+  mutual
+    unfolding laid laid_branches laid_branch laid_whens laid_when declared_within
+
+    laid_begun : (c : TypedCode) (at : Place) (w : Around) (k : List PointName) → AllOf (declared_within c) → IsFine w → Begun (laid s c at w k)
+    laid_begun (typed.More a rest) at w k all fine =
+        both (laid s a (0 ∷ at) w _) _ (laid_begun a (0 ∷ at) w _ (λ x has. all x (Has-append_left (declared_within a) (declared_within rest) x has)) fine)
+        (laid_begun rest (1 ∷ at) (with_scope (declared a) w) k (λ x has. all x (Has-append_right (declared_within a) (declared_within rest) x has)) fine)
+    laid_begun (Declare p x v) at w k all fine = uses_begun at p v (instruction.Declare x v) w k (all x (inl refl))
+    laid_begun (Assign p target e) at w k all fine =
+        one_more (prep s e (1 ∷ at) w.scope _ ++ prep s target (0 ∷ at) (with_held s e (1 ∷ at) w.scope) _) _
+        (both (prep s e (1 ∷ at) w.scope _) _ (prep_begun e (1 ∷ at) w.scope _) (prep_begun target (0 ∷ at) (with_held s e (1 ∷ at) w.scope) _)) tt
+    laid_begun (Skip p) at w k all fine = (tt, tt)
+    laid_begun (typed.Call p sub actuals) at w k all fine = uses_begun at p actuals (instruction.Call sub actuals None) w k tt
+    laid_begun (Output p text line) at w k all fine = uses_begun at p text (instruction.Output text line) w k tt
+    laid_begun (Input p target) at w k all fine = uses_begun at p target (instruction.Input target) w k tt
+    laid_begun (Release p m) at w k all fine = uses_begun at p m (instruction.Release m) w k tt
+    laid_begun (If branches otherwise) at w k all fine =
+        both (laid_branches s branches (0 ∷ at) w k _) _
+        (branches_begun branches (0 ∷ at) w k _ (λ x has. all x (Has-append_left (declared_within branches) (declared_within otherwise) x has)) fine)
+        (laid_begun otherwise (1 ∷ at) w k (λ x has. all x (Has-append_right (declared_within branches) (declared_within otherwise) x has)) fine)
+    laid_begun (Case p e whens) at w k all fine = both (uses s at p e _ w _) _ (uses_begun at p e _ w _ tt) (whens_begun whens (1 ∷ at) w k all fine)
+    laid_begun (Loop stmts) at w k all fine = laid_begun stmts (0 ∷ at) (within_loop k w) _ all ((λ x has. absurd has), fine.1)
+    laid_begun (While p e stmts) at w k all fine =
+        both (uses s at p e (instruction.Test e) w _) _ (uses_begun at p e (instruction.Test e) w _ tt) (laid_begun stmts (1 ∷ at) (within_loop k w) _ all ((λ x has. absurd has), fine.1))
+    laid_begun (For p x reversed low high stmts) at w k all fine =
+        both (uses_both s at p low high (instruction.Start x reversed low high) w _) _
+        (one_more (prep s low (0 ∷ at) w.scope _ ++ prep s high (1 ∷ at) (with_held s low (0 ∷ at) w.scope) _) _
+        (both (prep s low (0 ∷ at) w.scope _) _ (prep_begun low (0 ∷ at) w.scope _) (prep_begun high (1 ∷ at) (with_held s low (0 ∷ at) w.scope) _)) tt)
+        (tt, laid_begun stmts (2 ∷ at) (with_scope (x ∷ []) (within_loop k w)) _ (λ y has. all y (inr has)) ((λ y has. absurd has), fine.1))
+    laid_begun (Exit p e) at w k all fine =
+        both (uses s at p e (instruction.LeaveLoop e) w _) _ (uses_begun at p e (instruction.LeaveLoop e) w _ tt) (ends_begun at 1 p w.in_loop w.scope w.leave fine.0)
+    laid_begun (Return p v) at w k all fine =
+        both (uses s at p v (instruction.Hold v) w _) _ (uses_begun at p v (instruction.Hold v) w _ tt)
+        (one_more (ends at 1 p w.in_all w.scope _) _ (ends_begun at 1 p w.in_all w.scope _ fine.1) tt)
+    laid_begun (Block n stmts end) at w k all fine =
+        both (laid s stmts (0 ∷ at) (within_block (ending s stmts) w) _) _
+        (laid_begun stmts (0 ∷ at) (within_block (ending s stmts) w) _ all
+        (all_of_both (ending s stmts) w.in_loop (ending_all stmts all) fine.0, all_of_both (ending s stmts) w.in_all (ending_all stmts all) fine.1))
+        (ends_begun at 0 end (ending s stmts) (reverse (declared stmts) ++ w.scope) k (ending_all stmts all))
+    laid_begun _ at w k all fine = tt
+
+    branches_begun : (c : TypedCode) (at : Place) (w : Around) (k m : List PointName) → AllOf (declared_within c) → IsFine w → Begun (laid_branches s c at w k m)
+    branches_begun (typed.More a rest) at w k m all fine =
+        both (laid_branch s a (0 ∷ at) w k _) _ (branch_begun a (0 ∷ at) w k _ (λ x has. all x (Has-append_left (declared_within a) (declared_within rest) x has)) fine)
+        (branches_begun rest (1 ∷ at) w k m (λ x has. all x (Has-append_right (declared_within a) (declared_within rest) x has)) fine)
+    branches_begun _ at w k m all fine = tt
+
+    branch_begun : (c : TypedCode) (at : Place) (w : Around) (k m : List PointName) → AllOf (declared_within c) → IsFine w → Begun (laid_branch s c at w k m)
+    branch_begun (Branch p e stmts) at w k m all fine =
+        both (uses s at p e (instruction.Test e) w _) _ (uses_begun at p e (instruction.Test e) w _ tt) (laid_begun stmts (1 ∷ at) w k all fine)
+    branch_begun _ at w k m all fine = tt
+
+    whens_begun : (c : TypedCode) (at : Place) (w : Around) (k : List PointName) → AllOf (declared_within c) → IsFine w
+        → Begun (flat_map (λ ps. ps) (laid_whens s c at w k))
+    whens_begun (typed.More a rest) at w k all fine =
+        both (laid_when s a (0 ∷ at) w k) _ (when_begun a (0 ∷ at) w k (λ x has. all x (Has-append_left (declared_within a) (declared_within rest) x has)) fine)
+        (whens_begun rest (1 ∷ at) w k (λ x has. all x (Has-append_right (declared_within a) (declared_within rest) x has)) fine)
+    whens_begun _ at w k all fine = tt
+
+    when_begun : (c : TypedCode) (at : Place) (w : Around) (k : List PointName) → AllOf (declared_within c) → IsFine w → Begun (laid_when s c at w k)
+    when_begun (When choices stmts) at w k all fine = laid_begun stmts (1 ∷ at) w k all fine
+    when_begun _ at w k all fine = tt
+
+  end_begun : (sub : TypedSub) (b : Bool) → AllOf (declared_within sub.body) → Begun (if b then function_end sub else procedure_end s sub)
+  end_begun sub true all = (tt, tt)
+  end_begun sub false all =
+      one_more (ends [] 0 sub.end (ending s sub.body) (scope_at_end sub) _) _ (ends_begun [] 0 sub.end (ending s sub.body) (scope_at_end sub) _ (ending_all sub.body all)) tt
+
+-- So it is of each point of a subprogram, and of the package objects.
+pub sub_begun : (s : Setting) (P : ℕ → Type 0) (sub : TypedSub) → ((x : ℕ) → Has (declared_within sub.body) x → P x) → (p : NamedPoint) → Has (sub_points s sub) p
+    → Begins P p.instr
+sub_begun s P sub all p has =
+    all_has (IsBegun P) (sub_points s sub) p
+    (both s P (laid s sub.body (0 ∷ []) (around_body s sub) _) _
+    (laid_begun s P sub.body (0 ∷ []) (around_body s sub) _ all ((λ x none. absurd none), ending_all s P sub.body all))
+    (end_begun s P sub (is_some sub.result) all)) has
+
+pub package_begun : (s : Setting) (P : ℕ → Type 0) (sub : TypedSub) → ((x : ℕ) → Has (declared_within sub.body) x → P x) → (p : NamedPoint)
+    → Has (elaboration_points s sub) p → Begins P p.instr
+package_begun s P sub all p has =
+    all_has (IsBegun P) (elaboration_points s sub) p
+    (both s P (laid s sub.body (0 ∷ []) (around_body s sub) _) []
+    (laid_begun s P sub.body (0 ∷ []) (around_body s sub) _ all ((λ x none. absurd none), ending_all s P sub.body all)) tt) has

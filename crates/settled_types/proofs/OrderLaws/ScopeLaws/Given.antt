@@ -1,0 +1,379 @@
+-- A point that takes what a function gave, alone: the last temporary in scope is that of the call, which another point of
+-- the subprogram fills.
+use Rattle.std.proofs.Common.{◌≡◌, refl, sym, ap, ◌∙◌, subst, ◌⊎◌, inl, inr, ℕ, suc, Bool, true, false, ◌||◌, List, [], ◌∷◌, ◌++◌, drop, Some, None, if◌then◌else◌}
+use Rattle.std.specs.Prelude.{flat_map, is_some}
+use Rattle.std.proofs.lemmas.Bool.{false≢true, true≢false}
+use Rattle.spark_base.specs.declared.position.Pos.{Pos}
+use Rattle.spark_base.specs.Lists.{Has}
+use Rattle.spark_base.proofs.Lists.{Has-append_left, Has-append_right, Has-append_cases}
+use Rattle.typed_tree.specs.Trees.{TypedTree, Name, Component, Designated, Element, Image, Parens, Unary, Binary, Short, IsNull, Aggregate, Alike, New, NoMore, TypedCode, Declare, Assign, Skip, Output, Input, Release, If, Branch, Case, When, Loop, While, For, Exit, Return, Block}
+use Rattle.typed_tree.specs.Trees as typed
+use Rattle.typed_tree.specs.Programs.{TypedSub}
+use Rattle.flow_paths.specs.Instructions.{Instruction}
+use Rattle.flow_paths.specs.Instructions as instruction
+use Rattle.flow_paths.specs.Names.{has_call}
+use Rattle.flow_paths.specs.Points.{Place, PointName, row_at, NamedPoint, point, entry}
+use Rattle.flow_paths.specs.Prep.{Setting, held, with_held, prep}
+use Rattle.flow_paths.specs.Layout.{Around, within_loop, within_block, with_scope, declared, from, ending, ends, uses, uses_both, uses_second_first, laid, laid_branches, laid_branch, laid_whens, laid_when, choices_of}
+use Rattle.flow_paths.specs.Laid.{around_body, scope_at_end, procedure_end, function_end, sub_points}
+use Rattle.settled_types.specs.OrderLaws.ScopeLaws.Returning.{is_return}
+
+-- An object is declared with this alone, or it is assigned or returned.
+abbrev pub Takes : Instruction → TypedTree → Type 0
+Takes i call =
+    ((x : ℕ) × (i ≡ instruction.Declare x (typed.More call NoMore)))
+    ⊎ (((p : Pos) × (x : ℕ) × (path : TypedTree) × (u : ℕ) × (i ≡ instruction.Assign (Name p x path u) call) × (has_call path ≡ false))
+    ⊎ (i ≡ instruction.Hold (typed.More call NoMore)))
+
+-- The temporary of the call is the last one in scope, and one of these points fills it.
+abbrev pub IsGiven : List NamedPoint → NamedPoint → Type 0
+IsGiven whole p =
+    (q : Pos) (n : ℕ) (a : TypedTree) → Takes p.instr (typed.Call q n a)
+    → (t : ℕ) × (rest : List ℕ) × (p.scope ≡ t ∷ rest) × (r : NamedPoint) × Has whole r × (r.instr ≡ instruction.Call n a (Some t))
+
+abbrev AreGiven : List NamedPoint → List NamedPoint → Type 0
+AreGiven whole ps = (p : NamedPoint) → Has ps p → IsGiven whole p
+
+-- Points that take nothing so.
+abbrev AreOthers : List NamedPoint → Type 0
+AreOthers ps = (p : NamedPoint) → Has ps p → (e : TypedTree) → Takes p.instr e → ⊥
+
+neither : (a b : Bool) → a || b ≡ false → (a ≡ false) × (b ≡ false)
+neither true b e = absurd (true≢false e)
+neither false b e = (refl, e)
+
+-- an expression without calls holds nothing
+pub none_held : (s : Setting) (e : TypedTree) (at : Place) → has_call e ≡ false → held s e at ≡ []
+unfolding held has_call
+none_held s (typed.Call p sub actuals) at none = absurd (true≢false none)
+none_held s (Short op p a q b) at none =
+    let two = neither (has_call a) (has_call b) none in
+    ap (λ z. if z then s.temporary at ∷ [] else held s b (1 ∷ at) ++ held s a (0 ∷ at)) two.1
+    ∙ (λ j. none_held s b (1 ∷ at) two.1 j ++ none_held s a (0 ∷ at) two.0 j)
+none_held s (Name p x steps t) at none = none_held s steps (0 ∷ at) none
+none_held s (Component i rest) at none = none_held s rest (0 ∷ at) none
+none_held s (Designated rest) at none = none_held s rest (0 ∷ at) none
+none_held s (Element index low high rest) at none =
+    (let two = neither (has_call index) (has_call rest) none in (λ j. none_held s rest (1 ∷ at) two.1 j ++ none_held s index (0 ∷ at) two.0 j))
+none_held s (Image t e) at none = none_held s e (0 ∷ at) none
+none_held s (Parens e) at none = none_held s e (0 ∷ at) none
+none_held s (Unary op e) at none = none_held s e (0 ∷ at) none
+none_held s (Binary op a b) at none =
+    (let two = neither (has_call a) (has_call b) none in (λ j. none_held s b (1 ∷ at) two.1 j ++ none_held s a (0 ∷ at) two.0 j))
+none_held s (IsNull equal e) at none = none_held s e (0 ∷ at) none
+none_held s (Aggregate t parts) at none = none_held s parts (0 ∷ at) none
+none_held s (Alike t e) at none = none_held s e (0 ∷ at) none
+none_held s (New t v) at none = none_held s v (0 ∷ at) none
+none_held s (typed.More e rest) at none =
+    (let two = neither (has_call e) (has_call rest) none in (λ j. none_held s rest (1 ∷ at) two.1 j ++ none_held s e (0 ∷ at) two.0 j))
+none_held s _ at none = refl
+
+second_none : (c : Bool) (ps qs : List NamedPoint) → c ≡ false → qs ≡ [] → (if c then ps else qs) ≡ []
+second_none true ps qs is none = absurd (true≢false is)
+second_none false ps qs is none = none
+
+-- nor has it points of its own
+pub none_before : (s : Setting) (e : TypedTree) (at : Place) (scope : List ℕ) (k : List PointName) → has_call e ≡ false → prep s e at scope k ≡ []
+unfolding prep has_call
+none_before s (typed.Call p sub actuals) at scope k none = absurd (true≢false none)
+none_before s (Short op p a q b) at scope k none =
+    let two = neither (has_call a) (has_call b) none in
+    second_none (has_call b) _ _ two.1
+    (λ j. none_before s a (0 ∷ at) scope (entry (prep s b (1 ∷ at) (with_held s a (0 ∷ at) scope) k) k) two.0 j ++ none_before s b (1 ∷ at) (with_held s a (0 ∷ at) scope) k two.1 j)
+none_before s (Name p x e t) at scope k none = none_before s e (0 ∷ at) scope k none
+none_before s (Component i e) at scope k none = none_before s e (0 ∷ at) scope k none
+none_before s (Designated e) at scope k none = none_before s e (0 ∷ at) scope k none
+none_before s (Element a low high b) at scope k none =
+    (let two = neither (has_call a) (has_call b) none in
+    (λ j. none_before s a (0 ∷ at) scope (entry (prep s b (1 ∷ at) (with_held s a (0 ∷ at) scope) k) k) two.0 j ++ none_before s b (1 ∷ at) (with_held s a (0 ∷ at) scope) k two.1 j))
+none_before s (Image t e) at scope k none = none_before s e (0 ∷ at) scope k none
+none_before s (Parens e) at scope k none = none_before s e (0 ∷ at) scope k none
+none_before s (Unary op e) at scope k none = none_before s e (0 ∷ at) scope k none
+none_before s (Binary op a b) at scope k none =
+    (let two = neither (has_call a) (has_call b) none in
+    (λ j. none_before s a (0 ∷ at) scope (entry (prep s b (1 ∷ at) (with_held s a (0 ∷ at) scope) k) k) two.0 j ++ none_before s b (1 ∷ at) (with_held s a (0 ∷ at) scope) k two.1 j))
+none_before s (IsNull equal e) at scope k none = none_before s e (0 ∷ at) scope k none
+none_before s (Aggregate t e) at scope k none = none_before s e (0 ∷ at) scope k none
+none_before s (Alike t e) at scope k none = none_before s e (0 ∷ at) scope k none
+none_before s (New t e) at scope k none = none_before s e (0 ∷ at) scope k none
+none_before s (typed.More a b) at scope k none =
+    (let two = neither (has_call a) (has_call b) none in
+    (λ j. none_before s a (0 ∷ at) scope (entry (prep s b (1 ∷ at) (with_held s a (0 ∷ at) scope) k) k) two.0 j ++ none_before s b (1 ∷ at) (with_held s a (0 ∷ at) scope) k two.1 j))
+none_before s _ at scope k none = refl
+
+-- ---- what an instruction takes
+
+abbrev assigns : Instruction → Bool
+assigns (instruction.Assign target e) = true
+assigns i = false
+
+abbrev takes : Instruction → Bool
+takes (instruction.Declare x v) = true
+takes (instruction.Assign target e) = true
+takes (instruction.Hold v) = true
+takes i = false
+
+abbrev value_in : Instruction → TypedTree
+value_in (instruction.Declare x v) = v
+value_in (instruction.Hold v) = v
+value_in i = NoMore
+
+abbrev target_in : Instruction → TypedTree
+target_in (instruction.Assign target e) = target
+target_in i = NoMore
+
+abbrev source_in : Instruction → TypedTree
+source_in (instruction.Assign target e) = e
+source_in i = NoMore
+
+no_take : (i : Instruction) → takes i ≡ false → (e : TypedTree) → Takes i e → ⊥
+no_take i none e (inl (x, is)) = true≢false (sym (ap takes is) ∙ none)
+no_take i none e (inr (inl (p, x, path, u, is, calls))) = true≢false (sym (ap takes is) ∙ none)
+no_take i none e (inr (inr is)) = true≢false (sym (ap takes is) ∙ none)
+
+value_declared : (x : ℕ) (v e : TypedTree) → Takes (instruction.Declare x v) e → v ≡ typed.More e NoMore
+value_declared x v e (inl (y, is)) = ap value_in is
+value_declared x v e (inr (inl (p, y, path, u, is, calls))) = absurd (false≢true (ap assigns is))
+value_declared x v e (inr (inr is)) = absurd (false≢true (ap is_return is))
+
+value_returned : (v e : TypedTree) → Takes (instruction.Hold v) e → v ≡ typed.More e NoMore
+value_returned v e (inl (y, is)) = absurd (true≢false (ap is_return is))
+value_returned v e (inr (inl (p, y, path, u, is, calls))) = absurd (true≢false (ap is_return is))
+value_returned v e (inr (inr is)) = ap value_in is
+
+module _ (s : Setting) where
+  -- ---- points that take nothing so
+
+  others_both : (ps qs : List NamedPoint) → AreOthers ps → AreOthers qs → AreOthers (ps ++ qs)
+  others_both ps qs h g p has = elim (Has-append_cases ps qs p has) [ inl l ↦ h p l | inr r ↦ g p r ]
+
+  others_one : (p : NamedPoint) → ((e : TypedTree) → Takes p.instr e → ⊥) → AreOthers (p ∷ [])
+  others_one p h q (inl same) e by = h e (subst (λ (z : NamedPoint). Takes z.instr e) (sym same) by)
+  others_one p h q (inr never) e by = absurd never
+
+  others_if : (b : Bool) (ps qs : List NamedPoint) → AreOthers ps → AreOthers qs → AreOthers (if b then ps else qs)
+  others_if true ps qs h g = h
+  others_if false ps qs h g = g
+
+  prep_others : (e : TypedTree) (at : Place) (scope : List ℕ) (k : List PointName) → AreOthers (prep s e at scope k)
+  unfolding prep
+  prep_others (typed.Call p sub actuals) at scope k =
+      others_both (prep s actuals (0 ∷ at) scope (row_at at 0 ∷ [])) _ (prep_others actuals (0 ∷ at) scope (row_at at 0 ∷ []))
+      (others_one _ (no_take (instruction.Call sub actuals (Some (s.temporary at))) refl))
+  prep_others (Short op p a q b) at scope k =
+      let right : List NamedPoint = prep s b (1 ∷ at) (s.temporary at ∷ scope) (row_at at 1 ∷ []) in
+      others_if (has_call b) _ _
+      (others_both (prep s a (0 ∷ at) scope (row_at at 0 ∷ [])) _ (prep_others a (0 ∷ at) scope (row_at at 0 ∷ []))
+      (λ r has e by. elim has [
+        | inl same ↦ no_take (instruction.Evaluate (s.temporary at) a (Some op)) refl e (subst (λ (z : NamedPoint). Takes z.instr e) (sym same) by)
+        | inr more ↦ others_both right _ (prep_others b (1 ∷ at) (s.temporary at ∷ scope) (row_at at 1 ∷ [])) (others_one _ (no_take (instruction.Evaluate (s.temporary at) b None) refl)) r more e by
+      ]))
+      (others_both (prep s a (0 ∷ at) scope _) _ (prep_others a (0 ∷ at) scope _) (prep_others b (1 ∷ at) _ k))
+  prep_others (Binary op a b) at scope k = others_both (prep s a (0 ∷ at) scope _) _ (prep_others a (0 ∷ at) scope _) (prep_others b (1 ∷ at) _ k)
+  prep_others (typed.More a b) at scope k = others_both (prep s a (0 ∷ at) scope _) _ (prep_others a (0 ∷ at) scope _) (prep_others b (1 ∷ at) _ k)
+  prep_others (Element a low high b) at scope k = others_both (prep s a (0 ∷ at) scope _) _ (prep_others a (0 ∷ at) scope _) (prep_others b (1 ∷ at) _ k)
+  prep_others (Name p x e u) at scope k = prep_others e (0 ∷ at) scope k
+  prep_others (Component i e) at scope k = prep_others e (0 ∷ at) scope k
+  prep_others (Designated e) at scope k = prep_others e (0 ∷ at) scope k
+  prep_others (Image u e) at scope k = prep_others e (0 ∷ at) scope k
+  prep_others (Parens e) at scope k = prep_others e (0 ∷ at) scope k
+  prep_others (Unary op e) at scope k = prep_others e (0 ∷ at) scope k
+  prep_others (IsNull equal e) at scope k = prep_others e (0 ∷ at) scope k
+  prep_others (Aggregate t e) at scope k = prep_others e (0 ∷ at) scope k
+  prep_others (Alike t e) at scope k = prep_others e (0 ∷ at) scope k
+  prep_others (New t e) at scope k = prep_others e (0 ∷ at) scope k
+  prep_others _ at scope k = λ p has e by. absurd has
+
+  ends_others : (at : Place) (row : ℕ) (p : Pos) (xs scope : List ℕ) (k : List PointName) → AreOthers (ends at row p xs scope k)
+  ends_others at row p [] scope k = λ q has e by. absurd has
+  ends_others at row p (x ∷ xs) scope k = λ q has e by. elim has [
+    | inl same ↦ no_take (instruction.EndScope x) refl e (subst (λ (z : NamedPoint). Takes z.instr e) (sym same) by)
+    | inr more ↦ ends_others at (suc row) p xs (drop 1 (from x scope)) k q more e by
+  ]
+
+  -- ---- the points of a subprogram
+
+  module _ (whole : List NamedPoint) where
+    abbrev Within : List NamedPoint → Type 0
+    Within ps = (r : NamedPoint) → Has ps r → Has whole r
+
+    first_of : (ps qs : List NamedPoint) → Within (ps ++ qs) → Within ps
+    first_of ps qs within r has = within r (Has-append_left ps qs r has)
+
+    second_of : (ps qs : List NamedPoint) → Within (ps ++ qs) → Within qs
+    second_of ps qs within r has = within r (Has-append_right ps qs r has)
+
+    others_given : (ps : List NamedPoint) → AreOthers ps → AreGiven whole ps
+    others_given ps h p has q n a by = absurd (h p has (typed.Call q n a) by)
+
+    given_both : (ps qs : List NamedPoint) → AreGiven whole ps → AreGiven whole qs → AreGiven whole (ps ++ qs)
+    given_both ps qs h g p has = elim (Has-append_cases ps qs p has) [ inl l ↦ h p l | inr r ↦ g p r ]
+
+    given_one : (p : NamedPoint) → IsGiven whole p → AreGiven whole (p ∷ [])
+    given_one p h q (inl same) = subst (IsGiven whole) same h
+    given_one p h q (inr never) = absurd never
+
+    -- what fills the temporary of a call
+    abbrev Filled : ℕ → TypedTree → ℕ → List NamedPoint → Type 0
+    Filled n a t ps = (r : NamedPoint) × Has ps r × (r.instr ≡ instruction.Call n a (Some t))
+
+    call_filled : (q : Pos) (n : ℕ) (a : TypedTree) (at : Place) (scope : List ℕ) (k : List PointName) → Filled n a (s.temporary at) (prep s (typed.Call q n a) at scope k)
+    unfolding prep
+    call_filled q n a at scope k =
+        (_, Has-append_right (prep s a (0 ∷ at) scope (row_at at 0 ∷ [])) (_ ∷ []) _ (inl refl), refl)
+
+    alone_filled : (q : Pos) (n : ℕ) (a : TypedTree) (at : Place) (scope : List ℕ) (k : List PointName)
+        → Filled n a (s.temporary (0 ∷ at)) (prep s (typed.More (typed.Call q n a) NoMore) at scope k)
+    unfolding prep
+    alone_filled q n a at scope k =
+        let found = call_filled q n a (0 ∷ at) scope (entry (prep s NoMore (1 ∷ at) (with_held s (typed.Call q n a) (0 ∷ at) scope) k) k) in
+        (found.0, Has-append_left (prep s (typed.Call q n a) (0 ∷ at) scope _) _ found.0 found.1, found.2)
+
+    alone_held : (q : Pos) (n : ℕ) (a : TypedTree) (at : Place) (scope : List ℕ) → with_held s (typed.More (typed.Call q n a) NoMore) at scope ≡ s.temporary (0 ∷ at) ∷ scope
+    unfolding held
+    alone_held q n a at scope = refl
+
+    -- the value of a declaration or a return
+    value_given : (i : Instruction) (v : TypedTree) → ((e : TypedTree) → Takes i e → v ≡ typed.More e NoMore) → (name : PointName) (p : Pos) (at : Place) (scope : List ℕ)
+        (k next : List PointName) → Within (prep s v at scope k) → IsGiven whole (point name p i (with_held s v at scope) next)
+    value_given i v only name p at scope k next within q n a by =
+        let is : v ≡ typed.More (typed.Call q n a) NoMore = only (typed.Call q n a) by in
+        let found = alone_filled q n a at scope k in (
+          s.temporary (0 ∷ at),
+          scope,
+          ap (λ z. with_held s z at scope) is ∙ alone_held q n a at scope,
+          found.0,
+          within found.0 (subst (λ z. Has (prep s z at scope k) found.0) (sym is) found.1),
+          found.2,
+        )
+
+    uses_given : (at : Place) (p : Pos) (v : TypedTree) (i : Instruction) (w : Around) (next : List PointName) → ((e : TypedTree) → Takes i e → v ≡ typed.More e NoMore)
+        → Within (uses s at p v i w next) → AreGiven whole (uses s at p v i w next)
+    uses_given at p v i w next only within =
+        given_both (prep s v (0 ∷ at) w.scope (row_at at 0 ∷ [])) _ (others_given _ (prep_others v (0 ∷ at) w.scope (row_at at 0 ∷ [])))
+        (given_one _ (value_given i v only (row_at at 0) p (0 ∷ at) w.scope (row_at at 0 ∷ []) next (first_of (prep s v (0 ∷ at) w.scope (row_at at 0 ∷ [])) _ within)))
+
+    uses_others : (at : Place) (p : Pos) (v : TypedTree) (i : Instruction) (w : Around) (next : List PointName) → ((e : TypedTree) → Takes i e → ⊥)
+        → AreGiven whole (uses s at p v i w next)
+    uses_others at p v i w next none =
+        others_given (uses s at p v i w next)
+        (others_both (prep s v (0 ∷ at) w.scope (row_at at 0 ∷ [])) _ (prep_others v (0 ∷ at) w.scope (row_at at 0 ∷ [])) (others_one _ none))
+
+    assign_given : (at : Place) (p : Pos) (target e : TypedTree) (w : Around) (next : List PointName)
+        → Within (uses_second_first s at p target e (instruction.Assign target e) w next) → AreGiven whole (uses_second_first s at p target e (instruction.Assign target e) w next)
+    unfolding held
+    assign_given at p target e w next within =
+        let behind : List NamedPoint = prep s target (0 ∷ at) (with_held s e (1 ∷ at) w.scope) (row_at at 0 ∷ []) in
+        let before : List NamedPoint = prep s e (1 ∷ at) w.scope (entry behind (row_at at 0 ∷ [])) in
+        given_both (before ++ behind) _
+        (others_given _ (others_both before behind (prep_others e (1 ∷ at) w.scope (entry behind (row_at at 0 ∷ [])))
+        (prep_others target (0 ∷ at) (with_held s e (1 ∷ at) w.scope) (row_at at 0 ∷ []))))
+        (given_one _ (λ q n a by. elim by [
+          | inl (x, is) ↦ absurd (true≢false (ap assigns is))
+          | inr (inr is) ↦ absurd (true≢false (ap assigns is))
+          | inr (inl (r, x, path, u, is, calls)) ↦ (
+              let source_is : e ≡ typed.Call q n a = ap source_in is in
+              let target_is : target ≡ Name r x path u = ap target_in is in
+              let found = call_filled q n a (1 ∷ at) w.scope (entry behind (row_at at 0 ∷ [])) in (
+                s.temporary (1 ∷ at),
+                w.scope,
+                ap (λ z. held s z (0 ∷ at) ++ with_held s e (1 ∷ at) w.scope) target_is ∙ ap (λ z. z ++ with_held s e (1 ∷ at) w.scope) (none_held s path (0 ∷ 0 ∷ at) calls)
+                    ∙ ap (λ z. with_held s z (1 ∷ at) w.scope) source_is,
+                found.0,
+                first_of before behind (first_of (before ++ behind) _ within) found.0
+                    (subst (λ z. Has (prep s z (1 ∷ at) w.scope (entry behind (row_at at 0 ∷ []))) found.0) (sym source_is) found.1),
+                found.2,
+              ))
+        ]))
+
+    one_other : (p : NamedPoint) → ((e : TypedTree) → Takes p.instr e → ⊥) → AreGiven whole (p ∷ [])
+    one_other p none = given_one p (λ q n a by. absurd (none (typed.Call q n a) by))
+
+    abbrev next_point : ℕ → Pos → Bool → TypedTree → TypedTree → TypedCode → Place → Around → List PointName → NamedPoint
+    next_point x p reversed low high stmts at w k =
+        point (row_at at 1) p (instruction.Next x reversed low high) (x ∷ w.scope)
+        (entry (laid s stmts (2 ∷ at) (with_scope (x ∷ []) (within_loop k w)) (row_at at 1 ∷ [])) (row_at at 1 ∷ []) ++ k)
+
+    mutual
+      unfolding laid laid_branches laid_branch laid_whens laid_when
+
+      laid_given : (c : TypedCode) (at : Place) (w : Around) (k : List PointName) → Within (laid s c at w k) → AreGiven whole (laid s c at w k)
+      laid_given (typed.More a rest) at w k within =
+          given_both (laid s a (0 ∷ at) w _) _ (laid_given a (0 ∷ at) w _ (first_of (laid s a (0 ∷ at) w _) _ within))
+          (laid_given rest (1 ∷ at) (with_scope (declared a) w) k (second_of (laid s a (0 ∷ at) w _) _ within))
+      laid_given (Declare p x v) at w k within = uses_given at p v (instruction.Declare x v) w k (value_declared x v) within
+      laid_given (Assign p target e) at w k within = assign_given at p target e w k within
+      laid_given (Skip p) at w k within = one_other (point (row_at at 0) p instruction.Skip w.scope k) (no_take instruction.Skip refl)
+      laid_given (typed.Call p sub actuals) at w k within =
+          uses_others at p actuals (instruction.Call sub actuals None) w k (no_take (instruction.Call sub actuals None) refl)
+      laid_given (Output p text line) at w k within =
+          uses_others at p text (instruction.Output text line) w k (no_take (instruction.Output text line) refl)
+      laid_given (Input p target) at w k within = uses_others at p target (instruction.Input target) w k (no_take (instruction.Input target) refl)
+      laid_given (Release p m) at w k within = uses_others at p m (instruction.Release m) w k (no_take (instruction.Release m) refl)
+      laid_given (If branches otherwise) at w k within =
+          given_both (laid_branches s branches (0 ∷ at) w k _) _ (branches_given branches (0 ∷ at) w k _ (first_of (laid_branches s branches (0 ∷ at) w k _) _ within))
+          (laid_given otherwise (1 ∷ at) w k (second_of (laid_branches s branches (0 ∷ at) w k _) _ within))
+      laid_given (Case p e whens) at w k within =
+          given_both (uses s at p e _ w _) _ (uses_others at p e _ w _ (no_take (instruction.Choose e (choices_of whens)) refl))
+          (whens_given whens (1 ∷ at) w k (second_of (uses s at p e _ w _) _ within))
+      laid_given (Loop stmts) at w k within = laid_given stmts (0 ∷ at) (within_loop k w) _ within
+      laid_given (While p e stmts) at w k within =
+          given_both (uses s at p e (instruction.Test e) w _) _ (uses_others at p e (instruction.Test e) w _ (no_take (instruction.Test e) refl))
+          (laid_given stmts (1 ∷ at) (within_loop k w) _ (second_of (uses s at p e (instruction.Test e) w _) _ within))
+      laid_given (For p x reversed low high stmts) at w k within =
+          given_both (uses_both s at p low high (instruction.Start x reversed low high) w (row_at at 1 ∷ [])) _
+          (others_given _ (others_both (prep s low (0 ∷ at) w.scope _ ++ prep s high (1 ∷ at) (with_held s low (0 ∷ at) w.scope) (row_at at 0 ∷ [])) _
+          (others_both (prep s low (0 ∷ at) w.scope _) _ (prep_others low (0 ∷ at) w.scope _) (prep_others high (1 ∷ at) (with_held s low (0 ∷ at) w.scope) (row_at at 0 ∷ [])))
+          (others_one _ (no_take (instruction.Start x reversed low high) refl))))
+          (given_both (next_point x p reversed low high stmts at w k ∷ []) (laid s stmts (2 ∷ at) (with_scope (x ∷ []) (within_loop k w)) (row_at at 1 ∷ []))
+          (one_other (next_point x p reversed low high stmts at w k) (no_take (instruction.Next x reversed low high) refl))
+          (laid_given stmts (2 ∷ at) (with_scope (x ∷ []) (within_loop k w)) (row_at at 1 ∷ [])
+          (λ r has. second_of (uses_both s at p low high (instruction.Start x reversed low high) w (row_at at 1 ∷ [])) _ within r (inr has))))
+      laid_given (Exit p e) at w k within =
+          given_both (uses s at p e (instruction.LeaveLoop e) w _) _ (uses_others at p e (instruction.LeaveLoop e) w _ (no_take (instruction.LeaveLoop e) refl))
+          (others_given _ (ends_others at 1 p w.in_loop w.scope w.leave))
+      laid_given (Return p v) at w k within =
+          given_both (uses s at p v (instruction.Hold v) w _) _ (uses_given at p v (instruction.Hold v) w _ (value_returned v) (first_of (uses s at p v (instruction.Hold v) w _) _ within))
+          (others_given _ (others_both (ends at 1 p w.in_all w.scope _) _ (ends_others at 1 p w.in_all w.scope _)
+          (others_one _ (no_take instruction.Finish refl))))
+      laid_given (Block n stmts end) at w k within =
+          given_both (laid s stmts (0 ∷ at) (within_block (ending s stmts) w) _) _
+          (laid_given stmts (0 ∷ at) (within_block (ending s stmts) w) _ (first_of (laid s stmts (0 ∷ at) (within_block (ending s stmts) w) _) _ within))
+          (others_given _ (ends_others at 0 end (ending s stmts) _ k))
+      laid_given _ at w k within = λ p has. absurd has
+
+      branches_given : (c : TypedCode) (at : Place) (w : Around) (k m : List PointName) → Within (laid_branches s c at w k m) → AreGiven whole (laid_branches s c at w k m)
+      branches_given (typed.More a rest) at w k m within =
+          given_both (laid_branch s a (0 ∷ at) w k _) _ (branch_given a (0 ∷ at) w k _ (first_of (laid_branch s a (0 ∷ at) w k _) _ within))
+          (branches_given rest (1 ∷ at) w k m (second_of (laid_branch s a (0 ∷ at) w k _) _ within))
+      branches_given _ at w k m within = λ p has. absurd has
+
+      branch_given : (c : TypedCode) (at : Place) (w : Around) (k m : List PointName) → Within (laid_branch s c at w k m) → AreGiven whole (laid_branch s c at w k m)
+      branch_given (Branch p e stmts) at w k m within =
+          given_both (uses s at p e (instruction.Test e) w _) _ (uses_others at p e (instruction.Test e) w _ (no_take (instruction.Test e) refl))
+          (laid_given stmts (1 ∷ at) w k (second_of (uses s at p e (instruction.Test e) w _) _ within))
+      branch_given _ at w k m within = λ p has. absurd has
+
+      whens_given : (c : TypedCode) (at : Place) (w : Around) (k : List PointName) → Within (flat_map (λ ps. ps) (laid_whens s c at w k))
+          → AreGiven whole (flat_map (λ ps. ps) (laid_whens s c at w k))
+      whens_given (typed.More a rest) at w k within =
+          given_both (laid_when s a (0 ∷ at) w k) _ (when_given a (0 ∷ at) w k (first_of (laid_when s a (0 ∷ at) w k) _ within))
+          (whens_given rest (1 ∷ at) w k (second_of (laid_when s a (0 ∷ at) w k) _ within))
+      whens_given _ at w k within = λ p has. absurd has
+
+      when_given : (c : TypedCode) (at : Place) (w : Around) (k : List PointName) → Within (laid_when s c at w k) → AreGiven whole (laid_when s c at w k)
+      when_given (When choices stmts) at w k within = laid_given stmts (1 ∷ at) w k within
+      when_given _ at w k within = λ p has. absurd has
+
+    end_given : (sub : TypedSub) (b : Bool) → AreGiven whole (if b then function_end sub else procedure_end s sub)
+    end_given sub true = one_other _ (no_take instruction.Fall refl)
+    end_given sub false =
+        others_given _ (others_both (ends [] 0 sub.end (ending s sub.body) (scope_at_end sub) _) _ (ends_others [] 0 sub.end (ending s sub.body) (scope_at_end sub) _)
+        (others_one _ (no_take instruction.Finish refl)))
+
+-- Of each point of a subprogram.
+pub sub_given : (s : Setting) (sub : TypedSub) (p : NamedPoint) → Has (sub_points s sub) p → IsGiven (sub_points s sub) p
+sub_given s sub =
+    given_both s (sub_points s sub) (laid s sub.body (0 ∷ []) (around_body s sub) _) _
+    (laid_given s (sub_points s sub) sub.body (0 ∷ []) (around_body s sub) _ (λ r has. Has-append_left (laid s sub.body (0 ∷ []) (around_body s sub) _) _ r has))
+    (end_given s (sub_points s sub) sub (is_some sub.result))

@@ -1,0 +1,118 @@
+-- String expressions.
+use Rattle.std.proofs.Common.{◌≡◌, refl, sym, ap, ◌∙◌, subst, ℕ, true, false, ◌||◌, List, [], ◌++◌, None}
+use Rattle.std.proofs.lemmas.Bool.{false≢true, true≢false}
+use Rattle.spark_base.specs.declared.position.Pos.{Pos}
+use Rattle.resolved_tree.specs.declared.operator.Operator.{Operator}
+use Rattle.resolved_tree.specs.declared.operator.Operator.TheVariants as operator
+use Rattle.resolved_tree.specs.Trees.{Tree, Number, Text, Named, Parens, Unary, Binary, Applied, Attr, Argument, NoMore, More, position}
+use Rattle.type_definitions.specs.declared.table.Entry.TheVariants as entry
+use Rattle.type_definitions.specs.declared.judgement.Own.{Own}
+use Rattle.type_definitions.specs.declared.judgement.Own.TheVariants as own
+use Rattle.type_definitions.specs.declared.judgement.Reading.{Reading}
+use Rattle.type_definitions.specs.declared.judgement.Reading.TheVariants as reading
+use Rattle.type_definitions.specs.declared.judgement.Role.TheVariants as role
+use Rattle.type_definitions.specs.declared.judgement.Where.TheVariants as stands
+use Rattle.type_definitions.specs.declared.judgement.Fault.{Fault}
+use Rattle.type_definitions.specs.Types.{base}
+use Rattle.type_definitions.specs.Entries.{entry_of, integer}
+use Rattle.type_definitions.specs.Names.{Context, is_index, reading_of}
+use Rattle.type_definitions.specs.Expressions.{own_of, own_type, inside, around, around_string, around_operands, around_parens, arguments, behind, way_of, reading_faults, given_names, call_arguments, is_string, is_unknown, operand_type, is_null, is_join}
+use Rattle.typed_tree.specs.declared.object.Object.{Object}
+use Rattle.typed_tree.specs.Expressions.{Site, typed_expression, typed_name, typed_imaged, typed_first, typed_steps, typed_actuals, object_type, called_function, operands}
+use Rattle.flow_paths.specs.Objects.{Typing, Signature}
+use Rattle.soundness.specs.TypedLaws.Fine.{Laws, IsMeant, AreSuffixes, IsSuffix, AreArguments}
+use Rattle.soundness.specs.TypedLaws.Needed.{Stays, Writes}
+use Rattle.soundness.proofs.TypedLaws.Agreeing.{holds, nil_left, nil_right}
+use Rattle.soundness.proofs.TypedLaws.Main.{fine}
+use Rattle.soundness.proofs.TypedLaws.TypedPoints.Values.{bound_stays}
+use Rattle.soundness.proofs.TypedLaws.TypedPoints.Statements.{based_scalar}
+use Rattle.soundness.proofs.TypedLaws.TypedPoints.Images.{IsImage, image_read, join_only}
+
+module _ (s : Site) (objects : List Object) (subs : List Signature) (made : ℕ → Type 0) (laws : Laws s.context.known made) where
+  abbrev y : Typing
+  y = record { table = s.context.known.table; objects = objects; subs = subs }
+
+  abbrev c : Context
+  c = s.context
+
+  -- An operand of `&` is a string.
+  pub string_own : (e : Tree) (want : ℕ) → IsMeant s y e → around_string c e ≡ [] → inside c false want e ≡ [] → own_type c e ≡ own.Text
+  string_own e want meant none within = by (own_type c e) refl
+      (holds 1 (position e) (is_string (own_type c e) || is_unknown c.known (own_type c e)) none)
+    where
+      by : (o : Own) → own_type c e ≡ o → is_string o || is_unknown c.known o ≡ true → own_type c e ≡ own.Text
+      by own.Text is h = is
+      by own.Unknown is h = absurd ((fine s objects subs made laws e meant).by_known want is within)
+      by (own.Of t) is h =
+          let m = ((fine s objects subs made laws e meant).by_own want t is within).0 in
+          absurd (true≢false (sym h ∙ laws.certain t m))
+      by own.Demanding is h = absurd (false≢true h)
+
+  -- The value whose image is meant.
+  image_stays : (p : Pos) (d t : ℕ) (rest : Tree) → AreSuffixes s y rest → IsImage c d t (entry_of c.known d) rest → behind c (way_of c.known d (entry_of c.known d)) rest ≡ []
+      → Stays y (typed_imaged s rest)
+  unfolding behind arguments typed_imaged typed_first AreSuffixes IsSuffix AreArguments
+  image_stays p d t rest meant is none =
+      let m = laws.typed d is.4 in
+      let more = is.3 in
+      let whole_rest : rest ≡ More (Attr is.0) (More (Applied more.0) NoMore) = is.2 ∙ ap (More (Attr is.0)) more.1 in
+      subst (λ x. Stays y (typed_imaged s x)) (sym whole_rest)
+      (argument more.0 more.2 m (subst (λ x. AreSuffixes s y x) whole_rest meant)
+      (subst (λ x. behind c (way_of c.known d x) (More (Attr is.0) (More (Applied more.0) NoMore)) ≡ []) is.4
+      (subst (λ x. behind c (way_of c.known d (entry_of c.known d)) x ≡ []) whole_rest none)))
+    where
+      argument : (args : Tree) → is_index args ≡ true → made d → AreSuffixes s y (More (Attr is.0) (More (Applied args) NoMore))
+          → behind c (way_of c.known d entry.Type) (More (Attr is.0) (More (Applied args) NoMore)) ≡ [] → Stays y (typed_imaged s (More (Attr is.0) (More (Applied args) NoMore)))
+      argument (Argument None e NoMore) one m h none =
+          let b = base c.known.table d in
+          let own = nil_left (arguments c (role.Every b) 0 (Argument None e NoMore)) _ none in
+          let within = nil_left (inside c false b e) _ (nil_right (around c stands.Elsewhere b e) _ own) in
+          bound_stays s objects subs made laws c.in_loop c.starts e integer b h.1.0.0 (laws.based d m)
+          (based_scalar s objects subs made laws c.in_loop c.starts d m is.6)
+          (both (around c stands.Elsewhere b e) (inside c false b e) (nil_left (around c stands.Elsewhere b e) _ own) within)
+        where
+          both : (a b : List Fault) → a ≡ [] → b ≡ [] → a ++ b ≡ []
+          both a b e f = ap (λ x. x ++ b) e ∙ f
+      argument args one m h none = absurd (false≢true one)
+
+  -- An operand of `&` that is a string.
+  abbrev IsWritten : Tree → Type 0
+  IsWritten e = own_type c e ≡ own.Text → inside c false (operand_type operator.Concatenate) e ≡ [] → Writes y (typed_expression s (operand_type operator.Concatenate) e)
+
+  -- A string expression.
+  pub written : (e : Tree) (want : ℕ) → IsMeant s y e → own_type c e ≡ own.Text → inside c false want e ≡ [] → Writes y (typed_expression s want e)
+  unfolding own_type inside typed_expression IsMeant Writes
+  written (Text p v) want meant is none = tt
+  written (Number p n) want meant is none = absurd (false≢true (ap is_string is))
+  written (Named p d rest) want meant is none = by (reading_of c d rest) refl is
+    where
+      by : (r : Reading) → reading_of c d rest ≡ r → own_of c.known r ≡ own.Text
+          → Writes y (typed_name s p d (reading_of c d rest) (typed_steps s (object_type (entry_of c.known d)) rest) (typed_actuals s (called_function (reading_of c d rest)) rest) (typed_imaged s rest))
+      by (reading.Image t) read own =
+          rw read (image_stays p d t rest meant.1 (image_read c d t rest read)
+          (nil_right (reading_faults c p d false (given_names (call_arguments rest)) (reading_of c d rest)) _ none))
+      by (reading.Place t) read own = absurd (false≢true (ap is_string own))
+      by (reading.Value t v) read own = absurd (false≢true (ap is_string own))
+      by (reading.Call f) read own = absurd (false≢true (ap is_string own))
+      by reading.EndOfFile read own = absurd (false≢true (ap is_string own))
+      by reading.Off read own = absurd (false≢true (ap is_string own))
+  written (Parens p e) want meant is none = written e want meant is (nil_right (around_parens c p want e) _ none)
+  written (Unary p op e) want meant is none = absurd (false≢true (ap is_string is))
+  written (Binary p op a b) want meant is none =
+      let t = operand_type operator.Concatenate in
+      by op (join_only op is) none (λ own within. written a t meant.0 own within) (λ own within. written b t meant.1 own within)
+    where
+      by : (o : Operator) → o ≡ operator.Concatenate
+          → around_operands c p o a b ++ (inside c false (operand_type o) a ++ inside c false (operand_type o) b) ≡ [] → IsWritten a → IsWritten b
+          → Writes y (operands o (position a) (position b) (is_null a) (is_null b) (typed_expression s (operand_type o) a) (typed_expression s (operand_type o) b))
+      by operator.Concatenate e h first second =
+          let t = operand_type operator.Concatenate in
+          let around = nil_left (around_string c a ++ around_string c b) _ h in
+          let within = nil_right (around_string c a ++ around_string c b) _ h in
+          let left = nil_left (inside c false t a) _ within in
+          let right = nil_right (inside c false t a) _ within in (
+            first (string_own a t meant.0 (nil_left (around_string c a) _ around) left) left,
+            second (string_own b t meant.1 (nil_right (around_string c a) _ around) right) right,
+          )
+      by o e h first second = absurd (false≢true (ap is_join e))
+  written e want meant is none = absurd (false≢true (ap is_string is))
