@@ -9,6 +9,8 @@ use Rattle.code_rows.specs.Points.{point_of}
 use Rattle.slot_memory.specs.Memory.{Ghosts, IsKnown}
 use Rattle.slot_memory.specs.Given.{IsGivenUp}
 use Rattle.slot_runs.specs.Turns.{NeverFails}
+use Rattle.slot_goings.specs.declared.groups.Group.{Group}
+use Rattle.slot_goings.specs.Groups.{group_of}
 use Rattle.slot_turns.specs.declared.halt.Halt.{Halt}
 use Rattle.slot_turns.specs.declared.overs.Over.{Over}
 use Rattle.slot_turns.specs.Betweens.{StandAt}
@@ -17,6 +19,10 @@ use Rattle.slot_turns.specs.Overs.{TurnsTo, IsCounted}
 use Rattle.slot_steps.specs.slot_parts.declared.parts.Parts.{Parts}
 use Rattle.slot_steps.specs.slot_parts.Stages.{between_of, setting_of}
 use Rattle.slot_steps.specs.slot_parts.Steps.{AreLeft}
+
+-- A point that takes no values, of a group.
+abbrev pub IsFree : Group → Point → Type 0
+IsFree g p = (p.takes.count ≡ 0) × (group_of p.does ≡ g)
 
 -- What is kept where the run goes on.
 abbrev pub KeptBy : {R : Type 0} → (R → Heap → Type 0) → Option Over → Parts R → Parts R → Type 0

@@ -1,12 +1,11 @@
-//! Points that take no values and store one word at most.
-ghost use Rattle.std.specs.Prelude.{◌≡◌, ◌≤◌, length, None, IsTrue};
+//! Points that take no values.
+ghost use Rattle.std.specs.Prelude.{◌≡◌, ◌≢◌, ◌≤◌, length, None, IsTrue};
 ghost use Rattle.code_rows.specs.Points.{next_of, program_of, IsWhole};
 ghost use Rattle.slot_frames.specs.Frames.{word_at};
 ghost use Rattle.slot_entries.specs.Entries.{stacked_words};
-ghost use Rattle.slot_goings.specs.Groups.{group_of};
 ghost use Rattle.slot_steps.specs.slot_parts.Goes.{IsLed};
 ghost use Rattle.slot_steps.specs.slot_parts.Stages.{IsAt};
-ghost use Rattle.slot_running.specs.Points.{IsPointTurn};
+ghost use Rattle.slot_running.specs.Points.{IsFree, IsPointTurn};
 
 use code_rows::{Codes, NONE, Point, Stop};
 use slot_goings::{Group, change_words, grouped};
@@ -20,24 +19,25 @@ use type_layouts::Layouts;
 pub(crate) enum Free {
     /// The run goes on.
     Goes,
+    /// Nothing is changed: it takes no values, and there may be leak checks.
+    Values,
     /// Nothing is changed: it is another point, or it raises.
     Stays,
     /// There is too little memory.
     Fails,
 }
 
-/// Whether a point takes no values and stores one word at most.
-fn is_free(point: &Point) -> bool
-    ensures takes { IsTrue result → point.now.takes.count ≡ 0 }
-    ensures group { IsTrue result → group_of point.now.does ≡ Group.Words }
+/// The group of a point that takes so many values. One that takes some is of no group here.
+#[inline(always)]
+fn free_group(point: &Point, takes: u32) -> Group
+    requires { takes ≡ point.now.takes.count }
+    ensures words { result ≡ Group.Words → IsFree Group.Words point.now }
+    ensures values { result ≡ Group.Values → IsFree Group.Values point.now }
 {
-    if point.takes.count != 0 {
-        return false;
+    if takes != 0 {
+        return Group::Others;
     }
-    match grouped(point.does) {
-        Group::Words => true,
-        _ => false,
-    }
+    grouped(point.does)
 }
 
 /// The run goes on at a point, or the main procedure begins, which it does once in a run.
@@ -84,22 +84,21 @@ fn go_free<R: Store>(
     true
 }
 
-/// The step of a point, if it takes no values, stores one word at most, and doesn't raise.
+/// The step of a point that takes no values and stores one word at most, if it doesn't raise.
 #[inline(always)]
-pub(crate) fn free_point<R: Store>(
+fn words_point<R: Store>(
     codes: &Codes,
     table: &Layouts,
     parts: &mut Parts<R>,
     point: &Point,
     k: usize,
 ) -> Free
-    requires { IsAt R.Means codes.now table.now point.now k parts.old }
+    requires at { IsAt R.Means codes.now table.now point.now k parts.old }
+    requires free { IsFree Group.Words point.now }
     ensures goes { result ≡ Free.Goes → IsPointTurn R.Means codes.now table.now point.now None parts.old parts.new }
+    ensures words { result ≢ Free.Values }
     ensures stays { result ≡ Free.Stays → parts.new ≡ parts.old }
 {
-    if !is_free(point) {
-        return Free::Stays;
-    }
     match change_words(&codes.rows, &mut parts.memory, &point.does) {
         Ok(next) => {
             if go_free(codes, table, parts, k, next) {
@@ -110,5 +109,29 @@ pub(crate) fn free_point<R: Store>(
         }
         Err(Stop::Raises(_)) => Free::Stays,
         Err(_) => Free::Fails,
+    }
+}
+
+/// The step of a point that takes so many values, if it takes none, stores one word at most, and
+/// doesn't raise.
+#[inline(always)]
+pub(crate) fn free_point<R: Store>(
+    codes: &Codes,
+    table: &Layouts,
+    parts: &mut Parts<R>,
+    point: &Point,
+    takes: u32,
+    k: usize,
+) -> Free
+    requires at { IsAt R.Means codes.now table.now point.now k parts.old }
+    requires takes { takes ≡ point.now.takes.count }
+    ensures goes { result ≡ Free.Goes → IsPointTurn R.Means codes.now table.now point.now None parts.old parts.new }
+    ensures values { result ≡ Free.Values → IsFree Group.Values point.now × (parts.new ≡ parts.old) }
+    ensures stays { result ≡ Free.Stays → parts.new ≡ parts.old }
+{
+    match free_group(point, takes) {
+        Group::Words => words_point(codes, table, parts, point, k),
+        Group::Values => Free::Values,
+        Group::Others => Free::Stays,
     }
 }

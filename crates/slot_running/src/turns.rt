@@ -12,7 +12,7 @@ use crate::free::{Free, free_point};
 use code_rows::{Codes, Point};
 use run_results::Ending;
 use slot_heap::Store;
-use slot_steps::{Parts, Passing, step_point};
+use slot_steps::{Parts, Passing, step_point, step_values};
 use slot_turns::{Halt, Over, point_at, stopped, take};
 use spark_base::Pos;
 use std::alloc::{AllocError, Global};
@@ -93,11 +93,23 @@ pub(crate) fn turns<R: Store>(
     let mut made = 0u64;
     'steps: while made < limit {
         let point = point_at(codes, parts.frames.frame().next);
-        let Some(k) = take(codes, &mut parts.memory, &parts.frames, point.takes) else {
+        let takes = point.takes;
+        let Some(k) = take(codes, &mut parts.memory, &parts.frames, takes) else {
             return Err(AllocError);
         };
-        match free_point(codes, table, parts, point, k) {
+        match free_point(codes, table, parts, point, takes.count, k) {
             Free::Goes => made += 1,
+            Free::Values => {
+                let cells = parts.memory.made();
+                let freed = parts.memory.freed_with(cells);
+                match step_values(codes, table, parts, point, k) {
+                    Ok(()) => made += 1,
+                    Err(halt) => {
+                        let over = halted(parts, halt, point.pos, cells, freed)?;
+                        return Ok((made + 1, Some(over)));
+                    }
+                }
+            }
             Free::Stays => match turn_point(alloc, codes, table, parts, passing, point, k)? {
                 None => made += 1,
                 Some(over) => return Ok((made + 1, Some(over))),

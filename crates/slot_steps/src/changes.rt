@@ -35,7 +35,7 @@ pub fn step_words<R: Store>(
 
 /// A point that may have leak checks.
 #[inline(always)]
-pub(crate) fn step_values<R: Store>(
+pub fn step_values<R: Store>(
     codes: &Codes,
     table: &Layouts,
     parts: &mut Parts<R>,

@@ -10,7 +10,7 @@ mod changes;
 mod holds;
 mod points;
 
-pub use changes::step_words;
+pub use changes::{step_values, step_words};
 pub use points::step_point;
 pub use slot_called::Passing;
 pub use slot_tells::{Parts, begin};
