@@ -1,6 +1,6 @@
 -- Each step of a sound state leads on, in a program with borrowers and observers that is ready.
 use Rattle.viewed_steps.specs.Traversals.{AreGiven}
-use Rattle.std.proofs.Common.{◌≡◌, refl, sym, ap, ◌∙◌, subst, ℕ, suc, List, [], ◌∷◌, length, None, inl, inr, Bool}
+use Rattle.std.proofs.Common.{◌≡◌, refl, sym, ap, ◌∙◌, subst, ℕ, suc, List, [], ◌∷◌, length, None, inl, inr, Bool, false}
 use Rattle.std.proofs.lemmas.Bool.{false≢true}
 use Rattle.type_definitions.specs.Types.{Table}
 use Rattle.typed_tree.specs.Trees.{More}
@@ -74,32 +74,37 @@ module _ (table : Table) (typed : TypedProgram) (effects : Effects) (input : Lis
     abbrev Along : Outcome → Type 0
     Along outcome = LeadsAlong table typed effects p.instr state.memory (record { stage = top; views = views; cells = [] }) (below ∷ more_frames) outcome
 
+    -- what is neither a call nor the end of one, nor the end of a scope, nor gives back a value
+    other_instruction : (i : Instruction) → p.instr ≡ i → IsOther i → FillsNone s i → is_end_scope_instruction i ≡ false → is_call_instruction i ≡ false
+        → is_finish_instruction i ≡ false → returns_value i ≡ false → Along (turn main_turn i)
+    other_instruction i is other fills no_end no_call no_end_of_call valueless = subst (λ z. Along (turn main_turn z)) is (elim taken_there [
+      | inl plain ↦ turned.goes_plainly table typed effects input ready state top below more_frames rest named p frames deep stages running awaiting of_sub at_point path views viewed_before kept scope holds placed_before above
+          going_here no_calls plain (subst IsOther (sym is) other) (subst (FillsNone s) (sym is) fills) no_finish (ap returns_value is ∙ valueless)
+      | inr (inr within) ↦ holding.goes_within table typed effects input ready state top below more_frames rest named p frames deep stages running awaiting of_sub at_point path views viewed_before kept scope holds placed_before above
+          going_here no_calls within (subst IsOther (sym is) other) (subst (FillsNone s) (sym is) fills) no_finish (ap returns_value is ∙ valueless)
+      | inr (inl alone_taken) ↦ taking.goes_alone table typed effects input ready state top below more_frames rest named p frames deep stages running awaiting of_sub at_point path views viewed_before kept scope holds placed_before above
+          going_here no_calls alone_taken (subst (λ d. AreGiven s (view_here s state) d p.instr views top.frame.waits) deep ((above.1).0.0 named of_sub p at_point)) (subst IsOther (sym is) other) (subst (FillsNone s) (sym is) fills) no_finish (ap returns_value is ∙ valueless)
+    ])
+      where
+        going_here : (y : ℕ) → p.instr ≡ EndScope y → ⊥
+        going_here y e = false≢true (sym no_end ∙ ap is_end_scope_instruction (sym is ∙ e))
+
+        no_calls : IsNoCall p.instr
+        no_calls n actuals result e = false≢true (sym no_call ∙ ap is_call_instruction (sym is ∙ e))
+
+        no_finish : p.instr ≡ Finish → ⊥
+        no_finish e = false≢true (sym no_end_of_call ∙ ap is_finish_instruction (sym is ∙ e))
+
+        taken_there : IsTaken s named.sub.result p
+        taken_there = innermost.taken_there table typed effects input ready state top below more_frames rest named p frames deep stages running awaiting of_sub at_point path views viewed_before kept scope holds placed_before above no_calls
+
     by_instruction : (i : Instruction) → p.instr ≡ i → Along (turn main_turn i)
     by_instruction Finish is = ends.ends_call table typed effects input ready state top below more_frames rest named p frames deep stages running awaiting of_sub at_point path views viewed_before kept scope holds placed_before above is
     by_instruction (Call n actuals result) is = call_enters.calls_it table typed effects input ready state top below more_frames rest named p frames deep stages running awaiting of_sub at_point path views viewed_before kept scope holds placed_before above n actuals result is
     by_instruction (Evaluate temporary e op) is = short_circuits.operand_step table typed effects input ready state top below more_frames rest named p frames deep stages running awaiting of_sub at_point path views viewed_before kept scope holds placed_before above temporary e op is
     by_instruction (Hold (More e last)) is = giving.return_step table typed effects input ready state top below more_frames rest named p frames deep stages running awaiting of_sub at_point path views viewed_before kept scope holds placed_before above e last is
     by_instruction (EndScope y) is = scopes.ends_scope table typed effects input ready state top below more_frames rest named p frames deep stages running awaiting of_sub at_point path views viewed_before kept scope holds placed_before above y is
-    by_instruction i is = subst (λ z. Along (turn main_turn z)) is (elim taken_there [
-      | inl plain ↦ turned.goes_plainly table typed effects input ready state top below more_frames rest named p frames deep stages running awaiting of_sub at_point path views viewed_before kept scope holds placed_before above
-          going_here no_calls plain (subst IsOther (sym is) tt) (subst (FillsNone s) (sym is) tt) no_finish (ap returns_value is)
-      | inr (inr within) ↦ holding.goes_within table typed effects input ready state top below more_frames rest named p frames deep stages running awaiting of_sub at_point path views viewed_before kept scope holds placed_before above
-          going_here no_calls within (subst IsOther (sym is) tt) (subst (FillsNone s) (sym is) tt) no_finish (ap returns_value is)
-      | inr (inl alone_taken) ↦ taking.goes_alone table typed effects input ready state top below more_frames rest named p frames deep stages running awaiting of_sub at_point path views viewed_before kept scope holds placed_before above
-          going_here no_calls alone_taken (subst (λ d. AreGiven s (view_here s state) d p.instr views top.frame.waits) deep ((above.1).0.0 named of_sub p at_point)) (subst IsOther (sym is) tt) (subst (FillsNone s) (sym is) tt) no_finish (ap returns_value is)
-    ])
-      where
-        going_here : (y : ℕ) → p.instr ≡ EndScope y → ⊥
-        going_here y e = false≢true (ap is_end_scope_instruction (sym is ∙ e))
-
-        no_calls : IsNoCall p.instr
-        no_calls n actuals result e = false≢true (ap is_call_instruction (sym is ∙ e))
-
-        no_finish : p.instr ≡ Finish → ⊥
-        no_finish e = false≢true (ap is_finish_instruction (sym is ∙ e))
-
-        taken_there : IsTaken s named.sub.result p
-        taken_there = innermost.taken_there table typed effects input ready state top below more_frames rest named p frames deep stages running awaiting of_sub at_point path views viewed_before kept scope holds placed_before above no_calls
+    by_instruction i is = other_instruction i is tt tt refl refl refl refl
 
     pub main_step : Along (step program input state)
     main_step =

@@ -1,8 +1,9 @@
 -- A program whose subprograms touch no package object, and whose functions change and lend nothing, has no reports, if none is
 -- found along its paths: those of loops would have no end.
-use Rattle.std.specs.Prelude.{IsTrue, is_none, flat_map}
+use Rattle.std.specs.Prelude.{IsTrue, is_none, is_some, flat_map}
 use Rattle.std.specs.List.{list_any}
 use Rattle.std.proofs.Common.{◌≡◌, ℕ, zero, suc, inl, inr, Bool, true, false, not, ◌&&◌, ◌||◌, ◌==◌, eqb-true, List, [], ◌∷◌, ◌++◌, append_assoc, map, refl, sym, ap, ◌∙◌, subst, Option, Some, None, true≢false}
+use Rattle.std.proofs.lemmas.Bool.{false≢true}
 use Rattle.spark_base.specs.Lists.{Has}
 use Rattle.spark_base.proofs.Lists.{Has-append_cases, Has-map_from}
 use Rattle.typed_tree.specs.declared.object.ObjectKind.{ObjectKind}
@@ -74,8 +75,8 @@ module _ (points : List PathPoint) where
       (clear (acts ++ b.act ∷ []) front a rest (right_of (passes_facts (facts_after acts) b.act) (acts_pass (acts ++ b.act ∷ []) (front ++ a ∷ rest)) e))
 
   none_some : (o : Option Forbidden) (x : Forbidden) → is_none o ≡ true → o ≡ Some x → ⊥
-  none_some None x e is = cc
-  none_some (Some y) x e is = cc
+  none_some None x e is = false≢true (ap is_some is)
+  none_some (Some y) x e is = false≢true e
 
   unreported : (n : ℕ) → path_passes n points [] 0 ≡ true → (r : Report) → PathReport points r → ⊥
   unreported n e r path =
@@ -275,7 +276,7 @@ module _ (program : FlowProgram) (effects : Effects) (passes : all_pass (keeps_r
   -- a formal has no other root than itself
   no_variable : (k : ObjectKind) → is_formal_kind k ≡ true → is_variable k ≡ false
   no_variable object_kind.Formal e = refl
-  no_variable k e = cc
+  no_variable k e = absurd (false≢true e)
 
   flat_from : (ps : List FlowPoint) (a : Act) → Has (flat_map (λ (p : FlowPoint). map (λ (z : Placed). z.act) p.acts) ps) a
       → (p : FlowPoint) × Has ps p × ((z : Placed) × Has p.acts z × (z.act ≡ a))

@@ -1,5 +1,6 @@
 -- Texts have no more tokens than there is room for.
 use Rattle.std.proofs.Common.{◌≡◌, ◌≤◌, ℕ, zero, suc, ◌+◌, ◌-◌, ◌==◌, Bool, true, false, if◌then◌else◌, List, [], ◌∷◌, length, take, Ok, Err, refl, subst, arith}
+use Rattle.std.proofs.lemmas.Bool.{true≢false}
 use Rattle.spark_base.specs.declared.position.Pos.{Pos}
 use Rattle.ada_lexer.specs.declared.token.TokenKind.TheVariants.{EndOfFile}
 use Rattle.ada_lexer.specs.declared.refusal.LexRefusal.TheVariants as refused
@@ -19,7 +20,7 @@ end_short pos room cuts e = subst (λ (cs : List Cut). length cs ≤ suc room) (
     same cuts e = cc
 
 some : (room : ℕ) → (room == 0) ≡ false → 1 ≤ room
-some zero e = cc
+some zero e = absurd (true≢false e)
 some (suc room) e = omega arith
 
 cut_short : (text : Text) (left : ℕ) (pos : Pos) (room : ℕ) (cuts : List Cut) → cut_from left pos room text ≡ Ok cuts → length cuts ≤ suc room

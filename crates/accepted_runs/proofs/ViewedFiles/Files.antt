@@ -109,8 +109,8 @@ unnamed_access : (w : View) → flow.is_anonymous w ≡ true → flow.is_named_a
 unnamed_access (view.Access d k true) e = unnamed k e
   where
     unnamed : (k : Bool) → flow.is_anonymous (view.Access d k true) ≡ true → flow.is_named_access (view.Access d k true) ≡ false
-    unnamed true e = cc
-    unnamed false e = cc
+    unnamed true e = absurd (false≢true e)
+    unnamed false e = absurd (false≢true e)
 unnamed_access (view.Access d k false) e = refl
 unnamed_access w e = absurd (false≢true e)
 
@@ -137,13 +137,13 @@ tails x y xs ys e = cc
 
 named_type : (z : Shape) → flow.is_anonymous (view_of z) ≡ false → (d : ℕ) (c n : Bool) → z ≡ shape.Access d c n → n ≡ true
 named_type (shape.Access e k true) plain d c n is = cc
-named_type (shape.Access e true false) plain d c n is = cc
-named_type (shape.Access e false false) plain d c n is = cc
+named_type (shape.Access e true false) plain d c n is = absurd (true≢false plain)
+named_type (shape.Access e false false) plain d c n is = absurd (true≢false plain)
 named_type z plain d c n is = cc
 
 same_anonymous : (w : View) → is_anonymous w ≡ false → flow.is_anonymous w ≡ false
 same_anonymous (view.Access d k true) e = refl
-same_anonymous (view.Access d k false) e = cc
+same_anonymous (view.Access d k false) e = absurd (true≢false e)
 same_anonymous w e = refl
 
 and_false : (b : Bool) → b && false ≡ false
@@ -151,7 +151,7 @@ and_false true = refl
 and_false false = refl
 
 whole_named : (z : Shape) (d : ℕ) (c n : Bool) → counts z ≡ true → z ≡ shape.Access d c n → n ≡ true
-whole_named (shape.Access e k m) d c n whole is = cc
+whole_named (shape.Access e k m) d c n whole is = absurd (false≢true whole)
 whole_named z d c n whole is = cc
 
 formal_kind : (k : ObjectKind) → flow.is_formal_kind k ≡ true → flow.is_variable k ≡ true → ⊥

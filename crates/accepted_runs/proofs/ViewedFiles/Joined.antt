@@ -27,7 +27,7 @@ either false b e = inr e
 
 or_left : (a b : Bool) → a ≡ true → a || b ≡ true
 or_left true b e = refl
-or_left false b e = cc
+or_left false b e = absurd (false≢true e)
 
 or_right : (a b : Bool) → b ≡ true → a || b ≡ true
 or_right true b e = refl

@@ -1,7 +1,7 @@
 -- Borrowers and observers of a program are in order, where typing finds no fault and no formal is of an anonymous
 -- access type.
 use Rattle.std.proofs.Common.{◌≡◌, refl, sym, ap, ◌∙◌, subst, ◌⊎◌, inl, inr, ℕ, zero, suc, ◌+◌, ◌≤◌, ◌<◌, Bool, true, false, not, ◌&&◌, ◌||◌, ◌==◌, nat_eq, List, [], ◌∷◌, ◌++◌, map, length, get_or, arith, None, is_some}
-use Rattle.std.proofs.lemmas.Bool.{false≢true}
+use Rattle.std.proofs.lemmas.Bool.{false≢true, true≢false}
 use Rattle.std.specs.Prelude.{reverse, flat_map}
 use Rattle.std.specs.List.{AllByRecursion, position_or_len}
 use Rattle.spark_base.specs.Lists.{Has}
@@ -101,8 +101,8 @@ formals_apart own n (x ∷ xs) formal =
     (formals_apart own n xs (λ z has. formal z (inr has)))
 
 true_false : (b : Bool) → b ≡ true → b ≡ false → ⊥
-true_false true e f = cc
-true_false false e f = cc
+true_false true e f = absurd (true≢false f)
+true_false false e f = absurd (false≢true e)
 
 -- ---- the package objects
 
@@ -111,7 +111,7 @@ either true b e = inl refl
 either false b e = inr e
 
 not_anonymous : (b : Bool) → b ≡ false → not b ≡ true
-not_anonymous true e = cc
+not_anonymous true e = sym e
 not_anonymous false e = refl
 
 module _ (own : Typing) (outer : ℕ → Bool) (shared : (x : ℕ) → outer x ≡ true → is_anonymous (view_of own x) ≡ false) where
@@ -152,8 +152,8 @@ IsLocalObject table o =
     → ((is_formal_kind o.kind ≡ true) × (o.mode ≡ mode.In)) ⊎ ((is_variable o.kind ≡ true) × (is_some o.«package» && not (is_state o.kind) ≡ false))
 
 by_never : (b : Bool) → b ≡ true → b ≡ false → ⊥
-by_never true e f = cc
-by_never false e f = cc
+by_never true e f = absurd (true≢false f)
+by_never false e f = absurd (false≢true e)
 
 module _ (table : Table) (whole : is_anonymous (full table integer) ≡ false) where
   never : is_anonymous (full table integer) ≡ true → ⊥

@@ -1,5 +1,7 @@
 -- The actuals of typed calls are as they are asked for.
 use Rattle.std.proofs.Common.{◌≡◌, refl, sym, ap, subst, ◌⊎◌, inl, inr, ℕ, Bool, true, false, List, [], ◌∷◌, ◌||◌, Some, None}
+use Rattle.std.proofs.lemmas.Bool.{true≢false, false≢true}
+use Rattle.std.specs.Prelude.{is_some}
 use Rattle.spark_base.specs.Lists.{Has as Holds}
 use Rattle.place_names.specs.declared.act.Mode.{Mode}
 use Rattle.place_names.specs.declared.act.Mode.TheVariants as mode
@@ -36,17 +38,17 @@ either_one true b e = inl refl
 either_one false b e = inr e
 
 either_first : (a b : Bool) → a || b ≡ false → a ≡ false
-either_first true b e = cc
+either_first true b e = e
 either_first false b e = refl
 
 either_second : (a b : Bool) → a || b ≡ false → b ≡ false
-either_second true b e = cc
+either_second true b e = absurd (true≢false e)
 either_second false b e = e
 
 named_type : (z : Shape) → is_anonymous (types.view_of z) ≡ false → (d : ℕ) (c n : Bool) → z ≡ shape.Access d c n → n ≡ true
 named_type (shape.Access e k true) plain d c n is = cc
-named_type (shape.Access e true false) plain d c n is = cc
-named_type (shape.Access e false false) plain d c n is = cc
+named_type (shape.Access e true false) plain d c n is = absurd (true≢false plain)
+named_type (shape.Access e false false) plain d c n is = absurd (true≢false plain)
 named_type z plain d c n is = cc
 
 -- What a formal of an anonymous access type sees is a name.
@@ -149,7 +151,7 @@ module _ (y : Typing) (whole : counts (shape_of y.table integer) ≡ true) (list
       → ((e rest : TypedTree) → actuals ≡ More e rest → b ≡ true → IsName e) → NamesViews y formals actuals
   views_named true (x ∷ formals) (More e rest) once firsts first =
       ((λ view. first e rest refl refl), later_named formals rest (λ z has view. once.0 (subst (Holds formals) (sym (one_views_named x z (firsts z (inr has) view))) has)))
-  views_named false (x ∷ formals) (More e rest) once firsts first = later_named (x ∷ formals) (More e rest) (λ z has view. (let none : None ≡ Some z = firsts z has view in cc))
+  views_named false (x ∷ formals) (More e rest) once firsts first = later_named (x ∷ formals) (More e rest) (λ z has view. (let none : None ≡ Some z = firsts z has view in absurd (false≢true (ap is_some none))))
   views_named b [] actuals once firsts first = tt
   views_named b (x ∷ formals) actuals once firsts first = tt
 

@@ -58,15 +58,15 @@ use Rattle.accepted_runs.specs.ViewedFiles.Sources.{has_source, all_fit}
 
 or_left : (a b : Bool) → a ≡ true → a || b ≡ true
 or_left true b e = refl
-or_left false b e = cc
+or_left false b e = absurd (false≢true e)
 
 not_false : (b : Bool) → b ≡ false → not b ≡ true
-not_false true e = cc
+not_false true e = sym e
 not_false false e = refl
 
 true_false : (b : Bool) → b ≡ true → b ≡ false → ⊥
-true_false true e f = cc
-true_false false e f = cc
+true_false true e f = absurd (true≢false f)
+true_false false e f = absurd (false≢true e)
 
 pub counts_plain : (z : Shape) → counts z ≡ true → flow.is_anonymous (view_of z) ≡ false
 counts_plain (shape.Whole low high) e = refl
@@ -89,40 +89,40 @@ DeclaresPlain s (typed.Declare p x v) = flow.is_anonymous (flow.view_of s x) ≡
 DeclaresPlain s c = Unit {0}
 
 view_anonymous : (w : View) → is_anonymous w ≡ true → flow.is_anonymous w ≡ true
-view_anonymous (view.Access d k true) e = cc
+view_anonymous (view.Access d k true) e = absurd (false≢true e)
 view_anonymous (view.Access d true false) e = refl
 view_anonymous (view.Access d false false) e = refl
 view_anonymous w e = absurd (false≢true e)
 
 no_source : (a b : Bool) → a ≡ false → a && b ≡ true → ⊥
-no_source true b e f = cc
-no_source false b e f = cc
+no_source true b e f = absurd (true≢false e)
+no_source false b e f = absurd (false≢true f)
 
 by_listed_source : (a b : Bool) → a || b ≡ true → (a && true) || b ≡ true
 by_listed_source true b h = refl
 by_listed_source false true h = refl
-by_listed_source false false h = cc
+by_listed_source false false h = h
 
 anonymous_test : (a b d e : Bool) → not true || (a && (not b && (not d && e))) ≡ true → (b ≡ false) × (d ≡ false) × (e ≡ true)
 anonymous_test true false false true h = (refl, refl, refl)
-anonymous_test true false false false h = cc
-anonymous_test true false true e h = cc
-anonymous_test true true d e h = cc
-anonymous_test false b d e h = cc
+anonymous_test true false false false h = absurd (false≢true h)
+anonymous_test true false true e h = absurd (false≢true h)
+anonymous_test true true d e h = absurd (false≢true h)
+anonymous_test false b d e h = absurd (false≢true h)
 
 in_mode : (m : Mode) → is_in m ≡ true → m ≡ mode.In
 in_mode mode.In e = refl
-in_mode mode.Out e = cc
-in_mode mode.InOut e = cc
+in_mode mode.Out e = absurd (false≢true e)
+in_mode mode.InOut e = absurd (false≢true e)
 
 reached_mode_of : (a b c : Bool) → not true || a ≡ true → b ≡ true → not (a && b) || c ≡ true → c ≡ true
 reached_mode_of true true c e g h = h
-reached_mode_of true false c e g h = cc
-reached_mode_of false b c e g h = cc
+reached_mode_of true false c e g h = absurd (false≢true g)
+reached_mode_of false b c e g h = absurd (false≢true e)
 
 both_first : (a b : Bool) → a && b ≡ true → a ≡ true
 both_first true b e = refl
-both_first false b e = cc
+both_first false b e = e
 
 no_end : (b : Bool) (v : ℤ) (u : ℕ) → ended b v ≡ reading.Place u → ⊥
 no_end true v u e = cc
@@ -142,7 +142,7 @@ goes_on on rest u (Gives v) e = absurd (no_end (is_end rest) v u e)
 goes_on on rest u Stops e = cc
 
 other_anonymous : (w : View) → flow.is_anonymous w ≡ true → is_anonymous w ≡ true
-other_anonymous (view.Access d k true) e = cc
+other_anonymous (view.Access d k true) e = absurd (false≢true e)
 other_anonymous (view.Access d k false) e = refl
 other_anonymous w e = absurd (false≢true e)
 
@@ -150,13 +150,13 @@ one_place : (t u : ℕ) → reading.Place t ≡ reading.Place u → t ≡ u
 one_place t u e = cc
 
 named : (a f b c : Bool) → a ≡ false → ((not a || f) || b) || c ≡ true
-named true f b c e = cc
+named true f b c e = absurd (true≢false e)
 named false f b c e = refl
 
 passed : (a f b c : Bool) → f ≡ true → ((not a || f) || b) || c ≡ true
 passed true true b c e = refl
 passed false true b c e = refl
-passed a false b c e = cc
+passed a false b c e = absurd (false≢true e)
 
 module _ (s : Site) (objects : List Object) (subs : List Signature) (made : ℕ → Type 0) (laws : Laws s.context.known made) where
   abbrev y : Typing

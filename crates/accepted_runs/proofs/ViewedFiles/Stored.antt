@@ -2,7 +2,7 @@
 -- formal of mode `in` is assigned in a program without reports.
 use Rattle.std.specs.Prelude.{IsTrue}
 use Rattle.std.proofs.Common.{◌≡◌, refl, sym, ap, ◌∙◌, subst, ◌⊎◌, inl, inr, ℕ, ◌<◌, Bool, true, false, not, ◌&&◌, ◌||◌, nat_lt, List, [], ◌∷◌, map, length, filter}
-use Rattle.std.proofs.lemmas.Bool.{ltb-true, lt-ltb, false≢true}
+use Rattle.std.proofs.lemmas.Bool.{ltb-true, lt-ltb, false≢true, true≢false}
 use Rattle.spark_base.specs.Lists.{Has}
 use Rattle.spark_base.proofs.Lists.{Has-append_right, Has-map_from, Has-filter}
 use Rattle.spark_base.specs.declared.position.Pos.{Pos}
@@ -43,15 +43,15 @@ use Rattle.settled_types.proofs.OrderLaws.ReadyLaws.Subs.{setting_from, named_ca
 use Rattle.viewed_steps.specs.Sound.{IsStoredAt}
 
 true_is : {A : Type 0} → true ≡ false → A
-true_is e = cc
+true_is e = absurd (true≢false e)
 
 both_first : (a b : Bool) → a && b ≡ true → a ≡ true
 both_first true b e = refl
-both_first false b e = cc
+both_first false b e = e
 
 both_second : (a b : Bool) → a && b ≡ true → b ≡ true
 both_second true b e = e
-both_second false b e = cc
+both_second false b e = absurd (false≢true e)
 
 no_variable : (k : ObjectKind) → is_formal_kind k ≡ true → is_variable k ≡ false
 no_variable object_kind.Formal e = refl
@@ -62,13 +62,13 @@ changed_here : (function formal inn access whole : Bool) → formal ≡ true →
     → (IsTrue (not function && (formal && (inn && (not access || not whole)))) → ⊥) → (IsTrue (function && formal) → ⊥) → ⊥
 changed_here true true true false whole is also none procedure function = function refl
 changed_here false true true false whole is also none procedure function = procedure refl
-changed_here function formal inn true whole is also none procedure never = cc
-changed_here function true false false whole is also none procedure never = cc
-changed_here function false inn false whole is also none procedure never = cc
+changed_here function formal inn true whole is also none procedure never = absurd (true≢false none)
+changed_here function true false false whole is also none procedure never = absurd (false≢true also)
+changed_here function false inn false whole is also none procedure never = absurd (false≢true is)
 
 outer : (a b c : Bool) → IsTrue (a && b) → IsTrue (a && (b || c))
 outer true true c h = h
-outer true false c h = (let no : false ≡ true = h in cc)
+outer true false c h = (let no : false ≡ true = h in absurd (false≢true no))
 outer false b c h = h
 
 module _ (table : Table) (typed : TypedProgram) (effects : Effects) (accepted : Accepted table typed effects) (order : IsInOrder table typed)
@@ -177,8 +177,8 @@ module _ (table : Table) (typed : TypedProgram) (effects : Effects) (accepted : 
         written_there : (b o : Bool) → is_borrower own x ≡ b → is_observer own x ≡ o → b ≡ false → o ≡ false → Has (whole_acts own p.pos x (Name q x NoMore u) e) a
         written_there false false borrows observes none also =
             rw borrows (rw observes (Has-append_right (before_write own (Name q x NoMore u) e) _ a (inl refl)))
-        written_there true o borrows observes none also = cc
-        written_there b true borrows observes none also = cc
+        written_there true o borrows observes none also = absurd (true≢false none)
+        written_there b true borrows observes none also = absurd (true≢false also)
 
         there_acts : Has (acts_of (record { typing = own; result = named.sub.result; roots = kept }) p.pos (Assign (Name q x NoMore u) e)) a
         there_acts =

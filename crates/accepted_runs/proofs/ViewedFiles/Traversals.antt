@@ -1,7 +1,7 @@
 -- What typing says of traversal functions at points: their first actuals are names; what they give is taken by views, or
 -- returned by such functions; and these return null, names, or what such functions give.
 use Rattle.std.proofs.Common.{◌≡◌, refl, sym, ap, ◌∙◌, subst, ◌⊎◌, inl, inr, ℕ, Bool, true, false, List, ◌∷◌, Option, Some, None}
-use Rattle.std.proofs.lemmas.Bool.{false≢true}
+use Rattle.std.proofs.lemmas.Bool.{false≢true, true≢false}
 use Rattle.spark_base.specs.declared.position.Pos.{Pos}
 use Rattle.type_definitions.specs.declared.table.Shape.{Shape}
 use Rattle.type_definitions.specs.declared.table.Shape.TheVariants as shape
@@ -20,15 +20,15 @@ use Rattle.soundness.specs.ViewedSoundness.Holds.{IsNamed, PartsAreNamed}
 use Rattle.viewed_steps.specs.Traversals.{GivesView, IsSourceName}
 
 true_is : {A : Type 0} → true ≡ false → A
-true_is e = cc
+true_is e = absurd (true≢false e)
 
 abbrev IsTree : TypedTree → TypedTree → Type 0
 IsTree a b = a ≡ b
 
 pub shape_there : (z : Shape) → is_anonymous (view_of z) ≡ true → (d : ℕ) × (c : Bool) × (n : Bool) × (z ≡ shape.Access d c n) × (n ≡ false)
 shape_there (shape.Access d c false) e = (d, c, false, refl, refl)
-shape_there (shape.Access d true true) e = cc
-shape_there (shape.Access d false true) e = cc
+shape_there (shape.Access d true true) e = absurd (false≢true e)
+shape_there (shape.Access d false true) e = absurd (false≢true e)
 shape_there z e = absurd (false≢true e)
 
 module _ (s : Typing) where

@@ -1,3 +1,5 @@
+-- which instruction declares what
+pub mod Constructors
 pub mod Acts
 pub mod Reports
 pub mod Enclosing

@@ -1,6 +1,8 @@
 -- What the acts of an instruction move or lend is rooted in an object that the instruction names, whose
 -- scope ends at a point; and no act changes an observer itself.
 use Rattle.std.proofs.Common.{◌≡◌, refl, sym, ap, ◌∙◌, subst, ◌⊎◌, inl, inr, ℕ, zero, suc, ◌<◌, Bool, true, false, ◌&&◌, ◌||◌, List, [], ◌∷◌, ◌++◌, map, length, get_or, arith, ℤ, Option, Some, None, if◌then◌else◌}
+use Rattle.std.proofs.lemmas.Bool.{false≢true, true≢false}
+use Rattle.std.specs.Prelude.{is_some}
 use Rattle.spark_base.specs.Lists.{Has}
 use Rattle.spark_base.proofs.Lists.{Has-append_left, Has-append_right, Has-append_cases}
 use Rattle.spark_base.specs.declared.position.Pos.{Pos}
@@ -19,7 +21,7 @@ use Rattle.type_definitions.specs.declared.judgement.View.TheVariants as view
 use Rattle.type_definitions.specs.declared.table.Component.{Component as Part}
 use Rattle.type_definitions.specs.declared.table.Shape.{Shape}
 use Rattle.type_definitions.specs.declared.table.Shape.TheVariants as shape
-use Rattle.type_definitions.specs.Types.{Table, shape_of, components_of, parts, full, view_of as view_of_shape, is_owning, is_scalar, any_owns, owns_of}
+use Rattle.type_definitions.specs.Types.{is_nil, Table, shape_of, components_of, parts, full, view_of as view_of_shape, is_owning, is_scalar, any_owns, owns_of}
 use Rattle.typed_tree.specs.Trees.{TypedTree, Number, Literal, Text, Name, Component, Designated, Element, Call, EndOfFile, Parens, Image, Unary, Binary, Short, IsNull, Aggregate, Alike, New, NoMore, More}
 use Rattle.typed_tree.specs.Trees as typed
 use Rattle.flow_paths.specs.Instructions.{Instruction, Skip, Declare, Assign, Output, Input, Release, Test, Choose, Start, Next, Evaluate, LeaveLoop, Hold, EndScope, Finish, Fall}
@@ -43,7 +45,7 @@ use Rattle.viewed_steps.proofs.Called.{way_to}
 use Rattle.viewed_steps.proofs.Views.{given_formal}
 use Rattle.settled_types.specs.OrderLaws.ScopeLaws.Code.{roots}
 use Rattle.settled_types.specs.OrderLaws.ScopeLaws.Order.{named_in}
-use Rattle.accepted_runs.specs.ViewedFiles.ViewLaws.InOrder.{is_call, IsTraversed, NamesSource}
+use Rattle.accepted_runs.specs.ViewedFiles.ViewLaws.InOrder.{is_list_end, is_call, IsTraversed, NamesSource}
 
 -- ---- types
 
@@ -70,7 +72,7 @@ either false b e = inr e
 
 or_left : (a b : Bool) → a ≡ true → a || b ≡ true
 or_left true b e = refl
-or_left false b e = cc
+or_left false b e = absurd (false≢true e)
 
 or_right : (a b : Bool) → b ≡ true → a || b ≡ true
 or_right true b e = refl
@@ -78,19 +80,19 @@ or_right false b e = e
 
 both_first : (a b : Bool) → a && b ≡ true → a ≡ true
 both_first true b e = refl
-both_first false b e = cc
+both_first false b e = e
 
 both_second : (a b : Bool) → a && b ≡ true → b ≡ true
 both_second true b e = e
-both_second false b e = cc
+both_second false b e = absurd (false≢true e)
 
 and_false : (a b : Bool) → b ≡ false → a && b ≡ false
 and_false true b e = e
 and_false false b e = refl
 
 true_false : (b : Bool) → b ≡ true → b ≡ false → ⊥
-true_false true e f = cc
-true_false false e f = cc
+true_false true e f = absurd (true≢false f)
+true_false false e f = absurd (false≢true e)
 
 shape_named : (sh : Shape) → ((d : ℕ) (c n : Bool) → sh ≡ shape.Access d c n → n ≡ true) → is_anonymous (view_of_shape sh) ≡ false
 shape_named (shape.Access d c n) named = ap (λ z. is_anonymous (view_of_shape (shape.Access d c z))) (named d c n refl)
@@ -111,28 +113,28 @@ access_lasts owns d false false = refl
 
 -- an anonymous access type owns nothing
 anonymous_shape : (owns : ℕ → Bool) (sh : Shape) → is_anonymous (view_of_shape sh) ≡ true → owns_of owns sh ≡ false
-anonymous_shape owns (shape.Access d c true) e = cc
+anonymous_shape owns (shape.Access d c true) e = absurd (false≢true e)
 anonymous_shape owns (shape.Access d c false) e = refl
-anonymous_shape owns (shape.Fields cs) e = cc
+anonymous_shape owns (shape.Fields cs) e = absurd (false≢true e)
 anonymous_shape owns (shape.Whole a b) e = refl
 anonymous_shape owns (shape.Listed l a b) e = refl
-anonymous_shape owns (shape.Elements a b el) e = cc
-anonymous_shape owns (shape.Same of) e = cc
+anonymous_shape owns (shape.Elements a b el) e = absurd (false≢true e)
+anonymous_shape owns (shape.Same of) e = absurd (false≢true e)
 
 scalar_shape : (sh : Shape) → is_scalar (view_of_shape sh) ≡ true → is_anonymous (view_of_shape sh) ≡ true → ⊥
-scalar_shape (shape.Access d c n) e f = cc
-scalar_shape (shape.Fields cs) e f = cc
-scalar_shape (shape.Whole a b) e f = cc
-scalar_shape (shape.Listed l a b) e f = cc
-scalar_shape (shape.Elements a b el) e f = cc
-scalar_shape (shape.Same of) e f = cc
+scalar_shape (shape.Access d c n) e f = false≢true e
+scalar_shape (shape.Fields cs) e f = false≢true e
+scalar_shape (shape.Whole a b) e f = false≢true f
+scalar_shape (shape.Listed l a b) e f = false≢true f
+scalar_shape (shape.Elements a b el) e f = false≢true e
+scalar_shape (shape.Same of) e f = false≢true e
 
 pub no_anonymous : (v : View) → is_scalar v ≡ true → is_anonymous v ≡ false
-no_anonymous (view.Access d c n) e = cc
-no_anonymous view.Fields e = cc
+no_anonymous (view.Access d c n) e = absurd (false≢true e)
+no_anonymous view.Fields e = absurd (false≢true e)
 no_anonymous (view.Whole low high) e = refl
 no_anonymous (view.Listed low high) e = refl
-no_anonymous (view.Elements low high of) e = cc
+no_anonymous (view.Elements low high of) e = absurd (false≢true e)
 no_anonymous _ e = refl
 
 pub observer_anonymous : (s : Typing) (x : ℕ) → is_observer s x ≡ true → is_anonymous (view_of s x) ≡ true
@@ -147,8 +149,15 @@ Lasts s t = is_owning s.table t || is_anonymous (full s.table t) ≡ true
 
 in_mode : (m : Mode) → (m ≡ mode.In → ⊥) → is_in m ≡ true → ⊥
 in_mode mode.In back e = back refl
-in_mode mode.Out back e = cc
-in_mode mode.InOut back e = cc
+in_mode mode.Out back e = false≢true e
+in_mode mode.InOut back e = false≢true e
+
+-- What is none isn't some, and what is some is one.
+none_some : {A B : Type 0} (x : A) → None ≡ Some x → B
+none_some x e = absurd (false≢true (ap is_some e))
+
+some_same : {A : Type 0} (x y : A) → Some x ≡ Some y → x ≡ y
+some_same x y e = cc
 
 module _ (s : Typing) (own_law : OwnsByShape s.table) (parts_named : PartsAreNamed s.table) where
   -- A part that lasts and isn't anonymous owns.
@@ -203,9 +212,9 @@ module _ (s : Typing) (own_law : OwnsByShape s.table) (parts_named : PartsAreNam
 
   pub no_selector : (t : ℕ) (steps : TypedTree) (u : ℕ) → Leads s t steps u → selectors steps ≡ [] → t ≡ u
   unfolding Leads selectors
-  no_selector t (Component i rest) u leads e = cc
-  no_selector t (Element index low high rest) u leads e = cc
-  no_selector t (Designated rest) u leads e = cc
+  no_selector t (Component i rest) u leads e = absurd (false≢true (ap is_nil e))
+  no_selector t (Element index low high rest) u leads e = absurd (false≢true (ap is_nil e))
+  no_selector t (Designated rest) u leads e = absurd (false≢true (ap is_nil e))
   no_selector t NoMore u leads e = leads
   no_selector t _ u leads e = absurd leads
 
@@ -307,10 +316,10 @@ module _ (s : Typing) (own_law : OwnsByShape s.table) (parts_named : PartsAreNam
               subst (λ z. Lasts s (object_at s z).of) root
                   (leads_lasts (object_at s x).of steps t leads (or_left (is_owning s.table t) (is_anonymous (full s.table t)) owns)),
             ),
-        λ m e. (let same : name_of x steps ≡ m = cc in (inl (ap (λ (z : PlaceName). z.root) same), λ none. changed_whole x steps t m leads (owning_plain t owns) same none)),
-        λ m e. cc,
+        λ m e. (let same : name_of x steps ≡ m = some_same (name_of x steps) m e in (inl (ap (λ (z : PlaceName). z.root) same), λ none. changed_whole x steps t m leads (owning_plain t owns) same none)),
+        λ m e. none_some m e,
       )
-      by false owns = good_quiet (x ∷ roots steps) (act.Read (name_of x steps)) ((λ name none. none), (λ m e. cc), (λ m e. cc))
+      by false owns = good_quiet (x ∷ roots steps) (act.Read (name_of x steps)) ((λ name none. none), (λ m e. none_some m e), (λ m e. none_some m e))
 
   name_good : (p : Pos) (x : ℕ) (steps : TypedTree) (t : ℕ) → Leads s (object_at s x).of steps t → AreGood (acts_in s steps) (roots steps)
       → AreGood (acts_in s steps ++ placed p (used s (name_of x steps) t) ∷ []) (x ∷ roots steps)
@@ -333,7 +342,7 @@ module _ (s : Typing) (own_law : OwnsByShape s.table) (parts_named : PartsAreNam
     stays_good (IsNull equal (Name p x steps t)) stays =
         good_end (acts_in s steps) (placed p (act.Look (name_of x steps))) (x ∷ roots steps)
         (good_root (acts_in s steps) x (roots steps) (leads_good (object_at s x).of steps t stays))
-        (good_quiet (x ∷ roots steps) (act.Look (name_of x steps)) ((λ name none. none), (λ m e. cc), (λ m e. cc)))
+        (good_quiet (x ∷ roots steps) (act.Look (name_of x steps)) ((λ name none. none), (λ m e. none_some m e), (λ m e. none_some m e)))
     stays_good (IsNull equal (Call p sub actuals)) stays = good_none (roots actuals)
     stays_good (Number v) stays = good_none []
     stays_good (Literal v) stays = good_none []
@@ -476,22 +485,22 @@ module _ (s : Typing) (own_law : OwnsByShape s.table) (parts_named : PartsAreNam
       | inl e ↦ subst (IsOnOne xs) e (has, lasts)
       | inr none ↦ absurd none
     ],
-    λ k e. cc,
-    λ k e. subst (Has xs) (ap (λ (z : PlaceName). z.root) (let same : m ≡ k = cc in same)) has,
+    λ k e. none_some k e,
+    λ k e. subst (Has xs) (ap (λ (z : PlaceName). z.root) (some_same m k e)) has,
   )
 
   observe_lends : (h : ℕ) → IsLending (observe s h)
   observe_lends h m xs has lasts = by (is_observer s m.root)
     where
       by : (b : Bool) → IsGood xs (act.Observe h m b)
-      by true = ((λ f none. absurd none), (λ k e. cc), (λ k e. cc))
+      by true = ((λ f none. absurd none), (λ k e. none_some k e), (λ k e. none_some k e))
       by false = (
         λ f new. elim new [
           | inl e ↦ subst (IsOnOne xs) e (has, lasts)
           | inr none ↦ absurd none
         ],
-        λ k e. cc,
-        λ k e. cc,
+        λ k e. none_some k e,
+        λ k e. none_some k e,
       )
 
   -- A source as a view may have.
@@ -504,17 +513,17 @@ module _ (s : Typing) (own_law : OwnsByShape s.table) (parts_named : PartsAreNam
   traversed_good e a lends t =
       subst (λ z. IsGoodSource z a) (sym t.is)
       (λ w named. subst (λ (z : Written). IsGood (roots (Call t.pos t.sub (More (Name t.name_pos t.root t.path t.of) t.others))) (a z.name))
-      (let same : record { pos = t.name_pos; name = name_of t.root t.path; of = t.of } ≡ w = cc in same)
+      (let same : record { pos = t.name_pos; name = name_of t.root t.path; of = t.of } ≡ w = some_same _ w named in same)
       (lends (name_of t.root t.path) (roots (Call t.pos t.sub (More (Name t.name_pos t.root t.path t.of) t.others))) (inl refl) (leads_lasts (object_at s t.root).of t.path t.of t.leads t.lasts)))
 
   named_good : (want : ℕ) (e : TypedTree) (a : PlaceName → Act) → IsLending a → is_anonymous (full s.table want) ≡ true → is_call e ≡ false
       → Source s want e → IsGoodSource e a
   unfolding roots
   named_good want (Name p x steps t) a lends anonymous silent fine w is =
-      subst (λ (z : Written). IsGood (x ∷ roots steps) (a z.name)) (let same : record { pos = p; name = name_of x steps; of = t } ≡ w = cc in same)
+      subst (λ (z : Written). IsGood (x ∷ roots steps) (a z.name)) (let same : record { pos = p; name = name_of x steps; of = t } ≡ w = some_same _ w is in same)
       (lends (name_of x steps) (x ∷ roots steps) (inl refl) (source_lasts want p x steps t anonymous fine))
-  named_good want (Call p sub actuals) a lends anonymous silent fine w is = cc
-  named_good want _ a lends anonymous silent fine w is = cc
+  named_good want (Call p sub actuals) a lends anonymous silent fine w is = absurd (true≢false silent)
+  named_good want _ a lends anonymous silent fine w is = none_some w is
 
   lent_good : (want : ℕ) (e : TypedTree) (a : PlaceName → Act) → IsLending a → is_anonymous (full s.table want) ≡ true → IsSourced e
       → Source s want e → IsGoodSource e a
@@ -524,14 +533,14 @@ module _ (s : Typing) (own_law : OwnsByShape s.table) (parts_named : PartsAreNam
   first_lent : (want : ℕ) (v : TypedTree) (a : PlaceName → Act) → IsLending a → is_anonymous (full s.table want) ≡ true → IsSourced (first v)
       → FirstSource s want v → AreGood (source_acts s (first v) a) (roots v)
   first_lent want (More e rest) a lends anonymous silent fine = first_source want (More e rest) a (lent_good want e a lends anonymous silent fine.1) fine
-  first_lent want NoMore a lends anonymous silent fine = first_source want NoMore a (λ w is. cc) fine
+  first_lent want NoMore a lends anonymous silent fine = first_source want NoMore a (λ w is. none_some w is) fine
   first_lent want _ a lends anonymous silent fine = absurd fine
 
   give_quiet : (b : Bool) (m : PlaceName) → IsQuiet (act.Give m b)
-  give_quiet b m = ((λ name none. none), (λ k e. cc), (λ k e. cc))
+  give_quiet b m = ((λ name none. none), (λ k e. none_some k e), (λ k e. none_some k e))
 
   reborrow_quiet : (h : ℕ) (m : PlaceName) → IsQuiet (act.Reborrow h m)
-  reborrow_quiet h m = ((λ name none. none), (λ k e. cc), (λ k e. cc))
+  reborrow_quiet h m = ((λ name none. none), (λ k e. none_some k e), (λ k e. none_some k e))
 
   reborrow_good : (p : Pos) (h : ℕ) (w : Option Written) (xs : List ℕ) → AreGood (reborrow p h w) xs
   reborrow_good p h None xs = good_none xs
@@ -576,9 +585,9 @@ module _ (s : Typing) (own_law : OwnsByShape s.table) (parts_named : PartsAreNam
         (good_root (acts_in s steps) x (roots steps) (leads_good (object_at s x).of steps t leads))) (
           (λ name none. absurd none),
           λ m same. (
-              let is : name_of x steps ≡ m = cc in
+              let is : name_of x steps ≡ m = some_same (name_of x steps) m same in
               (Has-append_right (roots e) (x ∷ roots steps) m.root (inl (ap (λ (z : PlaceName). z.root) is)), λ none. plain m is none)),
-          λ m e. cc,
+          λ m e. none_some m e,
         )
 
     in_source : (e target : TypedTree) (ps : List Placed) → AreGood ps (roots e) → AreGood ps (roots e ++ roots target)
@@ -618,11 +627,11 @@ module _ (s : Typing) (own_law : OwnsByShape s.table) (parts_named : PartsAreNam
             (given u e (λ anonymous. no_view x (inr (p, t, e, here)) b_is c_is (ap (λ z. is_anonymous (full s.table z)) (leads ∙ same) ∙ anonymous)) origin)
             (λ m is none. ap (λ (z : PlaceName). holds_loans s z.root) (sym is) ∙ (λ j. b_is j || c_is j))
     assigned_good pos p x (Component k rest) t u e here leads same silent origin =
-        part_good p x (Component k rest) t u e (λ none. cc) (λ none. cc) leads same origin
+        part_good p x (Component k rest) t u e (λ none. false≢true (ap is_list_end none)) (λ none. false≢true (ap is_nil none)) leads same origin
     assigned_good pos p x (Element index low high rest) t u e here leads same silent origin =
-        part_good p x (Element index low high rest) t u e (λ none. cc) (λ none. cc) leads same origin
+        part_good p x (Element index low high rest) t u e (λ none. false≢true (ap is_list_end none)) (λ none. false≢true (ap is_nil none)) leads same origin
     assigned_good pos p x (Designated rest) t u e here leads same silent origin =
-        part_good p x (Designated rest) t u e (λ none. cc) (λ none. cc) leads same origin
+        part_good p x (Designated rest) t u e (λ none. false≢true (ap is_list_end none)) (λ none. false≢true (ap is_nil none)) leads same origin
     assigned_good pos p x _ t u e here leads same silent origin = absurd leads
 
     target_good : (pos : Pos) (target : TypedTree) (u : ℕ) (e : TypedTree) → i ≡ Assign target e → IsPlace s target u
@@ -670,9 +679,9 @@ module _ (s : Typing) (own_law : OwnsByShape s.table) (parts_named : PartsAreNam
   instruction_good (Output text line) local result kept pos fine no_call names = first_writes text fine
   instruction_good (Input target) local result kept pos fine no_call names =
       place_good (Input target) local target fine.0 fine.1 (scalar_plain fine.0 fine.2) (λ m. act.Actual m mode.Out false false) (λ m name none. none)
-      (λ m k e. (let same : m ≡ k = cc in same)) (λ m k e. cc)
+      (λ m k e. some_same m k e) (λ m k e. none_some k e)
   instruction_good (Release e) local result kept pos fine no_call names =
-      place_good (Release e) local e fine.0 fine.2 (ap (λ z. is_anonymous (view_of_shape z)) fine.3) act.Free (λ m name none. none) (λ m k e. (let same : m ≡ k = cc in same)) (λ m k e. cc)
+      place_good (Release e) local e fine.0 fine.2 (ap (λ z. is_anonymous (view_of_shape z)) fine.3) act.Free (λ m name none. none) (λ m k e. some_same m k e) (λ m k e. none_some k e)
   instruction_good (Test e) local result kept pos fine no_call names = stays_good e fine
   instruction_good (Choose e choices) local result kept pos fine no_call names = stays_good e fine
   instruction_good (Start x reversed low high) local result kept pos fine no_call names =
@@ -682,9 +691,9 @@ module _ (s : Typing) (own_law : OwnsByShape s.table) (parts_named : PartsAreNam
   instruction_good (LeaveLoop e) local result kept pos fine no_call names = first_stays e fine
   instruction_good (Hold v) local result kept pos fine no_call names = returned_good (Hold v) local result v fine
   instruction_good (EndScope x) local result kept pos fine no_call names =
-      good_one (placed pos (act.EndScope x (is_borrower s x))) [] (good_quiet [] (act.EndScope x (is_borrower s x)) ((λ name none. none), (λ m e. cc), (λ m e. cc)))
+      good_one (placed pos (act.EndScope x (is_borrower s x))) [] (good_quiet [] (act.EndScope x (is_borrower s x)) ((λ name none. none), (λ m e. none_some m e), (λ m e. none_some m e)))
   instruction_good Finish local result kept pos fine no_call names =
-      good_one (placed pos (act.Return kept)) [] (good_quiet [] (act.Return kept) ((λ name none. none), (λ m e. cc), (λ m e. cc)))
+      good_one (placed pos (act.Return kept)) [] (good_quiet [] (act.Return kept) ((λ name none. none), (λ m e. none_some m e), (λ m e. none_some m e)))
   instruction_good Fall local result kept pos fine no_call names = good_none []
 
   -- What reads moves and changes nothing.
@@ -692,8 +701,8 @@ module _ (s : Typing) (own_law : OwnsByShape s.table) (parts_named : PartsAreNam
   reads_good acts xs reads a has = by a (reads a has)
     where
       by : (a : Placed) → IsRead a → IsGood xs a.act
-      by a (m, inl e) = subst (IsGood xs) (sym e) (good_quiet xs (act.Read m) ((λ name none. none), (λ k f. cc), (λ k f. cc)))
-      by a (m, inr e) = subst (IsGood xs) (sym e) (good_quiet xs (act.Look m) ((λ name none. none), (λ k f. cc), (λ k f. cc)))
+      by a (m, inl e) = subst (IsGood xs) (sym e) (good_quiet xs (act.Read m) ((λ name none. none), (λ k f. none_some k f), (λ k f. none_some k f)))
+      by a (m, inr e) = subst (IsGood xs) (sym e) (good_quiet xs (act.Look m) ((λ name none. none), (λ k f. none_some k f), (λ k f. none_some k f)))
 
   -- A place that is copied back to: nothing is moved, and no observer is changed.
   place_acted : (m : Mode) (owning access : Bool) (p : Pos) (x u t : ℕ) (steps : TypedTree) (xs : List ℕ) → ((k : PlaceName) → adds (act.Actual k m owning access) ≡ [])
@@ -730,11 +739,11 @@ module _ (s : Typing) (own_law : OwnsByShape s.table) (parts_named : PartsAreNam
   unfolding roots
   shown_good false access e xs named = λ a has. absurd has
   shown_good true access (Name p y steps t) xs named =
-      good_one (placed p (act.Actual (name_of y steps) mode.In true access)) xs ((λ f none. absurd none), (λ m e. cc), lent access)
+      good_one (placed p (act.Actual (name_of y steps) mode.In true access)) xs ((λ f none. absurd none), (λ m e. none_some m e), lent access)
     where
       lent : (access : Bool) (m : PlaceName) → lends (act.Actual (name_of y steps) mode.In true access) ≡ Some m → Has xs m.root
-      lent true m e = subst (Has xs) (ap (λ (z : PlaceName). z.root) (let same : name_of y steps ≡ m = cc in same)) (named y (inl refl))
-      lent false m e = cc
+      lent true m e = subst (Has xs) (ap (λ (z : PlaceName). z.root) (some_same (name_of y steps) m e)) (named y (inl refl))
+      lent false m e = absurd (false≢true (ap is_some e))
   shown_good true access e xs named = λ a has. absurd has
 
   -- by the mode
@@ -743,18 +752,18 @@ module _ (s : Typing) (own_law : OwnsByShape s.table) (parts_named : PartsAreNam
   unfolding roots
   copied_good x mode.In is owning access e xs kind actual named = shown_good owning access e xs named
   copied_good x mode.Out is owning access (Name p y steps t) xs kind (u, there, matches) named =
-      place_acted mode.Out owning access p y u t steps xs (λ k. refl) (λ k n e. (let same : k ≡ n = cc in same)) (λ k n e. cc) there
+      place_acted mode.Out owning access p y u t steps xs (λ k. refl) (λ k n e. some_same k n e) (λ k n e. none_some n e) there
       (place_plain x u (λ back. out_in (sym is ∙ back)) matches kind) (named y (inl refl))
     where
       out_in : mode.Out ≡ mode.In → ⊥
-      out_in e = cc
+      out_in e = false≢true (ap is_in e)
   copied_good x mode.Out is owning access e xs kind (u, never, matches) named = absurd never
   copied_good x mode.InOut is owning access (Name p y steps t) xs kind (u, there, matches) named =
-      place_acted mode.InOut owning access p y u t steps xs (λ k. refl) (λ k n e. (let same : k ≡ n = cc in same)) (λ k n e. cc) there
+      place_acted mode.InOut owning access p y u t steps xs (λ k. refl) (λ k n e. some_same k n e) (λ k n e. none_some n e) there
       (place_plain x u (λ back. both_in (sym is ∙ back)) matches kind) (named y (inl refl))
     where
       both_in : mode.InOut ≡ mode.In → ⊥
-      both_in e = cc
+      both_in e = false≢true (ap is_in e)
   copied_good x mode.InOut is owning access e xs kind (u, never, matches) named = absurd never
 
   pub copies_good : (procedure : Bool) (formals : List ℕ) (actuals : TypedTree) (xs : List ℕ) → ((x : ℕ) → Has formals x → IsKindOfFormal s x) → ArePassedTo s formals actuals

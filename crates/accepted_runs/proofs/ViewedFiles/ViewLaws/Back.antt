@@ -91,9 +91,9 @@ module _ (table : Table) (typed : TypedProgram) (effects : Effects) (given : IsV
   back_within : (steps x : ℕ) → sees_within steps s (program_acts program) x ≡ true → is_borrower s x ≡ true → (named : NamedSub) → Has (valued.bodies table typed effects given) named
       → Has (objects_of named.sub) x → GoesBack named x
   back_within zero x sees borrower named in_bodies object =
-      absurd (let no : false ≡ true = sym (borrower_plain s x borrower) ∙ zero_within s (program_acts program) x sees in cc)
+      absurd (let no : false ≡ true = sym (borrower_plain s x borrower) ∙ zero_within s (program_acts program) x sees in false≢true no)
   back_within (suc steps) x sees borrower named in_bodies object = elim (from_within s (program_acts program) steps x sees) [
-    | inl only ↦ absurd (let no : false ≡ true = sym (borrower_plain s x borrower) ∙ only in cc)
+    | inl only ↦ absurd (let no : false ≡ true = sym (borrower_plain s x borrower) ∙ only in false≢true no)
     | inr (is, m, has, from) ↦ (
         let b = sights.borrowed_here table typed effects given x m has in
         let same : b.named ≡ named =

@@ -1,5 +1,6 @@
 -- The acts that borrow are those of declarations: of a borrower, from the name that it is declared with.
 use Rattle.std.proofs.Common.{◌≡◌, refl, sym, ap, ◌∙◌, inl, inr, ℕ, Bool, true, false, List, [], ◌∷◌, ◌++◌, Option, None, Some, if◌then◌else◌}
+use Rattle.std.proofs.lemmas.Bool.{false≢true}
 use Rattle.spark_base.specs.Lists.{Has}
 use Rattle.spark_base.specs.declared.position.Pos.{Pos}
 use Rattle.spark_base.proofs.Lists.{Has-append_cases}
@@ -17,6 +18,10 @@ use Rattle.flow_paths.specs.Names.{Written, name_of, written, first, source, who
 use Rattle.flow_paths.specs.Acts.{acts_in, acts_of, used, placed, naming, observe, reborrow, target_pos, index_acts, source_acts, stored_acts, assigned_to, declared_acts, returned_acts, gives_variable, actual_values, actual_act, actual_acts}
 
 -- ---- acts that don't borrow
+
+abbrev is_borrow : Act → Bool
+is_borrow (act.Borrow h m) = true
+is_borrow a = false
 
 abbrev IsPlain : Act → Type 0
 IsPlain a = (h : ℕ) (m : PlaceName) → a ≡ act.Borrow h m → ⊥
@@ -39,21 +44,21 @@ of_name None a plain = none
 of_name (Some m) a plain = one (placed m.pos (a m.name)) (plain m.name)
 
 actual_plain : (way : Passing) (e : TypedTree) → ArePlain (actual_act way e)
-actual_plain (Place m owning access) e = of_name (written e) (λ k. act.Actual k m owning access) (λ k h n is. cc)
+actual_plain (Place m owning access) e = of_name (written e) (λ k. act.Actual k m owning access) (λ k h n is. false≢true (ap is_borrow is))
 actual_plain ByValue e = none
 actual_plain Traversed e = none
 
 reborrow_plain : (p : Pos) (x : ℕ) (w : Option Written) → ArePlain (reborrow p x w)
 reborrow_plain p x None = none
-reborrow_plain p x (Some m) = one (placed p (act.Reborrow x m.name)) (λ h k is. cc)
+reborrow_plain p x (Some m) = one (placed p (act.Reborrow x m.name)) (λ h k is. false≢true (ap is_borrow is))
 
 module _ (s : Typing) where
   used_plain : (m : PlaceName) (t : ℕ) → IsPlain (used s m t)
   used_plain m t = by (is_owning s.table t)
     where
       by : (b : Bool) → IsPlain (if b then act.Move m (parts s.table t) else act.Read m)
-      by true h k is = cc
-      by false h k is = cc
+      by true h k is = false≢true (ap is_borrow is)
+      by false h k is = false≢true (ap is_borrow is)
 
   if_plain : (b : Bool) (ps : List Placed) → ArePlain ps → ArePlain (if b then [] else ps)
   if_plain true ps plain = none
@@ -66,7 +71,7 @@ module _ (s : Typing) where
   value_plain (Component i rest) = value_plain rest
   value_plain (Designated rest) = value_plain rest
   value_plain (Element index low high rest) = both (acts_in s index) (acts_in s rest) (value_plain index) (value_plain rest)
-  value_plain (IsNull equal (Name p x steps t)) = both (acts_in s steps) (placed p (act.Look (name_of x steps)) ∷ []) (value_plain steps) (one (placed p (act.Look (name_of x steps))) (λ h m is. cc))
+  value_plain (IsNull equal (Name p x steps t)) = both (acts_in s steps) (placed p (act.Look (name_of x steps)) ∷ []) (value_plain steps) (one (placed p (act.Look (name_of x steps))) (λ h m is. false≢true (ap is_borrow is)))
   value_plain (Short op p a q b) = if_plain (has_call b) (acts_in s a ++ acts_in s b) (both (acts_in s a) (acts_in s b) (value_plain a) (value_plain b))
   value_plain (typed.Call p sub actuals) = none
   value_plain (Image t e) = value_plain e
@@ -87,7 +92,7 @@ module _ (s : Typing) where
   source_plain e a plain = both (index_acts s e) (naming (source e) a) (index_plain e) (of_name (source e) a plain)
 
   observe_plain : (x : ℕ) (m : PlaceName) → IsPlain (observe s x m)
-  observe_plain x m h k is = cc
+  observe_plain x m h k is = false≢true (ap is_borrow is)
 
   -- those of calls
   values_plain : (ways : List Passing) (actuals : TypedTree) → ArePlain (actual_values s ways actuals)
@@ -105,7 +110,7 @@ module _ (s : Typing) where
   stored_plain : (target e : TypedTree) → ArePlain (stored_acts s target e)
   stored_plain target e =
       both (acts_in s e ++ index_acts s target) (naming (written target) act.Write) (both (acts_in s e) (index_acts s target) (value_plain e) (index_plain target))
-      (of_name (written target) act.Write (λ k h m is. cc))
+      (of_name (written target) act.Write (λ k h m is. false≢true (ap is_borrow is)))
 
   assigned_plain : (p : Pos) (w : Option ℕ) (target e : TypedTree) → ArePlain (assigned_to s p w target e)
   assigned_plain p None target e = stored_plain target e
@@ -121,7 +126,7 @@ module _ (s : Typing) where
   returned_plain result v = by (traverses s.table result)
     where
       by : (b : Bool) → ArePlain (if b then source_acts s (first v) (λ m. act.Give m (gives_variable s result)) else acts_in s v)
-      by true = source_plain (first v) (λ m. act.Give m (gives_variable s result)) (λ m h k is. cc)
+      by true = source_plain (first v) (λ m. act.Give m (gives_variable s result)) (λ m h k is. false≢true (ap is_borrow is))
       by false = value_plain v
 
   -- An object is declared as a borrower of a name.
@@ -172,8 +177,8 @@ module _ (s : Typing) where
       absurd (both (actual_values s (passings s (sub_at s sub)) actuals) (actual_acts (passings s (sub_at s sub)) actuals) (values_plain (passings s (sub_at s sub)) actuals)
       (actuals_plain (passings s (sub_at s sub)) actuals) a has h m is)
   borrow_is result kept pos (Output text line) a has h m is = absurd (value_plain text a has h m is)
-  borrow_is result kept pos (Input target) a has h m is = absurd (source_plain target (λ k. act.Actual k mode.Out false false) (λ k h n is. cc) a has h m is)
-  borrow_is result kept pos (Release e) a has h m is = absurd (source_plain e act.Free (λ k h n is. cc) a has h m is)
+  borrow_is result kept pos (Input target) a has h m is = absurd (source_plain target (λ k. act.Actual k mode.Out false false) (λ k h n is. false≢true (ap is_borrow is)) a has h m is)
+  borrow_is result kept pos (Release e) a has h m is = absurd (source_plain e act.Free (λ k h n is. false≢true (ap is_borrow is)) a has h m is)
   borrow_is result kept pos (Test e) a has h m is = absurd (value_plain e a has h m is)
   borrow_is result kept pos (Choose e choices) a has h m is = absurd (value_plain e a has h m is)
   borrow_is result kept pos (Start x reversed low high) a has h m is = absurd (both (acts_in s low) (acts_in s high) (value_plain low) (value_plain high) a has h m is)
@@ -181,6 +186,6 @@ module _ (s : Typing) where
   borrow_is result kept pos (Evaluate t e left) a has h m is = absurd (value_plain e a has h m is)
   borrow_is result kept pos (LeaveLoop e) a has h m is = absurd (value_plain e a has h m is)
   borrow_is result kept pos (Hold v) a has h m is = absurd (returned_plain result v a has h m is)
-  borrow_is result kept pos (EndScope x) a has h m is = absurd (one (placed pos (act.EndScope x (is_borrower s x))) (λ k n same. cc) a has h m is)
-  borrow_is result kept pos Finish a has h m is = absurd (one (placed pos (act.Return kept)) (λ k n same. cc) a has h m is)
+  borrow_is result kept pos (EndScope x) a has h m is = absurd (one (placed pos (act.EndScope x (is_borrower s x))) (λ k n same. false≢true (ap is_borrow same)) a has h m is)
+  borrow_is result kept pos Finish a has h m is = absurd (one (placed pos (act.Return kept)) (λ k n same. false≢true (ap is_borrow same)) a has h m is)
   borrow_is result kept pos Fall a has h m is = absurd has

@@ -3,6 +3,7 @@
 use Rattle.std.specs.Prelude.{IsTrue}
 use Rattle.std.specs.List.{list_any}
 use Rattle.std.proofs.Common.{◌≡◌, refl, sym, ap, ◌∙◌, subst, ◌⊎◌, inl, inr, ℕ, Bool, true, false, not, ◌&&◌, ◌||◌, ◌==◌, eq-eqb, List, [], ◌∷◌, ◌++◌, Option, Some, None, is_some}
+use Rattle.std.proofs.lemmas.Bool.{false≢true, true≢false}
 use Rattle.spark_base.specs.Lists.{Has}
 use Rattle.spark_base.proofs.Lists.{Has-map}
 use Rattle.place_names.specs.declared.act.Act.{Act}
@@ -42,15 +43,15 @@ bool_cases false = inr refl
 
 pub nil_is : (xs : List Sel) → is_nil xs ≡ true → xs ≡ []
 nil_is [] e = refl
-nil_is (x ∷ xs) e = cc
+nil_is (x ∷ xs) e = absurd (false≢true e)
 
 pub both_first : (a b : Bool) → a && b ≡ true → a ≡ true
 both_first true b e = refl
-both_first false b e = cc
+both_first false b e = e
 
 pub both_second : (a b : Bool) → a && b ≡ true → b ≡ true
 both_second true b e = e
-both_second false b e = cc
+both_second false b e = absurd (false≢true e)
 
 either_one : (a b : Bool) → a || b ≡ true → (a ≡ true) ⊎ (b ≡ true)
 either_one true b e = inl refl
@@ -58,10 +59,10 @@ either_one false b e = inr e
 
 -- what sees by itself, and is no observer, is such a formal
 pub seen_one : (observes given exclusive : Bool) → observes ≡ false → observes || (given && not exclusive) ≡ true → (given ≡ true) × (exclusive ≡ false)
-seen_one true given exclusive none is = cc
+seen_one true given exclusive none is = absurd (true≢false none)
 seen_one false true false none is = (refl, refl)
-seen_one false true true none is = cc
-seen_one false false exclusive none is = cc
+seen_one false true true none is = absurd (false≢true is)
+seen_one false false exclusive none is = absurd (false≢true is)
 
 pub any_there : {A : Type 0} (test : A → Bool) (xs : List A) (x : A) → Has xs x → test x ≡ true → list_any test xs ≡ true
 any_there test [] x has is = absurd has
@@ -73,15 +74,15 @@ any_there test (y ∷ xs) x (inr has) is = or_right (test y) (list_any test xs) 
     or_right false b e = e
 
 pub or_first : (a b : Bool) → a || b ≡ false → a ≡ false
-or_first true b e = cc
+or_first true b e = e
 or_first false b e = refl
 
 pub or_second : (a b : Bool) → a || b ≡ false → b ≡ false
-or_second true b e = cc
+or_second true b e = absurd (true≢false e)
 or_second false b e = e
 
 pub no_truth : {A : Type 0} → IsTrue false → A
-no_truth h = (let no : false ≡ true = h in cc)
+no_truth h = (let no : false ≡ true = h in absurd (false≢true no))
 
 pub outer : (a b c : Bool) → IsTrue (a && b) → IsTrue (a && (b || c))
 outer true true c h = h
@@ -89,7 +90,7 @@ outer true false c h = no_truth h
 outer false b c h = no_truth h
 
 pub flipped : (b : Bool) → not b ≡ true → b ≡ false
-flipped true e = cc
+flipped true e = sym e
 flipped false e = refl
 
 pub by_true : (b : Bool) → (b ≡ true → ⊥) → b ≡ false
@@ -111,8 +112,8 @@ may_change true true true true false is also none never = (refl, refl, refl)
 may_change true true true false false is also none never = absurd (none refl)
 may_change true true false whole false is also none never = absurd (none refl)
 may_change true true access whole true is also none never = absurd (never refl)
-may_change true false access whole function is also none never = cc
-may_change false inn access whole function is also none never = cc
+may_change true false access whole function is also none never = absurd (false≢true also)
+may_change false inn access whole function is also none never = absurd (false≢true is)
 
 -- what a function lends that borrows from its first formal
 may_give : (s : Typing) (sub : FlowSub) (a : Act) → MayBorrow s sub a → is_function sub ≡ true
@@ -247,7 +248,7 @@ module _ (table : Table) (typed : TypedProgram) (effects : Effects) (given : IsV
             no_view : ConstantView s sub (extend m (sel.Deref ∷ [])) → ⊥
             no_view view =
                 given.accepted.no_reports.complete (text_report a.pos rule.V1 m)
-                (on_views sub in_program (lent at a m (in_sub, h) (ap lends is) view (λ may. (let no : true ≡ false = sym (may_give s sub a.act may) ∙ procedure in cc))))
+                (on_views sub in_program (lent at a m (in_sub, h) (ap lends is) view (λ may. (let no : true ≡ false = sym (may_give s sub a.act may) ∙ procedure in absurd (true≢false no)))))
 
             refused : (is_function sub ≡ false) × (is_named_access (view_of s m.root) ≡ true) × (has_selector (extend m (sel.Deref ∷ [])) ≡ true) → ⊥
-            refused found = (let no : false ≡ true = sym seen ∙ own_exclusive m.root (lent_named a h m (ap lends is)) is_one found.0 found.1 in cc)
+            refused found = (let no : false ≡ true = sym seen ∙ own_exclusive m.root (lent_named a h m (ap lends is)) is_one found.0 found.1 in absurd (false≢true no))

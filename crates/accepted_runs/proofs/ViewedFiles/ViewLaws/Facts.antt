@@ -4,6 +4,7 @@ use Rattle.std.proofs.Common.{◌≡◌, refl, sym, ap, ◌∙◌, subst, ◌⊎
 use Rattle.std.specs.Prelude.{filter}
 use Rattle.std.specs.List.{AllByRecursion}
 use Rattle.std.proofs.lemmas.List.Folds.{list_any-append}
+use Rattle.std.proofs.lemmas.Bool.{false≢true, true≢false}
 use Rattle.spark_base.specs.Lists.{Has}
 use Rattle.spark_base.proofs.Lists.{Has-append_cases, Has-filter, Has-map, Has-map_from}
 use Rattle.place_names.specs.declared.act.Act.{Act}
@@ -86,8 +87,8 @@ behind_within Finish scope x ends within = within
 behind_within Fall scope x ends within = within
 
 not_silent : (lasts temporary : Bool) → lasts ≡ true → not lasts && not temporary ≡ true → ⊥
-not_silent true temporary e h = cc
-not_silent false temporary e h = cc
+not_silent true temporary e h = absurd (false≢true h)
+not_silent false temporary e h = absurd (false≢true e)
 
 module _ (s : Typing) where
   lasting_stays : (x : ℕ) (gone : List ℕ) → AllByRecursion (Silent s) gone → has_scope_end s x ≡ true → is_within x gone ≡ true → ⊥
@@ -118,8 +119,8 @@ facts_kept P (a ∷ more) facts old new name has =
     ]) (λ b there. new b (inr there)) name has
 
 gone_ended_fact : (b : Bool) → b ≡ true → not b ≡ true → ⊥
-gone_ended_fact true e h = cc
-gone_ended_fact false e h = cc
+gone_ended_fact true e h = absurd (false≢true h)
+gone_ended_fact false e h = absurd (false≢true e)
 
 -- After the end of its scope no fact is rooted in an object.
 ended_fact : (x : ℕ) (borrower : Bool) (facts : List Fact) (name : PlaceName) → Has (after (act.EndScope x borrower ∷ []) facts) (Moved name) → name.root ≡ x → ⊥
@@ -131,9 +132,9 @@ ended_fact x borrower facts name has root = elim (Has-append_cases (filter (λ f
 -- ---- paths
 
 not_both_lasting : (a b : Bool) → a ≡ true → b ≡ true → a && b ≡ false → ⊥
-not_both_lasting true true e f h = cc
-not_both_lasting true false e f h = cc
-not_both_lasting false b e f h = cc
+not_both_lasting true true e f h = absurd (true≢false h)
+not_both_lasting true false e f h = absurd (false≢true f)
+not_both_lasting false b e f h = absurd (false≢true e)
 
 module _ (table : Table) (typed : TypedProgram) (effects : Effects) (owns : OwnsByShape (flow_program table typed).table)
     (parts_named : PartsAreNamed (flow_program table typed).table) (fine : AreFine (flow_program table typed))

@@ -1,6 +1,6 @@
 -- What is changed or lent may be: it isn't named through what only sees.
 use Rattle.std.proofs.Common.{◌≡◌, refl, sym, ap, ◌∙◌, subst, inl, inr, ℕ, Bool, true, false, not, ◌&&◌, ◌||◌, ◌<◌, arith, List, [], ◌∷◌, map, length, Option, Some, is_some}
-use Rattle.std.proofs.lemmas.Bool.{false≢true}
+use Rattle.std.proofs.lemmas.Bool.{false≢true, true≢false}
 use Rattle.spark_base.specs.declared.position.Pos.{Pos}
 use Rattle.spark_base.specs.Lists.{Has}
 use Rattle.spark_base.proofs.Lists.{Has-append_left, Has-append_right, Has-map, Has-map_from}
@@ -63,7 +63,7 @@ or_right true b e = refl
 or_right false b e = e
 
 fixed_none : (sees given whole : Bool) → sees ≡ false → (given ≡ true → whole ≡ false) → sees || (given && whole) ≡ false
-fixed_none true given whole none other = cc
+fixed_none true given whole none other = none
 fixed_none false false whole none other = refl
 fixed_none false true whole none other = other refl
 
@@ -144,7 +144,7 @@ module _ (table : Table) (typed : TypedProgram) (effects : Effects) (given : IsV
         by true only =
             (let one = seen_one (is_observer s m.root) (is_given s m.root) (is_exclusive s m.root) none only in
             let found = changes_it one.0 in
-            let no : false ≡ true = sym one.1 ∙ acted.own_exclusive table typed effects given named has p there m.root names one.0 found.0 found.1 in cc)
+            let no : false ≡ true = sym one.1 ∙ acted.own_exclusive table typed effects given named has p there m.root names one.0 found.0 found.1 in absurd (false≢true no))
 
     -- A borrower that sees goes back to a formal, so a name through it is a constant view.
     constant_borrower : (m : PlaceName) → Has (named_in p.instr) m.root → is_borrower s m.root ≡ true → sees m.root ≡ true → has_selector m ≡ true → ConstantView s sub m
@@ -171,7 +171,7 @@ module _ (table : Table) (typed : TypedProgram) (effects : Effects) (given : IsV
         by : (b : Bool) → sees m.root ≡ b → b ≡ false
         by false e = refl
         by true is = absurd (elim (kind_seen program m.root is) [
-          | inl only ↦ (let no : false ≡ true = sym plain ∙ only in cc)
+          | inl only ↦ (let no : false ≡ true = sym plain ∙ only in absurd (false≢true no))
           | inr borrower ↦ none borrower is
         ])
 
@@ -197,7 +197,7 @@ module _ (table : Table) (typed : TypedProgram) (effects : Effects) (given : IsV
           where
             by : (b : Bool) → is_nil m.sels ≡ b → not b ≡ true
             by false e = refl
-            by true empty = (let no : true ≡ false = sym borrower ∙ or_first (is_borrower s m.root) (is_observer s m.root) (names.1 (nil_is m.sels empty)) in cc)
+            by true empty = (let no : true ≡ false = sym borrower ∙ or_first (is_borrower s m.root) (is_observer s m.root) (names.1 (nil_is m.sels empty)) in absurd (true≢false no))
 
     -- nor is what a call of a procedure lends
     pub unlent : (a : Placed) → Has at.acts a → (k m : PlaceName) (how : Mode) (owning access : Bool) → a.act ≡ act.Actual k how owning access → lends a.act ≡ Some m
@@ -245,7 +245,7 @@ module _ (table : Table) (typed : TypedProgram) (effects : Effects) (given : IsV
 
     one_open : (m : Mode) (owning access : Bool) → is_in m ≡ false → (e : TypedTree) → ((a : Placed) → Has (actual_act (passing_by m owning access) e) a → Has at.acts a)
         → (y : ℕ) → Has (root_of e) y → sees y ≡ false
-    one_open mode.In owning access back e acts y root = cc
+    one_open mode.In owning access back e acts y root = absurd (true≢false back)
     one_open mode.Out owning access back (Name q z steps t) acts y (inl same) =
         subst (λ k. sees k ≡ false) same
         (changed_open (placed q (act.Actual (name_of z steps) mode.Out owning access)) (acts _ (inl refl)) (name_of z steps) refl)
@@ -284,7 +284,7 @@ module _ (table : Table) (typed : TypedProgram) (effects : Effects) (given : IsV
 
     none_open : (formals : List ℕ) (actuals : TypedTree) → ((x : ℕ) → Has formals x → (object_at s x).mode ≡ mode.In) → AreUnobserved s sees formals actuals
     none_open (x ∷ formals) (More e rest) modes =
-        ((λ back. (let no : true ≡ false = sym (ap is_in (modes x (inl refl))) ∙ back in cc)), none_open formals rest (λ y has. modes y (inr has)))
+        ((λ back. (let no : true ≡ false = sym (ap is_in (modes x (inl refl))) ∙ back in absurd (true≢false no))), none_open formals rest (λ y has. modes y (inr has)))
     none_open [] actuals modes = tt
     none_open (x ∷ formals) actuals modes = tt
 
@@ -308,7 +308,7 @@ module _ (table : Table) (typed : TypedProgram) (effects : Effects) (given : IsV
     no_part z (Component i rest) t leads d k n is none some =
         (let less : i < 0 = subst (λ cs. i < length cs) (ap types.components_of is) leads.0 in omega (arith, less))
     no_part z (Element index low high rest) t leads d k n is none some = (let both : shape.Elements low high leads.0 ≡ shape.Access d k n = sym leads.1 ∙ is in cc)
-    no_part z (Designated rest) t leads d k n is none some = cc
+    no_part z (Designated rest) t leads d k n is none some = false≢true none
     no_part z NoMore t leads d k n is none some = cc
     no_part z steps t leads d k n is none some = absurd leads
 

@@ -1,6 +1,7 @@
 -- What the instructions of a body name is of a package, or its own.
 use Rattle.std.proofs.Common.{◌≡◌, sym, ◌∙◌, subst, ◌⊎◌, inl, inr, ℕ, Bool, true, false}
 use Rattle.std.specs.Prelude.{filter}
+use Rattle.std.proofs.lemmas.Bool.{false≢true}
 use Rattle.spark_base.specs.Lists.{Has}
 use Rattle.spark_base.proofs.Lists.{Has-append_cases, Has-filter}
 use Rattle.type_definitions.specs.Types.{Table}
@@ -55,12 +56,12 @@ module _ (table : Table) (typed : TypedProgram) (effects : Effects) (given : IsV
 
   pub formals_own : (p : NamedPoint) → Has named.points p → (x : ℕ) → Has (named_in p.instr) x → is_formal s x ≡ true → Has named.sub.formals x
   formals_own p there x names formal = elim (objects_own p there x names) [
-    | inl outer ↦ absurd (let no : false ≡ true = sym (given.views.apart x mine) ∙ outer in cc)
+    | inl outer ↦ absurd (let no : false ≡ true = sym (given.views.apart x mine) ∙ outer in false≢true no)
     | inr object ↦ elim (Has-append_cases named.sub.formals (declared_within named.sub.body) x object) [
       | inl first ↦ first
       | inr declared ↦ absurd (
           let there_too : Has (declared_within (body.0).body) x = subst (λ (z : NamedSub). Has (declared_within z.sub.body) x) (sym (body.4)) declared in
-          let no : false ≡ true = sym (given.views.declared (body.0) (scoped.in_subs table typed effects given (body.0) (body.1)) x there_too) ∙ mine in cc)
+          let no : false ≡ true = sym (given.views.declared (body.0) (scoped.in_subs table typed effects given (body.0) (body.1)) x there_too) ∙ mine in absurd (false≢true no))
     ]
   ]
     where

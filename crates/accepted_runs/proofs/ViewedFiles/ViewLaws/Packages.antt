@@ -22,6 +22,7 @@ use Rattle.settled_types.specs.OrderLaws.ScopeLaws.Code.{roots, are_seen, is_see
 use Rattle.settled_types.proofs.OrderLaws.ScopeLaws.Lists.{and_first, and_second, all_both, all_one, all_if, all_has, has_reverse, within_has}
 use Rattle.settled_types.specs.OrderLaws.ReadyLaws.InOrder.{declares_only, own_nothing, names_no_owner}
 use Rattle.accepted_runs.specs.ViewedFiles.ViewLaws.InOrder.{no_views, names_no_view}
+use Rattle.accepted_runs.proofs.ViewedFiles.ViewLaws.Constructors.{is_declare, declared_object, declared_value}
 
 -- What is declared at a point is no view, and is declared with a value that names none.
 abbrev pub IsPlain : Typing → NamedPoint → Type 0
@@ -46,13 +47,13 @@ module _ (t : Typing) (s : Setting) where
   unfolding prep
   prep_plain (typed.Call p sub actuals) at scope k =
       one_more (prep s actuals (0 ∷ at) scope (row_at at 0 ∷ [])) _ (prep_plain actuals (0 ∷ at) scope (row_at at 0 ∷ []))
-      (λ x v e. absurd (let none : ⊥ = cc in none))
+      (λ x v e. absurd (false≢true (ap is_declare e)))
   prep_plain (Short op p a q b) at scope k =
       let right : List NamedPoint = prep s b (1 ∷ at) (s.temporary at ∷ scope) (row_at at 1 ∷ []) in
       all_if (IsPlain t) (has_call b) _ _
       (both (prep s a (0 ∷ at) scope (row_at at 0 ∷ [])) _ (prep_plain a (0 ∷ at) scope (row_at at 0 ∷ [])) (
-        λ x v e. absurd (let none : ⊥ = cc in none),
-        one_more right _ (prep_plain b (1 ∷ at) (s.temporary at ∷ scope) (row_at at 1 ∷ [])) (λ x v e. absurd (let none : ⊥ = cc in none)),
+        λ x v e. absurd (false≢true (ap is_declare e)),
+        one_more right _ (prep_plain b (1 ∷ at) (s.temporary at ∷ scope) (row_at at 1 ∷ [])) (λ x v e. absurd (false≢true (ap is_declare e))),
       ))
       (two (0 ∷ at) (1 ∷ at) a b scope _ _ k (prep_plain a (0 ∷ at)) (prep_plain b (1 ∷ at)))
   prep_plain (Binary op a b) at scope k = two (0 ∷ at) (1 ∷ at) a b scope _ _ k (prep_plain a (0 ∷ at)) (prep_plain b (1 ∷ at))
@@ -82,8 +83,8 @@ module _ (t : Typing) (s : Setting) where
       one_more (prep s v (0 ∷ at) w.scope (row_at at 0 ∷ [])) (point (row_at at 0) p (Declare x v) (with_held s v (0 ∷ at) w.scope) k)
       (prep_plain v (0 ∷ at) w.scope (row_at at 0 ∷ []))
       (λ y u e.
-      (let object : x ≡ y = cc in
-      let value : v ≡ u = cc in
+      (let object : x ≡ y = ap (declared_object x) e in
+      let value : v ≡ u = ap (declared_value v) e in
       subst (λ z. not (is_anonymous (view_of t z)) && no_views t (roots u) ≡ true) object
       (subst (λ z. not (is_anonymous (view_of t x)) && no_views t (roots z) ≡ true) value none)))
   laid_plain typed.NoMore at w k only none = tt
@@ -96,8 +97,8 @@ module _ (t : Typing) (s : Setting) where
       (both (laid s sub.body (0 ∷ []) (around_body s sub) []) [] (laid_plain sub.body (0 ∷ []) (around_body s sub) [] only none) tt) has
 
 refused : (b : Bool) → b ≡ true → not b ≡ true → ⊥
-refused true e h = cc
-refused false e h = cc
+refused true e h = absurd (false≢true h)
+refused false e h = absurd (false≢true e)
 
 -- a view isn't among them
 pub no_view : (t : Typing) (xs : List ℕ) (x : ℕ) → no_views t xs ≡ true → Has xs x → is_anonymous (view_of t x) ≡ true → ⊥
@@ -114,7 +115,7 @@ either false b e = inr e
 
 both_true : (a b : Bool) → a ≡ true → b ≡ true → a && b ≡ true
 both_true true b e f = f
-both_true false b e f = cc
+both_true false b e f = e
 
 declared_there : (c : TypedCode) (x : ℕ) → Has (declared c) x → Has (declared_within c) x
 unfolding declared declared_within

@@ -2,6 +2,7 @@
 -- first; what is passed is in scope; and where a subprogram ends, formals of its own alone are.
 use Rattle.std.proofs.Common.{◌≡◌, refl, sym, ap, ◌∙◌, subst, inl, inr, ℕ, suc, true, ◌||◌, List, ◌∷◌, drop, Option, is_some}
 use Rattle.std.specs.Prelude.{reverse}
+use Rattle.std.proofs.lemmas.Bool.{true≢false}
 use Rattle.spark_base.specs.Lists.{Has}
 use Rattle.spark_base.proofs.Lists.{Has-append_left, Has-append_right}
 use Rattle.type_definitions.specs.Types.{Table, full, is_owning}
@@ -29,6 +30,7 @@ use Rattle.settled_types.proofs.OrderLaws.ReadyLaws.Ready.{seen_has}
 use Rattle.viewed_steps.specs.Ready.{is_shown_type, AreDifferent, ArePassed, AreActualsTo, IsCalled, AreCalled}
 use Rattle.viewed_steps.proofs.Placed.{within_on}
 use Rattle.accepted_runs.proofs.ViewedFiles.ViewLaws.Formals.{first_scope, has_within, has_reversed, once_different, passed_named}
+use Rattle.accepted_runs.proofs.ViewedFiles.ViewLaws.Constructors.{is_declare}
 
 -- ---- the program
 
@@ -79,10 +81,10 @@ module _ (table : Table) (typed : TypedProgram) (effects : Effects) (accepted : 
   }
     where
       no_finish : (i : Instruction) (x : ℕ) (v : TypedTree) → i ≡ Declare x v → i ≡ Finish → ⊥
-      no_finish i x v e f = (let both : Declare x v ≡ Finish = sym e ∙ f in cc)
+      no_finish i x v e f = (let both : Declare x v ≡ Finish = sym e ∙ f in true≢false (ap is_declare both))
 
       no_call : (i : Instruction) (x : ℕ) (v : TypedTree) (n : ℕ) (actuals : TypedTree) (result : Option ℕ) → i ≡ Declare x v → i ≡ Call n actuals result → ⊥
-      no_call i x v n actuals result e f = (let both : Declare x v ≡ Call n actuals result = sym e ∙ f in cc)
+      no_call i x v n actuals result e f = (let both : Declare x v ≡ Call n actuals result = sym e ∙ f in true≢false (ap is_declare both))
 
   -- ---- what is called
 

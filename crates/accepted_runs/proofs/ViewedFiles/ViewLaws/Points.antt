@@ -5,7 +5,7 @@ use Rattle.std.specs.Prelude.{nat_lt}
 use Rattle.std.specs.Bool.{Decides}
 use Rattle.std.specs.List.{AllByRecursion, position_or_len}
 use Rattle.std.specs.Cmp.Lexicographic.{pointwise_decides}
-use Rattle.std.proofs.lemmas.Bool.{ltb-true, false≢true}
+use Rattle.std.proofs.lemmas.Bool.{ltb-true, false≢true, true≢false}
 use Rattle.std.proofs.lemmas.Bool.Decides.{Decides-eqb}
 use Rattle.std.proofs.lemmas.List.Folds.{list_any-append}
 use Rattle.spark_base.specs.Lists.{Has}
@@ -66,36 +66,36 @@ or_right true b e = refl
 or_right false b e = e
 
 or_other : (a b : Bool) → a ≡ false → a || b ≡ true → b ≡ true
-or_other true b none e = cc
+or_other true b none e = absurd (true≢false none)
 or_other false b none e = e
 
 not_test : (a b : Bool) → a ≡ true → not a || b ≡ true → b ≡ true
 not_test true b is e = e
-not_test false b is e = cc
+not_test false b is e = absurd (false≢true is)
 
 bool_cases : (b : Bool) → (b ≡ true) ⊎ (b ≡ false)
 bool_cases true = inl refl
 bool_cases false = inr refl
 
 true_false : (b : Bool) → b ≡ true → b ≡ false → ⊥
-true_false true e f = cc
-true_false false e f = cc
+true_false true e f = absurd (true≢false f)
+true_false false e f = absurd (false≢true e)
 
 or_first : (a b : Bool) → not b ≡ true → a || b ≡ true → a ≡ true
-or_first a true none e = cc
+or_first a true none e = absurd (false≢true none)
 or_first true false none e = refl
-or_first false false none e = cc
+or_first false false none e = e
 
 both_second : (a b : Bool) → a && b ≡ true → b ≡ true
 both_second true b e = e
-both_second false b e = cc
+both_second false b e = absurd (false≢true e)
 
 -- a view is a borrower or an observer
 one_kind : (v : View) → is_observing v ≡ true → is_borrowing v ≡ false
 one_kind (view.Access d true true) sees = refl
 one_kind (view.Access d true false) sees = refl
-one_kind (view.Access d false true) sees = cc
-one_kind (view.Access d false false) sees = cc
+one_kind (view.Access d false true) sees = absurd (false≢true sees)
+one_kind (view.Access d false false) sees = absurd (false≢true sees)
 one_kind _ sees = absurd (false≢true sees)
 
 and_none : (a b : Bool) → b ≡ false → a && b ≡ false
@@ -185,7 +185,7 @@ reborrow_called s pos q x w r n k y path u more is =
 -- a value that is a call is that alone
 first_alone : (s : Typing) (want : ℕ) (v call : TypedTree) → FirstSource s want v → is_call call ≡ true → first v ≡ call → v ≡ More call NoMore
 first_alone s want (More e rest) call fine calls is = (λ j. More (is j) (fine.0 j))
-first_alone s want NoMore call fine calls is = absurd (let no : false ≡ true = ap is_call is ∙ calls in cc)
+first_alone s want NoMore call fine calls is = absurd (let no : false ≡ true = ap is_call is ∙ calls in false≢true no)
 first_alone s want _ call fine calls is = absurd fine
 
 -- ---- points by name and number
@@ -267,32 +267,32 @@ fading_at s (a ∷ rest) fading p (inr has) z y is there sees same =
     (found.0, inr found.1, found.2, found.3, found.4, found.5)
 
 none_from : (s : Typing) (test : ℕ → Bool) (e : TypedTree) → is_call e ≡ false → gives_from test s e ≡ false
-none_from s test (Call p sub actuals) none = cc
+none_from s test (Call p sub actuals) none = absurd (true≢false none)
 none_from s test e none = refl
 
 rooted_second : (a b c : Bool) → a ≡ true → not a || (b && c) ≡ true → c ≡ true
 rooted_second true true c is e = e
-rooted_second true false c is e = cc
-rooted_second false b c is e = cc
+rooted_second true false c is e = absurd (false≢true e)
+rooted_second false b c is e = absurd (false≢true is)
 
 no_other : (a f b : Bool) → f ≡ false → (a || f) || b ≡ true → a || b ≡ true
 no_other true f b none e = refl
 no_other false false b none e = e
-no_other false true b none e = cc
+no_other false true b none e = absurd (true≢false none)
 
 -- what is no call is no view that a function gives
 no_view : (s : Typing) (e : TypedTree) → is_call e ≡ false → gives_view s e ≡ false
-no_view s (Call p sub actuals) none = cc
+no_view s (Call p sub actuals) none = absurd (true≢false none)
 no_view s e none = refl
 
 -- ---- programs
 
 first_shown_apart : (a b : Bool) → a && b ≡ true → a ≡ true
 first_shown_apart true b e = refl
-first_shown_apart false b e = cc
+first_shown_apart false b e = e
 
 not_true : (b : Bool) → not b ≡ true → b ≡ false
-not_true true e = cc
+not_true true e = sym e
 not_true false e = refl
 
 module _ (table : Table) (typed : TypedProgram) (effects : Effects) (given : IsViewProgram table typed effects) where

@@ -1,6 +1,7 @@
 -- An accepted program with borrowers and observers whose subprograms and views are in order is ready, as
 -- soundness with views asks.
 use Rattle.std.proofs.Common.{◌≡◌, refl, sym, ap, ◌∙◌, ◌⊎◌, inl, inr, ℕ, suc, true, false, List, map}
+use Rattle.std.proofs.lemmas.Bool.{true≢false}
 use Rattle.spark_base.specs.Lists.{Has}
 use Rattle.type_definitions.specs.Types.{Table}
 use Rattle.typed_tree.specs.Trees.{TypedTree, Name, NoMore, More}
@@ -27,15 +28,16 @@ use Rattle.accepted_runs.proofs.ViewedFiles.ViewLaws.Waiting as waiting
 use Rattle.accepted_runs.proofs.ViewedFiles.ViewLaws.Points as points
 use Rattle.accepted_runs.proofs.ViewedFiles.ViewLaws.Sees as sights
 use Rattle.accepted_runs.proofs.ViewedFiles.ViewLaws.Fixed as fixed
+use Rattle.accepted_runs.proofs.ViewedFiles.ViewLaws.Constructors.{is_declare, declared_object}
 
 no_assign : (i : Instruction) (x : ℕ) (v target e : TypedTree) → i ≡ Declare x v → i ≡ Assign target e → ⊥
-no_assign i x v target e is other = (let both : Declare x v ≡ Assign target e = sym is ∙ other in cc)
+no_assign i x v target e is other = (let both : Declare x v ≡ Assign target e = sym is ∙ other in true≢false (ap is_declare both))
 
 no_end : (i : Instruction) (x : ℕ) (v : TypedTree) (y : ℕ) → i ≡ Declare x v → i ≡ EndScope y → ⊥
-no_end i x v y is other = (let both : Declare x v ≡ EndScope y = sym is ∙ other in cc)
+no_end i x v y is other = (let both : Declare x v ≡ EndScope y = sym is ∙ other in true≢false (ap is_declare both))
 
 same_object : (i : Instruction) (x y : ℕ) (v e : TypedTree) → i ≡ Declare x v → i ≡ Declare y e → x ≡ y
-same_object i x y v e is other = (let both : Declare x v ≡ Declare y e = sym is ∙ other in cc)
+same_object i x y v e is other = (let both : Declare x v ≡ Declare y e = sym is ∙ other in ap (declared_object x) both)
 
 module _ (table : Table) (typed : TypedProgram) (effects : Effects) (given : IsViewProgram table typed effects) where
   abbrev program : FlowProgram
@@ -65,7 +67,7 @@ module _ (table : Table) (typed : TypedProgram) (effects : Effects) (given : IsV
         begun = points.begins_plain table typed effects given named has p there;
         over = points.ends_plain table typed effects given named has p there;
         declared = λ x v is anonymous.
-            (let both : true ≡ false = sym anonymous ∙ ap (λ z. is_anonymous (view_of s z)) (sym (same_object p.instr found.0 x found.1 v found.2 is)) ∙ found.3 in cc);
+            (let both : true ≡ false = sym anonymous ∙ ap (λ z. is_anonymous (view_of s z)) (sym (same_object p.instr found.0 x found.1 v found.2 is)) ∙ found.3 in absurd (true≢false both));
         assigned = λ q x w v is anonymous. absurd (no_assign p.instr found.0 found.1 (Name q x NoMore w) v found.2 is);
         read = fixed.read_plain table typed effects given named has p there;
         copied = fixed.unobserved table typed effects given named has p there;

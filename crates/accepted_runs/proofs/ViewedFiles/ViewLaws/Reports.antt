@@ -1,6 +1,7 @@
 -- What follows of V1, V2 and V4 where nothing is reported.
 use Rattle.std.proofs.Common.{◌≡◌, refl, ap, ◌∙◌, subst, inl, ℕ, Bool, true, false, not, ◌&&◌, ◌==◌, eqb-true, List, [], ◌∷◌, ◌++◌, Some}
 use Rattle.std.proofs.lemmas.Bool.{false≢true}
+use Rattle.std.specs.Prelude.{is_some}
 use Rattle.spark_base.specs.Lists.{Has}
 use Rattle.spark_base.specs.declared.position.Pos.{Pos}
 use Rattle.place_names.specs.declared.act.Act.TheVariants as act
@@ -32,9 +33,9 @@ by_true false none = refl
 
 -- a view is a borrower or an observer
 one_kind : (v : View) → is_borrowing v ≡ true → is_observing v ≡ true → ⊥
-one_kind (view.Access d true true) borrows sight = cc
-one_kind (view.Access d true false) borrows sight = cc
-one_kind (view.Access d false true) borrows sight = cc
+one_kind (view.Access d true true) borrows sight = false≢true borrows
+one_kind (view.Access d true false) borrows sight = false≢true borrows
+one_kind (view.Access d false true) borrows sight = false≢true borrows
 one_kind (view.Access d false false) borrows sight = cc
 one_kind _ borrows sight = absurd (false≢true borrows)
 
@@ -44,11 +45,11 @@ no_kind _ is other = absurd (false≢true is)
 
 first : (a b : Bool) → a && b ≡ true → a ≡ true
 first true b e = refl
-first false b e = cc
+first false b e = e
 
 second : (a b : Bool) → a && b ≡ true → b ≡ true
 second true b e = e
-second false b e = cc
+second false b e = absurd (false≢true e)
 
 some_more : (xs : List Sel) (x : Sel) → not (is_nil (xs ++ x ∷ [])) ≡ true
 some_more [] x = refl
@@ -59,8 +60,8 @@ both a b e f = ap (λ z. z && b) e ∙ f
 
 has_first : (xs : List ℕ) (b : Bool) (f : ℕ) → traversed_of b xs ≡ Some f → Has xs f
 has_first (x ∷ xs) true f e = inl (let same : x ≡ f = cc in same)
-has_first [] true f e = cc
-has_first xs false f e = cc
+has_first [] true f e = absurd (false≢true (ap is_some e))
+has_first xs false f e = absurd (false≢true (ap is_some e))
 
 module _ (program : FlowProgram) (effects : Effects) (accepted : AreReports program effects []) (sub : FlowSub) (there : Has program.subs sub) where
   abbrev s : Typing

@@ -1,6 +1,7 @@
 -- Which objects of the text are views, and where they stand, is the same by the text and as the program is laid out.
 use Rattle.std.proofs.Common.{◌≡◌, refl, sym, ap, ◌∙◌, ◌⊎◌, inl, inr, ℕ, zero, suc, Bool, true, false, ◌&&◌, List, [], ◌∷◌, ◌++◌, map, get_or}
 use Rattle.std.specs.Prelude.{flat_map}
+use Rattle.std.proofs.lemmas.Bool.{true≢false}
 use Rattle.type_definitions.specs.Types.{Table, full}
 use Rattle.typed_tree.specs.declared.object.Object.{Object}
 use Rattle.typed_tree.specs.Programs.{TypedProgram, text_io}
@@ -26,7 +27,7 @@ abbrev temporaries_of : NamedSub → List Temporary
 temporaries_of named = named.temporaries
 
 false_and : (a b : Bool) → a ≡ false → a && b ≡ false
-false_and true b e = let no : true ≡ false = e in cc
+false_and true b e = let no : true ≡ false = e in absurd (true≢false no)
 false_and false b e = refl
 
 module _ (table : Table) (typed : TypedProgram) where
@@ -49,7 +50,7 @@ module _ (table : Table) (typed : TypedProgram) where
   pub as_text : (x : ℕ) → is_temporary_object s x ≡ false → object_at s x ≡ object_at own x
   as_text x lasts = elim (object_or x) [
     | inl same ↦ same
-    | inr (temporary, scope, none) ↦ (let no : true ≡ false = sym temporary ∙ lasts in cc)
+    | inr (temporary, scope, none) ↦ (let no : true ≡ false = sym temporary ∙ lasts in absurd (true≢false no))
   ]
 
   pub anonymous_same : (x : ℕ) → is_temporary_object s x ≡ false → is_anonymous (view_of s x) ≡ is_anonymous (view_of own x)

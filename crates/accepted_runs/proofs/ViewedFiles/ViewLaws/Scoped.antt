@@ -1,9 +1,9 @@
 -- Of an accepted program with borrowers and observers whose subprograms are in order: that no fact speaks of an
 -- object that is declared, beside what `ready_laws` says of any program in order.
 use Rattle.std.proofs.Common.{◌≡◌, refl, sym, ap, ◌∙◌, subst, ◌⊎◌, inl, inr, ℕ, suc, Bool, true, false, not, ◌&&◌, ◌||◌, List, [], ◌∷◌, map, get_or, nat_lt, Option, None, Some}
-use Rattle.std.specs.Prelude.{reverse}
+use Rattle.std.specs.Prelude.{reverse, is_some}
 use Rattle.std.specs.List.{AllByRecursion}
-use Rattle.std.proofs.lemmas.Bool.{false≢true}
+use Rattle.std.proofs.lemmas.Bool.{false≢true, true≢false}
 use Rattle.spark_base.specs.declared.position.Pos.{Pos}
 use Rattle.spark_base.specs.Lists.{Has}
 use Rattle.spark_base.proofs.Lists.{Has-map, Has-map_from, Has-append_left, Has-append_right}
@@ -84,14 +84,14 @@ either true b e = inl refl
 either false b e = inr e
 
 not_both : (a b : Bool) → a ≡ true → not a && b ≡ true → ⊥
-not_both true b is e = cc
-not_both false b is e = cc
+not_both true b is e = absurd (false≢true e)
+not_both false b is e = absurd (false≢true is)
 
 -- a view that is declared or assigned with no name gets what a traversal function gives
 source_gives : (a b c : Bool) → a ≡ true → not a || (b && c) ≡ true → b ≡ true
 source_gives true true c is e = refl
-source_gives true false c is e = cc
-source_gives false b c is e = cc
+source_gives true false c is e = e
+source_gives false b c is e = absurd (false≢true is)
 
 silent_end : has_call NoMore ≡ false
 unfolding has_call
@@ -99,12 +99,12 @@ silent_end = refl
 
 whole_end : (y x : ℕ) (steps : TypedTree) → whole_object y steps ≡ Some x → (steps ≡ NoMore) × (y ≡ x)
 whole_end y x NoMore is = (refl, cc)
-whole_end y x steps is = cc
+whole_end y x steps is = absurd (false≢true (ap is_some is))
 
 stored_gives : (a f b : Bool) → a ≡ true → f ≡ false → ((not a || f) || false) || b ≡ true → b ≡ true
 stored_gives true false b is none e = e
-stored_gives true true b is none e = cc
-stored_gives false f b is none e = cc
+stored_gives true true b is none e = absurd (true≢false none)
+stored_gives false f b is none e = absurd (false≢true is)
 
 by_kind_variable_lasts : (k : ObjectKind) → is_variable k ≡ true → is_temporary k ≡ false
 by_kind_variable_lasts object_kind.Variable is = refl
@@ -114,7 +114,7 @@ some_same : (a b : ℕ) → Some a ≡ Some b → a ≡ b
 some_same a b is = cc
 
 not_scalar : (d : ℕ) (c n : Bool) → is_scalar (view_of_shape (shape.Access d c n)) ≡ true → ⊥
-not_scalar d c n is = cc
+not_scalar d c n is = false≢true is
 
 module _ (table : Table) (typed : TypedProgram) (effects : Effects) (given : IsViewProgram table typed effects) where
   abbrev pub program : FlowProgram
@@ -269,7 +269,7 @@ module _ (table : Table) (typed : TypedProgram) (effects : Effects) (given : IsV
         by_kind : (x : ℕ) → Has (sub_of program n).formals x → (b : Bool) → is_anonymous (view_of s x) ≡ b → b ≡ false
         by_kind x formal false e = refl
         by_kind x formal true e =
-            let never : None ≡ Some x = sym (ap (λ b. traversed_of b (sub_of program n).formals) none) ∙ firsts_there n x formal e in cc
+            let never : None ≡ Some x = sym (ap (λ b. traversed_of b (sub_of program n).formals) none) ∙ firsts_there n x formal e in absurd (false≢true (ap is_some never))
 
     pub through_call : traverses s.table (sub_of program n).result ≡ true → IsThroughCall program n actuals
     through_call gives =
@@ -347,7 +347,7 @@ module _ (table : Table) (typed : TypedProgram) (effects : Effects) (given : IsV
       not_plain plain = by_result (sub_of program n).result refl gives
         where
           by_result : (r : Option ℕ) → (sub_of program n).result ≡ r → traverses s.table r ≡ true → ⊥
-          by_result None answer seen = cc
+          by_result None answer seen = false≢true seen
           by_result (Some of) answer seen =
               true_false (is_anonymous (full s.table of)) seen
               (ap (λ (rows : Table). is_anonymous (full rows of)) alike.table ∙ plain of (sym (valued.result_same table typed effects given n) ∙ answer))
@@ -443,7 +443,7 @@ module _ (table : Table) (typed : TypedProgram) (effects : Effects) (given : IsV
             (in_layout n (stored_gives (is_anonymous (view_of own y)) (is_formal own y) (traverses own.table (sub_at own n).result)
             (sym (anonymous_same y (variable_lasts y (variable y (inr (k, u, typed_tree.Call q n a, here)) view))) ∙ view)
             (valued.variable_plain table typed effects given y (variable y (inr (k, u, typed_tree.Call q n a, here)) view)) fit)))
-        body_source (Assign target (typed_tree.Call q n a)) is above = λ x whole_is anonymous. (let never : None ≡ Some x = whole_is in cc)
+        body_source (Assign target (typed_tree.Call q n a)) is above = λ x whole_is anonymous. (let never : None ≡ Some x = whole_is in absurd (false≢true (ap is_some never)))
         body_source (Assign target e) is above = λ x whole_is anonymous. inl refl
         body_source i is above = tt
 
@@ -485,7 +485,7 @@ module _ (table : Table) (typed : TypedProgram) (effects : Effects) (given : IsV
       shared : (x : ℕ) → is_package_object own x ≡ true → object_at s x ≡ object_at own x
       shared x is = elim (alike.object x) [
         | inl same ↦ same
-        | inr others ↦ absurd (let no : false ≡ true = sym others.1.2 ∙ is in cc)
+        | inr others ↦ absurd (let no : false ≡ true = sym others.1.2 ∙ is in false≢true no)
       ]
 
       text : (x : ℕ) → Has (objects_of given.order.first) x → object_at s x ≡ object_at own x
@@ -531,7 +531,7 @@ module _ (table : Table) (typed : TypedProgram) (effects : Effects) (given : IsV
     | inr b ↦ new_there table typed effects given.owns given.parts_named given.accepted.fine given.accepted.effects_are given.stored
         sources_there plainly named has (laid named has) (λ p there. (supplied_there named has p there).0)
         (ordered.IsOwn table typed effects given.accepted given.owns given.order given.answered given.passed given.still) (λ x. is_package_object own x ≡ true)
-        (reverse (b.0).formals) (λ x what out. (let both : false ≡ true = sym what.1 ∙ out in cc))
+        (reverse (b.0).formals) (λ x what out. (let both : false ≡ true = sym what.1 ∙ out in absurd (false≢true both)))
         (ordered.body_is_ordered table typed effects given.accepted given.owns given.order given.answered given.passed given.still named b)
         (λ p there x names lasts. seen_has (is_package_object own) p.scope (named_in p.instr) x (body_is_seen named b p there) names) (named_unheld named has)
   ]

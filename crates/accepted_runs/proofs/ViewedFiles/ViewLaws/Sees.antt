@@ -1,8 +1,8 @@
 -- What only sees in an accepted program: a borrower does, if what it is declared from does, and only then. A
 -- borrower that does has a formal of its function for a root.
-use Rattle.std.specs.Prelude.{flat_map}
+use Rattle.std.specs.Prelude.{flat_map, is_some}
 use Rattle.std.proofs.Common.{◌≡◌, refl, sym, ap, ◌∙◌, subst, inl, inr, ℕ, ◌<◌, Bool, true, false, not, ◌&&◌, ◌||◌, List, [], ◌∷◌, map, length, Some, if◌then◌else◌}
-use Rattle.std.proofs.lemmas.Bool.{false≢true}
+use Rattle.std.proofs.lemmas.Bool.{false≢true, true≢false}
 use Rattle.spark_base.specs.Lists.{Has}
 use Rattle.spark_base.proofs.Lists.{Has-append_left, Has-append_right, Has-append_cases, Has-map, Has-map_from}
 use Rattle.place_names.specs.declared.act.Act.{Act}
@@ -43,6 +43,7 @@ use Rattle.accepted_runs.proofs.ViewedFiles.ViewLaws.Borrowing.{IsBorrow, borrow
 use Rattle.accepted_runs.proofs.ViewedFiles.ViewLaws.Scoped as scoped
 use Rattle.accepted_runs.proofs.ViewedFiles.ViewLaws.Valued as valued
 use Rattle.accepted_runs.proofs.ViewedFiles.ViewLaws.Points as points
+use Rattle.accepted_runs.proofs.ViewedFiles.ViewLaws.Constructors.{declared_object}
 
 -- ---- lists
 
@@ -65,9 +66,9 @@ some_same a b is = cc
 
 -- a view is a borrower or an observer
 one_kind : (v : View) → is_borrowing v ≡ true → is_observing v ≡ false
-one_kind (view.Access d true true) is = cc
-one_kind (view.Access d true false) is = cc
-one_kind (view.Access d false true) is = cc
+one_kind (view.Access d true true) is = absurd (false≢true is)
+one_kind (view.Access d true false) is = absurd (false≢true is)
+one_kind (view.Access d false true) is = absurd (false≢true is)
 one_kind (view.Access d false false) is = refl
 one_kind v is = absurd (false≢true is)
 
@@ -86,12 +87,12 @@ no_formal object_kind.Variable is = refl
 no_formal k is = absurd (false≢true is)
 
 unseen : (observes given exclusive : Bool) → observes ≡ false → given ≡ false → observes || (given && not exclusive) ≡ false
-unseen true given exclusive none other = cc
-unseen false true exclusive none other = cc
+unseen true given exclusive none other = none
+unseen false true exclusive none other = absurd (true≢false other)
 unseen false false exclusive none other = refl
 
 not_given : (formal inn owning anonymous : Bool) → formal ≡ false → ((formal && inn) && owning) || ((formal && inn) && anonymous) ≡ false
-not_given true inn owning anonymous none = cc
+not_given true inn owning anonymous none = absurd (true≢false none)
 not_given false inn owning anonymous none = refl
 
 pub borrower_plain : (s : Typing) (x : ℕ) → is_borrower s x ≡ true → sees_only s x ≡ false
@@ -160,8 +161,8 @@ module _ (table : Table) (typed : TypedProgram) (effects : Effects) (given : IsV
       | inl e ↦ absurd (
           let found = points.package_there table typed effects given b.named b.has e b.point b.there in
           let both : Declare x declared.value ≡ Declare found.0 found.1 = sym declared.declares ∙ found.2 in
-          let same : x ≡ found.0 = cc in
-          let no : true ≡ false = sym (borrower_anonymous s x declared.borrows) ∙ ap (λ z. is_anonymous (view_of s z)) same ∙ found.3 in cc)
+          let same : x ≡ found.0 = ap (declared_object x) both in
+          let no : true ≡ false = sym (borrower_anonymous s x declared.borrows) ∙ ap (λ z. is_anonymous (view_of s z)) same ∙ found.3 in absurd (true≢false no))
     ]
 
     abbrev pub body : scoped.OfBody table typed effects given b.named

@@ -1,5 +1,6 @@
 -- What is asked of traversal functions: the point that a call of one leads to takes the result.
 use Rattle.std.proofs.Common.{◌≡◌, refl, sym, ap, ◌∙◌, subst, ◌⊎◌, inl, inr, ℕ, Bool, true, false, [], ◌∷◌, map, Option, Some, None, is_some}
+use Rattle.std.proofs.lemmas.Bool.{false≢true, true≢false}
 use Rattle.spark_base.specs.Lists.{Has}
 use Rattle.spark_base.specs.declared.position.Pos.{Pos}
 use Rattle.spark_base.proofs.Lists.{Has-append_right}
@@ -105,7 +106,7 @@ module _ (table : Table) (typed : TypedProgram) (effects : Effects) (known : IsV
     where
       gives_so : (b : Bool) → traverses s.table (sub_of program n).result ≡ b → b ≡ true
       gives_so true same = refl
-      gives_so false same = (let never : None ≡ Some f = sym (ap (λ b. traversed_of b (sub_of program n).formals) same) ∙ traversed in cc)
+      gives_so false same = (let never : None ≡ Some f = sym (ap (λ b. traversed_of b (sub_of program n).formals) same) ∙ traversed in absurd (false≢true (ap is_some never)))
 
       gives : traverses s.table (sub_of program n).result ≡ true
       gives = gives_so (traverses s.table (sub_of program n).result) refl
@@ -114,14 +115,14 @@ module _ (table : Table) (typed : TypedProgram) (effects : Effects) (known : IsV
       gives_at = ap (traverses s.table) (scoped.result_same table typed effects known n) ∙ gives
 
       gives_some : (r : Option ℕ) → traverses s.table r ≡ true → is_some r ≡ true
-      gives_some None seen = cc
+      gives_some None seen = absurd (false≢true seen)
       gives_some (Some of) seen = refl
 
       by_result : scoped.OfBody table typed effects known named → (r : Option ℕ) → p.instr ≡ Call n actuals r → IsTraversalCall s named (map (number_in named.points) p.next) n actuals
       by_result body None call = absurd (
           let answer = (ordered.runs_there table typed effects known.accepted known.owns known.order known.answered known.passed known.still (flow_sub own named)
           (scoped.in_program table typed effects known named has) (flow_at own named p) (scoped.in_sub table typed effects known named has p there) n actuals None call).1 in
-          let never : true ≡ false = sym (gives_some (sub_of program n).result gives) ∙ answer in cc)
+          let never : true ≡ false = sym (gives_some (sub_of program n).result gives) ∙ answer in absurd (true≢false never))
       by_result body (Some t) call =
           let through = scoped.through_call table typed effects known (flow_sub own named) (scoped.in_program table typed effects known named has) (flow_at own named p)
           (scoped.in_sub table typed effects known named has p there) n actuals (Some t) call gives in
@@ -171,4 +172,4 @@ module _ (table : Table) (typed : TypedProgram) (effects : Effects) (known : IsV
         where
           traverses_so : (b : Bool) → traverses s.table (sub_of program n).result ≡ b → b ≡ true
           traverses_so true is = refl
-          traverses_so false is = (let never : None ≡ Some f = sym (ap (λ b. traversed_of b (sub_of program n).formals) is) ∙ traversed in cc)
+          traverses_so false is = (let never : None ≡ Some f = sym (ap (λ b. traversed_of b (sub_of program n).formals) is) ∙ traversed in absurd (false≢true (ap is_some never)))

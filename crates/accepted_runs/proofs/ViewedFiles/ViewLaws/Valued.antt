@@ -3,7 +3,7 @@
 use Rattle.std.proofs.Common.{◌≡◌, refl, sym, ap, ◌∙◌, subst, ◌⊎◌, inl, inr, ℕ, ◌<◌, Bool, true, false, ◌&&◌, ◌||◌, List, [], ◌∷◌, ◌++◌, map, take, drop, length, get_or, arith, Option, Some, None, is_some, if◌then◌else◌}
 use Rattle.std.specs.Prelude.{filter, not, nat_lt}
 use Rattle.std.specs.List.{AllByRecursion}
-use Rattle.std.proofs.lemmas.Bool.{false≢true}
+use Rattle.std.proofs.lemmas.Bool.{false≢true, true≢false}
 use Rattle.spark_base.specs.declared.position.Pos.{Pos}
 use Rattle.spark_base.specs.Lists.{Has}
 use Rattle.spark_base.proofs.Lists.{Has-append_right, Has-filter, Has-map}
@@ -62,6 +62,7 @@ use Rattle.accepted_runs.specs.ViewedFiles.ViewLaws.InOrder.{is_name_of, is_list
 use Rattle.accepted_runs.specs.ViewedFiles.ViewLaws.Program.{IsViewProgram}
 use Rattle.accepted_runs.proofs.ViewedFiles.ViewLaws.Acts.{no_anonymous}
 use Rattle.accepted_runs.proofs.ViewedFiles.ViewLaws.Formals.{passed_named}
+use Rattle.accepted_runs.proofs.ViewedFiles.ViewLaws.Constructors.{is_declare}
 
 -- ---- lists
 
@@ -106,12 +107,12 @@ scalar_if s false ts us h g = g
 declared_fit : (a n l g : Bool) → a ≡ true → not a || ((n && l) || g) ≡ true → n || g ≡ true
 declared_fit true true l g view e = refl
 declared_fit true false l true view e = refl
-declared_fit true false l false view e = cc
-declared_fit false n l g view e = cc
+declared_fit true false l false view e = e
+declared_fit false n l g view e = absurd (false≢true view)
 
 first_of : (a b : Bool) → a && b ≡ true → a ≡ true
 first_of true b e = refl
-first_of false b e = cc
+first_of false b e = e
 
 -- what a traversal function gives that is called with such a name
 pub from_gives : (s : Typing) (test : ℕ → Bool) (e : TypedTree) → gives_from test s e ≡ true → gives_view s e ≡ true
@@ -124,8 +125,8 @@ gives_so false g h so e = so e
 
 stored_fit : (a f n g : Bool) → a ≡ true → f ≡ false → ((not a || f) || n) || g ≡ true → n || g ≡ true
 stored_fit true false n g view none e = e
-stored_fit true true n g view none e = cc
-stored_fit false f n g view none e = cc
+stored_fit true true n g view none e = absurd (true≢false none)
+stored_fit false f n g view none e = absurd (false≢true view)
 
 -- a variable is no formal
 no_formal : (k : ObjectKind) → is_variable k ≡ true → is_formal_kind k ≡ false
@@ -177,7 +178,7 @@ module _ (table : Table) (typed : TypedProgram) (effects : Effects) (given : IsV
   pub shared_object : (x : ℕ) → is_package_object own x ≡ true → is_temporary_object s x ≡ false
   shared_object x shared = elim (alike.object x) [
     | inl same ↦ ap (λ (o : Object). is_temporary o.kind) same ∙ given.order.lasting x
-    | inr others ↦ absurd (let no : false ≡ true = sym others.1.2 ∙ shared in cc)
+    | inr others ↦ absurd (let no : false ≡ true = sym others.1.2 ∙ shared in false≢true no)
   ]
 
   pub variable_plain : (x : ℕ) → is_variable (object_at s x).kind ≡ true → is_formal own x ≡ false
@@ -298,7 +299,7 @@ module _ (table : Table) (typed : TypedProgram) (effects : Effects) (given : IsV
     where
       by : (b : Bool) → b ≡ true → (if b then x ∷ filter (is_temporary_object s) xs else filter (is_temporary_object s) xs) ≡ x ∷ filter (is_temporary_object s) xs
       by true same = refl
-      by false same = cc
+      by false same = absurd (false≢true same)
 
   pairs_scalar : (ts xs : List ℕ) → Pairs FitsHeld ts xs → AreScalarTypes s ts → AreScalar s (filter (is_temporary_object s) xs)
   pairs_scalar [] [] pairs scalar = tt
@@ -373,7 +374,7 @@ module _ (table : Table) (typed : TypedProgram) (effects : Effects) (given : IsV
       (Has-map (λ (q : NamedPoint). flow_at own named q) named.points p there) n a (Some t) is).1)
     where
       by : (r : Option ℕ) → (sub_at own n).result ≡ r → is_some (sub_at own n).result ≡ true → (u : ℕ) × ((sub_at own n).result ≡ Some u)
-      by None is some = absurd (let no : false ≡ true = sym (ap is_some is) ∙ some in cc)
+      by None is some = absurd (let no : false ≡ true = sym (ap is_some is) ∙ some in false≢true no)
       by (Some u) is some = (u, is)
 
   -- ---- a body
@@ -480,7 +481,7 @@ module _ (table : Table) (typed : TypedProgram) (effects : Effects) (given : IsV
             n,
             a,
             ap (λ (z : Signature). z.result) (sub_same n) ∙ answer ∙ ap (λ k. Some k) (sym of),
-            not_scalar (is_scalar (full s.table (object_at s given_by.0).of)) (λ scalar. (let never : true ≡ false = sym seen ∙ no_anonymous (full s.table (object_at s given_by.0).of) scalar in cc)),
+            not_scalar (is_scalar (full s.table (object_at s given_by.0).of)) (λ scalar. (let never : true ≡ false = sym seen ∙ no_anonymous (full s.table (object_at s given_by.0).of) scalar in absurd (true≢false never))),
             takes,
           ),
           given_by.2,
@@ -524,7 +525,7 @@ module _ (table : Table) (typed : TypedProgram) (effects : Effects) (given : IsV
         (one.0, one.1, one.2, not_true (has_call one.1) (sym (ap calls_procedures one.2) ∙ still))
 
     pub no_call : (n : ℕ) (actuals : TypedTree) (r : Option ℕ) → p.instr ≡ Call n actuals r → ⊥
-    no_call n actuals r is = (let both : Declare (declared.0) (declared.1) ≡ Call n actuals r = sym (declared.2) ∙ is in cc)
+    no_call n actuals r is = (let both : Declare (declared.0) (declared.1) ≡ Call n actuals r = sym (declared.2) ∙ is in true≢false (ap is_declare both))
 
     package_takes : IsTakenAt s named.sub.result p
     package_takes = (
@@ -562,7 +563,7 @@ module _ (table : Table) (typed : TypedProgram) (effects : Effects) (given : IsV
   not_named : (n : ℕ) {of : ℕ} → GivesView s n of → May n → ⊥
   not_named n gives may =
       let there : (sub_at own n).result ≡ Some gives.result = sym (ap (λ (z : Signature). z.result) (sub_same n)) ∙ gives.result_is in
-      let never : true ≡ false = sym gives.anonymous ∙ ap (λ (rows : Table). is_anonymous (full rows gives.result)) alike.table ∙ may gives.result there in cc
+      let never : true ≡ false = sym gives.anonymous ∙ ap (λ (rows : Table). is_anonymous (full rows gives.result)) alike.table ∙ may gives.result there in absurd (true≢false never)
 
   no_traversal : (n : ℕ) → May n → traverses own.table (sub_at own n).result ≡ false
   no_traversal n may = by (sub_at own n).result refl
@@ -575,14 +576,14 @@ module _ (table : Table) (typed : TypedProgram) (effects : Effects) (given : IsV
   name_only : (test : ℕ → Bool) (e : TypedTree) → is_name_of test e || gives_view own e ≡ true → SourceFits Asked Passed May e → CallsOnly Asked Passed e
   unfolding CallsFit
   name_only test (Name q y steps t) fit asked = asked
-  name_only test (typed_tree.Call q n a) fit asked = (let never : true ≡ false = sym fit ∙ no_traversal n asked.0 in cc)
+  name_only test (typed_tree.Call q n a) fit asked = (let never : true ≡ false = sym fit ∙ no_traversal n asked.0 in absurd (true≢false never))
   name_only test e fit asked = absurd (false≢true fit)
 
   -- an object that is no temporary is as the text has it
   view_same : (x : ℕ) → is_temporary_object s x ≡ false → is_anonymous (view_of s x) ≡ is_anonymous (view_of own x)
   view_same x lasts = elim (ordered.object_or table typed effects given.accepted given.owns given.order given.answered given.passed given.still x) [
     | inl same ↦ (λ j. is_anonymous (full (alike.table j) (same j).of))
-    | inr temporary ↦ (let never : true ≡ false = sym temporary ∙ lasts in cc)
+    | inr temporary ↦ (let never : true ≡ false = sym temporary ∙ lasts in absurd (true≢false never))
   ]
 
   module _ (named : NamedSub) (has : Has (flow_named table typed) named) (inside : Has bodies named) (n : ℕ) (entered : IsEntered program n)
@@ -655,7 +656,7 @@ module _ (table : Table) (typed : TypedProgram) (effects : Effects) (given : IsV
 
         view_takes : is_anonymous (full s.table u) ≡ true → CallsOnly Asked Passed e
         view_takes view = elim (leads_or s given.parts_named path (object_at s x).of u leads) [
-          | inr own_type ↦ (let never : true ≡ false = sym view ∙ named_plain s.table u own_type in cc)
+          | inr own_type ↦ (let never : true ≡ false = sym view ∙ named_plain s.table u own_type in absurd (true≢false never))
           | inl whole_place ↦ name_only is_any e (fit_here whole_place.0 (ap (λ z. is_anonymous (full s.table z)) whole_place.1 ∙ view)) asked
         ]
 

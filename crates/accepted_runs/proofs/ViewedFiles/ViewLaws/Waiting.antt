@@ -1,6 +1,7 @@
 -- What is in scope at the points of a program in order: where package objects are declared, no temporary; else temporaries of
 -- no anonymous access type, beside what a function gives that the point takes alone.
 use Rattle.std.proofs.Common.{◌≡◌, refl, sym, ap, ◌∙◌, subst, ◌⊎◌, inl, inr, ℕ, true, false, List, ◌∷◌, Some}
+use Rattle.std.proofs.lemmas.Bool.{true≢false}
 use Rattle.spark_base.specs.declared.position.Pos.{Pos}
 use Rattle.spark_base.specs.Lists.{Has}
 use Rattle.type_definitions.specs.Types.{Table, full}
@@ -30,6 +31,7 @@ use Rattle.viewed_steps.specs.Ready.{AreNamedIn, AreValued}
 use Rattle.accepted_runs.specs.ViewedFiles.ViewLaws.Program.{IsViewProgram}
 use Rattle.accepted_runs.proofs.ViewedFiles.ViewLaws.Acts.{no_anonymous}
 use Rattle.accepted_runs.proofs.ViewedFiles.ViewLaws.Valued as valued
+use Rattle.accepted_runs.proofs.ViewedFiles.ViewLaws.Constructors.{is_declare, declared_value}
 
 next_same : (t x : ℕ) (rest others : List ℕ) → t ∷ rest ≡ x ∷ others → rest ≡ others
 next_same t x rest others same = cc
@@ -60,10 +62,10 @@ module _ (table : Table) (typed : TypedProgram) (effects : Effects) (given : IsV
         by_call : (x : ℕ) (v : TypedTree) → Takes p.instr (typed_tree.Call q n a) → has_call v ≡ false → p.instr ≡ Declare x v → ⊥
         by_call x v (inl (y, is)) none declares = (
             let both : Declare x v ≡ Declare y (typed_tree.More (typed_tree.Call q n a) NoMore) = sym declares ∙ is in
-            let value : v ≡ typed_tree.More (typed_tree.Call q n a) NoMore = cc in
-            let no : true ≡ false = sym (ap has_call value) ∙ none in cc)
-        by_call x v (inr (inl (k, y, path, u, is, nothing))) none declares = (let both : Declare x v ≡ Assign (Name k y path u) (typed_tree.Call q n a) = sym declares ∙ is in cc)
-        by_call x v (inr (inr is)) none declares = (let both : Declare x v ≡ Hold (typed_tree.More (typed_tree.Call q n a) NoMore) = sym declares ∙ is in cc)
+            let value : v ≡ typed_tree.More (typed_tree.Call q n a) NoMore = ap (declared_value v) both in
+            let no : true ≡ false = sym (ap has_call value) ∙ none in absurd (true≢false no))
+        by_call x v (inr (inl (k, y, path, u, is, nothing))) none declares = (let both : Declare x v ≡ Assign (Name k y path u) (typed_tree.Call q n a) = sym declares ∙ is in true≢false (ap is_declare both))
+        by_call x v (inr (inr is)) none declares = (let both : Declare x v ≡ Hold (typed_tree.More (typed_tree.Call q n a) NoMore) = sym declares ∙ is in true≢false (ap is_declare both))
 
     abbrev first_points : List NamedPoint
     first_points = elaboration_points (unnumbered own) given.order.first
@@ -74,7 +76,7 @@ module _ (table : Table) (typed : TypedProgram) (effects : Effects) (given : IsV
     no_evaluate : (r : NamedPoint) → Has named.points r → (t : ℕ) (v : TypedTree) (op : ShortCircuit) → r.instr ≡ Evaluate t v (Some op) → ⊥
     no_evaluate r there t v op is =
         let declared = valued.declared table typed effects given named e r there in
-        (let both : Declare declared.0 declared.1 ≡ Evaluate t v (Some op) = sym declared.2 ∙ is in cc)
+        (let both : Declare declared.0 declared.1 ≡ Evaluate t v (Some op) = sym declared.2 ∙ is in true≢false (ap is_declare both))
 
     abbrev Any : ℕ → Type 0
     Any n = Unit {0}
@@ -108,7 +110,7 @@ module _ (table : Table) (typed : TypedProgram) (effects : Effects) (given : IsV
         ]
 
     package_named : (p : NamedPoint) → Has named.points p → AreNamedIn s p.scope
-    package_named p there x has temporary = (let no : true ≡ false = sym temporary ∙ scope_lasts p there x has in cc)
+    package_named p there x has temporary = (let no : true ≡ false = sym temporary ∙ scope_lasts p there x has in absurd (true≢false no))
 
   -- ---- a body
 
@@ -131,7 +133,7 @@ module _ (table : Table) (typed : TypedProgram) (effects : Effects) (given : IsV
         (given.results body.0 body.1)
         (λ x object temporary.
         (let no : true ≡ false = sym temporary ∙ valued.text_object table typed effects given x
-        ((given.order.bodies body.0 (ordered.in_subs table typed effects given.accepted given.owns given.order given.answered given.passed given.still body.0 body.1)).numbered x object).1 in cc))
+        ((given.order.bodies body.0 (ordered.in_subs table typed effects given.accepted given.owns given.order given.answered given.passed given.still body.0 body.1)).numbered x object).1 in absurd (true≢false no)))
         p (valued.in_laid table typed effects given named has inside p there)
 
     body_named : (p : NamedPoint) → Has named.points p → AreNamedIn s p.scope ⊎ ((alone : TakesAlone s p) × AreNamedIn s alone.1)
