@@ -1,14 +1,14 @@
-//! What the types of a program are made of, where typing finds no fault in it: definitions and laws,
-//! for readers.
+//! What the types of a program are made of, where typing finds no fault in it: definitions and
+//! laws, for readers.
 //!
-//! The words, the access parts and the owning of a type are counted up to a depth of as many types as
-//! there are. They are those of whole definitions where no type has itself in it (`specs/Wholes.antt`,
-//! `proofs/Wholes.antt`). So it is in a program that declares in order (`specs/Orderly.antt`) and has
-//! no fault of typing (`proofs/Main.antt`): what a type is made of was defined before it, or is a
-//! private type, which doesn't have itself in it (`specs/Stamped.antt`, `proofs/Stamps.antt`). A
-//! program is gathered twice, and the second turn begins with the first one's types: what it gathers
-//! is looked at declaration by declaration, where any types stand at first (`proofs/Turns.antt`,
-//! `Gathered`). Nothing here runs.
+//! The words, the access parts and the owning of a type are counted up to a depth of as many types
+//! as there are. They are those of whole definitions where no type has itself in it
+//! (`specs/Wholes.antt`, `proofs/Wholes.antt`). So it is in a program that declares in order
+//! (`specs/Orderly.antt`) and has no fault of typing (`proofs/Main.antt`): what a type is made of
+//! was defined before it, or is a private type, which doesn't have itself in it
+//! (`specs/Stamped.antt`, `proofs/Lone.antt`). A program is gathered twice, and the second turn
+//! begins with the first one's types: what it gathers is looked at declaration by declaration,
+//! where any types stand at first (`proofs/Turns.antt`, `Gathered`). Nothing here runs.
 //!
 //! # Orderly files
 //!
@@ -17,30 +17,33 @@
 //! Each declaration has a number of its own, but where a full type completes a private or an
 //! incomplete one, and where a body has that of its declaration (`IsOrderly` of `settled_types`).
 //! Numbers are given in the order of the text, by what is known of names at each point
-//! (`specs/Regions.antt`, `proofs/Steps.antt`, `Declares`), and the code has them by the positions of
-//! identifiers (`specs/Numbered.antt`). So it goes construct by construct: expressions declare nothing
-//! (`proofs/Mentions.antt`); then come items, statements, and units (`Items`, `Statements`, `Units`,
-//! `Main`). It is asked that no two identifiers have one position (`specs/Apart.antt`), and that full
-//! types end after the marks of definitions up to there (`specs/Ended.antt`). No rule of names need be
-//! kept. Nothing here runs.
+//! (`specs/OrderlyFiles/Regions.antt`, `proofs/OrderlyFiles/Steps.antt`, `Declares`), and the code
+//! has them by the positions of identifiers (`specs/OrderlyFiles/Numbered.antt`). So it goes
+//! construct by construct: expressions declare nothing (`proofs/OrderlyFiles/Mentions.antt`); then
+//! come items, statements, and units (`Items`, `Statements`, `Units`, `Main`). It is asked that no
+//! two identifiers have one position (`specs/OrderlyFiles/Apart.antt`), and that full types end
+//! after the marks of definitions up to there (`specs/OrderlyFiles/Ended.antt`). No rule of names
+//! need be kept. Nothing here runs.
 //!
 //! # Gathered laws
 //!
 //! What gathering makes of a program: types are made of types and based on types, and what is known
 //! of declarations speaks of types. Definitions and laws, for readers.
 //!
-//! `specs/Made.antt` says which numbers stand for types, from the text alone, so that it is the same
-//! in both turns of gathering. After both of them each row of the table and each entry speaks of such
-//! numbers (`proofs/Gathered.antt`), where the program declares in order (`Numbered`).
+//! `specs/GatheredLaws/Made.antt` says which numbers stand for types, from the text alone, so that
+//! it is the same in both turns of gathering. After both of them each row of the table and each
+//! entry speaks of such numbers (`proofs/GatheredLaws/Gathered.antt`), where the program declares
+//! in order (`Numbered`).
 //!
-//! Types that are based on one type agree: `proofs/Put.antt` has one more row, `Walk` the code of a
-//! turn, and `Agreed` both turns. Anonymous access types are based on themselves alone
-//! (`proofs/Views.antt`), if they have numbers of their own (`specs/Views.antt`); code without them
-//! (`specs/Named.antt`) meets that. The kinds of full types are known before the second turn (`Nodes`,
-//! `DefinedKinds`), so that a subtype with bounds is of a scalar type there (`Bounded`, `Faultless`).
-//! With it, and with what is said of literals and instances (`Entries`), follow the sentences of
-//! `Sentences`. Types have components with names of their own, if records have (`Components`). So the
-//! table is as `TypedLaws` asks (`Laws`). Nothing here runs.
+//! Types that are based on one type agree: `proofs/GatheredLaws/Put.antt` has one more row, `Walk`
+//! the code of a turn, and `Agreed` both turns. Anonymous access types are based on themselves
+//! alone (`proofs/GatheredLaws/Views.antt`), if they have numbers of their own
+//! (`specs/GatheredLaws/Views.antt`); code without them (`specs/GatheredLaws/Named.antt`) meets
+//! that. The kinds of full types are known before the second turn (`Nodes`, `DefinedKinds`), so
+//! that a subtype with bounds is of a scalar type there (`Bounded`, `Faultless`). With it, and with
+//! what is said of literals and instances (`Entries`), follow the sentences of `Sentences`. Types
+//! have components with names of their own, if records have (`Components`). So the table is as
+//! `TypedLaws` asks (`Laws`). Nothing here runs.
 //!
 //! # File positions
 //!
@@ -79,8 +82,8 @@
 //!
 //! # Steady types
 //!
-//! Types that are read while declarations are gathered are those that are read at last: definitions and laws,
-//! for readers.
+//! Types that are read while declarations are gathered are those that are read at last: definitions
+//! and laws, for readers.
 //!
 //! The units of a program are gathered twice, since a type may be used before its full type is
 //! known. Two tables are alike where they say the same of each type but for the bounds in its
@@ -96,33 +99,34 @@
 //! Tables of types that are fit for runs: definitions and laws.
 //!
 //! Where types have ranks, each a higher one than what it is made of, no type has itself in it
-//! (`specs/TableLaws/Ranks.antt`, `proofs/TableLaws/Ranked.antt`). Then the sorts of the words of a type are those of its whole
-//! definition, and access values stand at its access offsets (`Tables`). The low bounds of the
-//! types of any program are values of Integer (`Gathers`). Nothing here runs.
+//! (`specs/TableLaws/Ranks.antt`, `proofs/TableLaws/Ranked.antt`). Then the sorts of the words of a
+//! type are those of its whole definition, and access values stand at its access offsets
+//! (`Tables`). The low bounds of the types of any program are values of Integer (`Gathers`).
+//! Nothing here runs.
 //!
 //! # Order laws
 //!
 //! Which accepted programs are in order, by their resolved code: definitions and laws, for readers.
 //!
-//! `specs/OrderLaws/Written.antt` says when resolved code is as the grammar has it, and `specs/OrderLaws/Orderly.antt`
-//! what is asked of a program beside what typing and the reports say. The typed bodies of such code
-//! have declarations before statements (`proofs/OrderLaws/Bodies.antt`), and are as the layout needs them,
-//! since the parameter of each loop is of a scalar type (`Settled`). Where each declaration of an
-//! object has a number of its own, so have the objects of each subprogram (`Numbers`, `Parts`,
-//! `Units`). The initial values of package objects name nothing that owns (`Starting`, `Unmoved`).
-//! With that the subprograms are in order (`Whole`, `Accepted`). docs/SOUNDNESS.md has what is open.
-//! Nothing here runs.
+//! `specs/OrderLaws/Written.antt` says when resolved code is as the grammar has it, and
+//! `specs/OrderLaws/Orderly.antt` what is asked of a program beside what typing and the reports
+//! say. The typed bodies of such code have declarations before statements
+//! (`proofs/OrderLaws/Bodies.antt`), and are as the layout needs them, since the parameter of each
+//! loop is of a scalar type (`Settled`). Where each declaration of an object has a number of its
+//! own, so have the objects of each subprogram (`Numbers`, `Parts`, `Units`). The initial values of
+//! package objects name nothing that owns (`Starting`, `Unmoved`). With that the subprograms are in
+//! order (`Whole`, `Accepted`). docs/SOUNDNESS.md has what is open. Nothing here runs.
 //!
 //! ## Ready laws
 //!
-//! What the layout of an accepted program has to say, so that soundness speaks of its runs: definitions
-//! and laws, for readers.
+//! What the layout of an accepted program has to say, so that soundness speaks of its runs:
+//! definitions and laws, for readers.
 //!
-//! `specs/OrderLaws/ReadyLaws/InOrder.antt` says when the subprograms of a typed program are in order;
-//! nothing in it speaks of points, paths or facts. Of such a program: the package objects are
-//! declared one by one (`proofs/OrderLaws/ReadyLaws/Elaborated.antt`), no return comes after another one
-//! (`Returned`), what typed calls pass stays within what it names (`Actuals`), and its scopes are
-//! as `specs/OrderLaws/ReadyLaws/Ready.antt` of `soundness` asks (`Ready`). `ViewedFiles` says when it is
+//! `specs/OrderLaws/ReadyLaws/InOrder.antt` says when the subprograms of a typed program are in
+//! order; nothing in it speaks of points, paths or facts. Of such a program: the package objects
+//! are declared one by one (`proofs/OrderLaws/ReadyLaws/Elaborated.antt`), no return comes after
+//! another one (`Returned`), what typed calls pass stays within what it names (`Actuals`), and its
+//! scopes are as `specs/Ready.antt` of `soundness` asks (`Ready`). `ViewedFiles` says when it is
 //! ready. Nothing here runs.
 //!
 //! ## Package values
@@ -130,25 +134,29 @@
 //! The values that package objects are declared with: definitions and laws, for readers.
 //!
 //! A sentence of typing says that they call no function of the program. So in code without a fault
-//! of typing no such value has a call (`proofs/OrderLaws/Still.antt`, `Packages`), and the points of the
-//! package objects declare them, one by one, without calls (`Declared`, `Main`). Nothing here runs.
+//! of typing no such value has a call (`proofs/OrderLaws/PackageValues/Still.antt`, `Packages`),
+//! and the points of the package objects declare them, one by one, without calls (`Declared`,
+//! `Main`). Nothing here runs.
 //!
 //! ## Scope laws
 //!
 //! What the points of a subprogram have in scope, and where they lead: definitions and laws, for
 //! readers.
 //!
-//! `specs/OrderLaws/ScopeLaws/Code.antt` says what is asked of code beside what `flow_paths` asks (`is_settled`): that
-//! exits stand in loops and alternatives in a `case`, that each object is declared once, and that
-//! what is named is in scope. `specs/OrderLaws/ScopeLaws/Order.antt` says what holds of points then: an object isn't in
-//! scope where it is declared, and is the last one where its scope ends; at the end of a procedure
-//! the formals alone are in scope; and what an instruction names is in scope at its point.
+//! `specs/OrderLaws/ScopeLaws/Code.antt` says what is asked of code beside what `flow_paths` asks
+//! (`is_settled`): that exits stand in loops and alternatives in a `case`, that each object is
+//! declared once, and that what is named is in scope. `specs/OrderLaws/ScopeLaws/Order.antt` says
+//! what holds of points then: an object isn't in scope where it is declared, and is the last one
+//! where its scope ends; at the end of a procedure the formals alone are in scope; and what an
+//! instruction names is in scope at its point.
 //!
-//! Of each point of a subprogram that is so (`proofs/OrderLaws/ScopeLaws/Ordered.antt`, `Seen`), and each point has as
-//! many successors as its instruction leads to (`Successors`). The temporaries that an instruction
-//! takes are the last ones in scope (`specs/OrderLaws/ScopeLaws/Supplied.antt`; `proofs/OrderLaws/ScopeLaws/Supplied.antt`, `Filled`,
-//! `Relaid`, `Temporaries`). In functions nothing but a return leads to what follows one
-//! (`specs/OrderLaws/ScopeLaws/Returning.antt`, `proofs/OrderLaws/ScopeLaws/Returning.antt`). Nothing here knows facts, and nothing runs.
+//! Of each point of a subprogram that is so (`proofs/OrderLaws/ScopeLaws/Ordered.antt`, `Seen`),
+//! and each point has as many successors as its instruction leads to (`Successors`). The
+//! temporaries that an instruction takes are the last ones in scope
+//! (`specs/OrderLaws/ScopeLaws/Supplied.antt`; `proofs/OrderLaws/ScopeLaws/Supplied.antt`,
+//! `Filled`, `Relaid`, `Temporaries`). In functions nothing but a return leads to what follows one
+//! (`specs/OrderLaws/ScopeLaws/Returning.antt`, `proofs/OrderLaws/ScopeLaws/Returning.antt`).
+//! Nothing here knows facts, and nothing runs.
 //!
 //! ### Layered scopes
 //!
@@ -157,8 +165,9 @@
 //!
 //! Code is layered if each object that is in scope where another one is declared is older than it,
 //! and the objects of a block have the scope of the block, which no observer around it has
-//! (`specs/OrderLaws/ScopeLaws/Layered.antt`). So at each point what is in scope is older than what is declared there, or
-//! than the object whose scope ends there; and where the scope of an object ends that has the scope
-//! of an observer, the end of another one of that scope follows (`specs/OrderLaws/ScopeLaws/Points.antt`,
-//! `proofs/OrderLaws/ScopeLaws/Layered.antt`). Nothing here runs.
+//! (`specs/OrderLaws/ScopeLaws/LayeredScopes/Layered.antt`). So at each point what is in scope is
+//! older than what is declared there, or than the object whose scope ends there; and where the
+//! scope of an object ends that has the scope of an observer, the end of another one of that scope
+//! follows (`specs/OrderLaws/ScopeLaws/LayeredScopes/Points.antt`,
+//! `proofs/OrderLaws/ScopeLaws/LayeredScopes/Layered.antt`). Nothing here runs.
 #![tactic(auto)]

@@ -9,9 +9,10 @@
 //! those that are read at last (`settled_types`), and the table of types is as typed expressions
 //! ask (`Laws`). `Main` joins this.
 //!
-//! The program as it is laid out has the signatures and modes of the typed one (`Classes`, `Owners`). What is called has a body (`Called`);
-//! a formal is one of one subprogram (`Shared`); formals of functions are of mode `in` (`Functions`);
-//! the main procedure has none (`Mains`). Nothing here runs.
+//! The program as it is laid out has the signatures and modes of the typed one (`Classes`,
+//! `Owners`). What is called has a body (`Called`); a formal is one of one subprogram (`Shared`);
+//! formals of functions are of mode `in` (`Functions`); the main procedure has none (`Mains`).
+//! Nothing here runs.
 //!
 //! # Seen files
 //!
@@ -19,12 +20,13 @@
 //! definitions and laws, for readers.
 //!
 //! A name denotes a declaration that ended before, in an enclosing region or in a package
-//! (`specs/Reached.antt`; `proofs/Told.antt`, from what `name_events` says of visibility). What ends
-//! where, and what is out of reach after its region, is followed event by event (`Steps`, `Runs`), and
-//! along the trees of statements and units (`Statements`, `Units`, `Files`). So resolved code fits
-//! (`specs/Fits.antt`): the names of objects in it denote what is in scope. Typed code is rooted in such
-//! objects alone (`Entries`, `Names`, `Typed`), and what stays in scope after a unit is an object of a
-//! package (`Packages`). `Main` joins this. Nothing here runs.
+//! (`specs/SeenFiles/Reached.antt`; `proofs/SeenFiles/Told.antt`, from what `name_events` says of
+//! visibility). What ends where, and what is out of reach after its region, is followed event by
+//! event (`Steps`, `Runs`), and along the trees of statements and units (`Statements`, `Units`,
+//! `Files`). So resolved code fits (`specs/SeenFiles/Fits.antt`): the names of objects in it denote
+//! what is in scope. Typed code is rooted in such objects alone (`Entries`, `Names`, `Typed`), and
+//! what stays in scope after a unit is an object of a package (`Packages`). `Main` joins this.
+//! Nothing here runs.
 //!
 //! # Meant files
 //!
@@ -49,8 +51,9 @@
 //!
 //! What the calls of typed programs go to: definitions and laws.
 //!
-//! Each call at a point stands in the typed code of its subprogram (`proofs/Points.antt`), and goes to a subprogram
-//! that the resolved code declares (`proofs/Statements.antt`, `Entries.antt`). Nothing here runs.
+//! Each call at a point stands in the typed code of its subprogram
+//! (`proofs/CalledSubs/Points.antt`), and goes to a subprogram that the resolved code declares
+//! (`proofs/CalledSubs/Statements.antt`, `Entries.antt`). Nothing here runs.
 //!
 //! # Ready types
 //!
@@ -65,8 +68,8 @@
 //!
 //! Files that break no rule of names and of types are typed: laws, for readers.
 //!
-//! `proofs/TypedFiles/Main.antt` has the law. The steps of such a program have expressions of the types of
-//! their places (`AreTyped` of `TypedLaws`), its points have as many successors as their
+//! `proofs/TypedFiles/Main.antt` has the law. The steps of such a program have expressions of the
+//! types of their places (`AreTyped` of `TypedLaws`), its points have as many successors as their
 //! instructions lead to, and it is typed as the machine says it (`is_typed`). Nothing here runs.
 //!
 //! ## Typed runs
@@ -74,44 +77,46 @@
 //! What typing says of the steps of runs: the expressions of each step have the types of their
 //! places, calls and short circuits within expressions included. Definitions and laws, for readers.
 //!
-//! `TypedLaws` says what that is of instructions and of programs, and `specs/TypedFiles/TypedRuns/Code.antt`
-//! of typed code. It goes by types where the machine's `is_typed` goes by the sorts of words, and
-//! is the stronger of both (`proofs/TypedFiles/TypedRuns/Words.antt`). What is asked of a text beside that it
-//! breaks no sentence stands in `specs/TypedFiles/TypedRuns/Meant.antt`, and the law in
+//! `TypedLaws` says what that is of instructions and of programs, and
+//! `specs/TypedFiles/TypedRuns/Code.antt` of typed code. It goes by types where the machine's
+//! `is_typed` goes by the sorts of words, and is the stronger of both
+//! (`proofs/TypedFiles/TypedRuns/Words.antt`). What is asked of a text beside that it breaks no
+//! sentence stands in `specs/TypedFiles/TypedRuns/Meant.antt`, and the law in
 //! `proofs/TypedFiles/TypedRuns/Main.antt`. Nothing here runs.
 //!
 //! ## Typed texts
 //!
 //! Resolved code without a fault of typing is typed: laws, for readers.
 //!
-//! The table of types is as typing means it (`proofs/TypedFiles/Main.antt`), bounds of types are values of
-//! Integer (`Bounds`), and points have as many successors as their instructions lead to (`Counts`).
-//! What is asked of the code beside is that it is meant (`IsMeant` of `specs/TypedFiles/Meant.antt`). Then its
-//! steps have expressions of the types of their places, and it is typed as the machine says it.
-//! Nothing here runs.
+//! The table of types is as typing means it (`proofs/TypedFiles/Main.antt`), bounds of types are
+//! values of Integer (`Bounds`), and points have as many successors as their instructions lead to
+//! (`Counts`). What is asked of the code beside is that it is meant (`IsMeant` of
+//! `specs/TypedFiles/TypedTexts/Meant.antt`). Then its steps have expressions of the types of their
+//! places, and it is typed as the machine says it. Nothing here runs.
 //!
 //! ## Lowered laws
 //!
 //! Typed programs are lowered: definitions and laws, for readers.
 //!
-//! `specs/TypedFiles/Lowers.antt` says what `lowered_program` of `run_codes` needs beside the types of a
-//! program: that what it names has room in a frame, that its loops start before they turn, that
-//! successors are points, and that the positions of literals are words. Then every expression
-//! (`proofs/TypedFiles/Words.antt`), value (`Values`), call (`Actuals`), step (`Steps`) and program
-//! (`Programs`) is lowered. Nothing here runs.
+//! `specs/TypedFiles/LoweredLaws/Lowers.antt` says what `lowered_program` of `run_codes` needs
+//! beside the types of a program: that what it names has room in a frame, that its loops start
+//! before they turn, that successors are points, and that the positions of literals are words. Then
+//! every expression (`proofs/TypedFiles/LoweredLaws/Words.antt`), value (`Values`), call
+//! (`Actuals`), step (`Steps`) and program (`Programs`) is lowered. Nothing here runs.
 //!
 //! ## Lowered files
 //!
 //! Programs of parsed files are lowered: laws, for readers.
 //!
-//! What a use of an expression in code names has room where each object that the code declares has a
-//! point of its own (`proofs/TypedFiles/Each.antt`, `Opened`, `Uses`, `Rooms`); so the program that code without
-//! a broken rule means is as lowering asks (`Placed`, `Files`). Nothing here runs.
+//! What a use of an expression in code names has room where each object that the code declares has
+//! a point of its own (`proofs/TypedFiles/LoweredFiles/Each.antt`, `Opened`, `Uses`, `Rooms`); so
+//! the program that code without a broken rule means is as lowering asks (`Placed`, `Files`).
+//! Nothing here runs.
 //!
 //! ## Lowered texts
 //!
-//! Texts without a fault of typing are lowered: a law, for readers (`proofs/TypedFiles/Main.antt`). Nothing
-//! here runs.
+//! Texts without a fault of typing are lowered: a law, for readers (`proofs/TypedFiles/Main.antt`).
+//! Nothing here runs.
 //!
 //! ## Lowered sources
 //!
