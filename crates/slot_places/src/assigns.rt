@@ -113,7 +113,7 @@ fn place_words<R: Store>(
 }
 
 /// A value of a type is made, and its words are stored at a place, which is found then.
-#[inline(never)]
+#[inline(always)]
 fn assign_words<R: Store>(
     table: &Layouts,
     nodes: &Nodes,

@@ -61,6 +61,7 @@ fn release_word<R: Store>(
 }
 
 /// The access value at a place is released. The place is found first.
+#[inline(always)]
 pub fn release<R: Store>(
     table: &Layouts,
     nodes: &Nodes,
