@@ -20,5 +20,3 @@ pub mod AcceptedLowered
 pub mod AcceptedRecycled
 -- and leaves the cells of the machine there
 pub mod AcceptedCells
--- texts that the laws hold of
-pub mod AcceptedExamples

@@ -27,7 +27,7 @@ use Rattle.flow_paths.specs.Views.{is_in_mode, Calls, ViewReport, changed, lent,
 use Rattle.flow_paths.specs.Aliases.{alias_reports}
 use Rattle.flow_paths.specs.Effects.{AreEffects, Reads, Writes, Ascends, path_points, point_reads, point_writes, is_global, reads_text, writes_text, flow_sub_at, act_reads, act_writes, written_by}
 use Rattle.flow_paths.specs.Reports.{AreReports, ProgramReport, on_actuals, on_views, on_paths}
-use Rattle.accepted_runs.proofs.AcceptedExamples.Quiet.{all_pass, empty, left_of, right_of, isnt, each, any_none, at_any, empty_at, many}
+use Rattle.accepted_examples.proofs.Quiet.{all_pass, empty, left_of, right_of, isnt, each, any_none, at_any, empty_at, many}
 
 -- ---- what is found along paths
 

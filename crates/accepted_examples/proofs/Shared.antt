@@ -32,12 +32,12 @@ use Rattle.settled_types.proofs.FilePositions.Cuts.{cut_in_order}
 use Rattle.settled_types.specs.OrderLaws.Orderly.{typed_of}
 use Rattle.accepted_runs.proofs.ViewedFiles.Files.{parsed_called_sound}
 use Rattle.accepted_runs.proofs.Runs.{RunsAreSound}
-use Rattle.accepted_runs.proofs.AcceptedExamples.Naming.{naming}
-use Rattle.accepted_runs.proofs.AcceptedExamples.Typing.{typing}
-use Rattle.accepted_runs.proofs.AcceptedExamples.Lowering.{lowering}
-use Rattle.accepted_runs.proofs.AcceptedExamples.Quiet.{all_pass, each}
-use Rattle.accepted_runs.proofs.AcceptedExamples.Unreported.{path_passes, keeps_rules, is_silent, reports_silent}
-use Rattle.accepted_runs.proofs.AcceptedExamples.Affected.{affected, effects_are}
+use Rattle.accepted_examples.proofs.Naming.{naming}
+use Rattle.accepted_examples.proofs.Typing.{typing}
+use Rattle.accepted_examples.proofs.Lowering.{lowering}
+use Rattle.accepted_examples.proofs.Quiet.{all_pass, each}
+use Rattle.accepted_examples.proofs.Unreported.{path_passes, keeps_rules, is_silent, reports_silent}
+use Rattle.accepted_examples.proofs.Affected.{affected, effects_are}
 
 -- "procedure Q (X : in T)", from its column on
 abbrev front : ℕ → Subspec

@@ -11,7 +11,7 @@ use Rattle.flow_paths.specs.declared.report.Effects.{Effects}
 use Rattle.flow_paths.specs.Objects.{Typing, is_package_object, is_state}
 use Rattle.flow_paths.specs.Laid.{FlowSub, FlowProgram, flow_typing}
 use Rattle.flow_paths.specs.Effects.{AreEffects, Ascends, CallChain, ends, calls_on, own_reads, own_writes, point_reads, point_writes, is_global, is_in, sub_calls, flow_sub_at}
-use Rattle.accepted_runs.proofs.AcceptedExamples.Quiet.{all_pass, left_of, right_of, each}
+use Rattle.accepted_examples.proofs.Quiet.{all_pass, left_of, right_of, each}
 
 -- ---- numbers
 

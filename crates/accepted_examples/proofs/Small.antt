@@ -8,8 +8,8 @@ use Rattle.name_events.specs.Faults.{name_fault}
 use Rattle.type_definitions.specs.Whole.{type_fault}
 use Rattle.typing_steps.specs.Programs.{program_of}
 use Rattle.settled_types.specs.OrderLaws.Orderly.{typed_of}
-use Rattle.accepted_runs.proofs.AcceptedExamples.Naming.{naming}
-use Rattle.accepted_runs.proofs.AcceptedExamples.Typing.{typing}
+use Rattle.accepted_examples.proofs.Naming.{naming}
+use Rattle.accepted_examples.proofs.Typing.{typing}
 
 abbrev pub units : List SourceUnit
 units = unit.OfSubprogram (at 1) [] (subprogram_of 1 (subspec.Procedure (at 1) (id 11 "P") None) None 13 [] 16 (null_at 22) 28 None 31) ∷ []

@@ -37,11 +37,11 @@ use Rattle.settled_types.proofs.FilePositions.Cuts.{cut_in_order}
 use Rattle.settled_types.specs.OrderLaws.Orderly.{typed_of}
 use Rattle.accepted_runs.proofs.ViewedFiles.Files.{parsed_called_sound}
 use Rattle.accepted_runs.proofs.Runs.{RunsAreSound}
-use Rattle.accepted_runs.proofs.AcceptedExamples.Naming.{naming}
-use Rattle.accepted_runs.proofs.AcceptedExamples.Typing.{typing}
-use Rattle.accepted_runs.proofs.AcceptedExamples.Lowering.{lowering}
-use Rattle.accepted_runs.proofs.AcceptedExamples.Quiet.{all_pass, each}
-use Rattle.accepted_runs.proofs.AcceptedExamples.Unreported.{path_passes, sub_passes, nothing, no_reports, no_effects}
+use Rattle.accepted_examples.proofs.Naming.{naming}
+use Rattle.accepted_examples.proofs.Typing.{typing}
+use Rattle.accepted_examples.proofs.Lowering.{lowering}
+use Rattle.accepted_examples.proofs.Quiet.{all_pass, each}
+use Rattle.accepted_examples.proofs.Unreported.{path_passes, sub_passes, nothing, no_reports, no_effects}
 
 abbrev pub units : List SourceUnit
 units =

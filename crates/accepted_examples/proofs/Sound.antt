@@ -11,10 +11,10 @@ use Rattle.settled_types.specs.FilePositions.Texts.{AreParsed}
 use Rattle.settled_types.proofs.FilePositions.Cuts.{cut_in_order}
 use Rattle.accepted_runs.proofs.ViewedFiles.Files.{parsed_called_sound}
 use Rattle.accepted_runs.proofs.Runs.{RunsAreSound}
-use Rattle.accepted_runs.proofs.AcceptedExamples.Naming.{naming}
-use Rattle.accepted_runs.proofs.AcceptedExamples.Typing.{typing}
-use Rattle.accepted_runs.proofs.AcceptedExamples.Quiet.{is_quiet_sub, all_pass, no_acts, each, nothing, no_reports, no_effects}
-use Rattle.accepted_runs.proofs.AcceptedExamples.Small.{files, spelled, named, typed, is_main}
+use Rattle.accepted_examples.proofs.Naming.{naming}
+use Rattle.accepted_examples.proofs.Typing.{typing}
+use Rattle.accepted_examples.proofs.Quiet.{is_quiet_sub, all_pass, no_acts, each, nothing, no_reports, no_effects}
+use Rattle.accepted_examples.proofs.Small.{files, spelled, named, typed, is_main}
 
 abbrev text : List ℕ
 text = codes "procedure P is begin null; end;"
