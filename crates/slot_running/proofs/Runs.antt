@@ -26,7 +26,7 @@ use Rattle.slot_running.specs.Runs.{Running, running_lent, running_setting, runn
 
 -- ---- the start
 
-pub starts : {R : Type 0} (Means : R → Heap → Type 0) (codes : Codes) (table : Table) (lent : ℕ) (input : List ℕ) (declares : Bool) (p : Parts R) → IsBegun Means table (program_of codes) lent input declares p
+starts : {R : Type 0} (Means : R → Heap → Type 0) (codes : Codes) (table : Table) (lent : ℕ) (input : List ℕ) (declares : Bool) (p : Parts R) → IsBegun Means table (program_of codes) lent input declares p
     → IsAtStart Means table (program_of codes) lent input declares (record { codes = codes; table = table; input = input; between = between_of p; over = None })
 starts Means codes table lent input declares p is = record {
   setting = refl;
@@ -35,6 +35,14 @@ starts Means codes table lent input declares p is = record {
   start = is.state;
   lent = is.lent;
 }
+
+-- By the table that is kept of it.
+pub starts_by : {R : Type 0} (Means : R → Heap → Type 0) (codes : Codes) (table kept : Table) (lent : ℕ) (input : List ℕ) (declares : Bool) (p : Parts R) → kept ≡ table
+    → IsBegun Means kept (program_of codes) lent input declares p
+    → IsAtStart Means table (program_of codes) lent input declares (record { codes = codes; table = kept; input = input; between = between_of p; over = None })
+starts_by Means codes table kept lent input declares p same is =
+    subst (λ t. IsAtStart Means t (program_of codes) lent input declares (record { codes = codes; table = kept; input = input; between = between_of p; over = None })) same
+    (starts Means codes kept lent input declares p is)
 
 pub starts_kept : {R : Type 0} (Means : R → Heap → Type 0) (table : Table) (program : Program) (lent : ℕ) (input : List ℕ) (declares : Bool) (p : Parts R) → IsBegun Means table program lent input declares p
     → AreKept Means None p

@@ -57,7 +57,7 @@ impl<R: Store> Drop for Run<'_, R> {
 impl<'r, R: Store> Run<'r, R> {
     /// A run at its start: the package objects are declared first, or the main procedure begins at
     /// once. The store has handed out no handle.
-    #[tactic(auto, using(crate::proofs::Runs::starts, crate::proofs::Runs::starts_kept))]
+    #[tactic(auto, using(crate::proofs::Runs::starts_by, crate::proofs::Runs::starts_kept))]
     pub fn new(
         alloc: Global,
         codes: Codes,
