@@ -74,8 +74,8 @@ fn turn_point<R: Store>(
     }
 }
 
-/// Makes so many steps, but fewer where the run is over before, and at least one. Where a step can't
-/// be made for want of memory, nothing is told.
+/// Makes at most so many steps, but at least one, until a leak is to be told or a point was another
+/// one, which may have written. Where a step can't be made for want of memory, nothing is told.
 pub(crate) fn turns<R: Store>(
     alloc: Global,
     codes: &Codes,
@@ -109,11 +109,14 @@ pub(crate) fn turns<R: Store>(
                         return Ok((made + 1, Some(over)));
                     }
                 }
+                if !parts.leaks.is_empty() {
+                    return Ok((made, None));
+                }
             }
-            Free::Stays => match turn_point(alloc, codes, table, parts, passing, point, k)? {
-                None => made += 1,
-                Some(over) => return Ok((made + 1, Some(over))),
-            },
+            Free::Stays => {
+                let over = turn_point(alloc, codes, table, parts, passing, point, k)?;
+                return Ok((made + 1, over));
+            }
             Free::Fails => return Err(AllocError),
         }
     }

@@ -77,28 +77,6 @@ freed_with-freed-requires g c =
     c.in-Some.k c.in-Some.ensures.latest c.take.new.memory c.in-Some.ensures.taken) in
     known_at g.R.Store.Means c.args.codes.now c.args.table.now c.point_at-point.result.now c.in-Some.k c.free_point.new.parts c.free_point.new.parts here
 
-pub steps-preserved-in-Ok : goal.steps-preserved-in-Ok
-steps-preserved-in-Ok g c =
-    let can = can_now g.R.Store.Means c.args.codes.now c.args.table.now c.args.limit c.args.parts.now c.requires.can c.steps.made c.steps.parts c.steps-test.true c.steps.invariant.0 in
-    let at : slice_get (program_of c.args.codes.now).points c.steps.parts.frames.frame.next ≡ Some (point_of c.args.codes.now c.point_at-point.result.now) =
-    subst (λ (f : Frame). slice_get (program_of c.args.codes.now).points f.next ≡ Some (point_of c.args.codes.now c.point_at-point.result.now)) c.frame.ensures c.point_at-point.ensures.point in
-    let here : IsAt g.R.Store.Means c.args.codes.now c.args.table.now c.point_at-point.result.now c.in-Some.k c.free_point.new.parts =
-    subst (λ q. IsAt g.R.Store.Means c.args.codes.now c.args.table.now c.point_at-point.result.now c.in-Some.k q) (sym (c.in-Values.ensures.values refl).1)
-    (at_point g.R.Store.Means c.args.codes.now c.args.table.now c.steps.parts can c.requires.whole c.steps.invariant.1.1 c.point_at-point.result.now at c.point_at-point.ensures.there
-    c.in-Some.k c.in-Some.ensures.latest c.take.new.memory c.in-Some.ensures.taken) in
-    let t =
-    turn_is g.R.Store.Means c.args.codes.now c.args.table.now c.steps.parts can c.requires.whole c.steps.invariant.1.1 c.point_at-point.result.now at c.point_at-point.ensures.there
-    c.in-Some.k c.in-Some.ensures.latest c.take.new.memory
-    c.step_values.new.parts None c.in-Some.ensures.taken
-    (subst (λ q. IsPointTurn g.R.Store.Means c.args.codes.now c.args.table.now c.point_at-point.result.now None q c.step_values.new.parts) (c.in-Values.ensures.values refl).1
-    (on_turn g.R.Store.Means c.args.codes.now c.args.table.now c.point_at-point.result.now c.in-Some.k c.free_point.new.parts c.step_values.new.parts here c.in-Ok.ensures)) in
-    let below = c.steps-test.true in (
-      one_more g.R.Store.Means c.args.codes.now c.args.table.now c.args.limit c.args.parts.now c.requires.can c.steps.made c.steps.parts c.steps-test.true c.steps.invariant.0 None c.step_values.new.parts t,
-      t.kept,
-      t.lent ∙ c.steps.invariant.2,
-      omega (arith, below),
-    )
-
 pub halted-requires : goal.halted-requires
 halted-requires g c =
     let can = can_now g.R.Store.Means c.args.codes.now c.args.table.now c.args.limit c.args.parts.now c.requires.can c.steps.made c.steps.parts c.steps-test.true c.steps.invariant.0 in
@@ -128,6 +106,45 @@ returns-in-Err g c =
     c.halted.new.parts c.in-Err.ensures c.made-cells.ensures c.freed_with-freed.ensures c.in_ok-over-in-Err.ensures)) in
     last_made g.R.Store.Means c.args.codes.now c.args.table.now c.args.limit c.args.parts.now c.requires.can c.steps.made c.steps.parts c.steps-test.true c.steps.invariant.0 (Some c.in_ok-over-in-Err.over) c.halted.new.parts c.steps.invariant.2 t
 
+pub returns-then-not-is_empty : goal.returns-then-not-is_empty
+returns-then-not-is_empty g c =
+    let can = can_now g.R.Store.Means c.args.codes.now c.args.table.now c.args.limit c.args.parts.now c.requires.can c.steps.made c.steps.parts c.steps-test.true c.steps.invariant.0 in
+    let at : slice_get (program_of c.args.codes.now).points c.steps.parts.frames.frame.next ≡ Some (point_of c.args.codes.now c.point_at-point.result.now) =
+    subst (λ (f : Frame). slice_get (program_of c.args.codes.now).points f.next ≡ Some (point_of c.args.codes.now c.point_at-point.result.now)) c.frame.ensures c.point_at-point.ensures.point in
+    let here : IsAt g.R.Store.Means c.args.codes.now c.args.table.now c.point_at-point.result.now c.in-Some.k c.free_point.new.parts =
+    subst (λ q. IsAt g.R.Store.Means c.args.codes.now c.args.table.now c.point_at-point.result.now c.in-Some.k q) (sym (c.in-Values.ensures.values refl).1)
+    (at_point g.R.Store.Means c.args.codes.now c.args.table.now c.steps.parts can c.requires.whole c.steps.invariant.1.1 c.point_at-point.result.now at c.point_at-point.ensures.there
+    c.in-Some.k c.in-Some.ensures.latest c.take.new.memory c.in-Some.ensures.taken) in
+    let t =
+    turn_is g.R.Store.Means c.args.codes.now c.args.table.now c.steps.parts can c.requires.whole c.steps.invariant.1.1 c.point_at-point.result.now at c.point_at-point.ensures.there
+    c.in-Some.k c.in-Some.ensures.latest c.take.new.memory
+    c.step_values.new.parts None c.in-Some.ensures.taken
+    (subst (λ q. IsPointTurn g.R.Store.Means c.args.codes.now c.args.table.now c.point_at-point.result.now None q c.step_values.new.parts) (c.in-Values.ensures.values refl).1
+    (on_turn g.R.Store.Means c.args.codes.now c.args.table.now c.point_at-point.result.now c.in-Some.k c.free_point.new.parts c.step_values.new.parts here c.in-Ok.ensures)) in
+    last_made g.R.Store.Means c.args.codes.now c.args.table.now c.args.limit c.args.parts.now c.requires.can c.steps.made c.steps.parts c.steps-test.true c.steps.invariant.0 None c.step_values.new.parts c.steps.invariant.2 t
+
+pub steps-preserved : goal.steps-preserved
+steps-preserved g c =
+    let can = can_now g.R.Store.Means c.args.codes.now c.args.table.now c.args.limit c.args.parts.now c.requires.can c.steps.made c.steps.parts c.steps-test.true c.steps.invariant.0 in
+    let at : slice_get (program_of c.args.codes.now).points c.steps.parts.frames.frame.next ≡ Some (point_of c.args.codes.now c.point_at-point.result.now) =
+    subst (λ (f : Frame). slice_get (program_of c.args.codes.now).points f.next ≡ Some (point_of c.args.codes.now c.point_at-point.result.now)) c.frame.ensures c.point_at-point.ensures.point in
+    let here : IsAt g.R.Store.Means c.args.codes.now c.args.table.now c.point_at-point.result.now c.in-Some.k c.free_point.new.parts =
+    subst (λ q. IsAt g.R.Store.Means c.args.codes.now c.args.table.now c.point_at-point.result.now c.in-Some.k q) (sym (c.in-Values.ensures.values refl).1)
+    (at_point g.R.Store.Means c.args.codes.now c.args.table.now c.steps.parts can c.requires.whole c.steps.invariant.1.1 c.point_at-point.result.now at c.point_at-point.ensures.there
+    c.in-Some.k c.in-Some.ensures.latest c.take.new.memory c.in-Some.ensures.taken) in
+    let t =
+    turn_is g.R.Store.Means c.args.codes.now c.args.table.now c.steps.parts can c.requires.whole c.steps.invariant.1.1 c.point_at-point.result.now at c.point_at-point.ensures.there
+    c.in-Some.k c.in-Some.ensures.latest c.take.new.memory
+    c.step_values.new.parts None c.in-Some.ensures.taken
+    (subst (λ q. IsPointTurn g.R.Store.Means c.args.codes.now c.args.table.now c.point_at-point.result.now None q c.step_values.new.parts) (c.in-Values.ensures.values refl).1
+    (on_turn g.R.Store.Means c.args.codes.now c.args.table.now c.point_at-point.result.now c.in-Some.k c.free_point.new.parts c.step_values.new.parts here c.in-Ok.ensures)) in
+    let below = c.steps-test.true in (
+      one_more g.R.Store.Means c.args.codes.now c.args.table.now c.args.limit c.args.parts.now c.requires.can c.steps.made c.steps.parts c.steps-test.true c.steps.invariant.0 None c.step_values.new.parts t,
+      t.kept,
+      t.lent ∙ c.steps.invariant.2,
+      omega (arith, below),
+    )
+
 pub turn_point-requires : goal.turn_point-requires
 turn_point-requires g c =
     let can = can_now g.R.Store.Means c.args.codes.now c.args.table.now c.args.limit c.args.parts.now c.requires.can c.steps.made c.steps.parts c.steps-test.true c.steps.invariant.0 in
@@ -137,37 +154,15 @@ turn_point-requires g c =
     (at_point g.R.Store.Means c.args.codes.now c.args.table.now c.steps.parts can c.requires.whole c.steps.invariant.1.1 c.point_at-point.result.now at c.point_at-point.ensures.there
     c.in-Some.k c.in-Some.ensures.latest c.take.new.memory c.in-Some.ensures.taken)
 
-pub steps-preserved : goal.steps-preserved
-steps-preserved g c =
+pub returns-in-Stays : goal.returns-in-Stays
+returns-in-Stays g c =
     let can = can_now g.R.Store.Means c.args.codes.now c.args.table.now c.args.limit c.args.parts.now c.requires.can c.steps.made c.steps.parts c.steps-test.true c.steps.invariant.0 in
     let at : slice_get (program_of c.args.codes.now).points c.steps.parts.frames.frame.next ≡ Some (point_of c.args.codes.now c.point_at-point.result.now) =
     subst (λ (f : Frame). slice_get (program_of c.args.codes.now).points f.next ≡ Some (point_of c.args.codes.now c.point_at-point.result.now)) c.frame.ensures c.point_at-point.ensures.point in
     let t =
     turn_is g.R.Store.Means c.args.codes.now c.args.table.now c.steps.parts can c.requires.whole c.steps.invariant.1.1 c.point_at-point.result.now at c.point_at-point.ensures.there
     c.in-Some.k c.in-Some.ensures.latest c.take.new.memory
-    c.turn_point.new.parts None c.in-Some.ensures.taken
-    (subst (λ q. IsPointTurn g.R.Store.Means c.args.codes.now c.args.table.now c.point_at-point.result.now None q c.turn_point.new.parts)
-    (c.in-Stays.ensures.stays refl)
-    (subst (λ o. IsPointTurn g.R.Store.Means c.args.codes.now c.args.table.now c.point_at-point.result.now o c.free_point.new.parts c.turn_point.new.parts)
-    c.in-None.is c.in_ok-turn_point-in-Stays.ensures)) in
-    let below = c.steps-test.true in (
-      one_more g.R.Store.Means c.args.codes.now c.args.table.now c.args.limit c.args.parts.now c.requires.can c.steps.made c.steps.parts c.steps-test.true c.steps.invariant.0 None c.turn_point.new.parts t,
-      t.kept,
-      t.lent ∙ c.steps.invariant.2,
-      omega (arith, below),
-    )
-
-pub returns-in-Some-2 : goal.returns-in-Some-2
-returns-in-Some-2 g c =
-    let can = can_now g.R.Store.Means c.args.codes.now c.args.table.now c.args.limit c.args.parts.now c.requires.can c.steps.made c.steps.parts c.steps-test.true c.steps.invariant.0 in
-    let at : slice_get (program_of c.args.codes.now).points c.steps.parts.frames.frame.next ≡ Some (point_of c.args.codes.now c.point_at-point.result.now) =
-    subst (λ (f : Frame). slice_get (program_of c.args.codes.now).points f.next ≡ Some (point_of c.args.codes.now c.point_at-point.result.now)) c.frame.ensures c.point_at-point.ensures.point in
-    let t =
-    turn_is g.R.Store.Means c.args.codes.now c.args.table.now c.steps.parts can c.requires.whole c.steps.invariant.1.1 c.point_at-point.result.now at c.point_at-point.ensures.there
-    c.in-Some.k c.in-Some.ensures.latest c.take.new.memory
-    c.turn_point.new.parts (Some c.in-Some-2.over) c.in-Some.ensures.taken
-    (subst (λ q. IsPointTurn g.R.Store.Means c.args.codes.now c.args.table.now c.point_at-point.result.now (Some c.in-Some-2.over) q c.turn_point.new.parts)
-    (c.in-Stays.ensures.stays refl)
-    (subst (λ o. IsPointTurn g.R.Store.Means c.args.codes.now c.args.table.now c.point_at-point.result.now o c.free_point.new.parts c.turn_point.new.parts)
-    c.in-Some-2.is c.in_ok-turn_point-in-Stays.ensures)) in
-    last_made g.R.Store.Means c.args.codes.now c.args.table.now c.args.limit c.args.parts.now c.requires.can c.steps.made c.steps.parts c.steps-test.true c.steps.invariant.0 (Some c.in-Some-2.over) c.turn_point.new.parts c.steps.invariant.2 t
+    c.turn_point.new.parts c.in_ok-over-in-Stays.over c.in-Some.ensures.taken
+    (subst (λ q. IsPointTurn g.R.Store.Means c.args.codes.now c.args.table.now c.point_at-point.result.now c.in_ok-over-in-Stays.over q c.turn_point.new.parts)
+    (c.in-Stays.ensures.stays refl) c.in_ok-over-in-Stays.ensures) in
+    last_made g.R.Store.Means c.args.codes.now c.args.table.now c.args.limit c.args.parts.now c.requires.can c.steps.made c.steps.parts c.steps-test.true c.steps.invariant.0 c.in_ok-over-in-Stays.over c.turn_point.new.parts c.steps.invariant.2 t
