@@ -1,5 +1,6 @@
 -- Items that come again.
 use Rattle.std.proofs.Common.{◌≡◌, ℕ, zero, suc, ◌+◌, ◌-◌, ◌<◌, ◌≤◌, List, [], ◌∷◌, ◌++◌, length, take, drop, get_or, replicate, Result, OnOk, refl, sym, ap, subst, ◌∙◌, arith, append-nil, append_assoc, ℤ}
+use Rattle.std.proofs.lemmas.List.{take-replicate, replicate-append-replicate}
 use Rattle.run_values.specs.declared.value.Kind.{Kind}
 use Rattle.run_codes.specs.Flat.{repeated}
 use Rattle.type_words.specs.Parts.{copies, repeated_kinds}
@@ -23,6 +24,20 @@ one_copied [] first n x one is = absurd (omega (arith, one))
 one_copied (y ∷ []) zero n x one is = ap (λ z. copies n (z ∷ [])) (sym is) ∙ copies_one n x
 one_copied (y ∷ z ∷ zs) zero n x one is = absurd (omega (arith, one))
 one_copied (y ∷ ys) (suc first) n x one is = one_copied ys first n x (omega (arith, one)) is
+
+-- Several of them go in one copy, and the last ones are a part of so many.
+pub several_more : {A : Type 0} (xs old new : List A) (times left : ℕ) (x : A) → 64 < left → new ≡ xs ++ replicate 64 x → xs ++ replicate left x ≡ old ++ replicate times x
+    → new ++ replicate (left - 64) x ≡ old ++ replicate times x
+several_more xs old new times left x lt is before =
+    ap (λ l. l ++ replicate (left - 64) x) is ∙ append_assoc xs (replicate 64 x) (replicate (left - 64) x)
+    ∙ ap (λ l. xs ++ l) (replicate-append-replicate 64 (left - 64) x ∙ ap (λ n. replicate n x) (all left lt)) ∙ before
+  where
+    all : (left : ℕ) → 64 < left → 64 + (left - 64) ≡ left
+    all left lt = omega (arith, lt)
+
+pub last_ones : {A : Type 0} (xs old new : List A) (times left : ℕ) (x : A) → left ≤ 64 → new ≡ xs ++ take left (replicate 64 x) → xs ++ replicate left x ≡ old ++ replicate times x
+    → new ≡ old ++ replicate times x
+last_ones xs old new times left x le is before = is ∙ ap (λ l. xs ++ l) (take-replicate left 64 x le) ∙ before
 
 -- ---- several items
 

@@ -1,11 +1,10 @@
 -- The words of named access types.
-use Rattle.std.proofs.Common.{◌≡◌, ℕ, zero, suc, true, false, List, [], ◌∷◌, ◌++◌, map, flat_map, length, refl, sym, ap, ◌∙◌, None, Option, slice_get}
+use Rattle.std.proofs.Common.{◌≡◌, ℕ, true, false, List, [], ◌∷◌, map, flat_map, length, refl, sym, ap, None, Option, slice_get}
 use Rattle.place_names.specs.declared.selector.Sel.{Sel}
 use Rattle.type_definitions.specs.declared.table.Shape.{Shape}
 use Rattle.type_definitions.specs.declared.table.Shape.TheVariants as shape
 use Rattle.type_definitions.specs.declared.table.Info.{Info}
 use Rattle.type_definitions.specs.Types.{Table, shape_found, parts, parts_of, parts_within}
-use Rattle.run_values.specs.declared.value.Kind.{Kind}
 use Rattle.run_values.specs.declared.value.Kind.TheVariants as sort
 use Rattle.machine.specs.Typed.{Sort, sorts, sorts_of, sorts_within}
 use Rattle.machine.specs.Words.{offsets, access_offsets}

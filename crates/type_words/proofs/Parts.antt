@@ -1,7 +1,6 @@
 -- Words of types, by what they are made of.
-use Rattle.std.proofs.Common.{◌≡◌, ℕ, zero, suc, ◌+◌, ◌-◌, ◌*◌, ◌<◌, ◌≤◌, Bool, true, false, List, [], ◌∷◌, ◌++◌, map, flat_map, length, get_or, take, drop, sum, refl, sym, ap, subst, ◌∙◌, arith, length-append, append-nil, append_assoc, Some, None, Option, slice_get, ℤ, pos, if◌then◌else◌}
-use Rattle.std.specs.Prelude.{nat_eq}
-use Rattle.std.proofs.lemmas.List.{map-append, drop_more, nil_from_length, append_cancel_left}
+use Rattle.std.proofs.Common.{◌≡◌, ℕ, zero, suc, ◌+◌, ◌-◌, ◌*◌, ◌<◌, ◌≤◌, List, [], ◌∷◌, ◌++◌, map, flat_map, length, get_or, drop, sum, refl, sym, ap, subst, ◌∙◌, arith, length-append, append-nil, append_assoc, None, Option, slice_get, ℤ}
+use Rattle.std.proofs.lemmas.List.{map-append, drop_more}
 use Rattle.std.proofs.lemmas.List.Sums.{sum_by-cons}
 use Rattle.place_names.specs.declared.selector.Sel.{Sel}
 use Rattle.place_names.specs.declared.selector.Sel.TheVariants.{Field, Elem}
@@ -10,7 +9,6 @@ use Rattle.type_definitions.specs.declared.table.Info.{Info}
 use Rattle.type_definitions.specs.declared.table.Shape.{Shape}
 use Rattle.type_definitions.specs.declared.table.Shape.TheVariants as shape
 use Rattle.type_definitions.specs.Types.{Table, shape_found, span, words, words_of, words_within}
-use Rattle.type_definitions.specs.Entries.{integer}
 use Rattle.run_values.specs.declared.value.Kind.{Kind}
 use Rattle.machine.specs.Words.{Word, default_of, default_within, offsets, in_each}
 use Rattle.machine.specs.Words as machine

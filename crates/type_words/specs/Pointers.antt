@@ -1,5 +1,5 @@
 -- Types that are defined as named access types.
-use Rattle.std.specs.Prelude.{ℕ, Bool, true, false, slice_get}
+use Rattle.std.specs.Prelude.{ℕ, Bool, false, slice_get}
 use Rattle.type_definitions.specs.declared.table.Shape.{Shape}
 use Rattle.type_definitions.specs.declared.table.Shape.TheVariants as shape
 use Rattle.type_definitions.specs.Types.{Table, shape_found}

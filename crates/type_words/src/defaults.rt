@@ -6,7 +6,7 @@ ghost use Rattle.machine.specs.Words.{default_within};
 ghost use Rattle.run_codes.specs.Flat.{untagged, default_words, repeated};
 ghost use Rattle.type_words.specs.Parts.{fields_words, shape_words};
 
-use crate::repeats::repeat;
+use crate::repeats::repeat_words;
 use crate::spans::span;
 use std::alloc::AllocError;
 use type_definitions::{Component, Shape};
@@ -54,7 +54,7 @@ fn push_elements(
     }
     let first = words.len();
     push_within(table, room, element, words)?;
-    repeat(words, first, count - 1)
+    repeat_words(words, first, count - 1)
 }
 
 /// Appends the words of an object without a value, of a type that is nested no deeper than there is

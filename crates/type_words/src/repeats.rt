@@ -1,5 +1,5 @@
 //! Items that come again.
-ghost use Rattle.std.specs.Prelude.{◌≡◌, ◌≤◌, ◌++◌, length, drop, replicate, OnOk};
+ghost use Rattle.std.specs.Prelude.{◌≡◌, ◌<◌, ◌≤◌, ◌++◌, length, drop, get_or, replicate, OnOk};
 ghost use Rattle.type_words.specs.Parts.{copies};
 
 use std::alloc::AllocError;
@@ -33,4 +33,41 @@ pub(crate) fn repeat<T: Copy>(
         items.extend_from_within(first..end)?;
     }
     Ok(())
+}
+
+/// Appends a word so many times, several in one copy. More than a list can have count as too little
+/// memory.
+fn push_word(words: &mut Vec<i64>, word: i64, times: u64) -> Result<(), AllocError>
+    ensures { OnOk result (words.new.items ≡ words.old.items ++ replicate times word) }
+{
+    words.reserve(times as usize)?;
+    let several = [word; 64];
+    let mut left = times;
+    'left: while left > 64 {
+        words.extend_from_slice(&several)?;
+        left -= 64;
+    }
+    words.extend_from_slice(&several[..left as usize])?;
+    Ok(())
+}
+
+/// The word at an index.
+fn word_at(words: &[i64], at: usize) -> i64
+    requires { at < length words.now }
+    ensures { result ≡ get_or words.now at result }
+{
+    words[at]
+}
+
+/// Appends the words from an index on so many times more.
+pub(crate) fn repeat_words(words: &mut Vec<i64>, first: usize, times: u64) -> Result<(), AllocError>
+    requires { first ≤ length words.old.items }
+    ensures { OnOk result (words.new.items ≡ words.old.items ++ copies times (drop first words.old.items)) }
+{
+    // the words of an array of scalars are one each
+    if words.len() - first == 1 {
+        let word = word_at(words, first);
+        return push_word(words, word, times);
+    }
+    repeat(words, first, times)
 }

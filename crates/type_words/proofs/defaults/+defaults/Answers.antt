@@ -19,5 +19,5 @@ push_elements-returns-then-count-eq0 t c =
 pub push_elements-returns : goal.push_elements-returns
 push_elements-returns t c =
     let at : c.len-first.result ≡ length c.args.words.now.items = search rules in
-    words_again c.repeat.result c.args.count c.len-first.result (map untagged (default_within c.args.room c.args.table.now c.args.element)) c.args.words.now.items c.push_within.new.words.items c.repeat.new.items.items c.if-count-eq0.false
-    at c.in_ok-push_within.ensures c.repeat.ensures
+    words_again c.repeat_words.result c.args.count c.len-first.result (map untagged (default_within c.args.room c.args.table.now c.args.element)) c.args.words.now.items c.push_within.new.words.items c.repeat_words.new.words.items c.if-count-eq0.false
+    at c.in_ok-push_within.ensures c.repeat_words.ensures

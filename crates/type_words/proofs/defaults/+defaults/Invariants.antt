@@ -1,6 +1,5 @@
-use Rattle.std.proofs.Common.{◌≡◌, ◌+◌, ◌-◌, ◌*◌, ◌++◌, drop, map}
+use Rattle.std.proofs.Common.{◌≡◌, ◌+◌, ◌*◌, ◌++◌, drop}
 use Rattle.machine.specs.Words.{default_within}
-use Rattle.run_codes.specs.Flat.{untagged, repeated}
 use Rattle.type_words.specs.Parts.{fields_words}
 use Rattle.type_words.proofs.defaults.+defaults.Given as goal
 

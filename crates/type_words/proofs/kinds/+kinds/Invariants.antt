@@ -1,7 +1,6 @@
-use Rattle.std.proofs.Common.{◌≡◌, ◌+◌, ◌-◌, ◌*◌, ◌++◌, drop, map}
+use Rattle.std.proofs.Common.{◌≡◌, ◌+◌, ◌*◌, ◌++◌, drop}
 use Rattle.machine.specs.Typed.{sorts_within}
-use Rattle.run_codes.specs.Flat.{kind_of}
-use Rattle.type_words.specs.Parts.{fields_kinds, repeated_kinds}
+use Rattle.type_words.specs.Parts.{fields_kinds}
 use Rattle.type_words.proofs.kinds.+kinds.Given as goal
 
 abbrev pub decreases-push_within : goal.decreases-push_within

@@ -1,4 +1,4 @@
-use Rattle.std.proofs.Common.{◌≡◌, ◌≤◌, ◌+◌, ◌-◌, ◌++◌, List, ℕ, length, map, ap, ◌∙◌, arith, length-append}
+use Rattle.std.proofs.Common.{◌≡◌, ◌+◌, ◌-◌, ◌++◌, List, ℕ, length, map, ap, ◌∙◌, arith, length-append}
 use Rattle.type_definitions.specs.Types.{words}
 use Rattle.machine.specs.Words.{in_each, offsets}
 use Rattle.type_words.proofs.Parts.{each_next}

@@ -1,4 +1,4 @@
-use Rattle.std.proofs.Common.{◌≡◌, ◌+◌, ◌-◌, ◌++◌, drop, take, length, length-append, OnOk, ap, ◌∙◌, sym, subst, arith}
+use Rattle.std.proofs.Common.{◌≡◌, ◌++◌, drop, length, length-append, OnOk, ap, ◌∙◌, sym, subst, arith}
 use Rattle.type_words.proofs.Copies.{one_copied, begins_slice, begins_more, copies_next}
 use Rattle.type_words.proofs.repeats.repeat.Goals as goal
 
