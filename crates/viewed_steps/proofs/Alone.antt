@@ -7,7 +7,7 @@ use Rattle.viewed_steps.specs.Traversals.{IsSourceIn}
 use Rattle.machine.specs.Calls.{checks_at}
 use Rattle.spark_base.specs.declared.position.Pos.{Pos}
 use Rattle.soundness.proofs.ViewedSoundness.ViewKinds.{plain_named, true_false}
-use Rattle.std.proofs.Common.{◌≡◌, refl, sym, ap, ◌∙◌, subst, inl, inr, ℕ, suc, ◌+◌, Bool, true, false, List, [], ◌∷◌, ◌++◌, drop, length, arith, Some, None, if◌then◌else◌, take, map}
+use Rattle.std.proofs.Common.{◌≡◌, refl, sym, ap, ◌∙◌, subst, inl, inr, ℕ, suc, ◌+◌, Bool, true, false, List, [], ◌∷◌, ◌++◌, drop, length, arith, Some, if◌then◌else◌, take, map}
 use Rattle.spark_base.specs.Lists.{Has}
 use Rattle.place_names.specs.declared.act.Act.{Act}
 use Rattle.place_names.specs.declared.act.Act.TheVariants as act
@@ -23,16 +23,13 @@ use Rattle.flow_paths.specs.Objects.{Typing, is_anonymous, is_package_object, is
 use Rattle.flow_paths.specs.Names.{has_call, waiting as waits_in, name_of}
 use Rattle.flow_paths.specs.Acts as flow
 use Rattle.flow_paths.specs.Acts.{acts_in}
-use Rattle.flow_paths.specs.Points.{NamedPoint}
-use Rattle.flow_paths.specs.Laid.{FlowProgram, NamedSub, typing_of, flow_typing, flow_program, flow_named, number_in}
-use Rattle.flow_paths.specs.Paths.{ControlPath}
-use Rattle.flow_paths.specs.Effects.{path_points}
+use Rattle.flow_paths.specs.Laid.{FlowProgram, typing_of, flow_typing, flow_program, number_in}
 use Rattle.flow_paths.specs.Scopes.{taken, scope_behind}
 use Rattle.machine.specs.Words as machine
 use Rattle.machine.specs.Memory.{declared, stored}
 use Rattle.machine.specs.Evaluate.{Evaluated, Done, followed_by, value, place_of, Now, checked, initial}
 use Rattle.machine.specs.Evaluate as run
-use Rattle.machine.specs.States.{Waiting, Frame, State, Outcome, sub_of}
+use Rattle.machine.specs.States.{Waiting, Frame, Outcome, sub_of}
 use Rattle.machine.specs.Step.{Turn, turn, start}
 use Rattle.machine.specs.Step as steps
 use Rattle.machine.specs.Owners.{waiting_in}
@@ -40,18 +37,18 @@ use Rattle.soundness.specs.OwnedWays.Ways.{OfVariable, OfRoot, Way, after, Allow
 use Rattle.soundness.specs.Seen.{IsNear, content, word_in, home, seen}
 use Rattle.soundness.specs.Typed.{Kept, Matches}
 use Rattle.soundness.specs.TypedLaws.Needed.{IsFine, Source, Gives, Leads}
-use Rattle.soundness.specs.Sound.{IsNoCall, Stage, facts_of, AreStages, IsRunnable, InScope, IsNamedSub, IsAtPoint, view_of as view_here, is_temporary_object, temporaries_in}
+use Rattle.soundness.specs.Sound.{IsNoCall, Stage, facts_of, IsAtPoint, view_of as view_here, is_temporary_object, temporaries_in}
 use Rattle.soundness.proofs.Scalars.{acts, acts_append, after_append}
 use Rattle.soundness.proofs.Around.{IsFar}
 use Rattle.soundness.proofs.Waits.{drop_none, no_waits, take_none, waits_of}
 use Rattle.soundness.proofs.Taking.{no_takes}
 use Rattle.soundness.proofs.Eased.{eased, goes_same}
-use Rattle.soundness.specs.OwnedLoans.Views.{Around, known_gone, Views, Viewed, ViewedAlone}
+use Rattle.soundness.specs.OwnedLoans.Views.{Around, Viewed}
 use Rattle.soundness.specs.ViewedSoundness.Holds.{IsNamed, AllKeep, is_view, is_fixed, Seeing}
 use Rattle.soundness.proofs.ViewedSoundness.Outcomes.{named_plain, Leads_on, stored_goes, not_views, assigned_acts}
-use Rattle.viewed_steps.specs.Awaited.{AreFor, temporaries_of, lasting_of, AreAwaited, TakesAlone}
+use Rattle.viewed_steps.specs.Awaited.{AreFor, temporaries_of, TakesAlone}
 use Rattle.viewed_steps.proofs.Waited.{temporary_first, Shares, others_only}
-use Rattle.viewed_steps.specs.Sound.{IsBeyond, IsResting, HoldsAt, ArePlaced, NoneAbove, ViewStage, stages_of, GoneElsewhere, AreWaiting, IsStoredAt, HasTraversals}
+use Rattle.viewed_steps.specs.Sound.{ViewStage, GoneElsewhere, IsStoredAt}
 use Rattle.viewed_steps.specs.Ready.{IsReady, AreOrderly}
 use Rattle.viewed_steps.proofs.Lent.{Spare}
 use Rattle.viewed_steps.proofs.Placed.{MayBe}
@@ -59,8 +56,8 @@ use Rattle.viewed_steps.proofs.Waiting.{StandsBetween, beside_them, handed, apar
 use Rattle.viewed_steps.proofs.Standing as standing
 use Rattle.viewed_steps.proofs.Packages as packages
 use Rattle.viewed_steps.proofs.Innermost as innermost
-use Rattle.std.specs.Prelude.{flat_map, reverse, is_some}
-use Rattle.std.proofs.lemmas.Bool.{false≢true, true≢false}
+use Rattle.std.specs.Prelude.{flat_map, reverse}
+use Rattle.std.proofs.lemmas.Bool.{true≢false}
 use Rattle.type_definitions.specs.Types.{words}
 use Rattle.machine.specs.Evaluate.{Raises, Traps}
 use Rattle.soundness.specs.Ready.{IsSupplied}
@@ -72,6 +69,7 @@ use Rattle.viewed_steps.proofs.EachInstruction as each
 use Rattle.viewed_steps.proofs.Views.{AreAccess, all_held}
 use Rattle.viewed_steps.specs.Seeing.{sees_in}
 use Rattle.viewed_steps.proofs.Sees.{sees_seeing}
+use Rattle.viewed_steps.proofs.InnerFrame.{InnerFrame}
 
 some_is : {t w : ℕ} → Some t ≡ Some w → t ≡ w
 some_is e = cc
@@ -101,57 +99,46 @@ module _ (table : Table) (typed : TypedProgram) (effects : Effects) (input : Lis
   abbrev unmoved_stage : (e : Stage) → e.frame.sub ≡ 0 → (name : PlaceName) → Has (facts_of program effects e) (Moved name) → ⊥
   unmoved_stage = packages.unmoved_stage table typed effects input ready
 
-  module _ (state : State) (top : Stage) (below : ViewStage) (more_frames : List ViewStage) (rest : List Frame) (named : NamedSub) (p : NamedPoint)
-      (frames : state.frames ≡ top.frame ∷ (below.stage.frame ∷ rest)) (deep : top.depth ≡ suc (length rest))
-      (stages : AreStages (stages_of (below ∷ more_frames)) (below.stage.frame ∷ rest))
-      (running : IsRunnable table typed top.frame.sub × IsResting s top × AreWaiting table typed effects state top.frame.sub top.frame.returns (below ∷ more_frames))
-      (awaiting : AreAwaited table typed None (top ∷ stages_of (below ∷ more_frames)))
-      (of_sub : IsNamedSub (flow_named table typed) top.frame.sub named) (at_point : IsAtPoint named.points top.frame.next p)
-      (path : ControlPath (path_points program effects (sub_of program top.frame.sub)) top.before top.frame.next) (views : Views)
-      (viewed_before : ViewedAlone (home s (suc (length rest))) sees (known_gone (home s (suc (length rest))) (GoneElsewhere program effects (below ∷ more_frames))) views
-      (view_here s state) (facts_of program effects top))
-      (kept : Kept s state.memory (waiting_in state)) (scope : InScope s state.memory (suc (length rest)) (lasting_of s p.scope)) (holds : HoldsAt s sees (suc (length rest)) views state.memory p)
-      (placed_before : ArePlaced program (suc (length rest)) (facts_of program effects top) views p.scope × IsBeyond program effects (suc (length rest)) views (below ∷ more_frames)) (above : NoneAbove s (suc (length rest)) state.memory
-      × HasTraversals table typed (view_here s state) (record { stage = top; views = views; cells = [] } ∷ (below ∷ more_frames))) where
+  module _ (inner : InnerFrame table typed effects) where
     abbrev outer : List Frame
-    outer = below.stage.frame ∷ rest
+    outer = inner.below.stage.frame ∷ inner.rest
 
     abbrev older : List ViewStage
-    older = below ∷ more_frames
+    older = inner.below ∷ inner.more_frames
 
     abbrev depth : ℕ
-    depth = suc (length rest)
+    depth = suc (length inner.rest)
 
-    abbrev between : (g : ViewStage) → Has (below ∷ more_frames) g → StandsBetween table typed effects unmoved_stage local state (suc (length rest)) (below ∷ more_frames) g
-    between = innermost.between table typed effects input ready state top below more_frames rest named p frames deep stages running awaiting of_sub at_point path views viewed_before kept scope holds placed_before above
+    abbrev between : (g : ViewStage) → Has (inner.below ∷ inner.more_frames) g → StandsBetween table typed effects unmoved_stage local inner.state (suc (length inner.rest)) (inner.below ∷ inner.more_frames) g
+    between = innermost.between table typed effects input ready inner
 
-    abbrev other : Around (home s (suc (length rest)))
-    other = beside_them table typed effects unmoved_stage local state (suc (length rest)) (below ∷ more_frames) between
+    abbrev other : Around (home s (suc (length inner.rest)))
+    other = beside_them table typed effects unmoved_stage local inner.state (suc (length inner.rest)) (inner.below ∷ inner.more_frames) between
 
-    abbrev alone : (w : Way) → IsNear (suc (length rest)) w → IsFar (suc (length rest)) (GoneElsewhere program effects (below ∷ more_frames)) w → ⊥
-    alone = innermost.alone table typed effects input ready state top below more_frames rest named p frames deep stages running awaiting of_sub at_point path views viewed_before kept scope holds placed_before above
+    abbrev alone : (w : Way) → IsNear (suc (length inner.rest)) w → IsFar (suc (length inner.rest)) (GoneElsewhere program effects (inner.below ∷ inner.more_frames)) w → ⊥
+    alone = innermost.alone table typed effects input ready inner
 
     abbrev main_turn : Turn
-    main_turn = standing.t table typed effects input ready state top older outer named p frames of_sub at_point
+    main_turn = standing.t table typed effects input ready inner.state inner.top older outer inner.named inner.p inner.frames inner.of_sub inner.at_point
 
     abbrev own_facts : List Fact
-    own_facts = standing.facts table typed effects input ready state top older outer named p frames of_sub at_point path
+    own_facts = standing.facts table typed effects input ready inner.state inner.top older outer inner.named inner.p inner.frames inner.of_sub inner.at_point inner.path
 
     abbrev handed_on : List Fact
-    handed_on = handed table typed effects unmoved_stage local state (suc (length rest)) (below ∷ more_frames) between
+    handed_on = handed table typed effects unmoved_stage local inner.state (suc (length inner.rest)) (inner.below ∷ inner.more_frames) between
 
     abbrev facts_now : List Fact
     facts_now = own_facts ++ handed_on
 
     abbrev acts_of_main : Instruction → List Act
-    acts_of_main i = standing.acts_here table typed effects input ready state top older outer named p frames of_sub at_point i
+    acts_of_main i = standing.acts_here table typed effects input ready inner.state inner.top older outer inner.named inner.p inner.frames inner.of_sub inner.at_point i
 
-    abbrev allowed_now : Spare s (standing.acts_by table typed effects input ready state top older outer named p frames of_sub at_point s p.instr) → AllowsAll own_facts (acts_of_main p.instr)
-        → AllowsAll facts_now (acts_of_main p.instr)
-    allowed_now = innermost.allowed_now table typed effects input ready state top below more_frames rest named p frames deep stages running awaiting of_sub at_point path views viewed_before kept scope holds placed_before above
+    abbrev allowed_now : Spare s (standing.acts_by table typed effects input ready inner.state inner.top older outer inner.named inner.p inner.frames inner.of_sub inner.at_point s inner.p.instr) → AllowsAll own_facts (acts_of_main inner.p.instr)
+        → AllowsAll facts_now (acts_of_main inner.p.instr)
+    allowed_now = innermost.allowed_now table typed effects input ready inner
 
-    abbrev viewed : Viewed (home s depth) sees other views (view_here s state) facts_now
-    viewed = innermost.viewed table typed effects input ready state top below more_frames rest named p frames deep stages running awaiting of_sub at_point path views viewed_before kept scope holds placed_before above
+    abbrev viewed : Viewed (home s depth) sees other inner.views (view_here s inner.state) facts_now
+    viewed = innermost.viewed table typed effects input ready inner
 
     abbrev given_words : List (List machine.Word)
     given_words = (start main_turn).waits
@@ -159,24 +146,24 @@ module _ (table : Table) (typed : TypedProgram) (effects : Effects) (input : Lis
     abbrev easy : Turn
     easy = eased main_turn
 
-    abbrev supplied_here : IsSupplied s p
-    supplied_here = innermost.supplied_here table typed effects input ready state top below more_frames rest named p frames deep stages running awaiting of_sub at_point path views viewed_before kept scope holds placed_before above
+    abbrev supplied_here : IsSupplied s inner.p
+    supplied_here = innermost.supplied_here table typed effects input ready inner
 
-    abbrev shared : Shares s (taken p.instr) top.frame.waits p.scope
-    shared = innermost.shared table typed effects input ready state top below more_frames rest named p frames deep stages running awaiting of_sub at_point path views viewed_before kept scope holds placed_before above
+    abbrev shared : Shares s (taken inner.p.instr) inner.top.frame.waits inner.p.scope
+    shared = innermost.shared table typed effects input ready inner
 
     abbrev may : ℕ → ℕ → Type 0
-    may x y = MayBe program (scope_behind p) x y × IsStoredAt p.instr x × IsSourceIn (sub_acts (sub_of program top.frame.sub)) x y
+    may x y = MayBe program (scope_behind inner.p) x y × IsStoredAt inner.p.instr x × IsSourceIn (sub_acts (sub_of program inner.top.frame.sub)) x y
 
     abbrev LeadsFrom : Instruction → Outcome → Type 0
-    LeadsFrom i outcome = Leads_on easy sees seeing ready.accepted.settled ready.owns other alone views ready.class.parts_named may refl refl (after (acts_of_main i) facts_now) outcome
+    LeadsFrom i outcome = Leads_on easy sees seeing ready.accepted.settled ready.owns other alone inner.views ready.class.parts_named may refl refl (after (acts_of_main i) facts_now) outcome
 
-    abbrev orderly : AreOrderly program p (λ q. (n : ℕ) × Has (map (number_in named.points) p.next) n × IsAtPoint named.points n q)
-    orderly = innermost.orderly table typed effects input ready state top below more_frames rest named p frames deep stages running awaiting of_sub at_point path views viewed_before kept scope holds placed_before above
+    abbrev orderly : AreOrderly program inner.p (λ q. (n : ℕ) × Has (map (number_in inner.named.points) inner.p.next) n × IsAtPoint inner.named.points n q)
+    orderly = innermost.orderly table typed effects input ready inner
 
     -- ---- the value
 
-    module _ (going : (y : ℕ) → p.instr ≡ EndScope y → ⊥) (alone_taken : TakesAlone s p) where
+    module _ (going : (y : ℕ) → inner.p.instr ≡ EndScope y → ⊥) (alone_taken : TakesAlone s inner.p) where
       abbrev x : ℕ
       x = alone_taken.0
 
@@ -184,7 +171,7 @@ module _ (table : Table) (typed : TypedProgram) (effects : Effects) (input : Lis
       call = CallIn alone_taken.3 alone_taken.4 alone_taken.5
 
       -- one value is taken
-      one_taken : taken p.instr ≡ 1
+      one_taken : taken inner.p.instr ≡ 1
       unfolding waits_in
       one_taken = elim alone_taken.8 [
         | inl (y, is) ↦ ap taken is
@@ -192,9 +179,9 @@ module _ (table : Table) (typed : TypedProgram) (effects : Effects) (input : Lis
         | inr (inr is) ↦ ap taken is
       ]
 
-      one_there : temporaries_of s (take (taken p.instr) p.scope) ≡ x ∷ []
+      one_there : temporaries_of s (take (taken inner.p.instr) inner.p.scope) ≡ x ∷ []
       one_there =
-          ap (λ n. temporaries_of s (take n p.scope)) one_taken ∙ ap (λ z. temporaries_of s (take 1 z)) alone_taken.2
+          ap (λ n. temporaries_of s (take n inner.p.scope)) one_taken ∙ ap (λ z. temporaries_of s (take 1 z)) alone_taken.2
           ∙ by_kind (is_temporary_object s x) refl
         where
           count_one : temporaries_in s (take 1 (x ∷ alone_taken.1)) ≡ 1
@@ -212,16 +199,16 @@ module _ (table : Table) (typed : TypedProgram) (effects : Effects) (input : Lis
       -- A value of the type of the temporary.
       abbrev pub IsFirst : Waiting → Type 0
       IsFirst v =
-          (v.of ≡ (object_at s x).of) × (length v.words ≡ words s.table v.of) × (waiting_in state ≡ v ∷ waiting_in easy.state)
-          × (given_words ≡ v.words ∷ []) × (vs : List Waiting) × (top.frame.waits ≡ v ∷ vs)
+          (v.of ≡ (object_at s x).of) × (length v.words ≡ words s.table v.of) × (waiting_in inner.state ≡ v ∷ waiting_in easy.state)
+          × (given_words ≡ v.words ∷ []) × (vs : List Waiting) × (inner.top.frame.waits ≡ v ∷ vs)
 
       pub first_value : (v : Waiting) × IsFirst v
-      first_value = by_waits top.frame.waits refl
+      first_value = by_waits inner.top.frame.waits refl
         where
-          taken_all : AreFor s (take (taken p.instr) top.frame.waits) (x ∷ [])
-          taken_all = subst (AreFor s (take (taken p.instr) top.frame.waits)) one_there shared.taken
+          taken_all : AreFor s (take (taken inner.p.instr) inner.top.frame.waits) (x ∷ [])
+          taken_all = subst (AreFor s (take (taken inner.p.instr) inner.top.frame.waits)) one_there shared.taken
 
-          by_waits : (waits : List Waiting) → top.frame.waits ≡ waits → (v : Waiting) × IsFirst v
+          by_waits : (waits : List Waiting) → inner.top.frame.waits ≡ waits → (v : Waiting) × IsFirst v
           by_waits [] none = absurd (subst (λ z. AreFor s z (x ∷ [])) ((λ j. take (one_taken j) (none j))) taken_all)
           by_waits (v ∷ vs) some =
               let mine : AreFor s (v ∷ take 0 vs) (x ∷ []) = subst (λ z. AreFor s z (x ∷ [])) (λ j. take (one_taken j) (some j)) taken_all in
@@ -234,23 +221,23 @@ module _ (table : Table) (typed : TypedProgram) (effects : Effects) (input : Lis
                 (
                   same,
                   (mine.0).1,
-                  ap (flat_map waits_of) frames ∙ ap (λ z. z ++ flat_map waits_of outer) some ∙ ap (λ z. v ∷ (z ++ flat_map waits_of outer)) (sym others),
+                  ap (flat_map waits_of) inner.frames ∙ ap (λ z. z ++ flat_map waits_of outer) some ∙ ap (λ z. v ∷ (z ++ flat_map waits_of outer)) (sym others),
                   (λ j. map (λ (w : Waiting). w.words) (reverse (take (one_taken j) (some j)))) ∙ ap (λ z. map (λ (w : Waiting). w.words) (reverse (v ∷ z))) (take_none vs),
                   vs,
                   some,
                 ),
               )
 
-      ready_value : Ready (steps.here main_turn) sees seeing ready.accepted.settled state.leaks [] other alone (keeps s ready.accepted.settled ready.owns) index_law ready.owns views
-          ready.class.parts_named state.memory (first_value.0 ∷ waiting_in easy.state) facts_now
+      ready_value : Ready (steps.here main_turn) sees seeing ready.accepted.settled inner.state.leaks [] other alone (keeps s ready.accepted.settled ready.owns) index_law ready.owns inner.views
+          ready.class.parts_named inner.state.memory (first_value.0 ∷ waiting_in easy.state) facts_now
       ready_value = record {
-        viewed = subst (λ z. Viewed (home s depth) sees other views (seen s state.memory z state.leaks) facts_now) first_value.1.2 viewed;
-        kept = subst (Kept s state.memory) first_value.1.2 kept;
-        holds = all_held s sees in_formals depth views state.memory (λ y n view bare e. holds.held y n (λ fading. going fading.0 fading.1) view bare e) holds.only holds.owners holds.own holds.taken holds.parts;
+        viewed = subst (λ z. Viewed (home s depth) sees other inner.views (seen s inner.state.memory z inner.state.leaks) facts_now) first_value.1.2 viewed;
+        kept = subst (Kept s inner.state.memory) first_value.1.2 inner.kept;
+        holds = all_held s sees in_formals depth inner.views inner.state.memory (λ y n view bare e. inner.holds.held y n (λ fading. going fading.0 fading.1) view bare e) inner.holds.only inner.holds.owners inner.holds.own inner.holds.taken inner.holds.parts;
       }
 
       pub source_alone : (u : ℕ) → IsNamed s.table u → Source s u call
-          → Given (steps.here main_turn) sees seeing ready.accepted.settled state.leaks [] other alone (keeps s ready.accepted.settled ready.owns) index_law ready.owns views
+          → Given (steps.here main_turn) sees seeing ready.accepted.settled inner.state.leaks [] other alone (keeps s ready.accepted.settled ready.owns) index_law ready.owns inner.views
           ready.class.parts_named u (waiting_in easy.state) (after (acts (acts_in s call)) facts_now) (steps.taken_by main_turn u call (start main_turn))
       unfolding acts_in Gives
       source_alone u named_type (inl (view, is)) = absurd (true_false (is_anonymous (full s.table u)) view (named_plain s.table u named_type))
@@ -258,35 +245,35 @@ module _ (table : Table) (typed : TypedProgram) (effects : Effects) (input : Lis
           let v : Waiting = first_value.0 in
           let types : Some t ≡ Some (object_at s x).of = sym result ∙ alone_taken.6 in
           let type : v.of ≡ t = first_value.1.0 ∙ sym (some_is types) in
-          let now : List (List machine.Word) → Now = (λ ws. record { memory = state.memory; waits = ws }) in
-          subst (λ b. Given (steps.here main_turn) sees seeing ready.accepted.settled state.leaks [] other alone (keeps s ready.accepted.settled ready.owns) index_law ready.owns views
+          let now : List (List machine.Word) → Now = (λ ws. record { memory = inner.state.memory; waits = ws }) in
+          subst (λ b. Given (steps.here main_turn) sees seeing ready.accepted.settled inner.state.leaks [] other alone (keeps s ready.accepted.settled ready.owns) index_law ready.owns inner.views
           ready.class.parts_named u (waiting_in easy.state) facts_now
           (if b then run.viewed (steps.here main_turn) call (start main_turn) else followed_by (value (steps.here main_turn) call (start main_turn)) (checked (steps.here main_turn) u)))
           (sym (named_plain s.table u named_type))
-          (checked_given (steps.here main_turn) sees seeing ready.accepted.settled state.leaks [] other alone (keeps s ready.accepted.settled ready.owns) index_law ready.owns views
+          (checked_given (steps.here main_turn) sees seeing ready.accepted.settled inner.state.leaks [] other alone (keeps s ready.accepted.settled ready.owns) index_law ready.owns inner.views
           ready.class.parts_named u u (waiting_in easy.state) facts_now (value (steps.here main_turn) call (start main_turn))
-          (subst (λ ws. Given (steps.here main_turn) sees seeing ready.accepted.settled state.leaks [] other alone (keeps s ready.accepted.settled ready.owns) index_law ready.owns views
+          (subst (λ ws. Given (steps.here main_turn) sees seeing ready.accepted.settled inner.state.leaks [] other alone (keeps s ready.accepted.settled ready.owns) index_law ready.owns inner.views
           ready.class.parts_named u (waiting_in easy.state) facts_now (value (steps.here main_turn) call (now ws))) (sym first_value.1.3)
-          (call_given (steps.here main_turn) sees seeing ready.accepted.settled state.leaks [] other alone (keeps s ready.accepted.settled ready.owns) index_law ready.owns views
-          ready.class.parts_named [] state.memory (waiting_in easy.state) facts_now alone_taken.3 alone_taken.4 alone_taken.5 v.of u v.words
+          (call_given (steps.here main_turn) sees seeing ready.accepted.settled inner.state.leaks [] other alone (keeps s ready.accepted.settled ready.owns) index_law ready.owns inner.views
+          ready.class.parts_named [] inner.state.memory (waiting_in easy.state) facts_now alone_taken.3 alone_taken.4 alone_taken.5 v.of u v.words
           (subst (λ z. Matches s.table z u) (sym type) fits) first_value.1.1 ready_value)))
 
     -- ---- a declaration or an assignment
 
-    module _ (going : (y : ℕ) → p.instr ≡ EndScope y → ⊥) (no_calls : IsNoCall p.instr) (alone_taken : TakesAlone s p) where
+    module _ (going : (y : ℕ) → inner.p.instr ≡ EndScope y → ⊥) (no_calls : IsNoCall inner.p.instr) (alone_taken : TakesAlone s inner.p) where
       abbrev held_call : TypedTree
       held_call = CallIn alone_taken.3 alone_taken.4 alone_taken.5
 
-      allowed_there : (p.instr ≡ Finish → ⊥) → AllowsAll facts_now (acts_of_main p.instr)
+      allowed_there : (inner.p.instr ≡ Finish → ⊥) → AllowsAll facts_now (acts_of_main inner.p.instr)
       allowed_there end =
-          allowed_now (each.spares table typed effects input ready state top below more_frames rest named p frames deep stages running awaiting of_sub at_point path views viewed_before kept scope holds placed_before above going no_calls end)
-          (standing.allowed table typed effects input ready state top older outer named p frames of_sub at_point path no_calls)
+          allowed_now (each.spares table typed effects input ready inner going no_calls end)
+          (standing.allowed table typed effects input ready inner.state inner.top older outer inner.named inner.p inner.frames inner.of_sub inner.at_point inner.path no_calls)
 
-      keeps_there : AllKeep (is_fixed s sees) (acts_of_main p.instr)
-      keeps_there = standing.keeps_there table typed effects input ready state top older outer named p frames of_sub at_point
+      keeps_there : AllKeep (is_fixed s sees) (acts_of_main inner.p.instr)
+      keeps_there = standing.keeps_there table typed effects input ready inner.state inner.top older outer inner.named inner.p inner.frames inner.of_sub inner.at_point
 
       -- an object that is no view
-      module _ (y : ℕ) (is : p.instr ≡ Declare y (More held_call NoMore)) (owner : is_anonymous (view_of s y) ≡ false) where
+      module _ (y : ℕ) (is : inner.p.instr ≡ Declare y (More held_call NoMore)) (owner : is_anonymous (view_of s y) ≡ false) where
         abbrev v : TypedTree
         v = More held_call NoMore
 
@@ -302,47 +289,47 @@ module _ (table : Table) (typed : TypedProgram) (effects : Effects) (input : Lis
             ∙ ap (λ b. if b then flow.source_acts s held_call (flow.observe s y) else acts_in s v) kinds.1)
 
         pub source_here : Source s (object_at s y).of held_call
-        source_here = (subst (IsFine s named.sub.result) is (standing.fine table typed effects input ready state top older outer named p frames of_sub at_point)).1
+        source_here = (subst (IsFine s inner.named.sub.result) is (standing.fine table typed effects input ready inner.state inner.top older outer inner.named inner.p inner.frames inner.of_sub inner.at_point)).1
 
         facts_same : after (acts (acts_in s held_call)) facts_now ≡ after (acts_of_main (Declare y v)) facts_now
         facts_same = ap (λ z. after z facts_now) (sym acts_same)
 
         declared_value : (z : Evaluated (List machine.Word))
-            → Given (steps.here main_turn) sees seeing ready.accepted.settled state.leaks [] other alone (keeps s ready.accepted.settled ready.owns) index_law ready.owns views
+            → Given (steps.here main_turn) sees seeing ready.accepted.settled inner.state.leaks [] other alone (keeps s ready.accepted.settled ready.owns) index_law ready.owns inner.views
             ready.class.parts_named (object_at s y).of (waiting_in easy.state) (after (acts_of_main (Declare y v)) facts_now) z
-            → FadesTo (steps.here main_turn) state.memory z
+            → FadesTo (steps.here main_turn) inner.state.memory z
             → LeadsFrom (Declare y v) (steps.evaluated main_turn z (λ vs m. steps.goes main_turn (declared depth y vs m) 0))
         declared_value (Done ws n) given faint =
-            each.goes_too table typed effects input ready state top below more_frames rest named p frames deep stages running awaiting of_sub at_point path views viewed_before kept scope holds placed_before above going no_calls
+            each.goes_too table typed effects input ready inner going no_calls
             (Declare y v) (declared depth y ws n.memory) 0
-            (declared_goes easy sees seeing ready.accepted.settled ready.owns other alone in_formals views ready.class.parts_named may refl refl y (after (acts_of_main (Declare y v)) facts_now)
+            (declared_goes easy sees seeing ready.accepted.settled ready.owns other alone in_formals inner.views ready.class.parts_named may refl refl y (after (acts_of_main (Declare y v)) facts_now)
             named_object (orderly.begun y v is) ws n given faint
-            (λ q. each.blank table typed effects input ready state top below more_frames rest named p frames deep stages running awaiting of_sub at_point path views viewed_before kept scope holds placed_before above going no_calls y v is q
-            (word_in s.table (content s state.memory [] (OfRoot (OfVariable depth y))) q) refl)
-            (each.after_it table typed effects input ready state top below more_frames rest named p frames deep stages running awaiting of_sub at_point path views viewed_before kept scope holds placed_before above going no_calls y v is)
-            (each.free table typed effects input ready state top below more_frames rest named p frames deep stages running awaiting of_sub at_point path views viewed_before kept scope holds placed_before above going no_calls y v is)
-            (apart_elsewhere table typed effects unmoved_stage local state depth older between y))
+            (λ q. each.blank table typed effects input ready inner going no_calls y v is q
+            (word_in s.table (content s inner.state.memory [] (OfRoot (OfVariable depth y))) q) refl)
+            (each.after_it table typed effects input ready inner going no_calls y v is)
+            (each.free table typed effects input ready inner going no_calls y v is)
+            (apart_elsewhere table typed effects unmoved_stage local inner.state depth older between y))
         declared_value (Raises how n) given faint =
-            each.ends_so table typed effects input ready state top below more_frames rest named p frames deep stages running awaiting of_sub at_point path views viewed_before kept scope holds placed_before above going no_calls (Declare y v) how n.memory
+            each.ends_so table typed effects input ready inner going no_calls (Declare y v) how n.memory
         declared_value (Traps how n) never faint = absurd never
 
         pub declares_alone : LeadsFrom (Declare y v) (turn main_turn (Declare y v))
         unfolding initial
         declares_alone =
             declared_value (steps.first_value main_turn (object_at s y).of v (start main_turn))
-            (subst (λ z. Given (steps.here main_turn) sees seeing ready.accepted.settled state.leaks [] other alone (keeps s ready.accepted.settled ready.owns) index_law ready.owns views
+            (subst (λ z. Given (steps.here main_turn) sees seeing ready.accepted.settled inner.state.leaks [] other alone (keeps s ready.accepted.settled ready.owns) index_law ready.owns inner.views
             ready.class.parts_named (object_at s y).of (waiting_in easy.state) z (steps.taken_by main_turn (object_at s y).of held_call (start main_turn))) facts_same
             (source_alone going alone_taken (object_at s y).of named_object source_here))
-            (first_fades easy sees seeing ready.accepted.settled ready.owns other alone in_formals views ready.class.parts_named may refl refl given_words (object_at s y).of v (refl, source_here))
+            (first_fades easy sees seeing ready.accepted.settled ready.owns other alone in_formals inner.views ready.class.parts_named may refl refl given_words (object_at s y).of v (refl, source_here))
 
       -- a place that is no view
-      module _ (r : Pos) (y : ℕ) (path_there : TypedTree) (u : ℕ) (is : p.instr ≡ Assign (Name r y path_there u) held_call) (calls : has_call path_there ≡ false) (end : p.instr ≡ Finish → ⊥)
+      module _ (r : Pos) (y : ℕ) (path_there : TypedTree) (u : ℕ) (is : inner.p.instr ≡ Assign (Name r y path_there u) held_call) (calls : has_call path_there ≡ false) (end : inner.p.instr ≡ Finish → ⊥)
           (plain_target : is_anonymous (full s.table u) ≡ false) where
         abbrev target : TypedTree
         target = Name r y path_there u
 
-        text_there : IsFine s named.sub.result (Assign target held_call)
-        text_there = subst (IsFine s named.sub.result) is (standing.fine table typed effects input ready state top older outer named p frames of_sub at_point)
+        text_there : IsFine s inner.named.sub.result (Assign target held_call)
+        text_there = subst (IsFine s inner.named.sub.result) is (standing.fine table typed effects input ready inner.state inner.top older outer inner.named inner.p inner.frames inner.of_sub inner.at_point)
 
         pub leads_there : Leads s (object_at s y).of path_there u
         leads_there = text_there.1.0
@@ -356,7 +343,7 @@ module _ (table : Table) (typed : TypedProgram) (effects : Effects) (input : Lis
         pub acts_there : acts_of_main (Assign target held_call) ≡ acts (acts_in s path_there) ++ act.Write (name_of y path_there) ∷ []
         unfolding acts_in
         acts_there =
-            ap acts (assigned_acts s p.pos y u target path_there held_call named_target leads_there)
+            ap acts (assigned_acts s inner.p.pos y u target path_there held_call named_target leads_there)
             ∙ acts_append (acts_in s path_there) (record { pos = r; act = act.Write (name_of y path_there) } ∷ [])
 
         pub allowed_steps : AllowsAll facts_now (acts (acts_in s path_there) ++ act.Write (name_of y path_there) ∷ [])
@@ -375,17 +362,17 @@ module _ (table : Table) (typed : TypedProgram) (effects : Effects) (input : Lis
             sym (after_append (acts (acts_in s path_there)) (act.Write (name_of y path_there) ∷ []) facts_now) ∙ ap (λ z. after z facts_now) (sym acts_there)
 
         stored_value : (z : Evaluated steps.Stored)
-            → Assigns (steps.here main_turn) sees seeing ready.accepted.settled state.leaks [] other alone (keeps s ready.accepted.settled ready.owns) index_law ready.owns views
+            → Assigns (steps.here main_turn) sees seeing ready.accepted.settled inner.state.leaks [] other alone (keeps s ready.accepted.settled ready.owns) index_law ready.owns inner.views
             ready.class.parts_named (waiting_in easy.state) (after (acts_of_main (Assign target held_call)) facts_now) z
             → LeadsFrom (Assign target held_call) (steps.evaluated main_turn z (λ (st : steps.Stored) m. steps.leaking_goes (checks_at s (steps.target_pos main_turn target) m st.place)
             (steps.goes main_turn (stored s st.place st.words m) 0)))
         stored_value (Done st n) given =
             subst (λ z. LeadsFrom (Assign target held_call) (steps.leaking_goes (checks_at s (steps.target_pos main_turn target) n.memory st.place) z))
             (goes_same main_turn (stored s st.place st.words n.memory) 0)
-            (stored_goes easy sees seeing ready.accepted.settled ready.owns other alone views ready.class.parts_named may refl refl
+            (stored_goes easy sees seeing ready.accepted.settled ready.owns other alone inner.views ready.class.parts_named may refl refl
             (after (acts_of_main (Assign target held_call)) facts_now) (steps.target_pos main_turn target) st n given)
         stored_value (Raises how n) given =
-            each.ends_so table typed effects input ready state top below more_frames rest named p frames deep stages running awaiting of_sub at_point path views viewed_before kept scope holds placed_before above going no_calls (Assign target held_call) how n.memory
+            each.ends_so table typed effects input ready inner going no_calls (Assign target held_call) how n.memory
         stored_value (Traps how n) never = absurd never
 
         pub assigns_alone : LeadsFrom (Assign target held_call) (turn main_turn (Assign target held_call))
@@ -393,10 +380,10 @@ module _ (table : Table) (typed : TypedProgram) (effects : Effects) (input : Lis
         assigns_alone =
             stored_value (followed_by (steps.taken_by main_turn u held_call (start main_turn))
             (λ ws now. followed_by (place_of (steps.here main_turn) target now) (λ k now. Done (record { words = ws; place = k }) now)))
-            (subst (λ z. Assigns (steps.here main_turn) sees seeing ready.accepted.settled state.leaks [] other alone (keeps s ready.accepted.settled ready.owns) index_law ready.owns views
+            (subst (λ z. Assigns (steps.here main_turn) sees seeing ready.accepted.settled inner.state.leaks [] other alone (keeps s ready.accepted.settled ready.owns) index_law ready.owns inner.views
             ready.class.parts_named (waiting_in easy.state) z (followed_by (steps.taken_by main_turn u held_call (start main_turn))
             (λ ws now. followed_by (place_of (steps.here main_turn) target now) (λ k now. Done (record { words = ws; place = k }) now)))) facts_there
-            (then_placed (steps.here main_turn) sees seeing ready.accepted.settled state.leaks [] other alone (keeps s ready.accepted.settled ready.owns) index_law ready.owns views
+            (then_placed (steps.here main_turn) sees seeing ready.accepted.settled inner.state.leaks [] other alone (keeps s ready.accepted.settled ready.owns) index_law ready.owns inner.views
             ready.class.parts_named [] [] r y u path_there (waiting_in easy.state) facts_now named_target plain_root leads_there (no_takes path_there calls [])
             allowed_steps (steps.taken_by main_turn u held_call (start main_turn))
             (source_alone going alone_taken u named_target source_there)))

@@ -25,13 +25,13 @@ use Rattle.flow_paths.specs.Aliases.{overlap_reports}
 use Rattle.flow_paths.specs.Aliases as alias
 use Rattle.flow_paths.specs.Acts as flow
 use Rattle.flow_paths.specs.Points.{NamedPoint}
-use Rattle.flow_paths.specs.Laid.{FlowProgram, NamedSub, flow_sub, typing_of, flow_typing, flow_program, flow_named}
+use Rattle.flow_paths.specs.Laid.{FlowProgram, flow_sub, typing_of, flow_typing, flow_program, flow_named}
 use Rattle.flow_paths.specs.Names.{written}
-use Rattle.flow_paths.specs.Paths.{ControlPath, facts_before}
-use Rattle.flow_paths.specs.Effects.{path_points, globals_of, called_acts}
+use Rattle.flow_paths.specs.Paths.{facts_before}
+use Rattle.flow_paths.specs.Effects.{globals_of, called_acts}
 use Rattle.flow_paths.specs.Scopes.{taken, scope_behind, Leads}
 use Rattle.flow_paths.specs.Views.{traversed_formal, traversed_of}
-use Rattle.machine.specs.States.{Frame, State, sub_of}
+use Rattle.machine.specs.States.{Frame, sub_of}
 use Rattle.machine.specs.Step.{Turn, successor}
 use Rattle.machine.specs.Step as steps
 use Rattle.machine.specs.Typed.{successors}
@@ -41,7 +41,7 @@ use Rattle.soundness.specs.OwnedWays.Ways.{Way, after, AllowsAll}
 use Rattle.soundness.specs.OwnedWays.Ways as ways
 use Rattle.soundness.specs.Seen.{is_view_formal, IsNear, content, seen, home, trunk}
 use Rattle.soundness.specs.Typed.{Kept}
-use Rattle.soundness.specs.Sound.{Uses, Stage, facts_of, AreStages, IsRunnable, InScope, IsNamedSub, IsAtPoint, view_of as view_here}
+use Rattle.soundness.specs.Sound.{Uses, Stage, facts_of, IsAtPoint, view_of as view_here}
 use Rattle.soundness.proofs.Numbers.{index_law}
 use Rattle.soundness.proofs.Lasting.{keeps}
 use Rattle.soundness.proofs.Passing.{AreReads, reads_keep, signature_is}
@@ -53,11 +53,11 @@ use Rattle.soundness.proofs.Successors.{below_one, successor_there}
 use Rattle.soundness.proofs.Used.{called_are, added_after, globals_are}
 use Rattle.soundness.proofs.Around.{IsFar}
 use Rattle.soundness.proofs.Eased.{eased}
-use Rattle.soundness.specs.OwnedLoans.Views.{Around, known_gone, Views, Viewed, ViewedAlone}
+use Rattle.soundness.specs.OwnedLoans.Views.{Around, Viewed}
 use Rattle.soundness.specs.ViewedSoundness.Holds.{Holds, is_view, IsOwners, AllKeep, is_fixed, is_given, Seeing, is_bundle}
 use Rattle.soundness.proofs.ViewedSoundness.Evaluated.{live_trunk, keep_both}
-use Rattle.viewed_steps.specs.Awaited.{temporaries_of, lasting_of, AreAwaited, AreOwnless, TakesPassed}
-use Rattle.viewed_steps.specs.Sound.{Disturbs, IsCopiedBack, IsBeyond, HoldsAt, ArePlaced, NoneAbove, ViewStage, stages_of, GoneElsewhere, AreWaiting, IsResting, IsKindOfFormal, HasTraversals}
+use Rattle.viewed_steps.specs.Awaited.{temporaries_of, AreOwnless, TakesPassed}
+use Rattle.viewed_steps.specs.Sound.{Disturbs, IsCopiedBack, ViewStage, GoneElsewhere, IsKindOfFormal}
 use Rattle.viewed_steps.specs.Ready.{IsReady, IsCalled, IsTraversalCall, IsSeen, AreActualsTo}
 use Rattle.soundness.proofs.OwnedLoans.Allowed.{Cleared}
 use Rattle.viewed_steps.specs.Traversals.{traversed_name}
@@ -86,6 +86,7 @@ use Rattle.viewed_steps.proofs.Globals.{shown_act}
 use Rattle.viewed_steps.specs.Seeing.{sees_in}
 use Rattle.viewed_steps.proofs.Sees.{sees_seeing}
 use Rattle.viewed_steps.proofs.Constructors.{is_end_scope_instruction}
+use Rattle.viewed_steps.proofs.InnerFrame.{InnerFrame}
 
 module _ (table : Table) (typed : TypedProgram) (effects : Effects) (input : List ℕ) (ready : IsReady table typed effects) where
   abbrev sees : ℕ → Bool
@@ -112,78 +113,67 @@ module _ (table : Table) (typed : TypedProgram) (effects : Effects) (input : Lis
   abbrev unmoved_stage : (e : Stage) → e.frame.sub ≡ 0 → (name : PlaceName) → Has (facts_of program effects e) (Moved name) → ⊥
   unmoved_stage = packages.unmoved_stage table typed effects input ready
 
-  module _ (state : State) (top : Stage) (below : ViewStage) (more_frames : List ViewStage) (rest : List Frame) (named : NamedSub) (p : NamedPoint)
-      (frames : state.frames ≡ top.frame ∷ (below.stage.frame ∷ rest)) (deep : top.depth ≡ suc (length rest))
-      (stages : AreStages (stages_of (below ∷ more_frames)) (below.stage.frame ∷ rest))
-      (running : IsRunnable table typed top.frame.sub × IsResting s top × AreWaiting table typed effects state top.frame.sub top.frame.returns (below ∷ more_frames))
-      (awaiting : AreAwaited table typed None (top ∷ stages_of (below ∷ more_frames)))
-      (of_sub : IsNamedSub (flow_named table typed) top.frame.sub named) (at_point : IsAtPoint named.points top.frame.next p)
-      (path : ControlPath (path_points program effects (sub_of program top.frame.sub)) top.before top.frame.next) (views : Views)
-      (viewed_before : ViewedAlone (home s (suc (length rest))) sees (known_gone (home s (suc (length rest))) (GoneElsewhere program effects (below ∷ more_frames))) views
-      (view_here s state) (facts_of program effects top))
-      (kept : Kept s state.memory (waiting_in state)) (scope : InScope s state.memory (suc (length rest)) (lasting_of s p.scope)) (holds : HoldsAt s sees (suc (length rest)) views state.memory p)
-      (placed_before : ArePlaced program (suc (length rest)) (facts_of program effects top) views p.scope × IsBeyond program effects (suc (length rest)) views (below ∷ more_frames)) (above : NoneAbove s (suc (length rest)) state.memory
-      × HasTraversals table typed (view_here s state) (record { stage = top; views = views; cells = [] } ∷ (below ∷ more_frames))) where
+  module _ (inner : InnerFrame table typed effects) where
     abbrev outer : List Frame
-    outer = below.stage.frame ∷ rest
+    outer = inner.below.stage.frame ∷ inner.rest
 
     abbrev older : List ViewStage
-    older = below ∷ more_frames
+    older = inner.below ∷ inner.more_frames
 
     abbrev depth : ℕ
-    depth = suc (length rest)
+    depth = suc (length inner.rest)
 
-    abbrev between : (g : ViewStage) → Has (below ∷ more_frames) g → StandsBetween table typed effects unmoved_stage local state (suc (length rest)) (below ∷ more_frames) g
-    between = innermost.between table typed effects input ready state top below more_frames rest named p frames deep stages running awaiting of_sub at_point path views viewed_before kept scope holds placed_before above
+    abbrev between : (g : ViewStage) → Has (inner.below ∷ inner.more_frames) g → StandsBetween table typed effects unmoved_stage local inner.state (suc (length inner.rest)) (inner.below ∷ inner.more_frames) g
+    between = innermost.between table typed effects input ready inner
 
-    abbrev other : Around (home s (suc (length rest)))
-    other = beside_them table typed effects unmoved_stage local state (suc (length rest)) (below ∷ more_frames) between
+    abbrev other : Around (home s (suc (length inner.rest)))
+    other = beside_them table typed effects unmoved_stage local inner.state (suc (length inner.rest)) (inner.below ∷ inner.more_frames) between
 
-    abbrev alone : (w : Way) → IsNear (suc (length rest)) w → IsFar (suc (length rest)) (GoneElsewhere program effects (below ∷ more_frames)) w → ⊥
-    alone = innermost.alone table typed effects input ready state top below more_frames rest named p frames deep stages running awaiting of_sub at_point path views viewed_before kept scope holds placed_before above
+    abbrev alone : (w : Way) → IsNear (suc (length inner.rest)) w → IsFar (suc (length inner.rest)) (GoneElsewhere program effects (inner.below ∷ inner.more_frames)) w → ⊥
+    alone = innermost.alone table typed effects input ready inner
 
     abbrev main_turn : Turn
-    main_turn = standing.t table typed effects input ready state top older outer named p frames of_sub at_point
+    main_turn = standing.t table typed effects input ready inner.state inner.top older outer inner.named inner.p inner.frames inner.of_sub inner.at_point
 
     abbrev own_facts : List Fact
-    own_facts = standing.facts table typed effects input ready state top older outer named p frames of_sub at_point path
+    own_facts = standing.facts table typed effects input ready inner.state inner.top older outer inner.named inner.p inner.frames inner.of_sub inner.at_point inner.path
 
     abbrev handed_on : List Fact
-    handed_on = handed table typed effects unmoved_stage local state (suc (length rest)) (below ∷ more_frames) between
+    handed_on = handed table typed effects unmoved_stage local inner.state (suc (length inner.rest)) (inner.below ∷ inner.more_frames) between
 
     abbrev facts_now : List Fact
     facts_now = own_facts ++ handed_on
 
     abbrev acts_of_main : Instruction → List Act
-    acts_of_main i = standing.acts_here table typed effects input ready state top older outer named p frames of_sub at_point i
+    acts_of_main i = standing.acts_here table typed effects input ready inner.state inner.top older outer inner.named inner.p inner.frames inner.of_sub inner.at_point i
 
-    abbrev allowed_now : Spare s (standing.acts_by table typed effects input ready state top older outer named p frames of_sub at_point s p.instr) → AllowsAll own_facts (acts_of_main p.instr)
-        → AllowsAll facts_now (acts_of_main p.instr)
-    allowed_now = innermost.allowed_now table typed effects input ready state top below more_frames rest named p frames deep stages running awaiting of_sub at_point path views viewed_before kept scope holds placed_before above
+    abbrev allowed_now : Spare s (standing.acts_by table typed effects input ready inner.state inner.top older outer inner.named inner.p inner.frames inner.of_sub inner.at_point s inner.p.instr) → AllowsAll own_facts (acts_of_main inner.p.instr)
+        → AllowsAll facts_now (acts_of_main inner.p.instr)
+    allowed_now = innermost.allowed_now table typed effects input ready inner
 
     abbrev Plain : Type 0
-    Plain = AreOwnless s (temporaries_of s (take (taken p.instr) p.scope))
+    Plain = AreOwnless s (temporaries_of s (take (taken inner.p.instr) inner.p.scope))
 
-    abbrev named_there : Has (flow_named table typed) named
-    named_there = innermost.named_there table typed effects input ready state top below more_frames rest named p frames deep stages running awaiting of_sub at_point path views viewed_before kept scope holds placed_before above
+    abbrev named_there : Has (flow_named table typed) inner.named
+    named_there = innermost.named_there table typed effects input ready inner
 
-    abbrev point_there_now : Has named.points p
-    point_there_now = innermost.point_there_now table typed effects input ready state top below more_frames rest named p frames deep stages running awaiting of_sub at_point path views viewed_before kept scope holds placed_before above
+    abbrev point_there_now : Has inner.named.points inner.p
+    point_there_now = innermost.point_there_now table typed effects input ready inner
 
-    abbrev successors_there : length main_turn.point.next ≡ successors p.instr
-    successors_there = innermost.successors_there table typed effects input ready state top below more_frames rest named p frames deep stages running awaiting of_sub at_point path views viewed_before kept scope holds placed_before above
+    abbrev successors_there : length main_turn.point.next ≡ successors inner.p.instr
+    successors_there = innermost.successors_there table typed effects input ready inner
 
     abbrev easy : Turn
     easy = eased main_turn
 
-    abbrev viewed_easy : Plain → Viewed (home s depth) sees other views (view_here s easy.state) facts_now × Kept s state.memory (waiting_in easy.state)
-    viewed_easy = innermost.ownless_easy table typed effects input ready state top below more_frames rest named p frames deep stages running awaiting of_sub at_point path views viewed_before kept scope holds placed_before above
+    abbrev viewed_easy : Plain → Viewed (home s depth) sees other inner.views (view_here s easy.state) facts_now × Kept s inner.state.memory (waiting_in easy.state)
+    viewed_easy = innermost.ownless_easy table typed effects input ready inner
 
-    module _ (n : ℕ) (actuals : TypedTree) (result : Option ℕ) (e : p.instr ≡ Call n actuals result) where
+    module _ (n : ℕ) (actuals : TypedTree) (result : Option ℕ) (e : inner.p.instr ≡ Call n actuals result) where
       pub called : IsCalled table typed n actuals result
       called =
-          ready.called (flow_sub own named) (standing.in_program table typed effects input ready state top older outer named p frames of_sub at_point) main_turn.point
-          (standing.in_sub table typed effects input ready state top older outer named p frames of_sub at_point) n actuals result e
+          ready.called (flow_sub own inner.named) (standing.in_program table typed effects input ready inner.state inner.top older outer inner.named inner.p inner.frames inner.of_sub inner.at_point) main_turn.point
+          (standing.in_sub table typed effects input ready inner.state inner.top older outer inner.named inner.p inner.frames inner.of_sub inner.at_point) n actuals result e
 
       abbrev pub formals : List ℕ
       formals = (sub_of program n).formals
@@ -211,8 +201,8 @@ module _ (table : Table) (typed : TypedProgram) (effects : Effects) (input : Lis
               let never : None ≡ Some x = sym (ap (λ b. traversed_of b (sub_of program n).formals) none) ∙ ready.traversing.firsts n (called.runs).entered x has is in absurd (false≢true (ap is_some never))
 
       -- what a call takes owns nothing
-      pub plain_there : TakesPassed s actuals (temporaries_of s (take (taken p.instr) p.scope))
-      plain_there = innermost.taken_call table typed effects input ready state top below more_frames rest named p frames deep stages running awaiting of_sub at_point path views viewed_before kept scope holds placed_before above n actuals result e
+      pub plain_there : TakesPassed s actuals (temporaries_of s (take (taken inner.p.instr) inner.p.scope))
+      plain_there = innermost.taken_call table typed effects input ready inner n actuals result e
 
       abbrev pub procedure : Bool
       procedure = not (is_some (sub_of program n).result)
@@ -232,15 +222,15 @@ module _ (table : Table) (typed : TypedProgram) (effects : Effects) (input : Lis
       abbrev pub copies : List Placed
       copies = flow.actual_acts (map (passing s procedure) formals) actuals
 
-      values_are : standing.acts_by table typed effects input ready state top older outer named p frames of_sub at_point s p.instr ≡ values ++ true_copies
-      values_are = ap (standing.acts_by table typed effects input ready state top older outer named p frames of_sub at_point s) e
+      values_are : standing.acts_by table typed effects input ready inner.state inner.top older outer inner.named inner.p inner.frames inner.of_sub inner.at_point s inner.p.instr ≡ values ++ true_copies
+      values_are = ap (standing.acts_by table typed effects input ready inner.state inner.top older outer inner.named inner.p inner.frames inner.of_sub inner.at_point s) e
 
       -- the point that it leads to
       pub call_point : (k : ℕ) × (successor main_turn 0 ≡ Some k) × Has main_turn.point.next k
       call_point = successor_there main_turn 0 (subst (λ z. 0 < z) (sym (successors_there ∙ ap successors e)) below_one)
 
-      next_at : (q : NamedPoint) × IsAtPoint named.points call_point.0 q × Leads s (scope_behind p) q.scope
-      next_at = standing.next_at table typed effects input ready state top older outer named p frames of_sub at_point path call_point.0 call_point.2
+      next_at : (q : NamedPoint) × IsAtPoint inner.named.points call_point.0 q × Leads s (scope_behind inner.p) q.scope
+      next_at = standing.next_at table typed effects input ready inner.state inner.top older outer inner.named inner.p inner.frames inner.of_sub inner.at_point inner.path call_point.0 call_point.2
 
       -- What both have in common.
       record IsActing : Type 0 where
@@ -267,14 +257,14 @@ module _ (table : Table) (typed : TypedProgram) (effects : Effects) (input : Lis
       -- what overlaps an object of the frame itself isn't handed on, nor what is borrowed of a package object that it uses, nor
       -- what is lent of one that it writes
       handed_root : (l : Loan) (h : ℕ) (m : PlaceName) → Has handed_on (Lent l h m) → (u : Way) → overlaps m (ways.name_of u) ≡ true
-          → (is_package_object s (ways.number_of u) ≡ true → Disturbs effects l top.frame.sub (ways.number_of u)) → ⊥
+          → (is_package_object s (ways.number_of u) ≡ true → Disturbs effects l inner.top.frame.sub (ways.number_of u)) → ⊥
       handed_root l h m there u over disturbs =
-          let lent = lent_handed table typed effects unmoved_stage local state depth older between l h m there in
+          let lent = lent_handed table typed effects unmoved_stage local inner.state depth older between l h m there in
           let root : m.root ≡ ways.number_of u = same_root m (ways.name_of u) over in
-          innermost.spared_here table typed effects input ready state top below more_frames rest named p frames deep stages running awaiting of_sub at_point path views viewed_before kept scope holds placed_before above l m lent.1
-          (subst (Disturbs effects l top.frame.sub) (sym root) (disturbs (ap (is_package_object s) (sym root) ∙ (lent.1).5)))
+          innermost.spared_here table typed effects input ready inner l m lent.1
+          (subst (Disturbs effects l inner.top.frame.sub) (sym root) (disturbs (ap (is_package_object s) (sym root) ∙ (lent.1).5)))
 
-      clear_now : (u : Way) → (is_package_object s (ways.number_of u) ≡ true → Uses effects top.frame.sub (ways.number_of u)) → Cleared own_facts u → Cleared facts_now u
+      clear_now : (u : Way) → (is_package_object s (ways.number_of u) ≡ true → Uses effects inner.top.frame.sub (ways.number_of u)) → Cleared own_facts u → Cleared facts_now u
       clear_now u uses clear = (
         λ h m has over. elim (Has-append_cases own_facts handed_on (Lent Borrowed h m) has) [
           | inl mine ↦ clear.0 h m mine over
@@ -282,7 +272,7 @@ module _ (table : Table) (typed : TypedProgram) (effects : Effects) (input : Lis
         ],
         λ m has over. elim (Has-append_cases own_facts handed_on (Moved m) has) [
           | inl mine ↦ clear.1 m mine over
-          | inr there ↦ innermost.not_handed table typed effects input ready state top below more_frames rest named p frames deep stages running awaiting of_sub at_point path views viewed_before kept scope holds placed_before above m there
+          | inr there ↦ innermost.not_handed table typed effects input ready inner m there
         ],
       )
 
@@ -293,11 +283,11 @@ module _ (table : Table) (typed : TypedProgram) (effects : Effects) (input : Lis
       -- ---- the call of a traversal function
 
       module _ (f : ℕ) (traversed : traversed_formal s (sub_of program n) ≡ Some f) where
-        abbrev pub made : IsTraversalCall s named (flow_at own named p).next n actuals
-        made = followed.made table typed effects input ready state top older outer named p frames of_sub at_point path n actuals result e f traversed
+        abbrev pub made : IsTraversalCall s inner.named (flow_at own inner.named inner.p).next n actuals
+        made = followed.made table typed effects input ready inner.state inner.top older outer inner.named inner.p inner.frames inner.of_sub inner.at_point inner.path n actuals result e f traversed
 
         abbrev pub traversing : IsTraversing program n f
-        traversing = followed.ways_are table typed effects input ready state top older outer named p frames of_sub at_point path n actuals result e f traversed
+        traversing = followed.ways_are table typed effects input ready inner.state inner.top older outer inner.named inner.p inner.frames inner.of_sub inner.at_point inner.path n actuals result e f traversed
 
         abbrev pub first : TypedTree
         first = first_actual s sees ready.owns made.call
@@ -306,13 +296,13 @@ module _ (table : Table) (typed : TypedProgram) (effects : Effects) (input : Lis
         others = flow.actual_acts (map (passing s false) traversing.rest) (made.call).others
 
         abbrev pub unseen_others : AreUnseen s traversing.rest
-        unseen_others = followed.unseen table typed effects input ready state top older outer named p frames of_sub at_point path n actuals result e f traversed
+        unseen_others = followed.unseen table typed effects input ready inner.state inner.top older outer inner.named inner.p inner.frames inner.of_sub inner.at_point inner.path n actuals result e f traversed
 
         abbrev pub seen_first : IsSeen s f first
-        seen_first = followed.seen_first table typed effects input ready state top older outer named p frames of_sub at_point path n actuals result e f traversed
+        seen_first = followed.seen_first table typed effects input ready inner.state inner.top older outer inner.named inner.p inner.frames inner.of_sub inner.at_point inner.path n actuals result e f traversed
 
         abbrev pub others_stay : AreActualsTo s traversing.rest (made.call).others
-        others_stay = followed.others_stay table typed effects input ready state top older outer named p frames of_sub at_point path n actuals result e f traversed
+        others_stay = followed.others_stay table typed effects input ready inner.state inner.top older outer inner.named inner.p inner.frames inner.of_sub inner.at_point inner.path n actuals result e f traversed
 
         pub no_procedure : procedure ≡ false
         no_procedure = ap (λ r. not (is_some r)) traversing.result
@@ -330,25 +320,25 @@ module _ (table : Table) (typed : TypedProgram) (effects : Effects) (input : Lis
         root_there u called_so = ap (λ (m : PlaceName). m.root) (sym called_so)
 
         -- the frame uses a package object that the first actual is rooted in
-        pub uses_first : is_package_object s (made.call).root ≡ true → Uses effects top.frame.sub (made.call).root
+        pub uses_first : is_package_object s (made.call).root ≡ true → Uses effects inner.top.frame.sub (made.call).root
         uses_first shared =
-            let found = followed.names_root table typed effects input ready state top older outer named p frames of_sub at_point path n actuals result e f traversed
-            call_point.0 call_point.2 next_at.0 next_at.1 (innermost.borrower_local table typed effects input ready state top below more_frames rest named p frames deep stages running awaiting of_sub at_point path views viewed_before kept scope holds placed_before above) shared in
-            innermost.act_uses table typed effects input ready state top below more_frames rest named p frames deep stages running awaiting of_sub at_point path views viewed_before kept scope holds placed_before above
-            (made.call).root shared (flow_at own named next_at.0) found.0 (found.1).0 (found.1).1 (found.1).2
+            let found = followed.names_root table typed effects input ready inner.state inner.top older outer inner.named inner.p inner.frames inner.of_sub inner.at_point inner.path n actuals result e f traversed
+            call_point.0 call_point.2 next_at.0 next_at.1 (innermost.borrower_local table typed effects input ready inner) shared in
+            innermost.act_uses table typed effects input ready inner
+            (made.call).root shared (flow_at own inner.named next_at.0) found.0 (found.1).0 (found.1).1 (found.1).2
 
         pub clear_own : (u : Way) → ways.name_of u ≡ traversed_name made.call → Cleared own_facts u
         clear_own u called_so =
-            followed.clear_at_call table typed effects input ready state top older outer named p frames of_sub at_point path n actuals result e f traversed
+            followed.clear_at_call table typed effects input ready inner.state inner.top older outer inner.named inner.p inner.frames inner.of_sub inner.at_point inner.path n actuals result e f traversed
             call_point.0 call_point.2 next_at.0 next_at.1 u called_so
 
         pub clear_first : (u : Way) → ways.name_of u ≡ traversed_name made.call → Cleared facts_now u
         clear_first u called_so =
-            clear_now u (λ shared. subst (Uses effects top.frame.sub) (root_there u called_so) (uses_first (ap (is_package_object s) (root_there u called_so) ∙ shared)))
+            clear_now u (λ shared. subst (Uses effects inner.top.frame.sub) (root_there u called_so) (uses_first (ap (is_package_object s) (root_there u called_so) ∙ shared)))
             (clear_own u called_so)
 
         abbrev pub first_mode : (object_at s f).mode ≡ mode.In
-        first_mode = followed.first_mode table typed effects input ready state top older outer named p frames of_sub at_point path n actuals result e f traversed
+        first_mode = followed.first_mode table typed effects input ready inner.state inner.top older outer inner.named inner.p inner.frames inner.of_sub inner.at_point inner.path n actuals result e f traversed
 
         with_first : (facts : List Fact) → ((u : Way) → ways.name_of u ≡ traversed_name made.call → Cleared facts u)
             → AllowsAll facts (acts true_copies) → AllowsAll facts (acts copies)
@@ -366,7 +356,7 @@ module _ (table : Table) (typed : TypedProgram) (effects : Effects) (input : Lis
               ∙ sym (after_append (acts first_acts) (acts others) facts) ∙ ap (λ z. after z facts) (sym (acts_append first_acts others)) ∙ ap (λ z. after (acts z) facts) (sym copies_are);
           own = with_first own_facts clear_own;
           now = with_first facts_now clear_first;
-          among = inl (λ x has back. back (followed.modes_there table typed effects input ready state top older outer named p frames of_sub at_point path n actuals result e f traversed x
+          among = inl (λ x has back. back (followed.modes_there table typed effects input ready inner.state inner.top older outer inner.named inner.p inner.frames inner.of_sub inner.at_point inner.path n actuals result e f traversed x
               (subst (λ z. Has z x) traversing.formals has)));
         }
 
@@ -378,12 +368,12 @@ module _ (table : Table) (typed : TypedProgram) (effects : Effects) (input : Lis
       pub reads_there : AreReads values
       reads_there = acting.reads
 
-      call_acts : standing.whole_acts table typed effects input ready state top older outer named p frames of_sub at_point p.instr ≡ acts (values ++ true_copies) ++ globals_of program effects n
+      call_acts : standing.whole_acts table typed effects input ready inner.state inner.top older outer inner.named inner.p inner.frames inner.of_sub inner.at_point inner.p.instr ≡ acts (values ++ true_copies) ++ globals_of program effects n
       call_acts =
-          ap (λ z. acts (z ++ called_acts program effects p.pos p.instr)) values_are
-          ∙ acts_append (values ++ true_copies) (called_acts program effects p.pos p.instr)
-          ∙ ap (λ i. acts (values ++ true_copies) ++ acts (called_acts program effects p.pos i)) e
-          ∙ ap (λ z. acts (values ++ true_copies) ++ z) (called_are program effects ready.accepted.effects_are p.pos n actuals result)
+          ap (λ z. acts (z ++ called_acts program effects inner.p.pos inner.p.instr)) values_are
+          ∙ acts_append (values ++ true_copies) (called_acts program effects inner.p.pos inner.p.instr)
+          ∙ ap (λ i. acts (values ++ true_copies) ++ acts (called_acts program effects inner.p.pos i)) e
+          ∙ ap (λ z. acts (values ++ true_copies) ++ z) (called_are program effects ready.accepted.effects_are inner.p.pos n actuals result)
 
       abbrev pub facts_called : List Fact
       facts_called = after (acts (values ++ copies)) own_facts
@@ -400,14 +390,14 @@ module _ (table : Table) (typed : TypedProgram) (effects : Effects) (input : Lis
       true_leave : after (acts (values ++ true_copies)) own_facts ≡ facts_called
       true_leave = both_leave true_copies ∙ acting.same own_facts ∙ sym copies_leave
 
-      pub call_effect : after (standing.whole_acts table typed effects input ready state top older outer named p frames of_sub at_point p.instr) own_facts ≡ after (globals_of program effects n) facts_called
+      pub call_effect : after (standing.whole_acts table typed effects input ready inner.state inner.top older outer inner.named inner.p inner.frames inner.of_sub inner.at_point inner.p.instr) own_facts ≡ after (globals_of program effects n) facts_called
       call_effect = ap (λ z. after z own_facts) call_acts ∙ after_append (acts (values ++ true_copies)) (globals_of program effects n) own_facts
           ∙ ap (after (globals_of program effects n)) true_leave
 
       each_allowed : AllowsAll own_facts (acts (values ++ true_copies)) × AllowsAll (after (acts (values ++ true_copies)) own_facts) (globals_of program effects n)
       each_allowed =
           allows_both own_facts (acts (values ++ true_copies)) (globals_of program effects n)
-          (subst (AllowsAll own_facts) call_acts (standing.allowed_whole table typed effects input ready state top older outer named p frames of_sub at_point path))
+          (subst (AllowsAll own_facts) call_acts (standing.allowed_whole table typed effects input ready inner.state inner.top older outer inner.named inner.p inner.frames inner.of_sub inner.at_point inner.path))
 
       pub globals_allowed : AllowsAll facts_called (globals_of program effects n)
       globals_allowed = subst (λ z. AllowsAll z (globals_of program effects n)) true_leave each_allowed.1
@@ -440,7 +430,7 @@ module _ (table : Table) (typed : TypedProgram) (effects : Effects) (input : Lis
 
       -- the acts of what is copied back to are those of the call
       pub back_there : (x : ℕ) → Has formals x → IsCopiedBack s x → (a : Placed) → Has copies a
-          → Has (standing.acts_by table typed effects input ready state top older outer named p frames of_sub at_point s p.instr) a
+          → Has (standing.acts_by table typed effects input ready inner.state inner.top older outer inner.named inner.p inner.frames inner.of_sub inner.at_point s inner.p.instr) a
       back_there x has back a there = elim acting.among [
         | inl none ↦ absurd (none x has back)
         | inr same ↦ subst (λ z. Has z a) (sym values_are) (Has-append_right values true_copies a (subst (λ z. Has z a) same there))
@@ -461,7 +451,7 @@ module _ (table : Table) (typed : TypedProgram) (effects : Effects) (input : Lis
       pub record IsPlainlyShown (b : alias.Passed) : Type 0 where
         pub formal : is_view_formal s b.formal ≡ true
         pub placed : Placed
-        pub there : Has (standing.acts_by table typed effects input ready state top older outer named p frames of_sub at_point s p.instr) placed
+        pub there : Has (standing.acts_by table typed effects input ready inner.state inner.top older outer inner.named inner.p inner.frames inner.of_sub inner.at_point s inner.p.instr) placed
         pub is : placed.act ≡ act.Actual b.actual.name mode.In true (procedure && is_named_access (view_of s b.formal))
 
       pub shown_there : (b : alias.Passed) → Has (alias.passed formals actuals) b → is_given s b.formal ≡ true
@@ -505,7 +495,7 @@ module _ (table : Table) (typed : TypedProgram) (effects : Effects) (input : Lis
       -- the call adds no fact
       pub adds_none : (f : Fact) → Has facts_called f → Has own_facts f
       adds_none f has = elim traverses_or [
-        | inr (x, traversed) ↦ subst (λ z. Has z f) (sym called_facts ∙ followed.facts_stay table typed effects input ready state top older outer named p frames of_sub at_point path n actuals result e x traversed) has
+        | inr (x, traversed) ↦ subst (λ z. Has z f) (sym called_facts ∙ followed.facts_stay table typed effects input ready inner.state inner.top older outer inner.named inner.p inner.frames inner.of_sub inner.at_point inner.path n actuals result e x traversed) has
         | inl none ↦ elim (added_after program effects ready.accepted.effects_are (acts (values ++ copies)) own_facts f has) [
           | inl was ↦ was
           | inr (a, there, new) ↦ (
@@ -515,8 +505,8 @@ module _ (table : Table) (typed : TypedProgram) (effects : Effects) (input : Lis
         ]
       ]
         where
-          called_facts : facts_before (standing.points table typed effects input ready state top older outer named p frames of_sub at_point) (top.frame.next ∷ top.before) ≡ facts_called
-          called_facts = standing.facts_whole table typed effects input ready state top older outer named p frames of_sub at_point path ∙ call_effect
+          called_facts : facts_before (standing.points table typed effects input ready inner.state inner.top older outer inner.named inner.p inner.frames inner.of_sub inner.at_point) (inner.top.frame.next ∷ inner.top.before) ≡ facts_called
+          called_facts = standing.facts_whole table typed effects input ready inner.state inner.top older outer inner.named inner.p inner.frames inner.of_sub inner.at_point inner.path ∙ call_effect
               ∙ global_after (globals_of program effects n) facts_called (globals_are program effects ready.accepted.effects_are n)
 
       -- nothing that was moved leads to what is copied back to
@@ -524,37 +514,37 @@ module _ (table : Table) (typed : TypedProgram) (effects : Effects) (input : Lis
       copied_there = elim modes_there [
         | inr modes ↦ all_in s sees ready.owns depth facts_now procedure formals actuals modes
         | inl none ↦ all_open s sees ready.owns depth facts_now procedure formals actuals facts_now []
-            ((ready.orderly.points named named_there p point_there_now).copied n actuals result e)
+            ((ready.orderly.points inner.named named_there inner.p point_there_now).copied n actuals result e)
             none copies_allowed (λ f has. inl has) (λ k never. absurd never)
       ]
         where
           modes_there : ((r : Report) → Has (overlap_reports s (alias.passed formals actuals)) r → ⊥) ⊎ ((x : ℕ) → Has formals x → (object_at s x).mode ≡ mode.In)
           modes_there =
-              apart_or program effects (λ x. (object_at s x).mode ≡ mode.In) ready.accepted.no_reports (flow_sub own named)
-              (standing.in_program table typed effects input ready state top older outer named p frames of_sub at_point) main_turn.point
-              (standing.in_sub table typed effects input ready state top older outer named p frames of_sub at_point) n actuals result e called.answers
+              apart_or program effects (λ x. (object_at s x).mode ≡ mode.In) ready.accepted.no_reports (flow_sub own inner.named)
+              (standing.in_program table typed effects input ready inner.state inner.top older outer inner.named inner.p inner.frames inner.of_sub inner.at_point) main_turn.point
+              (standing.in_sub table typed effects input ready inner.state inner.top older outer inner.named inner.p inner.frames inner.of_sub inner.at_point) n actuals result e called.answers
               (λ of answers x has. ready.class.modes n of answers x has)
 
-      not_end : (x : ℕ) → p.instr ≡ EndScope x → ⊥
+      not_end : (x : ℕ) → inner.p.instr ≡ EndScope x → ⊥
       not_end x is = (let no : Call n actuals result ≡ EndScope x = sym e ∙ is in absurd (false≢true (ap is_end_scope_instruction no)))
 
-      pub holds_now : Holds s sees depth views state.memory
-      holds_now = all_held s sees in_formals depth views state.memory (λ x k view bare at. holds.held x k (λ fading. not_end fading.0 fading.1) view bare at) holds.only holds.owners holds.own holds.taken holds.parts
+      pub holds_now : Holds s sees depth inner.views inner.state.memory
+      holds_now = all_held s sees in_formals depth inner.views inner.state.memory (λ x k view bare at. inner.holds.held x k (λ fading. not_end fading.0 fading.1) view bare at) inner.holds.only inner.holds.owners inner.holds.own inner.holds.taken inner.holds.parts
 
-      pub live_now : (w : Way) (l : ways.Loc) → IsOwners s w → ways.Reaches (seen s state.memory (waiting_in easy.state) state.leaks) w l
-          → (content s state.memory (waiting_in easy.state) (trunk l)).owns ≡ true
+      pub live_now : (w : Way) (l : ways.Loc) → IsOwners s w → ways.Reaches (seen s inner.state.memory (waiting_in easy.state) inner.state.leaks) w l
+          → (content s inner.state.memory (waiting_in easy.state) (trunk l)).owns ≡ true
       live_now =
-          live_trunk (steps.here main_turn) sees seeing ready.accepted.settled state.leaks [] other alone (keeps s ready.accepted.settled ready.owns) index_law
-          ready.owns views ready.class.parts_named state.memory (waiting_in easy.state) ((viewed_easy plain_there.0).0).owned
+          live_trunk (steps.here main_turn) sees seeing ready.accepted.settled inner.state.leaks [] other alone (keeps s ready.accepted.settled ready.owns) index_law
+          ready.owns inner.views ready.class.parts_named inner.state.memory (waiting_in easy.state) ((viewed_easy plain_there.0).0).owned
 
       -- views of the frame see what it has names for, or what belongs to frames below; and so do parts of its formals
-      pub formals_low : AreLowFormals s depth views
+      pub formals_low : AreLowFormals s depth inner.views
       formals_low = (
-        λ x w has. elim (holds.lies x w has) [
-          | inl named ↦ inl named
+        λ x w has. elim (inner.holds.lies x w has) [
+          | inl is_named ↦ inl is_named
           | inr far ↦ inr (far.0, (let less = far.1 in omega (arith, less)), far.2)
         ],
-        holds.low,
+        inner.holds.low,
       )
 
       there_formals : (x : ℕ) → Has formals x → Has (sub_at s n).formals x
@@ -565,15 +555,15 @@ module _ (table : Table) (typed : TypedProgram) (effects : Effects) (input : Lis
           subst (λ z. AllKeep (is_fixed s sees) (acts z)) (sym same)
           (keep_both (is_fixed s sees) (acts values) (acts true_copies) (subst (AllKeep (is_fixed s sees)) (acts_append values true_copies)
           (subst (λ z. AllKeep (is_fixed s sees) (acts z)) values_are
-          (standing.keeps_there table typed effects input ready state top older outer named p frames of_sub at_point)))).1
+          (standing.keeps_there table typed effects input ready inner.state inner.top older outer inner.named inner.p inner.frames inner.of_sub inner.at_point)))).1
 
       -- what formals of a procedure that own nothing are lent
       pub lent_there : (sub_of program n).result ≡ None → AreLent s sees facts_now formals actuals
       lent_there is =
           are_lent s sees facts_now formals actuals called.differ
-          (apart_there program effects ready.accepted.no_reports (flow_sub own named)
-          (standing.in_program table typed effects input ready state top older outer named p frames of_sub at_point) main_turn.point
-          (standing.in_sub table typed effects input ready state top older outer named p frames of_sub at_point) n actuals result e called.answers is)
+          (apart_there program effects ready.accepted.no_reports (flow_sub own inner.named)
+          (standing.in_program table typed effects input ready inner.state inner.top older outer inner.named inner.p inner.frames inner.of_sub inner.at_point) main_turn.point
+          (standing.in_sub table typed effects input ready inner.state inner.top older outer inner.named inner.p inner.frames inner.of_sub inner.at_point) n actuals result e called.answers is)
           (subst (λ b. AllowsAll facts_now (acts (flow.actual_acts (map (passing s b) formals) actuals))) of_procedure copies_allowed)
           (subst (λ b. AllKeep (is_fixed s sees) (acts (flow.actual_acts (map (passing s b) formals) actuals))) of_procedure (copies_keep (ap (λ z. flow.actual_acts z actuals) (sym (passes_to program n no_traversal)))))
           (λ y has given bare. (let formal = given_owns y (unseen_plain no_traversal y has) given in record {
@@ -622,9 +612,9 @@ module _ (table : Table) (typed : TypedProgram) (effects : Effects) (input : Lis
             | inr bare ↦ (lent_there is y has given bare m of).clear f there (borrowed_lent s sees m.name f over)
             | inl bundle ↦ shown_clear s sees formals actuals facts_now called.differ
                 (subst (λ b. AllowsAll facts_now (acts (flow.actual_acts (map (passing s b) formals) actuals))) of_procedure copies_allowed)
-                (apart_there program effects ready.accepted.no_reports (flow_sub own named)
-                (standing.in_program table typed effects input ready state top older outer named p frames of_sub at_point) main_turn.point
-                (standing.in_sub table typed effects input ready state top older outer named p frames of_sub at_point) n actuals result e called.answers is)
+                (apart_there program effects ready.accepted.no_reports (flow_sub own inner.named)
+                (standing.in_program table typed effects input ready inner.state inner.top older outer inner.named inner.p inner.frames inner.of_sub inner.at_point) main_turn.point
+                (standing.in_sub table typed effects input ready inner.state inner.top older outer inner.named inner.p inner.frames inner.of_sub inner.at_point) n actuals result e called.answers is)
                 y m of (bundle_passing s y bundle true) (many_bundle s sees in_formals y bundle) f there over
           ])
         where
@@ -647,7 +637,7 @@ module _ (table : Table) (typed : TypedProgram) (effects : Effects) (input : Lis
             (subst (λ z. AreClear s sees facts_now z (More (first f traversed) ((made f traversed).call).others)) (sym (traversing f traversed).formals) (
               (λ given u called_so plain. clear_first f traversed u called_so),
               all_clear s sees false (traversing f traversed).rest ((made f traversed).call).others facts_now (unseen_others f traversed)
-                  (followed.modes table typed effects input ready state top older outer named p frames of_sub at_point path n actuals result e f traversed)
+                  (followed.modes table typed effects input ready inner.state inner.top older outer inner.named inner.p inner.frames inner.of_sub inner.at_point inner.path n actuals result e f traversed)
                   (subst (λ z. AllowsAll facts_now (acts z)) (true_are f traversed) true_allowed),
             ))
       ]

@@ -16,14 +16,10 @@ use Rattle.flow_paths.specs.declared.report.Effects.{Effects}
 use Rattle.flow_paths.specs.Instructions.{Call}
 use Rattle.flow_paths.specs.Objects.{Typing, object_at, is_package_object, view_of}
 use Rattle.flow_paths.specs.Aliases as alias
-use Rattle.flow_paths.specs.Points.{NamedPoint}
-use Rattle.flow_paths.specs.Laid.{FlowProgram, NamedSub, flow_sub, typing_of, flow_typing, flow_program, flow_named}
-use Rattle.flow_paths.specs.Paths.{ControlPath}
-use Rattle.flow_paths.specs.Effects.{path_points}
-use Rattle.machine.specs.States.{Frame, State, sub_of}
+use Rattle.flow_paths.specs.Laid.{FlowProgram, flow_sub, typing_of, flow_typing, flow_program}
+use Rattle.machine.specs.States.{Frame, sub_of}
 use Rattle.machine.specs.Step.{Turn}
 use Rattle.machine.specs.Calls.{Passed}
-use Rattle.machine.specs.Owners.{waiting_in}
 use Rattle.place_names.specs.declared.act.Mode.TheVariants as mode
 use Rattle.soundness.specs.OwnedWays.Ways.{Step, Way}
 use Rattle.soundness.specs.OwnedWays.Ways as ways
@@ -31,15 +27,13 @@ use Rattle.soundness.specs.Seen.{is_view_formal, seen, home}
 use Rattle.soundness.proofs.OwnedWays.Named.{longer}
 use Rattle.soundness.proofs.OwnedWays.Dropped.{named_base}
 use Rattle.soundness.proofs.Contents.{bool_cases}
-use Rattle.soundness.specs.Typed.{Kept}
-use Rattle.soundness.specs.Sound.{Stage, facts_of, AreStages, Uses, IsRunnable, InScope, IsNamedSub, IsAtPoint, view_of as view_here}
+use Rattle.soundness.specs.Sound.{Stage, facts_of, Uses, view_of as view_here}
 use Rattle.soundness.proofs.Around.{package_named}
-use Rattle.soundness.specs.OwnedLoans.Views.{expand, known_gone, Views, ViewedAlone, IsThrough, IsShared, on, Lifted, InPart}
+use Rattle.soundness.specs.OwnedLoans.Views.{expand, IsThrough, IsShared, on, Lifted, InPart}
 use Rattle.soundness.proofs.OwnedLoans.Ways.{under_on, lifted_way, stands_alone, on_named, on_under, in_part_way}
 use Rattle.soundness.proofs.ViewedSoundness.ViewKinds.{open_bundle, bundle_view, true_false}
 use Rattle.soundness.specs.ViewedSoundness.Holds.{Seeing, is_view, is_given, is_exclusive, is_bundle, GoesBy}
-use Rattle.viewed_steps.specs.Awaited.{lasting_of, AreAwaited}
-use Rattle.viewed_steps.specs.Sound.{IsBeyond, HoldsAt, ArePlaced, NoneAbove, ViewStage, stages_of, GoneElsewhere, Disturbs, AreWaiting, IsResting, HasTraversals, passed_roots, LentBy, known_at}
+use Rattle.viewed_steps.specs.Sound.{ViewStage, Disturbs, passed_roots, LentBy, known_at}
 use Rattle.viewed_steps.specs.Ready.{IsReady, IsCalled}
 use Rattle.viewed_steps.proofs.Lent.{loans_stay}
 use Rattle.viewed_steps.proofs.Waiting.{StandsBetween, handed, root_under}
@@ -81,6 +75,7 @@ use Rattle.viewed_steps.proofs.Calling as calling
 use Rattle.viewed_steps.proofs.Roots.{view_goes}
 use Rattle.viewed_steps.specs.Seeing.{sees_in}
 use Rattle.viewed_steps.proofs.Constructors.{is_borrowed_loan}
+use Rattle.viewed_steps.proofs.InnerFrame.{InnerFrame}
 
 -- ---- what is known of an actual that is shown
 
@@ -133,45 +128,34 @@ module _ (table : Table) (typed : TypedProgram) (effects : Effects) (input : Lis
   abbrev unmoved_stage : (e : Stage) → e.frame.sub ≡ 0 → (name : PlaceName) → Has (facts_of program effects e) (Moved name) → ⊥
   unmoved_stage = packages.unmoved_stage table typed effects input ready
 
-  module _ (state : State) (top : Stage) (below : ViewStage) (more_frames : List ViewStage) (rest : List Frame) (named : NamedSub) (p : NamedPoint)
-      (frames : state.frames ≡ top.frame ∷ (below.stage.frame ∷ rest)) (deep : top.depth ≡ suc (length rest))
-      (stages : AreStages (stages_of (below ∷ more_frames)) (below.stage.frame ∷ rest))
-      (running : IsRunnable table typed top.frame.sub × IsResting s top × AreWaiting table typed effects state top.frame.sub top.frame.returns (below ∷ more_frames))
-      (awaiting : AreAwaited table typed None (top ∷ stages_of (below ∷ more_frames)))
-      (of_sub : IsNamedSub (flow_named table typed) top.frame.sub named) (at_point : IsAtPoint named.points top.frame.next p)
-      (path : ControlPath (path_points program effects (sub_of program top.frame.sub)) top.before top.frame.next) (views : Views)
-      (viewed_before : ViewedAlone (home s (suc (length rest))) sees (known_gone (home s (suc (length rest))) (GoneElsewhere program effects (below ∷ more_frames))) views
-      (view_here s state) (facts_of program effects top))
-      (kept : Kept s state.memory (waiting_in state)) (scope : InScope s state.memory (suc (length rest)) (lasting_of s p.scope)) (holds : HoldsAt s sees (suc (length rest)) views state.memory p)
-      (placed_before : ArePlaced program (suc (length rest)) (facts_of program effects top) views p.scope × IsBeyond program effects (suc (length rest)) views (below ∷ more_frames)) (above : NoneAbove s (suc (length rest)) state.memory
-      × HasTraversals table typed (view_here s state) (record { stage = top; views = views; cells = [] } ∷ (below ∷ more_frames))) where
+  module _ (inner : InnerFrame table typed effects) where
     abbrev outer : List Frame
-    outer = below.stage.frame ∷ rest
+    outer = inner.below.stage.frame ∷ inner.rest
 
     abbrev older : List ViewStage
-    older = below ∷ more_frames
+    older = inner.below ∷ inner.more_frames
 
     abbrev depth : ℕ
-    depth = suc (length rest)
+    depth = suc (length inner.rest)
 
-    abbrev between : (g : ViewStage) → Has (below ∷ more_frames) g → StandsBetween table typed effects unmoved_stage local state (suc (length rest)) (below ∷ more_frames) g
-    between = innermost.between table typed effects input ready state top below more_frames rest named p frames deep stages running awaiting of_sub at_point path views viewed_before kept scope holds placed_before above
+    abbrev between : (g : ViewStage) → Has (inner.below ∷ inner.more_frames) g → StandsBetween table typed effects unmoved_stage local inner.state (suc (length inner.rest)) (inner.below ∷ inner.more_frames) g
+    between = innermost.between table typed effects input ready inner
 
     abbrev main_turn : Turn
-    main_turn = standing.t table typed effects input ready state top older outer named p frames of_sub at_point
+    main_turn = standing.t table typed effects input ready inner.state inner.top older outer inner.named inner.p inner.frames inner.of_sub inner.at_point
 
     abbrev own_facts : List Fact
-    own_facts = standing.facts table typed effects input ready state top older outer named p frames of_sub at_point path
+    own_facts = standing.facts table typed effects input ready inner.state inner.top older outer inner.named inner.p inner.frames inner.of_sub inner.at_point inner.path
 
     abbrev handed_on : List Fact
-    handed_on = handed table typed effects unmoved_stage local state (suc (length rest)) (below ∷ more_frames) between
+    handed_on = handed table typed effects unmoved_stage local inner.state (suc (length inner.rest)) (inner.below ∷ inner.more_frames) between
 
     abbrev facts_now : List Fact
     facts_now = own_facts ++ handed_on
 
-    module _ (n : ℕ) (actuals : TypedTree) (result : Option ℕ) (e : p.instr ≡ Call n actuals result) where
+    module _ (n : ℕ) (actuals : TypedTree) (result : Option ℕ) (e : inner.p.instr ≡ Call n actuals result) where
       abbrev called : IsCalled table typed n actuals result
-      called = calling.called table typed effects input ready state top below more_frames rest named p frames deep stages running awaiting of_sub at_point path views viewed_before kept scope holds placed_before above n actuals result e
+      called = calling.called table typed effects input ready inner n actuals result e
 
       abbrev formals : List ℕ
       formals = (sub_of program n).formals
@@ -180,10 +164,10 @@ module _ (table : Table) (typed : TypedProgram) (effects : Effects) (input : Lis
       passed_all = alias.passed formals actuals
 
       abbrev procedure : Bool
-      procedure = calling.procedure table typed effects input ready state top below more_frames rest named p frames deep stages running awaiting of_sub at_point path views viewed_before kept scope holds placed_before above n actuals result e
+      procedure = calling.procedure table typed effects input ready inner n actuals result e
 
       abbrev facts_called : List Fact
-      facts_called = calling.facts_called table typed effects input ready state top below more_frames rest named p frames deep stages running awaiting of_sub at_point path views viewed_before kept scope holds placed_before above n actuals result e
+      facts_called = calling.facts_called table typed effects input ready inner n actuals result e
 
       there_formals : (x : ℕ) → Has formals x → Has (sub_at s n).formals x
       there_formals x has = subst (λ z. Has z x) (sym (ap (λ (z : Signature). z.formals) (signature_is program n))) has
@@ -192,9 +176,9 @@ module _ (table : Table) (typed : TypedProgram) (effects : Effects) (input : Lis
       result_there o is = ap (λ (z : Signature). z.result) (signature_is program n) ∙ is
 
       -- what the call shows
-      pub shown_is : (returns : List Way) → shown_at program (calling.waits_with table typed effects input ready state top below more_frames rest named p frames deep stages running awaiting of_sub at_point path views viewed_before kept scope holds placed_before above n actuals result e returns)
+      pub shown_is : (returns : List Way) → shown_at program (calling.waits_with table typed effects input ready inner n actuals result e returns)
           ≡ flat_map (shown_one s) passed_all
-      shown_is returns = ap (shown_by program) (innermost.instr_there table typed effects input ready state top below more_frames rest named p frames deep stages running awaiting of_sub at_point path views viewed_before kept scope holds placed_before above ∙ e)
+      shown_is returns = ap (shown_by program) (innermost.instr_there table typed effects input ready inner ∙ e)
 
       pub shown_of : (f : Fact) → Has (flat_map (shown_one s) passed_all) f → IsShownOf s passed_all f
       shown_of f has = all_are s passed_all f has
@@ -237,24 +221,24 @@ module _ (table : Table) (typed : TypedProgram) (effects : Effects) (input : Lis
       -- what is called doesn't disturb it
       pub shown_spared : (b : alias.Passed) → Has passed_all b → is_given s b.formal ≡ true → is_package_object s b.actual.name.root ≡ true
           → Disturbs effects (lent_to s b.formal) n b.actual.name.root → ⊥
-      shown_spared b has given shared disturbs = elim (acting.shown_there table typed effects input ready state top below more_frames rest named p frames deep stages running awaiting of_sub at_point path views viewed_before kept scope holds placed_before above n actuals result e b has given) [
+      shown_spared b has given shared disturbs = elim (acting.shown_there table typed effects input ready inner n actuals result e b has given) [
         | inl plain ↦ elim by_answer [
           | inl is ↦ elim (bool_cases (is_bundle s b.formal)) [
-            | inr bare ↦ changed_unused program effects ready.accepted.no_reports (flow_sub own named)
-                (standing.in_program table typed effects input ready state top older outer named p frames of_sub at_point) main_turn.point
-                (standing.in_sub table typed effects input ready state top older outer named p frames of_sub at_point) n actuals result e called.answers is b has
+            | inr bare ↦ changed_unused program effects ready.accepted.no_reports (flow_sub own inner.named)
+                (standing.in_program table typed effects input ready inner.state inner.top older outer inner.named inner.p inner.frames inner.of_sub inner.at_point) main_turn.point
+                (standing.in_sub table typed effects input ready inner.state inner.top older outer inner.named inner.p inner.frames inner.of_sub inner.at_point) n actuals result e called.answers is b has
                 (not_immutable plain.formal bare is) shared (disturbs_uses (lent_to s b.formal) disturbs)
-            | inl bundle ↦ shown_unwritten program effects ready.accepted.no_reports (flow_sub own named)
-                (standing.in_program table typed effects input ready state top older outer named p frames of_sub at_point) main_turn.point
-                (standing.in_sub table typed effects input ready state top older outer named p frames of_sub at_point) n actuals result e called.answers is b has
+            | inl bundle ↦ shown_unwritten program effects ready.accepted.no_reports (flow_sub own inner.named)
+                (standing.in_program table typed effects input ready inner.state inner.top older outer inner.named inner.p inner.frames inner.of_sub inner.at_point) main_turn.point
+                (standing.in_sub table typed effects input ready inner.state inner.top older outer inner.named inner.p inner.frames inner.of_sub inner.at_point) n actuals result e called.answers is b has
                 (many_bundle s sees in_formals b.formal bundle) shared
                 (subst (λ l. Disturbs effects l n b.actual.name.root) (lent_seen b.formal (open_bundle s b.formal bundle)) disturbs)
           ]
           | inr (t, is) ↦ unwritten t is
         ]
         | inr (f, traversed, first_is, name_is) ↦
-            unwritten (acting.traversing table typed effects input ready state top below more_frames rest named p frames deep stages running awaiting of_sub at_point path views viewed_before kept scope holds placed_before above n actuals result e f traversed).of
-            (acting.traversing table typed effects input ready state top below more_frames rest named p frames deep stages running awaiting of_sub at_point path views viewed_before kept scope holds placed_before above n actuals result e f traversed).result
+            unwritten (acting.traversing table typed effects input ready inner n actuals result e f traversed).of
+            (acting.traversing table typed effects input ready inner n actuals result e f traversed).result
       ]
         where
           variable_named : (w : TypeView) → is_named_access w ≡ true → is_variable_access w ≡ true
@@ -281,7 +265,7 @@ module _ (table : Table) (typed : TypedProgram) (effects : Effects) (input : Lis
           unwritten : (t : ℕ) → (sub_of program n).result ≡ Some t → ⊥
           unwritten t is =
               function_writes table typed effects ready.accepted.no_reports ready.accepted.effects_are called.text_io
-              (innermost.borrower_local table typed effects input ready state top below more_frames rest named p frames deep stages running awaiting of_sub at_point path views viewed_before kept scope holds placed_before above)
+              (innermost.borrower_local table typed effects input ready inner)
               (λ sub in_program q in_sub k more answer call_is. (let other_call = ready.called sub in_program q in_sub k more answer call_is in
               ((other_call.runs).named, (other_call.runs).stands, other_call.answers, other_call.local)))
               n (called.runs).named (called.runs).stands (ap is_some is) called.local b.actual.name.root shared
@@ -289,16 +273,16 @@ module _ (table : Table) (typed : TypedProgram) (effects : Effects) (input : Lis
 
       -- the frame names it, and changes it where it is lent to be changed
       pub shown_used : (b : alias.Passed) → Has passed_all b → is_given s b.formal ≡ true → is_package_object s b.actual.name.root ≡ true
-          → Uses effects top.frame.sub b.actual.name.root × (lent_to s b.formal ≡ Borrowed → Has (written_by effects top.frame.sub) b.actual.name.root)
-      shown_used b has given shared = elim (acting.shown_there table typed effects input ready state top below more_frames rest named p frames deep stages running awaiting of_sub at_point path views viewed_before kept scope holds placed_before above n actuals result e b has given) [
+          → Uses effects inner.top.frame.sub b.actual.name.root × (lent_to s b.formal ≡ Borrowed → Has (written_by effects inner.top.frame.sub) b.actual.name.root)
+      shown_used b has given shared = elim (acting.shown_there table typed effects input ready inner n actuals result e b has given) [
         | inl plain ↦ by_call plain
         | inr (f, traversed, first_is, name_is) ↦ (
-            let root : b.actual.name.root ≡ ((acting.made table typed effects input ready state top below more_frames rest named p frames deep stages running awaiting of_sub at_point path views viewed_before kept scope holds placed_before above n actuals result e f traversed).call).root = ap (λ (m : PlaceName). m.root) name_is in
+            let root : b.actual.name.root ≡ ((acting.made table typed effects input ready inner n actuals result e f traversed).call).root = ap (λ (m : PlaceName). m.root) name_is in
             let shared_there = ap (is_package_object s) (sym root) ∙ shared in (
-              subst (Uses effects top.frame.sub) (sym root) (acting.uses_first table typed effects input ready state top below more_frames rest named p frames deep stages running awaiting of_sub at_point path views viewed_before kept scope holds placed_before above n actuals result e f traversed shared_there),
+              subst (Uses effects inner.top.frame.sub) (sym root) (acting.uses_first table typed effects input ready inner n actuals result e f traversed shared_there),
               λ borrowed. absurd (true_false (is_exclusive s b.formal) (lent_exclusive b.formal borrowed)
-                  (function_sees (acting.traversing table typed effects input ready state top below more_frames rest named p frames deep stages running awaiting of_sub at_point path views viewed_before kept scope holds placed_before above n actuals result e f traversed).of
-                  (acting.traversing table typed effects input ready state top below more_frames rest named p frames deep stages running awaiting of_sub at_point path views viewed_before kept scope holds placed_before above n actuals result e f traversed).result
+                  (function_sees (acting.traversing table typed effects input ready inner n actuals result e f traversed).of
+                  (acting.traversing table typed effects input ready inner n actuals result e f traversed).result
                   b has given)),
             ))
       ]
@@ -310,18 +294,18 @@ module _ (table : Table) (typed : TypedProgram) (effects : Effects) (input : Lis
           writes_or_reads m true = inl (λ j. eq-eqb m.root m.root refl j && true)
           writes_or_reads m false = inr (λ j. eq-eqb m.root m.root refl j && true)
 
-          by_call : acting.IsPlainlyShown table typed effects input ready state top below more_frames rest named p frames deep stages running awaiting of_sub at_point path views viewed_before kept scope holds placed_before above n actuals result e b
-              → Uses effects top.frame.sub b.actual.name.root × (lent_to s b.formal ≡ Borrowed → Has (written_by effects top.frame.sub) b.actual.name.root)
+          by_call : acting.IsPlainlyShown table typed effects input ready inner n actuals result e b
+              → Uses effects inner.top.frame.sub b.actual.name.root × (lent_to s b.formal ≡ Borrowed → Has (written_by effects inner.top.frame.sub) b.actual.name.root)
           by_call plain =
-              let in_point = subst (λ z. Has z plain.placed) (standing.acts_agree table typed effects input ready state top older outer named p frames of_sub at_point) plain.there in
-              let in_sub = standing.in_sub table typed effects input ready state top older outer named p frames of_sub at_point in (
-                innermost.act_uses table typed effects input ready state top below more_frames rest named p frames deep stages running awaiting of_sub at_point path views viewed_before kept scope holds placed_before above
+              let in_point = subst (λ z. Has z plain.placed) (standing.acts_agree table typed effects input ready inner.state inner.top older outer inner.named inner.p inner.frames inner.of_sub inner.at_point) plain.there in
+              let in_sub = standing.in_sub table typed effects input ready inner.state inner.top older outer inner.named inner.p inner.frames inner.of_sub inner.at_point in (
+                innermost.act_uses table typed effects input ready inner
                     b.actual.name.root shared main_turn.point in_sub plain.placed in_point
                     (subst (λ z. (act_writes b.actual.name.root z ≡ true) ⊎ (act_reads b.actual.name.root z ≡ true)) (sym plain.is)
                     (writes_or_reads b.actual.name (procedure && is_named_access (view_of s b.formal)))),
                 λ borrowed. elim by_answer [
                   | inr (t, is) ↦ absurd (true_false (is_exclusive s b.formal) (lent_exclusive b.formal borrowed) (function_sees t is b has given))
-                  | inl is ↦ innermost.act_writes_it table typed effects input ready state top below more_frames rest named p frames deep stages running awaiting of_sub at_point path views viewed_before kept scope holds placed_before above
+                  | inl is ↦ innermost.act_writes_it table typed effects input ready inner
                       b.actual.name.root shared main_turn.point in_sub plain.placed in_point
                       (subst (λ z. act_writes b.actual.name.root z ≡ true) (sym plain.is)
                       (writes_then b.actual.name (procedure && is_named_access (view_of s b.formal)) (λ j. not (is_some (is j)) && formal_named b has plain.formal (exclusive_bare b.formal (lent_exclusive b.formal borrowed)) is j)))
@@ -334,11 +318,11 @@ module _ (table : Table) (typed : TypedProgram) (effects : Effects) (input : Lis
             → (w : Way) → ways.name_of w ≡ b.actual.name → Cleared facts_now w
         clears b has given shared w named_so =
             clear_named s sees facts_now formals actuals clear b has given
-            (innermost.package_owns table typed effects input ready state top below more_frames rest named p frames deep stages running awaiting of_sub at_point path views viewed_before kept scope holds placed_before above b.actual.name.root shared) w named_so
+            (innermost.package_owns table typed effects input ready inner b.actual.name.root shared) w named_so
 
         less_now : (f : Fact) → Has facts_called f → Has facts_now f
         less_now f has =
-            Has-append_left own_facts handed_on f (acting.adds_none table typed effects input ready state top below more_frames rest named p frames deep stages running awaiting of_sub at_point path views viewed_before kept scope holds placed_before above n actuals result e f has)
+            Has-append_left own_facts handed_on f (acting.adds_none table typed effects input ready inner n actuals result e f has)
 
         pub shown_apart : FactsAreClear sees facts_called → (f : Fact) (h : ℕ) (name : PlaceName) → Has (facts_called ++ flat_map (shown_one s) passed_all) f
             → loan_by f ≡ Borrowed → Has (facts_called ++ flat_map (shown_one s) passed_all) (Lent Observed h name) → overlaps (place f) name ≡ true → ⊥
@@ -358,7 +342,7 @@ module _ (table : Table) (typed : TypedProgram) (effects : Effects) (input : Lis
                   let exclusive : is_exclusive s (b.passed).formal ≡ true = lent_exclusive (b.passed).formal (sym (ap loan_by b.is) ∙ borrowed) in
                   let given : is_given s (b.passed).formal ≡ true = b.formal in
                   let x_has = named_has formals actuals b.passed b.has in
-                  elim (acting.by_callee table typed effects input ready state top below more_frames rest named p frames deep stages running awaiting of_sub at_point path views viewed_before kept scope holds placed_before above n actuals result e) [
+                  elim (acting.by_callee table typed effects input ready inner n actuals result e) [
                     | inl modes ↦ by_lent b exclusive (modes.2 (b.passed).formal x_has given (seeing.changes (b.passed).formal given exclusive) (b.passed).actual b.has)
                         (Has-append_cases facts_called (flat_map (shown_one s) passed_all) (Lent Observed h name) seen)
                     | inr lent ↦ by_lent b exclusive (lent (b.passed).formal x_has given (exclusive_bare (b.passed).formal exclusive) (b.passed).actual b.has)
@@ -393,18 +377,18 @@ module _ (table : Table) (typed : TypedProgram) (effects : Effects) (input : Lis
 
       -- ---- what a formal sees that begins at a package object
 
-      module _ (passed : List Passed) (given : calling.Given table typed effects input ready state top below more_frames rest named p frames deep stages running awaiting of_sub at_point path views viewed_before kept scope holds placed_before above n actuals result e passed) where
+      module _ (passed : List Passed) (given : calling.Given table typed effects input ready inner n actuals result e passed) where
         abbrev waits_there : ViewStage
-        waits_there = calling.waits_there table typed effects input ready state top below more_frames rest named p frames deep stages running awaiting of_sub at_point path views viewed_before kept scope holds placed_before above n actuals result e passed given
+        waits_there = calling.waits_there table typed effects input ready inner n actuals result e passed given
 
         abbrev LentAround : Loan → PlaceName → Type 0
         LentAround l m = LentBy program effects (waits_there ∷ older) l m
 
         abbrev next : ℕ
-        next = suc (suc (length rest))
+        next = suc (suc (length inner.rest))
 
         some_depth : 0 < waits_there.stage.depth
-        some_depth = omega (arith, deep)
+        some_depth = omega (arith, inner.deep)
 
         -- what the frame knows it keeps, or the object as a whole
         known_lent : (f : Fact) (k w : Way) → Has (known_at program effects waits_there.stage) f → place f ≡ ways.name_of k → ways.Named (home s depth) k → ways.Under k w
@@ -447,9 +431,9 @@ module _ (table : Table) (typed : TypedProgram) (effects : Effects) (input : Lis
 
         -- `there` is what the actual's name designates, or what a part of its place does
         pub shared_at : (b : alias.Passed) → Has passed_all b → is_given s b.formal ≡ true → (from : Way) → ways.Named (home s depth) from → b.actual.name ≡ ways.name_of from
-            → (there : Way) → ways.Under from there → GoesBy s views (ways.number_of from) there
+            → (there : Way) → ways.Under from there → GoesBy s inner.views (ways.number_of from) there
             → (sees b.formal ≡ false → sees (ways.number_of from) ≡ false)
-            → (w : Way) → w ≡ expand views there → ways.Named (home s depth) w → is_package_object s (ways.number_of w) ≡ true
+            → (w : Way) → w ≡ expand inner.views there → ways.Named (home s depth) w → is_package_object s (ways.number_of w) ≡ true
             → IsShared (home s next) LentAround (sees b.formal) w
         shared_at b has is_given_formal from at_home named_so there begins_there goes plain w leads w_home shared = elim (bool_cases (is_view s (ways.number_of from))) [
           | inr owner ↦ by_owner (no_way owner) (no_parts owner)
@@ -462,23 +446,23 @@ module _ (table : Table) (typed : TypedProgram) (effects : Effects) (input : Lis
             root_there : ways.number_of there ≡ ways.number_of from
             root_there = (longer from there begins_there).root
 
-            no_way : is_view s (ways.number_of from) ≡ false → views.way (ways.number_of from) ≡ None
-            no_way owner = by_way (views.way (ways.number_of from)) refl
+            no_way : is_view s (ways.number_of from) ≡ false → inner.views.way (ways.number_of from) ≡ None
+            no_way owner = by_way (inner.views.way (ways.number_of from)) refl
               where
-                by_way : (o : Option Way) → views.way (ways.number_of from) ≡ o → views.way (ways.number_of from) ≡ None
+                by_way : (o : Option Way) → inner.views.way (ways.number_of from) ≡ o → inner.views.way (ways.number_of from) ≡ None
                 by_way None is = is
-                by_way (Some k) is = absurd (true_false (is_view s (ways.number_of from)) (holds.only (ways.number_of from) k is) owner)
+                by_way (Some k) is = absurd (true_false (is_view s (ways.number_of from)) (inner.holds.only (ways.number_of from) k is) owner)
 
-            no_parts : is_view s (ways.number_of from) ≡ false → (p : List Step) → views.part_way (ways.number_of from) p ≡ None
-            no_parts owner p = by_way (views.part_way (ways.number_of from) p) refl
+            no_parts : is_view s (ways.number_of from) ≡ false → (part_path : List Step) → inner.views.part_way (ways.number_of from) part_path ≡ None
+            no_parts owner part_path = by_way (inner.views.part_way (ways.number_of from) part_path) refl
               where
-                by_way : (o : Option Way) → views.part_way (ways.number_of from) p ≡ o → views.part_way (ways.number_of from) p ≡ None
+                by_way : (o : Option Way) → inner.views.part_way (ways.number_of from) part_path ≡ o → inner.views.part_way (ways.number_of from) part_path ≡ None
                 by_way None is = is
-                by_way (Some k) is = absurd (true_false (is_view s (ways.number_of from)) (bundle_view s (ways.number_of from) (holds.parts.only (ways.number_of from) p k is)) owner)
+                by_way (Some k) is = absurd (true_false (is_view s (ways.number_of from)) (bundle_view s (ways.number_of from) (inner.holds.parts.only (ways.number_of from) part_path k is)) owner)
 
-            by_owner : views.way (ways.number_of from) ≡ None → ((p : List Step) → views.part_way (ways.number_of from) p ≡ None) → IsShared (home s next) LentAround (sees b.formal) w
+            by_owner : inner.views.way (ways.number_of from) ≡ None → ((part_path : List Step) → inner.views.part_way (ways.number_of from) part_path ≡ None) → IsShared (home s next) LentAround (sees b.formal) w
             by_owner none bare =
-                let itself : w ≡ there = leads ∙ stands_alone views there (ap views.way root_there ∙ none) (λ p. ap (λ z. views.part_way z p) root_there ∙ bare p) in
+                let itself : w ≡ there = leads ∙ stands_alone inner.views there (ap inner.views.way root_there ∙ none) (λ part_path. ap (λ z. inner.views.part_way z part_path) root_there ∙ bare part_path) in
                 let root : is_package_object s b.actual.name.root ≡ true = ap (λ (z : PlaceName). is_package_object s z.root) named_so ∙ ap (is_package_object s) (sym root_there) ∙ ap (λ z. is_package_object s (ways.number_of z)) (sym itself) ∙ shared in
                 let f : Fact = Lent (lent_to s b.formal) b.formal b.actual.name in
                 let shown : Has (shown_at program waits_there.stage) f =
@@ -492,34 +476,34 @@ module _ (table : Table) (typed : TypedProgram) (effects : Effects) (input : Lis
             further : (loan : Loan) (k : Way) → ways.Under k w → IsThrough (home s next) LentAround loan k → IsThrough (home s next) LentAround loan w
             further loan k under (q, q_home, above_k, lent) = (q, q_home, under_on q k w above_k under, lent)
 
-            by_part : is_bundle s (ways.number_of from) ≡ true → (l : InPart views there) → IsShared (home s next) LentAround (sees b.formal) w
+            by_part : is_bundle s (ways.number_of from) ≡ true → (l : InPart inner.views there) → IsShared (home s next) LentAround (sees b.formal) w
             by_part bundle l =
-                let on_way : w ≡ on l.way l.rest = leads ∙ in_part_way views there l in
+                let on_way : w ≡ on l.way l.rest = leads ∙ in_part_way inner.views there l in
                 let l_home : ways.Named (home s depth) l.way = on_named (home s depth) l.way l.rest (subst (ways.Named (home s depth)) on_way w_home) in
-                let (loan, through, changed) = placed_before.1.1.1 l.object l.steps l.way l.has l_home in (
+                let (loan, through, changed) = inner.placed_before.1.1.1 l.object l.steps l.way l.has l_home in (
                   loan,
                   further loan l.way (subst (ways.Under l.way) (sym on_way) (on_under l.way l.rest)) (older_lent loan l.way through),
-                  λ changes. absurd (true_false (sees (ways.number_of from)) (holds.parts.looks (ways.number_of from) bundle) (plain changes)),
+                  λ changes. absurd (true_false (sees (ways.number_of from)) (inner.holds.parts.looks (ways.number_of from) bundle) (plain changes)),
                 )
 
-            by_view : (l : Lifted views there) × (l.object ≡ ways.number_of from) → IsShared (home s next) LentAround (sees b.formal) w
+            by_view : (l : Lifted inner.views there) × (l.object ≡ ways.number_of from) → IsShared (home s next) LentAround (sees b.formal) w
             by_view (l, object_is) =
-                let on_way : w ≡ on l.way l.rest = leads ∙ lifted_way views there l in
+                let on_way : w ≡ on l.way l.rest = leads ∙ lifted_way inner.views there l in
                 let l_home : ways.Named (home s depth) l.way = on_named (home s depth) l.way l.rest (subst (ways.Named (home s depth)) on_way w_home) in
                 let under : ways.Under l.way w = subst (ways.Under l.way) (sym on_way) (on_under l.way l.rest) in
-                let (loan, goes, changed) = view_goes (home s depth) sees views (view_here s state) (facts_of program effects top) viewed_before.views
-                (LentBy program effects older) placed_before.1.1 l.object l.way l.has l_home in
+                let (loan, goes, changed) = view_goes (home s depth) sees inner.views (view_here s inner.state) (facts_of program effects inner.top) inner.viewed_before.views
+                (LentBy program effects older) inner.placed_before.1.1 l.object l.way l.has l_home in
                 let changes_so : sees b.formal ≡ false → loan ≡ Borrowed = λ changes. changed (ap sees object_is ∙ plain changes) in
                 elim goes [
                   | inr through ↦ (loan, further loan l.way under (older_lent loan l.way through), changes_so)
                   | inl (holder, k, fact, k_home, k_under) ↦ (
                       let called_fact : Has facts_called (Lent loan holder (ways.name_of k)) =
-                      loans_stay s (acting.values table typed effects input ready state top below more_frames rest named p frames deep stages running awaiting of_sub at_point path views viewed_before kept scope holds placed_before above n actuals result e ++ acting.copies table typed effects input ready state top below more_frames rest named p frames deep stages running awaiting of_sub at_point path views viewed_before kept scope holds placed_before above n actuals result e) (acting.spare_call table typed effects input ready state top below more_frames rest named p frames deep stages running awaiting of_sub at_point path views viewed_before kept scope holds placed_before above n actuals result e)
+                      loans_stay s (acting.values table typed effects input ready inner n actuals result e ++ acting.copies table typed effects input ready inner n actuals result e) (acting.spare_call table typed effects input ready inner n actuals result e)
                       own_facts loan holder (ways.name_of k)
-                      (subst (λ fs. Has fs (Lent loan holder (ways.name_of k))) (standing.facts_are table typed effects input ready state top older outer named p frames of_sub at_point path) fact) in
+                      (subst (λ fs. Has fs (Lent loan holder (ways.name_of k))) (standing.facts_are table typed effects input ready inner.state inner.top older outer inner.named inner.p inner.frames inner.of_sub inner.at_point inner.path) fact) in
                       elim (known_lent (Lent loan holder (ways.name_of k)) k w
                       (Has-append_left (facts_of program effects waits_there.stage) (shown_at program waits_there.stage) (Lent loan holder (ways.name_of k))
-                      (subst (λ fs. Has fs (Lent loan holder (ways.name_of k))) (sym (calling.facts_there table typed effects input ready state top below more_frames rest named p frames deep stages running awaiting of_sub at_point path views viewed_before kept scope holds placed_before above n actuals result e)) called_fact))
+                      (subst (λ fs. Has fs (Lent loan holder (ways.name_of k))) (sym (calling.facts_there table typed effects input ready inner n actuals result e)) called_fact))
                       refl k_home (under_on k l.way w k_under under) shared) [
                         | inl through ↦ (loan, through, changes_so)
                         | inr through ↦ (Borrowed, through, λ changes. refl)

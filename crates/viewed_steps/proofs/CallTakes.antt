@@ -1,5 +1,5 @@
 -- What a call takes: places of which the frames around keep nothing, and package objects that the frame writes.
-use Rattle.std.proofs.Common.{◌≡◌, sym, ap, ◌∙◌, subst, ◌⊎◌, inl, inr, ℕ, suc, true, false, List, [], ◌∷◌, ◌++◌, take, length, arith, Option, Some, None, Bool, if◌then◌else◌}
+use Rattle.std.proofs.Common.{◌≡◌, sym, ap, ◌∙◌, subst, ◌⊎◌, inl, inr, ℕ, suc, true, false, List, [], ◌∷◌, ◌++◌, take, length, arith, Option, Some, Bool, if◌then◌else◌}
 use Rattle.spark_base.specs.Lists.{Has}
 use Rattle.place_names.specs.declared.act.Placed.{Placed}
 use Rattle.place_names.specs.declared.fact.Fact.{Fact}
@@ -13,39 +13,38 @@ use Rattle.typed_tree.specs.Programs.{TypedProgram}
 use Rattle.flow_paths.specs.declared.report.Effects.{Effects}
 use Rattle.flow_paths.specs.Instructions.{Call}
 use Rattle.flow_paths.specs.Objects.{Typing, is_package_object}
-use Rattle.flow_paths.specs.Aliases.{overlap_reports, passed_reports, call_reports}
 use Rattle.flow_paths.specs.Aliases as alias
 use Rattle.flow_paths.specs.Points.{NamedPoint}
-use Rattle.flow_paths.specs.Laid.{FlowProgram, NamedSub, flow_sub, typing_of, flow_typing, flow_program, flow_named}
-use Rattle.flow_paths.specs.Paths.{ControlPath, facts_before}
+use Rattle.flow_paths.specs.Laid.{FlowProgram, flow_sub, typing_of, flow_typing, flow_program, flow_named}
+use Rattle.flow_paths.specs.Paths.{facts_before}
 use Rattle.flow_paths.specs.Effects.{path_points}
 use Rattle.flow_paths.specs.Scopes.{taken, scope_behind, Leads}
-use Rattle.machine.specs.States.{Frame, State, sub_of}
-use Rattle.machine.specs.Step.{Turn, turn, start, led, successor}
+use Rattle.machine.specs.States.{Frame, sub_of}
+use Rattle.machine.specs.Step.{Turn, successor}
 use Rattle.machine.specs.Step as steps
 use Rattle.machine.specs.Calls.{Passed}
 use Rattle.machine.specs.Owners.{waiting_in}
-use Rattle.soundness.specs.OwnedWays.Ways.{Step, Way, after, AllowsAll, Past}
+use Rattle.soundness.specs.OwnedWays.Ways.{Step, Way, after, Past}
 use Rattle.soundness.specs.OwnedWays.Ways as ways
 use Rattle.soundness.specs.Seen.{IsNear, content, seen, home, trunk}
 use Rattle.soundness.proofs.OwnedWays.Named.{longer}
 use Rattle.soundness.proofs.OwnedWays.Dropped.{named_base}
 use Rattle.soundness.proofs.Contents.{bool_cases}
 use Rattle.soundness.specs.Typed.{Kept}
-use Rattle.soundness.specs.Sound.{Stage, facts_of, AreStages, Uses, IsRunnable, InScope, IsNamedSub, IsAtPoint, view_of as view_here}
+use Rattle.soundness.specs.Sound.{Stage, facts_of, Uses, IsAtPoint, view_of as view_here}
 use Rattle.soundness.proofs.Numbers.{index_law}
 use Rattle.soundness.proofs.Scalars.{acts}
 use Rattle.soundness.proofs.Around.{IsFar}
 use Rattle.soundness.proofs.Eased.{eased}
-use Rattle.soundness.specs.OwnedLoans.Views.{Around, known_gone, Views, Viewed, AreViews, AreClear as FactsAreClear, IsMovedBy, on, ViewedAlone}
+use Rattle.soundness.specs.OwnedLoans.Views.{Around, Viewed, AreViews, AreClear as FactsAreClear, IsMovedBy, on}
 use Rattle.soundness.proofs.OwnedLoans.Ways.{part_root, under_on, lifts, lifted_root, lifted_way, on_named, base_on, on_under}
 use Rattle.soundness.proofs.OwnedLoans.Meeting.{stands_base}
 use Rattle.soundness.proofs.OwnedLoans.Moves.{view_rooted}
 use Rattle.soundness.proofs.ViewedSoundness.ViewKinds.{true_false}
 use Rattle.soundness.specs.ViewedSoundness.Holds.{Holds, is_view, IsOwners, Seeing}
-use Rattle.viewed_steps.specs.Awaited.{temporaries_of, lasting_of, AreAwaited, AreOwnless, TakesPassed}
+use Rattle.viewed_steps.specs.Awaited.{temporaries_of, lasting_of, AreOwnless, TakesPassed}
 use Rattle.viewed_steps.proofs.Waited.{Shares}
-use Rattle.viewed_steps.specs.Sound.{IsCopiedBack, IsBeyond, HoldsAt, ArePlaced, NoneAbove, ViewStage, stages_of, GoneElsewhere, Disturbs, AreWaiting, IsResting, HasTraversals, passed_roots}
+use Rattle.viewed_steps.specs.Sound.{IsCopiedBack, ViewStage, GoneElsewhere, Disturbs, passed_roots}
 use Rattle.viewed_steps.specs.Ready.{IsReady, IsCalled}
 use Rattle.viewed_steps.specs.Taken.{Lodge}
 use Rattle.viewed_steps.proofs.Waiting.{StandsBetween, gone_low, beside_them, handed}
@@ -61,7 +60,6 @@ use Rattle.viewed_steps.proofs.Outs.{Out}
 use Rattle.viewed_steps.proofs.Entered.{ArePassedOn, IsOpen, not_above}
 use Rattle.viewed_steps.proofs.Passed.{IsNamedBy}
 use Rattle.viewed_steps.proofs.Cells.{IsCellNamed}
-use Rattle.viewed_steps.proofs.Standing.{or_right}
 use Rattle.viewed_steps.proofs.Standing as standing
 use Rattle.viewed_steps.proofs.Packages as packages
 use Rattle.viewed_steps.proofs.Innermost as innermost
@@ -76,6 +74,7 @@ use Rattle.viewed_steps.proofs.Stilled.{still, lent_only}
 use Rattle.viewed_steps.proofs.Calling as calling
 use Rattle.viewed_steps.specs.Seeing.{sees_in}
 use Rattle.viewed_steps.proofs.Sees.{sees_seeing}
+use Rattle.viewed_steps.proofs.InnerFrame.{InnerFrame}
 
 module _ (table : Table) (typed : TypedProgram) (effects : Effects) (input : List ℕ) (ready : IsReady table typed effects) where
   abbrev sees : ℕ → Bool
@@ -102,125 +101,114 @@ module _ (table : Table) (typed : TypedProgram) (effects : Effects) (input : Lis
   abbrev unmoved_stage : (e : Stage) → e.frame.sub ≡ 0 → (name : PlaceName) → Has (facts_of program effects e) (Moved name) → ⊥
   unmoved_stage = packages.unmoved_stage table typed effects input ready
 
-  module _ (state : State) (top : Stage) (below : ViewStage) (more_frames : List ViewStage) (rest : List Frame) (named : NamedSub) (p : NamedPoint)
-      (frames : state.frames ≡ top.frame ∷ (below.stage.frame ∷ rest)) (deep : top.depth ≡ suc (length rest))
-      (stages : AreStages (stages_of (below ∷ more_frames)) (below.stage.frame ∷ rest))
-      (running : IsRunnable table typed top.frame.sub × IsResting s top × AreWaiting table typed effects state top.frame.sub top.frame.returns (below ∷ more_frames))
-      (awaiting : AreAwaited table typed None (top ∷ stages_of (below ∷ more_frames)))
-      (of_sub : IsNamedSub (flow_named table typed) top.frame.sub named) (at_point : IsAtPoint named.points top.frame.next p)
-      (path : ControlPath (path_points program effects (sub_of program top.frame.sub)) top.before top.frame.next) (views : Views)
-      (viewed_before : ViewedAlone (home s (suc (length rest))) sees (known_gone (home s (suc (length rest))) (GoneElsewhere program effects (below ∷ more_frames))) views
-      (view_here s state) (facts_of program effects top))
-      (kept : Kept s state.memory (waiting_in state)) (scope : InScope s state.memory (suc (length rest)) (lasting_of s p.scope)) (holds : HoldsAt s sees (suc (length rest)) views state.memory p)
-      (placed_before : ArePlaced program (suc (length rest)) (facts_of program effects top) views p.scope × IsBeyond program effects (suc (length rest)) views (below ∷ more_frames)) (above : NoneAbove s (suc (length rest)) state.memory
-      × HasTraversals table typed (view_here s state) (record { stage = top; views = views; cells = [] } ∷ (below ∷ more_frames))) where
+  module _ (inner : InnerFrame table typed effects) where
     abbrev outer : List Frame
-    outer = below.stage.frame ∷ rest
+    outer = inner.below.stage.frame ∷ inner.rest
 
     abbrev older : List ViewStage
-    older = below ∷ more_frames
+    older = inner.below ∷ inner.more_frames
 
     abbrev depth : ℕ
-    depth = suc (length rest)
+    depth = suc (length inner.rest)
 
-    abbrev between : (g : ViewStage) → Has (below ∷ more_frames) g → StandsBetween table typed effects unmoved_stage local state (suc (length rest)) (below ∷ more_frames) g
-    between = innermost.between table typed effects input ready state top below more_frames rest named p frames deep stages running awaiting of_sub at_point path views viewed_before kept scope holds placed_before above
+    abbrev between : (g : ViewStage) → Has (inner.below ∷ inner.more_frames) g → StandsBetween table typed effects unmoved_stage local inner.state (suc (length inner.rest)) (inner.below ∷ inner.more_frames) g
+    between = innermost.between table typed effects input ready inner
 
-    abbrev other : Around (home s (suc (length rest)))
-    other = beside_them table typed effects unmoved_stage local state (suc (length rest)) (below ∷ more_frames) between
+    abbrev other : Around (home s (suc (length inner.rest)))
+    other = beside_them table typed effects unmoved_stage local inner.state (suc (length inner.rest)) (inner.below ∷ inner.more_frames) between
 
-    abbrev alone : (w : Way) → IsNear (suc (length rest)) w → IsFar (suc (length rest)) (GoneElsewhere program effects (below ∷ more_frames)) w → ⊥
-    alone = innermost.alone table typed effects input ready state top below more_frames rest named p frames deep stages running awaiting of_sub at_point path views viewed_before kept scope holds placed_before above
+    abbrev alone : (w : Way) → IsNear (suc (length inner.rest)) w → IsFar (suc (length inner.rest)) (GoneElsewhere program effects (inner.below ∷ inner.more_frames)) w → ⊥
+    alone = innermost.alone table typed effects input ready inner
 
     abbrev main_turn : Turn
-    main_turn = standing.t table typed effects input ready state top older outer named p frames of_sub at_point
+    main_turn = standing.t table typed effects input ready inner.state inner.top older outer inner.named inner.p inner.frames inner.of_sub inner.at_point
 
     abbrev own_facts : List Fact
-    own_facts = standing.facts table typed effects input ready state top older outer named p frames of_sub at_point path
+    own_facts = standing.facts table typed effects input ready inner.state inner.top older outer inner.named inner.p inner.frames inner.of_sub inner.at_point inner.path
 
     abbrev handed_on : List Fact
-    handed_on = handed table typed effects unmoved_stage local state (suc (length rest)) (below ∷ more_frames) between
+    handed_on = handed table typed effects unmoved_stage local inner.state (suc (length inner.rest)) (inner.below ∷ inner.more_frames) between
 
     abbrev facts_now : List Fact
     facts_now = own_facts ++ handed_on
 
-    abbrev shared : Shares s (taken p.instr) top.frame.waits p.scope
-    shared = innermost.shared table typed effects input ready state top below more_frames rest named p frames deep stages running awaiting of_sub at_point path views viewed_before kept scope holds placed_before above
+    abbrev shared : Shares s (taken inner.p.instr) inner.top.frame.waits inner.p.scope
+    shared = innermost.shared table typed effects input ready inner
 
     abbrev Plain : Type 0
-    Plain = AreOwnless s (temporaries_of s (take (taken p.instr) p.scope))
+    Plain = AreOwnless s (temporaries_of s (take (taken inner.p.instr) inner.p.scope))
 
-    abbrev named_there : Has (flow_named table typed) named
-    named_there = innermost.named_there table typed effects input ready state top below more_frames rest named p frames deep stages running awaiting of_sub at_point path views viewed_before kept scope holds placed_before above
+    abbrev named_there : Has (flow_named table typed) inner.named
+    named_there = innermost.named_there table typed effects input ready inner
 
     abbrev easy : Turn
     easy = eased main_turn
 
-    abbrev viewed_easy : Plain → Viewed (home s depth) sees other views (view_here s easy.state) facts_now × Kept s state.memory (waiting_in easy.state)
-    viewed_easy = innermost.ownless_easy table typed effects input ready state top below more_frames rest named p frames deep stages running awaiting of_sub at_point path views viewed_before kept scope holds placed_before above
+    abbrev viewed_easy : Plain → Viewed (home s depth) sees other inner.views (view_here s easy.state) facts_now × Kept s inner.state.memory (waiting_in easy.state)
+    viewed_easy = innermost.ownless_easy table typed effects input ready inner
 
-    module _ (n : ℕ) (actuals : TypedTree) (result : Option ℕ) (e : p.instr ≡ Call n actuals result) where
+    module _ (n : ℕ) (actuals : TypedTree) (result : Option ℕ) (e : inner.p.instr ≡ Call n actuals result) where
       abbrev called : IsCalled table typed n actuals result
-      called = acting.called table typed effects input ready state top below more_frames rest named p frames deep stages running awaiting of_sub at_point path views viewed_before kept scope holds placed_before above n actuals result e
+      called = acting.called table typed effects input ready inner n actuals result e
 
       abbrev formals : List ℕ
-      formals = acting.formals table typed effects input ready state top below more_frames rest named p frames deep stages running awaiting of_sub at_point path views viewed_before kept scope holds placed_before above n actuals result e
+      formals = acting.formals table typed effects input ready inner n actuals result e
 
-      abbrev plain_there : TakesPassed s actuals (temporaries_of s (take (taken p.instr) p.scope))
-      plain_there = acting.plain_there table typed effects input ready state top below more_frames rest named p frames deep stages running awaiting of_sub at_point path views viewed_before kept scope holds placed_before above n actuals result e
+      abbrev plain_there : TakesPassed s actuals (temporaries_of s (take (taken inner.p.instr) inner.p.scope))
+      plain_there = acting.plain_there table typed effects input ready inner n actuals result e
 
       abbrev procedure : Bool
-      procedure = acting.procedure table typed effects input ready state top below more_frames rest named p frames deep stages running awaiting of_sub at_point path views viewed_before kept scope holds placed_before above n actuals result e
+      procedure = acting.procedure table typed effects input ready inner n actuals result e
 
       abbrev copies : List Placed
-      copies = acting.copies table typed effects input ready state top below more_frames rest named p frames deep stages running awaiting of_sub at_point path views viewed_before kept scope holds placed_before above n actuals result e
+      copies = acting.copies table typed effects input ready inner n actuals result e
 
       abbrev facts_called : List Fact
-      facts_called = acting.facts_called table typed effects input ready state top below more_frames rest named p frames deep stages running awaiting of_sub at_point path views viewed_before kept scope holds placed_before above n actuals result e
+      facts_called = acting.facts_called table typed effects input ready inner n actuals result e
 
-      abbrev holds_now : Holds s sees depth views state.memory
-      holds_now = acting.holds_now table typed effects input ready state top below more_frames rest named p frames deep stages running awaiting of_sub at_point path views viewed_before kept scope holds placed_before above n actuals result e
+      abbrev holds_now : Holds s sees depth inner.views inner.state.memory
+      holds_now = acting.holds_now table typed effects input ready inner n actuals result e
 
-      abbrev live_now : (w : Way) (l : ways.Loc) → IsOwners s w → ways.Reaches (seen s state.memory (waiting_in easy.state) state.leaks) w l
-          → (content s state.memory (waiting_in easy.state) (trunk l)).owns ≡ true
-      live_now = acting.live_now table typed effects input ready state top below more_frames rest named p frames deep stages running awaiting of_sub at_point path views viewed_before kept scope holds placed_before above n actuals result e
+      abbrev live_now : (w : Way) (l : ways.Loc) → IsOwners s w → ways.Reaches (seen s inner.state.memory (waiting_in easy.state) inner.state.leaks) w l
+          → (content s inner.state.memory (waiting_in easy.state) (trunk l)).owns ≡ true
+      live_now = acting.live_now table typed effects input ready inner n actuals result e
 
-      abbrev formals_low : AreLowFormals s depth views
-      formals_low = acting.formals_low table typed effects input ready state top below more_frames rest named p frames deep stages running awaiting of_sub at_point path views viewed_before kept scope holds placed_before above n actuals result e
+      abbrev formals_low : AreLowFormals s depth inner.views
+      formals_low = acting.formals_low table typed effects input ready inner n actuals result e
 
       abbrev Given : List Passed → Type 0
       Given passed =
-          AreGiven (steps.here main_turn) sees seeing ready.accepted.settled (waiting_in easy.state) state.leaks state.memory [] other facts_now views (viewed_easy plain_there.0).1 (viewed_easy plain_there.0).0 holds_now alone live_now in_formals
+          AreGiven (steps.here main_turn) sees seeing ready.accepted.settled (waiting_in easy.state) inner.state.leaks inner.state.memory [] other facts_now inner.views (viewed_easy plain_there.0).1 (viewed_easy plain_there.0).0 holds_now alone live_now in_formals
           index_law ready.owns ready.class.parts_named formals_low procedure formals actuals passed
 
       abbrev view_now : ways.View
-      view_now = seen s state.memory (waiting_in easy.state) state.leaks
+      view_now = seen s inner.state.memory (waiting_in easy.state) inner.state.leaks
 
-      abbrev given_laid : (passed : List Passed) → Given passed → AreLaidOut s sees state.memory depth views view_now formals actuals passed
+      abbrev given_laid : (passed : List Passed) → Given passed → AreLaidOut s sees inner.state.memory depth inner.views view_now formals actuals passed
       given_laid passed given =
-          all_laid_out (steps.here main_turn) sees seeing ready.accepted.settled (waiting_in easy.state) state.leaks state.memory [] other facts_now views (viewed_easy plain_there.0).1 (viewed_easy plain_there.0).0 holds_now alone live_now in_formals
+          all_laid_out (steps.here main_turn) sees seeing ready.accepted.settled (waiting_in easy.state) inner.state.leaks inner.state.memory [] other facts_now inner.views (viewed_easy plain_there.0).1 (viewed_easy plain_there.0).0 holds_now alone live_now in_formals
           index_law ready.owns ready.class.parts_named formals_low procedure formals actuals passed given
 
       abbrev call_point : (k : ℕ) × (successor main_turn 0 ≡ Some k) × Has main_turn.point.next k
-      call_point = acting.call_point table typed effects input ready state top below more_frames rest named p frames deep stages running awaiting of_sub at_point path views viewed_before kept scope holds placed_before above n actuals result e
+      call_point = acting.call_point table typed effects input ready inner n actuals result e
 
       abbrev waits_with : List Way → Stage
       waits_with ways_taken = record {
-        frame = record top.frame { waits = steps.waiting main_turn; next = call_point.0 };
-        depth = top.depth;
-        before = top.frame.next ∷ top.before;
+        frame = record inner.top.frame { waits = steps.waiting main_turn; next = call_point.0 };
+        depth = inner.top.depth;
+        before = inner.top.frame.next ∷ inner.top.before;
         returns = ways_taken;
       }
 
-      abbrev facts_there : facts_before (path_points program effects (sub_of program top.frame.sub)) (top.frame.next ∷ top.before) ≡ facts_called
-      facts_there = calling.facts_there table typed effects input ready state top below more_frames rest named p frames deep stages running awaiting of_sub at_point path views viewed_before kept scope holds placed_before above n actuals result e
+      abbrev facts_there : facts_before (path_points program effects (sub_of program inner.top.frame.sub)) (inner.top.frame.next ∷ inner.top.before) ≡ facts_called
+      facts_there = calling.facts_there table typed effects input ready inner n actuals result e
 
-      abbrev lends_there : (l : Loan) (h : ℕ) (name : PlaceName) → Has (facts_before (path_points program effects (sub_of program top.frame.sub)) (top.frame.next ∷ top.before)) (Lent l h name) → is_package_object s name.root ≡ true
+      abbrev lends_there : (l : Loan) (h : ℕ) (name : PlaceName) → Has (facts_before (path_points program effects (sub_of program inner.top.frame.sub)) (inner.top.frame.next ∷ inner.top.before)) (Lent l h name) → is_package_object s name.root ≡ true
           → Disturbs effects l n name.root → ⊥
-      lends_there = calling.lends_there table typed effects input ready state top below more_frames rest named p frames deep stages running awaiting of_sub at_point path views viewed_before kept scope holds placed_before above n actuals result e
+      lends_there = calling.lends_there table typed effects input ready inner n actuals result e
 
-      abbrev at_successor : (q : NamedPoint) × IsAtPoint named.points call_point.0 q × Leads s (scope_behind p) q.scope
-      at_successor = calling.at_successor table typed effects input ready state top below more_frames rest named p frames deep stages running awaiting of_sub at_point path views viewed_before kept scope holds placed_before above n actuals result e
+      abbrev at_successor : (q : NamedPoint) × IsAtPoint inner.named.points call_point.0 q × Leads s (scope_behind inner.p) q.scope
+      at_successor = calling.at_successor table typed effects input ready inner n actuals result e
 
       abbrev next_there : List ℕ
       next_there = lasting_of s (at_successor.0).scope
@@ -230,65 +218,65 @@ module _ (table : Table) (typed : TypedProgram) (effects : Effects) (input : Lis
 
       module _ (passed : List Passed) (given : Given passed) where
         abbrev other_all : Around (home s depth)
-        other_all = gone_lent table typed effects unmoved_stage local state depth older between
+        other_all = gone_lent table typed effects unmoved_stage local inner.state depth older between
 
-        abbrev far_views : AreFar (home s depth) views depth
-        far_views = calling.far_views table typed effects input ready state top below more_frames rest named p frames deep stages running awaiting of_sub at_point path views viewed_before kept scope holds placed_before above n actuals result e passed given
+        abbrev far_views : AreFar (home s depth) inner.views depth
+        far_views = calling.far_views table typed effects input ready inner n actuals result e passed given
 
         abbrev outs : List Out
-        outs = outs_of s sees state.memory depth views view_now formals actuals passed (given_laid passed given)
+        outs = outs_of s sees inner.state.memory depth inner.views view_now formals actuals passed (given_laid passed given)
 
         abbrev cells : List Lodge
-        cells = cells_of s sees state.memory depth views view_now formals actuals passed (given_laid passed given)
+        cells = cells_of s sees inner.state.memory depth inner.views view_now formals actuals passed (given_laid passed given)
 
-        abbrev well_before : Viewed (home s depth) sees other_all views (view_here s easy.state) facts_now
-        well_before = calling.well_before table typed effects input ready state top below more_frames rest named p frames deep stages running awaiting of_sub at_point path views viewed_before kept scope holds placed_before above n actuals result e passed given
+        abbrev well_before : Viewed (home s depth) sees other_all inner.views (view_here s easy.state) facts_now
+        well_before = calling.well_before table typed effects input ready inner n actuals result e passed given
 
         abbrev called_less : (f : Fact) → Has facts_called f → Has own_facts f
-        called_less = calling.called_less table typed effects input ready state top below more_frames rest named p frames deep stages running awaiting of_sub at_point path views viewed_before kept scope holds placed_before above n actuals result e passed given
+        called_less = calling.called_less table typed effects input ready inner n actuals result e passed given
 
-        abbrev views_called : AreViews (home s depth) sees views (view_here s easy.state) facts_called
-        views_called = calling.views_called table typed effects input ready state top below more_frames rest named p frames deep stages running awaiting of_sub at_point path views viewed_before kept scope holds placed_before above n actuals result e passed given
+        abbrev views_called : AreViews (home s depth) sees inner.views (view_here s easy.state) facts_called
+        views_called = calling.views_called table typed effects input ready inner n actuals result e passed given
 
         abbrev clear_all : FactsAreClear sees facts_all
-        clear_all = calling.clear_all table typed effects input ready state top below more_frames rest named p frames deep stages running awaiting of_sub at_point path views viewed_before kept scope holds placed_before above n actuals result e passed given
+        clear_all = calling.clear_all table typed effects input ready inner n actuals result e passed given
 
-        abbrev views_all : AreViews (home s depth) sees views (view_here s easy.state) facts_all
-        views_all = calling.views_all table typed effects input ready state top below more_frames rest named p frames deep stages running awaiting of_sub at_point path views viewed_before kept scope holds placed_before above n actuals result e passed given
+        abbrev views_all : AreViews (home s depth) sees inner.views (view_here s easy.state) facts_all
+        views_all = calling.views_all table typed effects input ready inner n actuals result e passed given
 
         abbrev around_names : Around (home s depth)
         around_names = lent_only (home s depth) other_all.lent
 
-        abbrev names_all : Viewed (home s depth) sees around_names views (still (view_here s easy.state)) facts_all
-        names_all = calling.names_all table typed effects input ready state top below more_frames rest named p frames deep stages running awaiting of_sub at_point path views viewed_before kept scope holds placed_before above n actuals result e passed given
+        abbrev names_all : Viewed (home s depth) sees around_names inner.views (still (view_here s easy.state)) facts_all
+        names_all = calling.names_all table typed effects input ready inner n actuals result e passed given
 
-        abbrev all_passed_ways : (ways_taken : List Way) × ArePassedOn s sees state.memory cells depth views facts_all next_there formals passed ways_taken outs
-            × ((k : Way) → Has ways_taken k → IsNamedBy s sees depth views facts_all formals actuals k)
-        all_passed_ways = calling.all_passed_ways table typed effects input ready state top below more_frames rest named p frames deep stages running awaiting of_sub at_point path views viewed_before kept scope holds placed_before above n actuals result e passed given
+        abbrev all_passed_ways : (ways_taken : List Way) × ArePassedOn s sees inner.state.memory cells depth inner.views facts_all next_there formals passed ways_taken outs
+            × ((k : Way) → Has ways_taken k → IsNamedBy s sees depth inner.views facts_all formals actuals k)
+        all_passed_ways = calling.all_passed_ways table typed effects input ready inner n actuals result e passed given
 
         abbrev ways_taken : List Way
         ways_taken = all_passed_ways.0
 
-        abbrev named_cell : (c : Lodge) → Has cells c → IsCellNamed s sees depth facts_all views view_now formals actuals passed c
-        named_cell = calling.named_cell table typed effects input ready state top below more_frames rest named p frames deep stages running awaiting of_sub at_point path views viewed_before kept scope holds placed_before above n actuals result e passed given
+        abbrev named_cell : (c : Lodge) → Has cells c → IsCellNamed s sees depth facts_all inner.views view_now formals actuals passed c
+        named_cell = calling.named_cell table typed effects input ready inner n actuals result e passed given
 
         abbrev cell_root : (c : Lodge) (has : Has cells c) → ways.number_of c.name ≡ ways.number_of (named_cell c has).whole
-        cell_root = calling.cell_root table typed effects input ready state top below more_frames rest named p frames deep stages running awaiting of_sub at_point path views viewed_before kept scope holds placed_before above n actuals result e passed given
+        cell_root = calling.cell_root table typed effects input ready inner n actuals result e passed given
 
         abbrev waits_there : ViewStage
-        waits_there = record { stage = waits_with all_passed_ways.0; views = views; cells = cells }
+        waits_there = record { stage = waits_with all_passed_ways.0; views = inner.views; cells = cells }
 
         act_of_passed : (b : alias.Passed) → Has (alias.passed formals actuals) b → IsCopiedBack s b.formal → is_package_object s b.actual.name.root ≡ true
-            → Has (written_by effects top.frame.sub) b.actual.name.root
+            → Has (written_by effects inner.top.frame.sub) b.actual.name.root
         act_of_passed b has back shared =
             let act = copied_act s procedure formals actuals b has back in
-            innermost.act_writes_it table typed effects input ready state top below more_frames rest named p frames deep stages running awaiting of_sub at_point path views viewed_before kept scope holds placed_before above
-            b.actual.name.root shared main_turn.point (standing.in_sub table typed effects input ready state top older outer named p frames of_sub at_point) act.0
-            (subst (λ z. Has z act.0) (standing.acts_agree table typed effects input ready state top older outer named p frames of_sub at_point)
-            (acting.back_there table typed effects input ready state top below more_frames rest named p frames deep stages running awaiting of_sub at_point path views viewed_before kept scope holds placed_before above n actuals result e b.formal (named_has formals actuals b has) back act.0 act.1)) act.2
+            innermost.act_writes_it table typed effects input ready inner
+            b.actual.name.root shared main_turn.point (standing.in_sub table typed effects input ready inner.state inner.top older outer inner.named inner.p inner.frames inner.of_sub inner.at_point) act.0
+            (subst (λ z. Has z act.0) (standing.acts_agree table typed effects input ready inner.state inner.top older outer inner.named inner.p inner.frames inner.of_sub inner.at_point)
+            (acting.back_there table typed effects input ready inner n actuals result e b.formal (named_has formals actuals b has) back act.0 act.1)) act.2
 
         abbrev Given_to : Way → Type 0
-        Given_to to = FromGiven (home s depth) sees views (view_here s easy.state) facts_called views_called to
+        Given_to to = FromGiven (home s depth) sees inner.views (view_here s easy.state) facts_called views_called to
 
         -- a package object where a way of them begins is passed by its name, or borrowed; or it was lent to the frame
         first_named : (to : Way) (has : Has ways_taken to) (y : ℕ) → ways.base_of to ≡ ways.OfRoot (ways.OfVariable 0 y) → is_package_object s y ≡ true
@@ -297,19 +285,19 @@ module _ (table : Table) (typed : TypedProgram) (effects : Effects) (input : Lis
             let by = all_passed_ways.2 to has in
             let first : 0 ≡ home s depth y = ap (λ b. if b then 0 else depth) (sym shared) in
             let own : ways.base_of to ≡ ways.OfRoot (ways.OfVariable (home s depth y) y) = base ∙ ap (λ f. ways.OfRoot (ways.OfVariable f y)) first in
-            elim (lifts views by.name) [
+            elim (lifts inner.views by.name) [
               | inl itself ↦ (
                   let same : by.name ≡ to = sym itself ∙ by.means in
                   inl (ap (λ (z : PlaceName). z.root) by.called
                   ∙ number_based (home s depth) by.name y by.named (ap ways.base_of same ∙ own)))
               | inr (inr part) ↦ absurd (true_false (sees part.object) (views_called.1 part.object part.steps part.way part.has).sees
-                  (ap sees (sym (part_root views by.name part)) ∙ by.plain))
+                  (ap sees (sym (part_root inner.views by.name part)) ∙ by.plain))
               | inr (inl lift) ↦ (
-                  let goes_there : to ≡ on lift.way lift.rest = sym by.means ∙ lifted_way views by.name lift in
+                  let goes_there : to ≡ on lift.way lift.rest = sym by.means ∙ lifted_way inner.views by.name lift in
                   let whole : ways.Named (home s depth) to = base_named (home s depth) to y own in
                   let front : ways.Named (home s depth) lift.way = on_named (home s depth) lift.way lift.rest (subst (ways.Named (home s depth)) goes_there whole) in
-                  inr (elim (borrower_from (home s depth) sees views (view_here s easy.state) facts_called views_called lift.object lift.way
-                  (ap sees (sym (lifted_root views by.name lift)) ∙ by.plain) lift.has) [
+                  inr (elim (borrower_from (home s depth) sees inner.views (view_here s easy.state) facts_called views_called lift.object lift.way
+                  (ap sees (sym (lifted_root inner.views by.name lift)) ∙ by.plain) lift.has) [
                     | inl goes ↦ inl (
                       goes.0,
                       ways.name_of goes.1,
@@ -329,41 +317,41 @@ module _ (table : Table) (typed : TypedProgram) (effects : Effects) (input : Lis
             ]
 
         pub goes_to : (to : Way) → Has ways_taken to → (y : ℕ) → ways.base_of to ≡ ways.OfRoot (ways.OfVariable 0 y) → is_package_object s y ≡ true
-            → Has (written_by effects top.frame.sub) y ⊎ Given_to to
+            → Has (written_by effects inner.top.frame.sub) y ⊎ Given_to to
         goes_to to has y base shared =
             let by = all_passed_ways.2 to has in
             elim (first_named to has y base shared) [
-              | inl root ↦ inl (subst (Has (written_by effects top.frame.sub)) root (act_of_passed by.by by.among by.back (ap (is_package_object s) root ∙ shared)))
+              | inl root ↦ inl (subst (Has (written_by effects inner.top.frame.sub)) root (act_of_passed by.by by.among by.back (ap (is_package_object s) root ∙ shared)))
               | inr (inr given) ↦ inr given
-              | inr (inl (h, name, lent, root)) ↦ inl (subst (Has (written_by effects top.frame.sub)) root
-                  (innermost.borrowed_writes table typed effects input ready state top below more_frames rest named p frames deep stages running awaiting of_sub at_point path views viewed_before kept scope holds placed_before above
+              | inr (inl (h, name, lent, root)) ↦ inl (subst (Has (written_by effects inner.top.frame.sub)) root
+                  (innermost.borrowed_writes table typed effects input ready inner
                   h name (called_less (Lent Borrowed h name) lent) (ap (is_package_object s) root ∙ shared)))
             ]
 
         cell_named_root : (c : Lodge) (has : Has cells c) → (named_cell c has).by.actual.name.root ≡ ways.number_of c.name
         cell_named_root c has = ap (λ (z : PlaceName). z.root) (named_cell c has).called ∙ sym (cell_root c has)
 
-        written_cell : (c : Lodge) → Has cells c → is_package_object s (ways.number_of c.name) ≡ true → Has (written_by effects top.frame.sub) (ways.number_of c.name)
+        written_cell : (c : Lodge) → Has cells c → is_package_object s (ways.number_of c.name) ≡ true → Has (written_by effects inner.top.frame.sub) (ways.number_of c.name)
         written_cell c has shared =
             let cell = named_cell c has in
-            subst (Has (written_by effects top.frame.sub)) (cell_named_root c has)
+            subst (Has (written_by effects inner.top.frame.sub)) (cell_named_root c has)
             (act_of_passed cell.by cell.among cell.back (ap (is_package_object s) (cell_named_root c has) ∙ shared))
 
         -- a name of them that is rooted in a package object
         pub name_written : (to : Way) (has : Has ways_taken to) → is_package_object s (ways.number_of (all_passed_ways.2 to has).name) ≡ true
-            → Has (written_by effects top.frame.sub) (ways.number_of (all_passed_ways.2 to has).name)
+            → Has (written_by effects inner.top.frame.sub) (ways.number_of (all_passed_ways.2 to has).name)
         name_written to has shared =
             let by = all_passed_ways.2 to has in
             let root : by.by.actual.name.root ≡ ways.number_of by.name = ap (λ (z : PlaceName). z.root) by.called in
-            subst (Has (written_by effects top.frame.sub)) root (act_of_passed by.by by.among by.back (ap (is_package_object s) root ∙ shared))
+            subst (Has (written_by effects inner.top.frame.sub)) root (act_of_passed by.by by.among by.back (ap (is_package_object s) root ∙ shared))
 
         -- and the callee doesn't use it
         unused_passed : (b : alias.Passed) → Has (alias.passed formals actuals) b → IsCopiedBack s b.formal → is_package_object s b.actual.name.root ≡ true
             → Uses effects n b.actual.name.root → ⊥
         unused_passed b has back shared uses =
-            passed_unused program effects ready.accepted.no_reports (flow_sub own named)
-            (standing.in_program table typed effects input ready state top older outer named p frames of_sub at_point) main_turn.point
-            (standing.in_sub table typed effects input ready state top older outer named p frames of_sub at_point) n actuals result e called.answers
+            passed_unused program effects ready.accepted.no_reports (flow_sub own inner.named)
+            (standing.in_program table typed effects input ready inner.state inner.top older outer inner.named inner.p inner.frames inner.of_sub inner.at_point) main_turn.point
+            (standing.in_sub table typed effects input ready inner.state inner.top older outer inner.named inner.p inner.frames inner.of_sub inner.at_point) n actuals result e called.answers
             (λ of answers x has. ready.class.modes n of answers x has) b has back shared uses
 
         unused_cell : (c : Lodge) → Has cells c → is_package_object s (ways.number_of c.name) ≡ true → Uses effects n (ways.number_of c.name) → ⊥
@@ -373,19 +361,19 @@ module _ (table : Table) (typed : TypedProgram) (effects : Effects) (input : Lis
 
         -- what was lent to the frame it doesn't write
         lent_unwritten : (to : Way) (y : ℕ) → ways.base_of to ≡ ways.OfRoot (ways.OfVariable 0 y) → is_package_object s y ≡ true → Given_to to
-            → Has (written_by effects top.frame.sub) y → ⊥
+            → Has (written_by effects inner.top.frame.sub) y → ⊥
         lent_unwritten to y base shared (x, u, is, given, sight, under) written =
             let first : 0 ≡ home s depth y = ap (λ b. if b then 0 else depth) (sym shared) in
             let based : ways.base_of u ≡ ways.OfRoot (ways.OfVariable (home s depth y) y) =
             sym (base_under u to under) ∙ base ∙ ap (λ f. ways.OfRoot (ways.OfVariable f y)) first in
-            let (l, (k, at, under_k, lent), changed) = (placed_before.1).1.0 x u is given (base_named (home s depth) u y based) in
+            let (l, (k, at, under_k, lent), changed) = (inner.placed_before.1).1.0 x u is given (base_named (home s depth) u y based) in
             let number : ways.number_of k ≡ y = number_based (home s depth) k y at (sym (base_under k u under_k) ∙ based) in
-            innermost.spared_here table typed effects input ready state top below more_frames rest named p frames deep stages running awaiting of_sub at_point path views viewed_before kept scope holds placed_before above
-            l (ways.name_of k) lent (written_disturbs table typed effects ready.accepted.effects_are l top.frame.sub (ways.number_of k)
-            (subst (Has (written_by effects top.frame.sub)) (sym number) written))
+            innermost.spared_here table typed effects input ready inner
+            l (ways.name_of k) lent (written_disturbs table typed effects ready.accepted.effects_are l inner.top.frame.sub (ways.number_of k)
+            (subst (Has (written_by effects inner.top.frame.sub)) (sym number) written))
 
         unused_to : (to : Way) → Has ways_taken to → (y : ℕ) → ways.base_of to ≡ ways.OfRoot (ways.OfVariable 0 y) → is_package_object s y ≡ true
-            → Has (written_by effects top.frame.sub) y → Uses effects n y → ⊥
+            → Has (written_by effects inner.top.frame.sub) y → Uses effects n y → ⊥
         unused_to to has y base shared written uses =
             let by = all_passed_ways.2 to has in
             elim (first_named to has y base shared) [
@@ -396,10 +384,10 @@ module _ (table : Table) (typed : TypedProgram) (effects : Effects) (input : Lis
             ]
 
         -- so it is with each object of which a part is passed
-        pub root_written : (y : ℕ) → Has (passed_roots effects waits_there) y → is_package_object s y ≡ true → Has (written_by effects top.frame.sub) y
+        pub root_written : (y : ℕ) → Has (passed_roots effects waits_there) y → is_package_object s y ≡ true → Has (written_by effects inner.top.frame.sub) y
         root_written y passed shared = elim (passed_from effects waits_there y passed) [
           | inl (to, has, base, written) ↦ written
-          | inr (c, has, is) ↦ subst (Has (written_by effects top.frame.sub)) is (written_cell c has (ap (is_package_object s) is ∙ shared))
+          | inr (c, has, is) ↦ subst (Has (written_by effects inner.top.frame.sub)) is (written_cell c has (ap (is_package_object s) is ∙ shared))
         ]
 
         pub root_unused : (y : ℕ) → Has (passed_roots effects waits_there) y → is_package_object s y ≡ true → Uses effects n y → ⊥
@@ -409,30 +397,30 @@ module _ (table : Table) (typed : TypedProgram) (effects : Effects) (input : Lis
         ]
 
         -- no place that is taken goes before what a view sees
-        pub off_taken : (x : ℕ) (w : Way) → views.way x ≡ Some w → (to : Way) → Has ways_taken to → ways.Past to w → ⊥
+        pub off_taken : (x : ℕ) (w : Way) → inner.views.way x ≡ Some w → (to : Way) → Has ways_taken to → ways.Past to w → ⊥
         off_taken x w has to taken past =
             let by = all_passed_ways.2 to taken in
-            off_view (home s depth) sees around_names views (still (view_here s easy.state)) facts_all names_all by.name x w (by.named, by.plain) by.unlent has
+            off_view (home s depth) sees around_names inner.views (still (view_here s easy.state)) facts_all names_all by.name x w (by.named, by.plain) by.unlent has
             (subst (λ z. ways.Past z w) (sym by.means) past)
 
         -- nor before what a part of a formal sees
-        pub off_taken_parts : (x : ℕ) (q : List Step) (w : Way) → views.part_way x q ≡ Some w → (to : Way) → Has ways_taken to → ways.Past to w → ⊥
+        pub off_taken_parts : (x : ℕ) (q : List Step) (w : Way) → inner.views.part_way x q ≡ Some w → (to : Way) → Has ways_taken to → ways.Past to w → ⊥
         off_taken_parts x q w has to taken past =
             let by = all_passed_ways.2 to taken in
-            off_parts (home s depth) sees around_names views (still (view_here s easy.state)) facts_all names_all by.name x q w (by.named, by.plain) by.unlent has
+            off_parts (home s depth) sees around_names inner.views (still (view_here s easy.state)) facts_all names_all by.name x q w (by.named, by.plain) by.unlent has
             (subst (λ z. ways.Past z w) (sym by.means) past)
 
         -- the ways of views don't begin at formals of the callee
-        pub view_base : (x : ℕ) (w : Way) → views.way x ≡ Some w → (g : ℕ) × (y : ℕ) × (ways.base_of w ≡ ways.OfRoot (ways.OfVariable g y)) × (g ≡ suc depth → ⊥)
+        pub view_base : (x : ℕ) (w : Way) → inner.views.way x ≡ Some w → (g : ℕ) × (y : ℕ) × (ways.base_of w ≡ ways.OfRoot (ways.OfVariable g y)) × (g ≡ suc depth → ⊥)
         view_base x w has =
-            let root = view_rooted (home s depth) sees other_all views (view_here s easy.state) facts_called views_called x w has in (
+            let root = view_rooted (home s depth) sees other_all inner.views (view_here s easy.state) facts_called views_called x w has in (
               root.0,
               root.1,
               root.2,
               λ up. elim root.3 [
                 | inl named_there ↦ (
                     let same = same_variable (home s depth (ways.number_of w)) (ways.number_of w) root.0 root.1 (sym (named_base (home s depth) w named_there) ∙ root.2) in
-                    not_above s sees ready.accepted.settled ready.owns in_formals (waiting_in easy.state) state.leaks depth views far_views (holds.only, holds.parts.only) facts_all next_there cells (ways.number_of w)
+                    not_above s sees ready.accepted.settled ready.owns in_formals (waiting_in easy.state) inner.state.leaks depth inner.views far_views (inner.holds.only, inner.holds.parts.only) facts_all next_there cells (ways.number_of w)
                     (same.0 ∙ up))
                 | inr foreign ↦ (
                     let same = (same_variable foreign.0 foreign.1 root.0 root.1 (sym foreign.2 ∙ root.2)).0 in
@@ -440,29 +428,29 @@ module _ (table : Table) (typed : TypedProgram) (effects : Effects) (input : Lis
               ],
             )
 
-        pub part_base : (x : ℕ) (q : List Step) (w : Way) → views.part_way x q ≡ Some w
+        pub part_base : (x : ℕ) (q : List Step) (w : Way) → inner.views.part_way x q ≡ Some w
             → (g : ℕ) × (y : ℕ) × (ways.base_of w ≡ ways.OfRoot (ways.OfVariable g y)) × (g ≡ suc depth → ⊥)
-        part_base x q w has = elim (holds.low x q w has).0 [
+        part_base x q w has = elim (inner.holds.low x q w has).0 [
           | inl at_home ↦ (
             home s depth (ways.number_of w),
             ways.number_of w,
             named_base (home s depth) w at_home,
-            not_above s sees ready.accepted.settled ready.owns in_formals (waiting_in easy.state) state.leaks depth views far_views (holds.only, holds.parts.only) facts_all next_there cells
+            not_above s sees ready.accepted.settled ready.owns in_formals (waiting_in easy.state) inner.state.leaks depth inner.views far_views (inner.holds.only, inner.holds.parts.only) facts_all next_there cells
                 (ways.number_of w),
           )
           | inr (foreign, low, some) ↦ (foreign.0, foreign.1, foreign.2, λ up. omega (arith, low, up))
         ]
 
         -- the frames around keep nothing of what the frame writes
-        written_spared : (y : ℕ) → Has (written_by effects top.frame.sub) y → IsSpared table typed effects unmoved_stage local state depth older between y
+        written_spared : (y : ℕ) → Has (written_by effects inner.top.frame.sub) y → IsSpared table typed effects unmoved_stage local inner.state depth older between y
         written_spared y written l name lent root =
-            innermost.spared_here table typed effects input ready state top below more_frames rest named p frames deep stages running awaiting of_sub at_point path views viewed_before kept scope holds placed_before above
-            l name lent (written_disturbs table typed effects ready.accepted.effects_are l top.frame.sub name.root
-            (subst (Has (written_by effects top.frame.sub)) (sym root) written))
+            innermost.spared_here table typed effects input ready inner
+            l name lent (written_disturbs table typed effects ready.accepted.effects_are l inner.top.frame.sub name.root
+            (subst (Has (written_by effects inner.top.frame.sub)) (sym root) written))
 
         -- so it is with what is taken, or it is behind what was lent to the frame
         spared_to : (to : Way) → Has ways_taken to → (y : ℕ) → ways.base_of to ≡ ways.OfRoot (ways.OfVariable (home s depth y) y)
-            → IsSpared table typed effects unmoved_stage local state depth older between y ⊎ Given_to to
+            → IsSpared table typed effects unmoved_stage local inner.state depth older between y ⊎ Given_to to
         spared_to to has y base = elim (bool_cases (is_package_object s y)) [
           | inr mine ↦ inl (λ l name lent root. true_false (is_package_object s y) (ap (is_package_object s) (sym root) ∙ lent.5) mine)
           | inl shared ↦ elim (goes_to to has y (base ∙ ap (λ b. ways.OfRoot (ways.OfVariable (if b then 0 else depth) y)) shared) shared) [
@@ -471,27 +459,27 @@ module _ (table : Table) (typed : TypedProgram) (effects : Effects) (input : Lis
           ]
         ]
 
-        pub free_to : (to : Way) → Has ways_taken to → IsFree table typed effects unmoved_stage local state depth older between to
+        pub free_to : (to : Way) → Has ways_taken to → IsFree table typed effects unmoved_stage local inner.state depth older between to
         free_to to has =
             let by = all_passed_ways.2 to has in
-            subst (IsFree table typed effects unmoved_stage local state depth older between) by.means
-            (free_name table typed effects unmoved_stage local state depth older between views (view_here s easy.state) facts_called views_called (placed_before.1).0
+            subst (IsFree table typed effects unmoved_stage local inner.state depth older between) by.means
+            (free_name table typed effects unmoved_stage local inner.state depth older between inner.views (view_here s easy.state) facts_called views_called (inner.placed_before.1).0
             (λ x w z there outer gone meets. well_before.whole x w z there outer gone meets) by.name by.named by.plain
             (λ y base. elim (spared_to to has y (ap ways.base_of (sym by.means) ∙ base)) [
               | inl none ↦ inl none
               | inr given ↦ inr (subst Given_to (sym by.means) given)
             ]))
 
-        pub open_there : IsOpen (IsMovedBy (home s depth) views facts_all) (GoneElsewhere program effects older) ways_taken
+        pub open_there : IsOpen (IsMovedBy (home s depth) inner.views facts_all) (GoneElsewhere program effects older) ways_taken
         open_there = record {
           free = λ k w under o. elim o [
-            | inr gone ↦ (let root = gone_low table typed effects unmoved_stage local state depth older between w gone in
+            | inr gone ↦ (let root = gone_low table typed effects unmoved_stage local inner.state depth older between w gone in
                 hand_base (sym (base_under (ways.Object (ways.OfHand k)) w under) ∙ root.2))
             | inl (u, moved, leads) ↦ (
-                let root = stands_base (home s depth) sees views (view_here s easy.state) facts_all views_all u (moved.0, clear_all.owned (ways.name_of u) moved.1) in
+                let root = stands_base (home s depth) sees inner.views (view_here s easy.state) facts_all views_all u (moved.0, clear_all.owned (ways.name_of u) moved.1) in
                 hand_base (sym (base_under (ways.Object (ways.OfHand k)) w under) ∙ ap ways.base_of (sym leads) ∙ root.2))
           ];
-          whole = λ to has w under gone. gone_clear table typed effects unmoved_stage local state depth older between to (free_to to has) w gone (inl under);
+          whole = λ to has w under gone. gone_clear table typed effects unmoved_stage local inner.state depth older between to (free_to to has) w gone (inl under);
         }
           where
             hand_base : {k f x : ℕ} → ways.OfRoot (ways.OfHand k) ≡ ways.OfRoot (ways.OfVariable f x) → ⊥

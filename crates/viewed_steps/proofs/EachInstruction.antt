@@ -24,10 +24,7 @@ use Rattle.flow_paths.specs.Objects.{Typing, object_at, sub_at, is_anonymous, is
 use Rattle.flow_paths.specs.Names.{has_call, waiting as waits_in, name_of}
 use Rattle.flow_paths.specs.Acts as flow
 use Rattle.flow_paths.specs.Acts.{acts_in}
-use Rattle.flow_paths.specs.Points.{NamedPoint}
-use Rattle.flow_paths.specs.Laid.{FlowProgram, NamedSub, number_in, flow_typing, flow_program, flow_named}
-use Rattle.flow_paths.specs.Paths.{ControlPath}
-use Rattle.flow_paths.specs.Effects.{path_points}
+use Rattle.flow_paths.specs.Laid.{FlowProgram, number_in, flow_typing, flow_program}
 use Rattle.flow_paths.specs.Scopes.{taken, brought, scope_behind, is_within, is_last, is_ready}
 use Rattle.run_values.specs.Items.{next_item}
 use Rattle.machine.specs.Words.{fits_type}
@@ -48,7 +45,7 @@ use Rattle.soundness.proofs.OwnedWays.Dropped.{named_base}
 use Rattle.soundness.specs.Seen.{IsNear, content, word_in, home}
 use Rattle.soundness.specs.Typed.{Kept}
 use Rattle.soundness.specs.TypedLaws.Needed.{IsFine, Stays, Source, FirstSource, FirstWrites, FirstStays, Returns}
-use Rattle.soundness.specs.Sound.{IsNoCall, Stage, facts_of, AreStages, IsRunnable, InScope, IsNamedSub, IsAtPoint, view_of as view_here, is_temporary_object}
+use Rattle.soundness.specs.Sound.{IsNoCall, Stage, facts_of, IsAtPoint, view_of as view_here, is_temporary_object}
 use Rattle.soundness.specs.Ready.{stored_at, Fills, IsSupplied}
 use Rattle.soundness.proofs.Contents.{bool_cases, word_root}
 use Rattle.soundness.proofs.Scalars.{acts, acts_append}
@@ -62,14 +59,14 @@ use Rattle.soundness.proofs.Taking.{Takes, takes_as, takes_both, nothing_more}
 use Rattle.soundness.proofs.Eased.{eased, waits_same, goes_same, from_eased}
 use Rattle.soundness.proofs.Continued.{got_with, released_with, started_with, input_eased, release_eased, start_eased}
 use Rattle.soundness.proofs.Successors.{not_true, below_one, below_two}
-use Rattle.soundness.specs.OwnedLoans.Views.{Around, known_gone, Views, Viewed, Unused, IsForeign, ViewedAlone}
+use Rattle.soundness.specs.OwnedLoans.Views.{Around, Viewed, Unused, IsForeign}
 use Rattle.soundness.specs.ViewedSoundness.Holds.{AllKeep, is_view, is_fixed, Seeing}
 use Rattle.soundness.proofs.ViewedSoundness.ViewKinds.{plain_named, true_false}
 use Rattle.soundness.proofs.ViewedSoundness.Evaluated.{keep_both}
 use Rattle.soundness.proofs.ViewedSoundness.Outcomes.{named_plain, IsGood, Leads_on, decides_on, choose_on, assign_on}
-use Rattle.viewed_steps.specs.Awaited.{AreValues, temporaries_of, is_held, lasting_of, AreAwaited, AreScalar, TakesScalars}
+use Rattle.viewed_steps.specs.Awaited.{AreValues, temporaries_of, is_held, lasting_of, AreScalar, TakesScalars}
 use Rattle.viewed_steps.proofs.Waited.{lasting_within, within_lasting}
-use Rattle.viewed_steps.specs.Sound.{IsBeyond, Lasts, HoldsAt, ArePlaced, NoneAbove, ViewStage, stages_of, GoneElsewhere, AreWaiting, IsStoredAt, IsResting, HasTraversals}
+use Rattle.viewed_steps.specs.Sound.{Lasts, ArePlaced, ViewStage, GoneElsewhere, IsStoredAt}
 use Rattle.viewed_steps.specs.Ready.{AreOrderly, IsReady}
 use Rattle.viewed_steps.proofs.Declared.{IsElsewhere, not_gone, declare_on}
 use Rattle.viewed_steps.proofs.Released.{released_on}
@@ -88,6 +85,7 @@ use Rattle.viewed_steps.proofs.Innermost as innermost
 use Rattle.viewed_steps.proofs.Views.{AreAccess, all_held, anonymous_view, view_ends, lies_far}
 use Rattle.viewed_steps.specs.Seeing.{sees_in}
 use Rattle.viewed_steps.proofs.Sees.{sees_seeing}
+use Rattle.viewed_steps.proofs.InnerFrame.{InnerFrame}
 
 last_within : (x : ℕ) (scope : List ℕ) → is_last x scope ≡ true → is_within x scope ≡ true
 last_within x [] last = absurd (false≢true last)
@@ -118,157 +116,146 @@ module _ (table : Table) (typed : TypedProgram) (effects : Effects) (input : Lis
   abbrev unmoved_stage : (e : Stage) → e.frame.sub ≡ 0 → (name : PlaceName) → Has (facts_of program effects e) (Moved name) → ⊥
   unmoved_stage = packages.unmoved_stage table typed effects input ready
 
-  module _ (state : State) (top : Stage) (below : ViewStage) (more_frames : List ViewStage) (rest : List Frame) (named : NamedSub) (p : NamedPoint)
-      (frames : state.frames ≡ top.frame ∷ (below.stage.frame ∷ rest)) (deep : top.depth ≡ suc (length rest))
-      (stages : AreStages (stages_of (below ∷ more_frames)) (below.stage.frame ∷ rest))
-      (running : IsRunnable table typed top.frame.sub × IsResting s top × AreWaiting table typed effects state top.frame.sub top.frame.returns (below ∷ more_frames))
-      (awaiting : AreAwaited table typed None (top ∷ stages_of (below ∷ more_frames)))
-      (of_sub : IsNamedSub (flow_named table typed) top.frame.sub named) (at_point : IsAtPoint named.points top.frame.next p)
-      (path : ControlPath (path_points program effects (sub_of program top.frame.sub)) top.before top.frame.next) (views : Views)
-      (viewed_before : ViewedAlone (home s (suc (length rest))) sees (known_gone (home s (suc (length rest))) (GoneElsewhere program effects (below ∷ more_frames))) views
-      (view_here s state) (facts_of program effects top))
-      (kept : Kept s state.memory (waiting_in state)) (scope : InScope s state.memory (suc (length rest)) (lasting_of s p.scope)) (holds : HoldsAt s sees (suc (length rest)) views state.memory p)
-      (placed_before : ArePlaced program (suc (length rest)) (facts_of program effects top) views p.scope × IsBeyond program effects (suc (length rest)) views (below ∷ more_frames)) (above : NoneAbove s (suc (length rest)) state.memory
-      × HasTraversals table typed (view_here s state) (record { stage = top; views = views; cells = [] } ∷ (below ∷ more_frames))) where
+  module _ (inner : InnerFrame table typed effects) where
     abbrev outer : List Frame
-    outer = below.stage.frame ∷ rest
+    outer = inner.below.stage.frame ∷ inner.rest
 
     abbrev older : List ViewStage
-    older = below ∷ more_frames
+    older = inner.below ∷ inner.more_frames
 
     abbrev depth : ℕ
-    depth = suc (length rest)
+    depth = suc (length inner.rest)
 
-    abbrev between : (g : ViewStage) → Has (below ∷ more_frames) g → StandsBetween table typed effects unmoved_stage local state (suc (length rest)) (below ∷ more_frames) g
-    between = innermost.between table typed effects input ready state top below more_frames rest named p frames deep stages running awaiting of_sub at_point path views viewed_before kept scope holds placed_before above
+    abbrev between : (g : ViewStage) → Has (inner.below ∷ inner.more_frames) g → StandsBetween table typed effects unmoved_stage local inner.state (suc (length inner.rest)) (inner.below ∷ inner.more_frames) g
+    between = innermost.between table typed effects input ready inner
 
-    abbrev other : Around (home s (suc (length rest)))
-    other = beside_them table typed effects unmoved_stage local state (suc (length rest)) (below ∷ more_frames) between
+    abbrev other : Around (home s (suc (length inner.rest)))
+    other = beside_them table typed effects unmoved_stage local inner.state (suc (length inner.rest)) (inner.below ∷ inner.more_frames) between
 
-    abbrev alone : (w : Way) → IsNear (suc (length rest)) w → IsFar (suc (length rest)) (GoneElsewhere program effects (below ∷ more_frames)) w → ⊥
-    alone = innermost.alone table typed effects input ready state top below more_frames rest named p frames deep stages running awaiting of_sub at_point path views viewed_before kept scope holds placed_before above
+    abbrev alone : (w : Way) → IsNear (suc (length inner.rest)) w → IsFar (suc (length inner.rest)) (GoneElsewhere program effects (inner.below ∷ inner.more_frames)) w → ⊥
+    alone = innermost.alone table typed effects input ready inner
 
     abbrev main_turn : Turn
-    main_turn = standing.t table typed effects input ready state top older outer named p frames of_sub at_point
+    main_turn = standing.t table typed effects input ready inner.state inner.top older outer inner.named inner.p inner.frames inner.of_sub inner.at_point
 
     abbrev own_facts : List Fact
-    own_facts = standing.facts table typed effects input ready state top older outer named p frames of_sub at_point path
+    own_facts = standing.facts table typed effects input ready inner.state inner.top older outer inner.named inner.p inner.frames inner.of_sub inner.at_point inner.path
 
     abbrev handed_on : List Fact
-    handed_on = handed table typed effects unmoved_stage local state (suc (length rest)) (below ∷ more_frames) between
+    handed_on = handed table typed effects unmoved_stage local inner.state (suc (length inner.rest)) (inner.below ∷ inner.more_frames) between
 
     abbrev facts_now : List Fact
     facts_now = own_facts ++ handed_on
 
     abbrev from_both : Splits facts_now own_facts handed_on
-    from_both = innermost.from_both table typed effects input ready state top below more_frames rest named p frames deep stages running awaiting of_sub at_point path views viewed_before kept scope holds placed_before above
+    from_both = innermost.from_both table typed effects input ready inner
 
     abbrev acts_of_main : Instruction → List Act
-    acts_of_main i = standing.acts_here table typed effects input ready state top older outer named p frames of_sub at_point i
+    acts_of_main i = standing.acts_here table typed effects input ready inner.state inner.top older outer inner.named inner.p inner.frames inner.of_sub inner.at_point i
 
-    abbrev viewed : Viewed (home s depth) sees other views (view_here s state) facts_now
-    viewed = innermost.viewed table typed effects input ready state top below more_frames rest named p frames deep stages running awaiting of_sub at_point path views viewed_before kept scope holds placed_before above
+    abbrev viewed : Viewed (home s depth) sees other inner.views (view_here s inner.state) facts_now
+    viewed = innermost.viewed table typed effects input ready inner
 
-    abbrev placed : ArePlaced program (suc (length rest)) facts_now views p.scope
-    placed = innermost.placed table typed effects input ready state top below more_frames rest named p frames deep stages running awaiting of_sub at_point path views viewed_before kept scope holds placed_before above
+    abbrev placed : ArePlaced program (suc (length inner.rest)) facts_now inner.views inner.p.scope
+    placed = innermost.placed table typed effects input ready inner
 
     abbrev not_handed : (name : PlaceName) → Has handed_on (Moved name) → ⊥
-    not_handed = innermost.not_handed table typed effects input ready state top below more_frames rest named p frames deep stages running awaiting of_sub at_point path views viewed_before kept scope holds placed_before above
+    not_handed = innermost.not_handed table typed effects input ready inner
 
-    abbrev none_takes : (i : Instruction) → p.instr ≡ i → taken i ≡ 0 → taken main_turn.point.instr ≡ 0
-    none_takes = innermost.none_takes table typed effects input ready state top below more_frames rest named p frames deep stages running awaiting of_sub at_point path views viewed_before kept scope holds placed_before above
+    abbrev none_takes : (i : Instruction) → inner.p.instr ≡ i → taken i ≡ 0 → taken main_turn.point.instr ≡ 0
+    none_takes = innermost.none_takes table typed effects input ready inner
 
     abbrev left_scope : List ℕ
-    left_scope = drop (taken p.instr) p.scope
+    left_scope = drop (taken inner.p.instr) inner.p.scope
 
     abbrev given_words : List (List machine.Word)
     given_words = (start main_turn).waits
 
     abbrev Plain : Type 0
-    Plain = AreScalar s (temporaries_of s (take (taken p.instr) p.scope))
+    Plain = AreScalar s (temporaries_of s (take (taken inner.p.instr) inner.p.scope))
 
     abbrev Plainly : Type 0
-    Plainly = Plain × TakesScalars s p.instr
+    Plainly = Plain × TakesScalars s inner.p.instr
 
-    abbrev takes_of : Plain → (i : Instruction) → p.instr ≡ i → Takes (taken i) given_words []
-    takes_of = innermost.takes_of table typed effects input ready state top below more_frames rest named p frames deep stages running awaiting of_sub at_point path views viewed_before kept scope holds placed_before above
+    abbrev takes_of : Plain → (i : Instruction) → inner.p.instr ≡ i → Takes (taken i) given_words []
+    takes_of = innermost.takes_of table typed effects input ready inner
 
     abbrev easy : Turn
     easy = eased main_turn
 
-    abbrev viewed_easy : Plain → Viewed (home s depth) sees other views (view_here s easy.state) facts_now × Kept s state.memory (waiting_in easy.state)
-    viewed_easy = innermost.viewed_easy table typed effects input ready state top below more_frames rest named p frames deep stages running awaiting of_sub at_point path views viewed_before kept scope holds placed_before above
+    abbrev viewed_easy : Plain → Viewed (home s depth) sees other inner.views (view_here s easy.state) facts_now × Kept s inner.state.memory (waiting_in easy.state)
+    viewed_easy = innermost.viewed_easy table typed effects input ready inner
 
     abbrev Left : List Waiting → Type 0
-    Left waits = AreValues s waits (scope_behind p)
+    Left waits = AreValues s waits (scope_behind inner.p)
 
-    abbrev raised_well : (m : Memory) → WellOwned s (steps.counted (record state { memory = given_up state.memory m }))
-    raised_well = innermost.raised_well table typed effects input ready state top below more_frames rest named p frames deep stages running awaiting of_sub at_point path views viewed_before kept scope holds placed_before above
+    abbrev raised_well : (m : Memory) → WellOwned s (steps.counted (record inner.state { memory = given_up inner.state.memory m }))
+    raised_well = innermost.raised_well table typed effects input ready inner
 
-    abbrev orderly : AreOrderly program p (λ q. (n : ℕ) × Has (map (number_in named.points) p.next) n × IsAtPoint named.points n q)
-    orderly = innermost.orderly table typed effects input ready state top below more_frames rest named p frames deep stages running awaiting of_sub at_point path views viewed_before kept scope holds placed_before above
+    abbrev orderly : AreOrderly program inner.p (λ q. (n : ℕ) × Has (map (number_in inner.named.points) inner.p.next) n × IsAtPoint inner.named.points n q)
+    orderly = innermost.orderly table typed effects input ready inner
 
     abbrev IsOld : ℕ → ℕ → Type 0
     IsOld f x =
-        (f < suc (length rest)) × ((f ≡ 0)
-        ⊎ ((q : List Step) × (k : ℕ) × (word_in s.table (content s state.memory [] (OfRoot (OfVariable f x))) q ≡ Held k)))
+        (f < suc (length inner.rest)) × ((f ≡ 0)
+        ⊎ ((q : List Step) × (k : ℕ) × (word_in s.table (content s inner.state.memory [] (OfRoot (OfVariable f x))) q ≡ Held k)))
 
-    abbrev inside_left : Inside s IsOld state.memory depth (lasting_of s left_scope)
-    inside_left = innermost.inside_left table typed effects input ready state top below more_frames rest named p frames deep stages running awaiting of_sub at_point path views viewed_before kept scope holds placed_before above
+    abbrev inside_left : Inside s IsOld inner.state.memory depth (lasting_of s left_scope)
+    inside_left = innermost.inside_left table typed effects input ready inner
 
     abbrev home_frame : (x : ℕ) → is_package_object s x ≡ false → home s depth x ≡ depth
-    home_frame = innermost.home_frame table typed effects input ready state top below more_frames rest named p frames deep stages running awaiting of_sub at_point path views viewed_before kept scope holds placed_before above
+    home_frame = innermost.home_frame table typed effects input ready inner
 
     abbrev may_hold : (x : ℕ) (in_there : List ℕ) → (is_package_object s x ≡ true) ⊎ (is_within x in_there ≡ true) → MayHold s IsOld depth in_there (home s depth x) x
-    may_hold = innermost.may_hold table typed effects input ready state top below more_frames rest named p frames deep stages running awaiting of_sub at_point path views viewed_before kept scope holds placed_before above
+    may_hold = innermost.may_hold table typed effects input ready inner
 
-    abbrev with_successors : (i : Instruction) (n : ℕ) → p.instr ≡ i → n < successors i → n < successors main_turn.point.instr
-    with_successors = innermost.with_successors table typed effects input ready state top below more_frames rest named p frames deep stages running awaiting of_sub at_point path views viewed_before kept scope holds placed_before above
+    abbrev with_successors : (i : Instruction) (n : ℕ) → inner.p.instr ≡ i → n < successors i → n < successors main_turn.point.instr
+    with_successors = innermost.with_successors table typed effects input ready inner
 
     abbrev same_scope : (x : ℕ) → is_within x (lasting_of s left_scope) ≡ true → is_within x (lasting_of s left_scope) ≡ true
-    same_scope = innermost.same_scope table typed effects input ready state top below more_frames rest named p frames deep stages running awaiting of_sub at_point path views viewed_before kept scope holds placed_before above
+    same_scope = innermost.same_scope table typed effects input ready inner
 
     abbrev one_more : (y x : ℕ) → is_within x (lasting_of s left_scope) ≡ true → is_within x (lasting_of s (y ∷ left_scope)) ≡ true
-    one_more = innermost.one_more table typed effects input ready state top below more_frames rest named p frames deep stages running awaiting of_sub at_point path views viewed_before kept scope holds placed_before above
+    one_more = innermost.one_more table typed effects input ready inner
 
     abbrev new_there : (x : ℕ) → is_within x (x ∷ left_scope) ≡ true
-    new_there = innermost.new_there table typed effects input ready state top below more_frames rest named p frames deep stages running awaiting of_sub at_point path views viewed_before kept scope holds placed_before above
+    new_there = innermost.new_there table typed effects input ready inner
 
     abbrev new_one : (x : ℕ) → is_temporary_object s x ≡ false → is_within x (lasting_of s (x ∷ left_scope)) ≡ true
-    new_one = innermost.new_one table typed effects input ready state top below more_frames rest named p frames deep stages running awaiting of_sub at_point path views viewed_before kept scope holds placed_before above
+    new_one = innermost.new_one table typed effects input ready inner
 
     abbrev variable_stays : (x : ℕ) → is_variable (object_at s x).kind ≡ true → is_held s x ≡ false
-    variable_stays = innermost.variable_stays table typed effects input ready state top below more_frames rest named p frames deep stages running awaiting of_sub at_point path views viewed_before kept scope holds placed_before above
+    variable_stays = innermost.variable_stays table typed effects input ready inner
 
-    abbrev supplied_here : IsSupplied s p
-    supplied_here = innermost.supplied_here table typed effects input ready state top below more_frames rest named p frames deep stages running awaiting of_sub at_point path views viewed_before kept scope holds placed_before above
+    abbrev supplied_here : IsSupplied s inner.p
+    supplied_here = innermost.supplied_here table typed effects input ready inner
 
-    abbrev stored_which : (i : Instruction) → p.instr ≡ i → (x : ℕ) → Has (stored_at i) x → (is_package_object s x ≡ true) ⊎ (is_within x left_scope ≡ true)
-    stored_which = innermost.stored_which table typed effects input ready state top below more_frames rest named p frames deep stages running awaiting of_sub at_point path views viewed_before kept scope holds placed_before above
+    abbrev stored_which : (i : Instruction) → inner.p.instr ≡ i → (x : ℕ) → Has (stored_at i) x → (is_package_object s x ≡ true) ⊎ (is_within x left_scope ≡ true)
+    stored_which = innermost.stored_which table typed effects input ready inner
 
-    abbrev stored_there : (i : Instruction) → p.instr ≡ i → (x : ℕ) → Has (stored_at i) x → MayHold s IsOld depth (lasting_of s left_scope) (home s depth x) x
-    stored_there = innermost.stored_there table typed effects input ready state top below more_frames rest named p frames deep stages running awaiting of_sub at_point path views viewed_before kept scope holds placed_before above
+    abbrev stored_there : (i : Instruction) → inner.p.instr ≡ i → (x : ℕ) → Has (stored_at i) x → MayHold s IsOld depth (lasting_of s left_scope) (home s depth x) x
+    stored_there = innermost.stored_there table typed effects input ready inner
 
-    abbrev ready_there : (i : Instruction) → p.instr ≡ i → is_ready p i ≡ true
-    ready_there = innermost.ready_there table typed effects input ready state top below more_frames rest named p frames deep stages running awaiting of_sub at_point path views viewed_before kept scope holds placed_before above
+    abbrev ready_there : (i : Instruction) → inner.p.instr ≡ i → is_ready inner.p i ≡ true
+    ready_there = innermost.ready_there table typed effects input ready inner
 
     -- ---- an instruction that is neither the end of a scope nor a call
 
-    module _ (going : (x : ℕ) → p.instr ≡ EndScope x → ⊥) (no_calls : IsNoCall p.instr) where
+    module _ (going : (x : ℕ) → inner.p.instr ≡ EndScope x → ⊥) (no_calls : IsNoCall inner.p.instr) where
       abbrev pub may : ℕ → ℕ → Type 0
-      may x y = MayBe program (scope_behind p) x y × IsStoredAt p.instr x × IsSourceIn (sub_acts (sub_of program top.frame.sub)) x y
+      may x y = MayBe program (scope_behind inner.p) x y × IsStoredAt inner.p.instr x × IsSourceIn (sub_acts (sub_of program inner.top.frame.sub)) x y
 
-      pub more : (y : ℕ) → is_within y left_scope ≡ true → is_within y (scope_behind p) ≡ true
-      more y within = brought_more p.instr going left_scope y within
+      pub more : (y : ℕ) → is_within y left_scope ≡ true → is_within y (scope_behind inner.p) ≡ true
+      more y within = brought_more inner.p.instr going left_scope y within
 
-      pub lasts_behind : (r z : ℕ) → Lasts program p.scope r z → Lasts program (scope_behind p) r z
-      lasts_behind r z lasts = lasts_more program left_scope (scope_behind p) r z more ((innermost.lasts_left table typed effects input ready state top below more_frames rest named p frames deep stages running awaiting of_sub at_point path views viewed_before kept scope holds placed_before above) r z lasts)
+      pub lasts_behind : (r z : ℕ) → Lasts program inner.p.scope r z → Lasts program (scope_behind inner.p) r z
+      lasts_behind r z lasts = lasts_more program left_scope (scope_behind inner.p) r z more ((innermost.lasts_left table typed effects input ready inner) r z lasts)
 
       abbrev pub Good : List Fact → State → Type 0
-      Good fs st = IsGood easy sees seeing ready.accepted.settled ready.owns other alone views ready.class.parts_named may refl refl views fs st
+      Good fs st = IsGood easy sees seeing ready.accepted.settled ready.owns other alone inner.views ready.class.parts_named may refl refl inner.views fs st
 
       abbrev pub LeadsFrom : Instruction → Outcome → Type 0
-      LeadsFrom i outcome = Leads_on easy sees seeing ready.accepted.settled ready.owns other alone views ready.class.parts_named may refl refl (after (acts_of_main i) facts_now) outcome
+      LeadsFrom i outcome = Leads_on easy sees seeing ready.accepted.settled ready.owns other alone inner.views ready.class.parts_named may refl refl (after (acts_of_main i) facts_now) outcome
 
       abbrev pub GoesFrom : Left (steps.waiting main_turn) → Instruction → Outcome → Type 0
       GoesFrom left i outcome = Each (GoesOn main_turn Left left IsOld (lasting_of s left_scope) (lasting_of s (brought i left_scope)) inside_left) outcome
@@ -280,7 +267,7 @@ module _ (table : Table) (typed : TypedProgram) (effects : Effects) (input : Lis
       good plain = record {
         viewed = (viewed_easy plain).0;
         kept = (viewed_easy plain).1;
-        holds = all_held s sees in_formals depth views state.memory (λ x n view bare e. holds.held x n (λ fading. going fading.0 fading.1) view bare e) holds.only holds.owners holds.own holds.taken holds.parts;
+        holds = all_held s sees in_formals depth inner.views inner.state.memory (λ x n view bare e. inner.holds.held x n (λ fading. going fading.0 fading.1) view bare e) inner.holds.only inner.holds.owners inner.holds.own inner.holds.taken inner.holds.parts;
       }
 
       pub ends_so : (i : Instruction) (how : Exception) (m : Memory) → LeadsFrom i (steps.raised main_turn how m)
@@ -296,16 +283,16 @@ module _ (table : Table) (typed : TypedProgram) (effects : Effects) (input : Lis
       -- where nothing is taken, the step is like it is
       module _ (nothing : taken main_turn.point.instr ≡ 0) where
         abbrev Leads_main : List Fact → Outcome → Type 0
-        Leads_main fs outcome = Leads_on main_turn sees seeing ready.accepted.settled ready.owns other alone views ready.class.parts_named may frames nothing fs outcome
+        Leads_main fs outcome = Leads_on main_turn sees seeing ready.accepted.settled ready.owns other alone inner.views ready.class.parts_named may inner.frames nothing fs outcome
 
-        good_main : IsGood main_turn sees seeing ready.accepted.settled ready.owns other alone views ready.class.parts_named may frames nothing views facts_now state
+        good_main : IsGood main_turn sees seeing ready.accepted.settled ready.owns other alone inner.views ready.class.parts_named may inner.frames nothing inner.views facts_now inner.state
         good_main = record {
           viewed = viewed;
-          kept = kept;
-          holds = all_held s sees in_formals depth views state.memory (λ x n view bare e. holds.held x n (λ fading. going fading.0 fading.1) view bare e) holds.only holds.owners holds.own holds.taken holds.parts;
+          kept = inner.kept;
+          holds = all_held s sees in_formals depth inner.views inner.state.memory (λ x n view bare e. inner.holds.held x n (λ fading. going fading.0 fading.1) view bare e) inner.holds.only inner.holds.owners inner.holds.own inner.holds.taken inner.holds.parts;
         }
 
-        to_easy : (fs : List Fact) (outcome : Outcome) → Leads_main fs outcome → Leads_on easy sees seeing ready.accepted.settled ready.owns other alone views ready.class.parts_named may refl refl fs outcome
+        to_easy : (fs : List Fact) (outcome : Outcome) → Leads_main fs outcome → Leads_on easy sees seeing ready.accepted.settled ready.owns other alone inner.views ready.class.parts_named may refl refl fs outcome
         to_easy fs (Goes st) (turned_views, turned, well) = (
           turned_views,
           (
@@ -319,24 +306,24 @@ module _ (table : Table) (typed : TypedProgram) (effects : Effects) (input : Lis
         )
         to_easy fs (Ends how st) leads = leads
 
-        skips_so : Leads_on easy sees seeing ready.accepted.settled ready.owns other alone views ready.class.parts_named may refl refl facts_now (turn main_turn Skip)
+        skips_so : Leads_on easy sees seeing ready.accepted.settled ready.owns other alone inner.views ready.class.parts_named may refl refl facts_now (turn main_turn Skip)
         skips_so =
             to_easy facts_now (turn main_turn Skip)
-            (skip_leads main_turn sees seeing ready.accepted.settled ready.owns other alone in_formals views ready.class.parts_named may frames nothing facts_now good_main)
+            (skip_leads main_turn sees seeing ready.accepted.settled ready.owns other alone in_formals inner.views ready.class.parts_named may inner.frames nothing facts_now good_main)
 
       -- ---- declarations
 
-      not_within : (x : ℕ) (v : TypedTree) → p.instr ≡ Declare x v → is_within x p.scope ≡ true → ⊥
+      not_within : (x : ℕ) (v : TypedTree) → inner.p.instr ≡ Declare x v → is_within x inner.p.scope ≡ true → ⊥
       not_within x v e within =
-          let out : not (is_within x p.scope) ≡ true = ready_there (Declare x v) e in
-          let no : true ≡ false = sym within ∙ not_true (is_within x p.scope) out in absurd (true≢false no)
+          let out : not (is_within x inner.p.scope) ≡ true = ready_there (Declare x v) e in
+          let no : true ≡ false = sym within ∙ not_true (is_within x inner.p.scope) out in absurd (true≢false no)
 
       -- nothing that is there is rooted in an object that is declared
-      unrooted : (x : ℕ) (v : TypedTree) → p.instr ≡ Declare x v → (r z : ℕ) → is_package_object s x ≡ false → Lasts program p.scope r z → r ≡ x → ⊥
+      unrooted : (x : ℕ) (v : TypedTree) → inner.p.instr ≡ Declare x v → (r z : ℕ) → is_package_object s x ≡ false → Lasts program inner.p.scope r z → r ≡ x → ⊥
       unrooted x v e r z mine (inl shared) same_root = true_false (is_package_object s x) (ap (is_package_object s) (sym same_root) ∙ shared) mine
-      unrooted x v e r z mine (inr (within, end, around, plain)) same_root = not_within x v e (subst (λ z. is_within z p.scope ≡ true) same_root within)
+      unrooted x v e r z mine (inr (within, end, around, plain)) same_root = not_within x v e (subst (λ z. is_within z inner.p.scope ≡ true) same_root within)
 
-      free_views : (x : ℕ) (v : TypedTree) → p.instr ≡ Declare x v → (y : ℕ) (w : Way) → views.way y ≡ Some w → IsElsewhere (home s depth) depth x w
+      free_views : (x : ℕ) (v : TypedTree) → inner.p.instr ≡ Declare x v → (y : ℕ) (w : Way) → inner.views.way y ≡ Some w → IsElsewhere (home s depth) depth x w
       free_views x v e y w has here at_home root = by_package (is_package_object s x) refl
         where
           by_package : (b : Bool) → is_package_object s x ≡ b → ⊥
@@ -344,58 +331,58 @@ module _ (table : Table) (typed : TypedProgram) (effects : Effects) (input : Lis
           by_package false mine = unrooted x v e (number_of w) y mine ((placed y w has).root here) root
 
       -- no part of a formal has a way from such an object
-      free_parts : (x y : ℕ) (q : List Step) (w : Way) → views.part_way y q ≡ Some w → ways.base_of w ≡ ways.OfRoot (OfVariable depth x) → ⊥
-      free_parts x y q w has base = elim (holds.low y q w has).0 [
+      free_parts : (x y : ℕ) (q : List Step) (w : Way) → inner.views.part_way y q ≡ Some w → ways.base_of w ≡ ways.OfRoot (OfVariable depth x) → ⊥
+      free_parts x y q w has base = elim (inner.holds.low y q w has).0 [
         | inr (foreign, less, some) ↦ (let same = same_roots foreign.0 foreign.1 depth x (sym foreign.2 ∙ base) in let frames_are = same.0 in omega (arith, less, frames_are))
         | inl at ↦ (
             let same = same_roots (home s depth (number_of w)) (number_of w) depth x (sym (named_base (home s depth) w at) ∙ base) in
-            let first : home s depth (number_of w) ≡ 0 = ap (λ b. if b then 0 else depth) ((holds.low y q w has).1 at) in
+            let first : home s depth (number_of w) ≡ 0 = ap (λ b. if b then 0 else depth) ((inner.holds.low y q w has).1 at) in
             let frames_are = same.0 in omega (arith, first, frames_are))
       ]
 
-      pub free : (x : ℕ) (v : TypedTree) → p.instr ≡ Declare x v
-          → ((y : ℕ) (w : Way) → views.way y ≡ Some w
+      pub free : (x : ℕ) (v : TypedTree) → inner.p.instr ≡ Declare x v
+          → ((y : ℕ) (w : Way) → inner.views.way y ≡ Some w
           → ((foreign : IsForeign (home s depth) w) → foreign.0 ≡ depth → ⊥) × IsElsewhere (home s depth) depth x w)
           × ((l : Loan) (name : PlaceName) → other.lent l name → name.root ≡ x → depth ≡ home s depth x → ⊥)
-          × ((y : ℕ) (q : List Step) (w : Way) → views.part_way y q ≡ Some w → ways.base_of w ≡ ways.OfRoot (OfVariable depth x) → ⊥)
+          × ((y : ℕ) (q : List Step) (w : Way) → inner.views.part_way y q ≡ Some w → ways.base_of w ≡ ways.OfRoot (OfVariable depth x) → ⊥)
       free x v e = (
-        λ y w has. ((λ foreign same. (let low = (lies_far s depth views holds.lies holds.low).0 y w has foreign in omega (arith, low, same))), free_views x v e y w has),
-        (innermost.not_lent_home table typed effects input ready state top below more_frames rest named p frames deep stages running awaiting of_sub at_point path views viewed_before kept scope holds placed_before above) x,
+        λ y w has. ((λ foreign same. (let low = (lies_far s depth inner.views inner.holds.lies inner.holds.low).0 y w has foreign in omega (arith, low, same))), free_views x v e y w has),
+        (innermost.not_lent_home table typed effects input ready inner) x,
         free_parts x,
       )
 
-      pub unused : (x : ℕ) (v : TypedTree) → p.instr ≡ Declare x v → is_package_object s x ≡ false → Unused (home s depth) other.lent views facts_now x
+      pub unused : (x : ℕ) (v : TypedTree) → inner.p.instr ≡ Declare x v → is_package_object s x ≡ false → Unused (home s depth) other.lent inner.views facts_now x
       unused x v e mine = record {
         unmoved = λ name has root. elim (from_both (Moved name) has) [
-          | inl mine_fact ↦ packages.new_before table typed effects input ready state top older outer named p frames of_sub at_point path x v e name mine_fact root
+          | inl mine_fact ↦ packages.new_before table typed effects input ready inner.state inner.top older outer inner.named inner.p inner.frames inner.of_sub inner.at_point inner.path x v e name mine_fact root
           | inr there ↦ not_handed name there
         ];
-        unlent = (innermost.not_lent table typed effects input ready state top below more_frames rest named p frames deep stages running awaiting of_sub at_point path views viewed_before kept scope holds placed_before above) x mine;
-        untaken = λ z w has named_there off root. unrooted x v e (number_of (views.up z)) z mine ((placed z w has).up named_there) root;
+        unlent = (innermost.not_lent table typed effects input ready inner) x mine;
+        untaken = λ z w has named_there off root. unrooted x v e (number_of (inner.views.up z)) z mine ((placed z w has).up named_there) root;
       }
 
-      pub unmoved_now : (x : ℕ) (v : TypedTree) → p.instr ≡ Declare x v → (name : PlaceName) → Has facts_now (Moved name) → name.root ≡ x → depth ≡ home s depth x → ⊥
+      pub unmoved_now : (x : ℕ) (v : TypedTree) → inner.p.instr ≡ Declare x v → (name : PlaceName) → Has facts_now (Moved name) → name.root ≡ x → depth ≡ home s depth x → ⊥
       unmoved_now x v e name has root at_home = elim (from_both (Moved name) has) [
-        | inl mine ↦ packages.new_before table typed effects input ready state top older outer named p frames of_sub at_point path x v e name mine root
+        | inl mine ↦ packages.new_before table typed effects input ready inner.state inner.top older outer inner.named inner.p inner.frames inner.of_sub inner.at_point inner.path x v e name mine root
         | inr there ↦ absurd (not_handed name there)
       ]
 
-      pub blank : (x : ℕ) (v : TypedTree) → p.instr ≡ Declare x v → (q : List Step) (w : ways.Word)
-          → word_in s.table (content s state.memory [] (OfRoot (OfVariable depth x))) q ≡ w
-          → word_in s.table (content s state.memory [] (OfRoot (OfVariable depth x))) q ≡ ways.Empty
+      pub blank : (x : ℕ) (v : TypedTree) → inner.p.instr ≡ Declare x v → (q : List Step) (w : ways.Word)
+          → word_in s.table (content s inner.state.memory [] (OfRoot (OfVariable depth x))) q ≡ w
+          → word_in s.table (content s inner.state.memory [] (OfRoot (OfVariable depth x))) q ≡ ways.Empty
       blank x v e q ways.Empty is = is
-      blank x v e q (ways.Held n) is = absurd (elim (scope depth x q n is) [
+      blank x v e q (ways.Held n) is = absurd (elim (inner.scope depth x q n is) [
         | inl less ↦ omega (arith, less)
-        | inr mine ↦ not_within x v e (lasting_within s x p.scope mine.1).0
+        | inr mine ↦ not_within x v e (lasting_within s x inner.p.scope mine.1).0
       ])
       blank x v e q ways.Gone is =
           let root : ways.Root = OfVariable depth x in
           let w : Way = along (ways.Object root) q in
-          absurd (not_gone easy sees seeing ready.accepted.settled ready.owns other alone in_formals views ready.class.parts_named may refl refl
-          x facts_now (view_here s state) viewed (unmoved_now x v e) (free x v e) q
+          absurd (not_gone easy sees seeing ready.accepted.settled ready.owns other alone in_formals inner.views ready.class.parts_named may refl refl
+          x facts_now (view_here s inner.state) viewed (unmoved_now x v e) (free x v e) q
           (viewed.known w (ways.part (OfRoot root) q) (rooted_along (ways.Object root) q tt)
-          (reaches_along (view_here s state) (ways.Object root) (OfRoot root) q refl)
-          (word_root s.table (content s state.memory (waiting_in state)) root q ∙ is)))
+          (reaches_along (view_here s inner.state) (ways.Object root) (OfRoot root) q refl)
+          (word_root s.table (content s inner.state.memory (waiting_in inner.state)) root q ∙ is)))
 
       -- a declaration, at these turns
       abbrev pub Declared : ℕ → TypedTree → (Turn → Outcome)
@@ -408,16 +395,16 @@ module _ (table : Table) (typed : TypedProgram) (effects : Effects) (input : Lis
           (λ vs m on. goes_too i (declared depth x vs m) 0 on) leads
 
       -- no fact after it names the object
-      pub after_it : (x : ℕ) (v : TypedTree) → p.instr ≡ Declare x v → (name : PlaceName) → Has (after (acts_of_main (Declare x v)) facts_now) (Moved name) → name.root ≡ x
+      pub after_it : (x : ℕ) (v : TypedTree) → inner.p.instr ≡ Declare x v → (name : PlaceName) → Has (after (acts_of_main (Declare x v)) facts_now) (Moved name) → name.root ≡ x
           → depth ≡ home s depth x → ⊥
       after_it x v e name has root at_home = elim (after_splits (acts_of_main (Declare x v)) facts_now own_facts handed_on from_both (Moved name) has) [
-        | inl mine ↦ packages.new_after table typed effects input ready state top older outer named p frames of_sub at_point path x v e no_calls name
+        | inl mine ↦ packages.new_after table typed effects input ready inner.state inner.top older outer inner.named inner.p inner.frames inner.of_sub inner.at_point inner.path x v e no_calls name
             (subst (λ i. Has (after (acts_of_main i) own_facts) (Moved name)) (sym e) mine) root
         | inr there ↦ absurd (not_handed name there)
       ]
 
-      in_sub : (a : Act) → Has (acts_of_main p.instr) a → Has (sub_acts (sub_of program top.frame.sub)) a
-      in_sub = standing.acts_in_sub table typed effects input ready state top older outer named p frames of_sub at_point
+      in_sub : (a : Act) → Has (acts_of_main inner.p.instr) a → Has (sub_acts (sub_of program inner.top.frame.sub)) a
+      in_sub = standing.acts_in_sub table typed effects input ready inner.state inner.top older outer inner.named inner.p inner.frames inner.of_sub inner.at_point
 
       -- a view isn't scalar
       plain_call : (r : Pos) (n : ℕ) (actuals : TypedTree) → GivesPlainly s (CallIn r n actuals) → (t : ℕ) → (sub_at s n).result ≡ Some t → is_scalar (full s.table t) ≡ true
@@ -431,29 +418,29 @@ module _ (table : Table) (typed : TypedProgram) (effects : Effects) (input : Lis
       gives_many : (n of : ℕ) → GivesView s n of → ((t : ℕ) → (sub_at s n).result ≡ Some t → is_scalar (full s.table t) ≡ true) → ⊥
       gives_many n of gives scalar = view_scalar (shape_of s.table gives.result) gives.anonymous (scalar gives.result gives.result_is)
 
-      declares : Plainly → (x : ℕ) (v : TypedTree) (e : p.instr ≡ Declare x v) → FirstSource s (object_at s x).of v
+      declares : Plainly → (x : ℕ) (v : TypedTree) (e : inner.p.instr ≡ Declare x v) → FirstSource s (object_at s x).of v
           → AllowsAll facts_now (acts_of_main (Declare x v)) → AllKeep (is_fixed s sees) (acts_of_main (Declare x v)) → LeadsFrom (Declare x v) (turn main_turn (Declare x v))
       unfolding waits_in
       declares plain x v e text allowed_there keep = by_view (is_anonymous (view_of s x)) refl
         where
           from_source : (w : TypedTree) → v ≡ w → (q : Pos) (y u : ℕ) (source : TypedTree) → w ≡ More (Name q y source u) NoMore → is_anonymous (view_of s x) ≡ true
-              → Lasts program p.scope y x → (is_observer s x ≡ false → (is_observer s y ≡ false) × (sees x ≡ sees y) × (y < x))
+              → Lasts program inner.p.scope y x → (is_observer s x ≡ false → (is_observer s y ≡ false) × (sees x ≡ sees y) × (y < x))
               → LeadsFrom (Declare x v) (turn main_turn (Declare x v))
           from_source w same_v q y u source is view lasts older_there =
               let here_is : v ≡ More (Name q y source u) NoMore = same_v ∙ is in
-              let in_behind : is_within x (scope_behind p) ≡ true = subst (λ i. is_within x (brought i left_scope) ≡ true) (sym e) (new_there x) in
+              let in_behind : is_within x (scope_behind inner.p) ≡ true = subst (λ i. is_within x (brought i left_scope) ≡ true) (sym e) (new_there x) in
               let text_there : FirstSource s (object_at s x).of (More (Name q y source u) NoMore) = subst (FirstSource s (object_at s x).of) here_is text in
               let takes : Takes (waits_in source) given_words [] =
               takes_as (taken (Declare x (More (Name q y source u) NoMore))) (waits_in source) given_words [] (nothing_more (waits_in source))
               (subst (λ z. Takes (taken (Declare x z)) given_words []) here_is (takes_of plain.0 (Declare x v) e)) in
               declared_main (Declare x v) x v (subst (λ z. LeadsFrom (Declare x v) (Declared x z easy)) (sym here_is)
-              (subst (λ z. Leads_on easy sees seeing ready.accepted.settled ready.owns other alone views ready.class.parts_named may refl refl (after (acts_of_main (Declare x z)) facts_now) (Declared x (More (Name q y source u) NoMore) easy)) (sym here_is)
-              (view_declared easy sees seeing ready.accepted.settled ready.owns other alone in_formals views ready.class.parts_named may refl refl given_words
+              (subst (λ z. Leads_on easy sees seeing ready.accepted.settled ready.owns other alone inner.views ready.class.parts_named may refl refl (after (acts_of_main (Declare x z)) facts_now) (Declared x (More (Name q y source u) NoMore) easy)) (sym here_is)
+              (view_declared easy sees seeing ready.accepted.settled ready.owns other alone in_formals inner.views ready.class.parts_named may refl refl given_words
               q x y u source view (orderly.variables x (inl (inl (v, e))) view) (home_frame x (local x (anonymous_view s x view))) text_there.1 takes
               older_there (
                 record { lasts = lasts_behind y x lasts; within = in_behind; view = view; plain = variable_stays x (orderly.variables x (inl (inl (v, e))) view) },
                 inl (v, e),
-                declared_source s x view (orderly.variables x (inl (inl (v, e))) view) (Name q y source u) q y source u (inl refl) (sub_acts (sub_of program top.frame.sub))
+                declared_source s x view (orderly.variables x (inl (inl (v, e))) view) (Name q y source u) q y source u (inl refl) (sub_acts (sub_of program inner.top.frame.sub))
                     (λ a has. in_sub a (subst (λ i. Has (acts_of_main i) a) (sym e) (subst (λ z. Has (acts_of_main (Declare x z)) a) (sym here_is) has))),
               ) facts_now (good plain.0) (unused x v e (local x (anonymous_view s x view)))
               (subst (λ z. AllowsAll facts_now (acts_of_main (Declare x z))) here_is allowed_there))))
@@ -469,11 +456,11 @@ module _ (table : Table) (typed : TypedProgram) (effects : Effects) (input : Lis
                     (subst (GivesPlainly s) (source.5 ∙ ap (λ z. More z NoMore) is) (subst (TakesScalars s) e plain.1)))))
               ]
           by_view false owner =
-              declared_main (Declare x v) x v (declare_on easy sees seeing ready.accepted.settled ready.owns other alone in_formals views ready.class.parts_named may refl refl given_words
+              declared_main (Declare x v) x v (declare_on easy sees seeing ready.accepted.settled ready.owns other alone in_formals inner.views ready.class.parts_named may refl refl given_words
               x v (plain_named s.table (object_at s x).of owner) (orderly.begun x v e) text (subst (TakesScalars s) e plain.1) (takes_of plain.0 (Declare x v) e)
               facts_now (good plain.0) allowed_there keep
-              (λ q. blank x v e q (word_in s.table (content s state.memory [] (OfRoot (OfVariable depth x))) q) refl) (after_it x v e) (free x v e)
-              (apart_elsewhere table typed effects unmoved_stage local state depth older between x))
+              (λ q. blank x v e q (word_in s.table (content s inner.state.memory [] (OfRoot (OfVariable depth x))) q) refl) (after_it x v e) (free x v e)
+              (apart_elsewhere table typed effects unmoved_stage local inner.state depth older between x))
 
       -- ---- assignments
 
@@ -494,7 +481,7 @@ module _ (table : Table) (typed : TypedProgram) (effects : Effects) (input : Lis
           (λ st m on. subst (λ z. LeadsFrom i (steps.leaking_goes (checks_at s (steps.target_pos main_turn target) m st.place) z))
           (goes_same main_turn (stored s st.place st.words m) 0) on) leads
 
-      assigns : Plainly → (left : Left (steps.waiting main_turn)) (target e : TypedTree) (is : p.instr ≡ Assign target e) → IsFine s None (Assign target e)
+      assigns : Plainly → (left : Left (steps.waiting main_turn)) (target e : TypedTree) (is : inner.p.instr ≡ Assign target e) → IsFine s None (Assign target e)
           → AllowsAll facts_now (acts_of_main (Assign target e)) → AllKeep (is_fixed s sees) (acts_of_main (Assign target e)) → Both left (Assign target e)
       unfolding has_call waits_in
       assigns plain left (Name q x steps u) e is (v, (leads, type), source) allowed_there keep =
@@ -504,17 +491,17 @@ module _ (table : Table) (typed : TypedProgram) (effects : Effects) (input : Lis
                 (stored_there (Assign (Name q x steps u) e) is x (inl refl)) (with_successors (Assign (Name q x steps u) e) 0 is below_one),
           )
         where
-          itself_lasts : is_anonymous (view_of s x) ≡ true → is_held s x ≡ false → is_within x (scope_behind p) ≡ true → Lasts program (scope_behind p) x x
+          itself_lasts : is_anonymous (view_of s x) ≡ true → is_held s x ≡ false → is_within x (scope_behind inner.p) ≡ true → Lasts program (scope_behind inner.p) x x
           itself_lasts view plain within = inr (within, view_ends s x (anonymous_view s x view), ready.orderly.itself _, plain)
 
-          within_now : is_anonymous (view_of s x) ≡ true → is_within x (scope_behind p) ≡ true
+          within_now : is_anonymous (view_of s x) ≡ true → is_within x (scope_behind inner.p) ≡ true
           within_now view = elim (stored_which (Assign (Name q x steps u) e) is x (inl refl)) [
             | inl shared ↦ absurd (true_false (is_package_object s x) shared (local x (anonymous_view s x view)))
             | inr within ↦ more x within
           ]
 
           to_view : Source s (object_at s x).of e → is_anonymous (view_of s x) ≡ true
-              → p.instr ≡ Assign (Name q x NoMore (object_at s x).of) e
+              → inner.p.instr ≡ Assign (Name q x NoMore (object_at s x).of) e
               → AllowsAll facts_now (acts_of_main (Assign (Name q x NoMore (object_at s x).of) e)) → Goal (Name q x NoMore (object_at s x).of) e
           to_view source view instr_is allowed_here =
               let found = orderly.assigned q x (object_at s x).of e instr_is view in
@@ -524,32 +511,32 @@ module _ (table : Table) (typed : TypedProgram) (effects : Effects) (input : Lis
                     (plain_call r n (More (Name found.0 found.1 found.2 found.3) more) (subst (GivesPlainly s) call_is (subst (TakesScalars s) instr_is plain.1))))
               ]
             where
-              from_name : (r : Pos) (y w : ℕ) (rest : TypedTree) → e ≡ Name r y rest w → (is_observer s x ≡ true → Lasts program p.scope y x)
+              from_name : (r : Pos) (y w : ℕ) (steps_after : TypedTree) → e ≡ Name r y steps_after w → (is_observer s x ≡ true → Lasts program inner.p.scope y x)
                   → (is_observer s x ≡ false → y ≡ x) → Goal (Name q x NoMore (object_at s x).of) e
-              from_name r y w rest here_is lasts itself =
+              from_name r y w steps_after here_is lasts itself =
                   let of : ℕ = (object_at s x).of in
                   let variable_here : is_variable (object_at s x).kind ≡ true = orderly.variables x (inl (inr (q, of, e, instr_is))) view in
                   let from : may x y = (
                     record {
                       lasts = elim (bool_cases (is_observer s x)) [
                         | inl sight ↦ lasts_behind y x (lasts sight)
-                        | inr borrows ↦ subst (λ z. Lasts program (scope_behind p) z x) (sym (itself borrows)) (itself_lasts view (variable_stays x variable_here) (within_now view))
+                        | inr borrows ↦ subst (λ z. Lasts program (scope_behind inner.p) z x) (sym (itself borrows)) (itself_lasts view (variable_stays x variable_here) (within_now view))
                       ];
                       within = within_now view;
                       view = view;
                       plain = variable_stays x variable_here;
                     },
                     inr (q, (object_at s x).of, e, instr_is),
-                    assigned_source s x view variable_here (Name r y rest w) r y rest w (inl refl) (sub_acts (sub_of program top.frame.sub)) p.pos q itself
+                    assigned_source s x view variable_here (Name r y steps_after w) r y steps_after w (inl refl) (sub_acts (sub_of program inner.top.frame.sub)) inner.p.pos q itself
                         (λ a has. in_sub a (subst (λ i. Has (acts_of_main i) a) (sym instr_is) (subst (λ z. Has (acts_of_main (Assign (Name q x NoMore (object_at s x).of) z)) a) (sym here_is) has))),
                   ) in
-                  let takes : Takes (waits_in rest) given_words [] =
-                  takes_as (taken (Assign (Name q x NoMore of) (Name r y rest w))) (waits_in rest) given_words [] (nothing_more (waits_in rest))
+                  let takes : Takes (waits_in steps_after) given_words [] =
+                  takes_as (taken (Assign (Name q x NoMore of) (Name r y steps_after w))) (waits_in steps_after) given_words [] (nothing_more (waits_in steps_after))
                   (subst (λ z. Takes (taken (Assign (Name q x NoMore of) z)) given_words []) here_is (takes_of plain.0 (Assign (Name q x NoMore of) e) instr_is)) in
                   subst (λ z. Goal (Name q x NoMore of) z) (sym here_is)
-                  (assigned_main (Assign (Name q x NoMore of) (Name r y rest w)) (Name q x NoMore of) of (Name r y rest w)
-                  (view_assigned easy sees seeing ready.accepted.settled ready.owns other alone in_formals views ready.class.parts_named may refl refl given_words
-                  p.pos q r x y w rest view variable_here (home_frame x (local x (anonymous_view s x view))) (subst (Source s of) here_is source) takes itself from facts_now (good plain.0)
+                  (assigned_main (Assign (Name q x NoMore of) (Name r y steps_after w)) (Name q x NoMore of) of (Name r y steps_after w)
+                  (view_assigned easy sees seeing ready.accepted.settled ready.owns other alone in_formals inner.views ready.class.parts_named may refl refl given_words
+                  inner.p.pos q r x y w steps_after view variable_here (home_frame x (local x (anonymous_view s x view))) (subst (Source s of) here_is source) takes itself from facts_now (good plain.0)
                   (subst (λ z. AllowsAll facts_now (acts_of_main (Assign (Name q x NoMore of) z))) here_is allowed_here)))
 
           by_view : Source s u e → (b : Bool) → is_anonymous (full s.table u) ≡ b → Goal (Name q x steps u) e
@@ -558,8 +545,8 @@ module _ (table : Table) (typed : TypedProgram) (effects : Effects) (input : Lis
             | inr gives ↦ (
                 let two = takes_both (waits_in e) (waits_in steps) given_words [] (takes_of plain.0 (Assign (Name q x steps u) e) is) in
                 assigned_main (Assign (Name q x steps u) e) (Name q x steps u) u e
-                (assign_on easy sees seeing ready.accepted.settled ready.owns other alone views ready.class.parts_named may refl refl given_words two.0
-                p.pos q x u steps e (plain_named s.table u owner) gives leads
+                (assign_on easy sees seeing ready.accepted.settled ready.owns other alone inner.views ready.class.parts_named may refl refl given_words two.0
+                inner.p.pos q x u steps e (plain_named s.table u owner) gives leads
                 (subst (TakesScalars s) is plain.1) two.1 two.2
                 facts_now (good plain.0) allowed_there keep))
           ]
@@ -575,84 +562,84 @@ module _ (table : Table) (typed : TypedProgram) (effects : Effects) (input : Lis
 
       -- ---- what changes no view
 
-      writes : Plainly → (text : TypedTree) (line : Bool) (is : p.instr ≡ Output text line) → FirstWrites s text
+      writes : Plainly → (text : TypedTree) (line : Bool) (is : inner.p.instr ≡ Output text line) → FirstWrites s text
           → AllowsAll facts_now (acts_of_main (Output text line)) → LeadsFrom (Output text line) (turn main_turn (Output text line))
       unfolding acts_in waits_in
-      writes plain (More e rest) line is (last, text) allowed_there =
-          from_easy (Output (More e rest) line) (text_of (steps.here main_turn) e (start main_turn))
-          (λ bytes m. Goes (record (steps.behind easy (steps.waiting easy) m 0) { output = state.output ++ bytes ++ (if line then 10 ∷ [] else []) }))
-          (λ bytes m. Goes (record (steps.behind main_turn (steps.waiting main_turn) m 0) { output = state.output ++ bytes ++ (if line then 10 ∷ [] else []) }))
-          (λ bytes m on. subst (λ z. LeadsFrom (Output (More e rest) line) (Goes (record (steps.behind main_turn z m 0) { output = state.output ++ bytes ++ (if line then 10 ∷ [] else []) })))
+      writes plain (More e more) line is (last, text) allowed_there =
+          from_easy (Output (More e more) line) (text_of (steps.here main_turn) e (start main_turn))
+          (λ bytes m. Goes (record (steps.behind easy (steps.waiting easy) m 0) { output = inner.state.output ++ bytes ++ (if line then 10 ∷ [] else []) }))
+          (λ bytes m. Goes (record (steps.behind main_turn (steps.waiting main_turn) m 0) { output = inner.state.output ++ bytes ++ (if line then 10 ∷ [] else []) }))
+          (λ bytes m on. subst (λ z. LeadsFrom (Output (More e more) line) (Goes (record (steps.behind main_turn z m 0) { output = inner.state.output ++ bytes ++ (if line then 10 ∷ [] else []) })))
           (waits_same main_turn) on)
-          (output_on easy sees seeing ready.accepted.settled ready.owns other alone in_formals views ready.class.parts_named may refl refl given_words
-          e rest line last text (takes_of plain.0 (Output (More e rest) line) is) facts_now (good plain.0) allowed_there)
+          (output_on easy sees seeing ready.accepted.settled ready.owns other alone in_formals inner.views ready.class.parts_named may refl refl given_words
+          e more line last text (takes_of plain.0 (Output (More e more) line) is) facts_now (good plain.0) allowed_there)
       writes plain NoMore line is text allowed_there =
           let nothing = none_takes (Output NoMore line) is refl in
           to_easy nothing facts_now (turn main_turn (Output NoMore line))
-          (line_leads main_turn sees seeing ready.accepted.settled ready.owns other alone in_formals views ready.class.parts_named may frames nothing line facts_now (good_main nothing))
+          (line_leads main_turn sees seeing ready.accepted.settled ready.owns other alone in_formals inner.views ready.class.parts_named may inner.frames nothing line facts_now (good_main nothing))
       writes plain other_text line is never allowed_there = absurd never
 
-      reads : Plainly → (left : Left (steps.waiting main_turn)) (target : TypedTree) (is : p.instr ≡ Input target) → IsFine s None (Input target)
+      reads : Plainly → (left : Left (steps.waiting main_turn)) (target : TypedTree) (is : inner.p.instr ≡ Input target) → IsFine s None (Input target)
           → AllowsAll facts_now (acts_of_main (Input target)) → Both left (Input target)
       unfolding waits_in
-      reads plain left (Name q x path u) is (v, (leads, type), scalar) allowed_there = (
-        input_eased main_turn (LeadsFrom (Input (Name q x path u))) (ends_so (Input (Name q x path u))) (λ trap m on. on.0 tt)
-            (Name q x path u)
-            (got_on easy sees seeing ready.accepted.settled ready.owns other alone in_formals views ready.class.parts_named may refl refl given_words
-            (λ k m. got_with easy k (next_item input state.at) m) q x u path (record {
+      reads plain left (Name q x steps_after u) is (v, (leads, type), scalar) allowed_there = (
+        input_eased main_turn (LeadsFrom (Input (Name q x steps_after u))) (ends_so (Input (Name q x steps_after u))) (λ trap m on. on.0 tt)
+            (Name q x steps_after u)
+            (got_on easy sees seeing ready.accepted.settled ready.owns other alone in_formals inner.views ready.class.parts_named may refl refl given_words
+            (λ k m. got_with easy k (next_item input inner.state.at) m) q x u steps_after (record {
               at_missing = λ k m next. rw next refl;
               at_bad = λ k m next. rw next refl;
               at_number = λ k m v end next fits. rw (next, fits) refl;
               at_outside = λ k m v end next out. rw (next, out) refl;
-            }) (subst (λ z. is_scalar (full s.table z) ≡ true) (sym type) scalar) leads (takes_of plain.0 (Input (Name q x path u)) is)
-            (orderly.read q x u path is) facts_now (good plain.0) allowed_there),
-        input_follows main_turn Left left IsOld (lasting_of s left_scope) (lasting_of s left_scope) inside_left same_scope q x u path
-            (stored_there (Input (Name q x path u)) is x (inl refl)) (with_successors (Input (Name q x path u)) 0 is below_one),
+            }) (subst (λ z. is_scalar (full s.table z) ≡ true) (sym type) scalar) leads (takes_of plain.0 (Input (Name q x steps_after u)) is)
+            (orderly.read q x u steps_after is) facts_now (good plain.0) allowed_there),
+        input_follows main_turn Left left IsOld (lasting_of s left_scope) (lasting_of s left_scope) inside_left same_scope q x u steps_after
+            (stored_there (Input (Name q x steps_after u)) is x (inl refl)) (with_successors (Input (Name q x steps_after u)) 0 is below_one),
       )
       reads plain left target is (v, never, scalar) allowed_there = absurd never
 
-      releases : Plainly → (left : Left (steps.waiting main_turn)) (target : TypedTree) (is : p.instr ≡ Release target) → IsFine s None (Release target)
+      releases : Plainly → (left : Left (steps.waiting main_turn)) (target : TypedTree) (is : inner.p.instr ≡ Release target) → IsFine s None (Release target)
           → AllowsAll facts_now (acts_of_main (Release target)) → AllKeep (is_fixed s sees) (acts_of_main (Release target)) → Both left (Release target)
       unfolding waits_in
-      releases plain left (Name q x path u) is (v, d, (leads, type), access) allowed_there keep = (
-        release_eased main_turn (LeadsFrom (Release (Name q x path u))) (ends_so (Release (Name q x path u))) (λ trap m on. on.0 tt)
-            q x u path
-            (released_on easy sees seeing ready.accepted.settled ready.owns other alone in_formals views ready.class.parts_named may refl refl given_words
-            (λ k m. released_with easy q k (words_of s m k) m) q q x u d path (record {
+      releases plain left (Name q x steps_after u) is (v, d, (leads, type), access) allowed_there keep = (
+        release_eased main_turn (LeadsFrom (Release (Name q x steps_after u))) (ends_so (Release (Name q x steps_after u))) (λ trap m on. on.0 tt)
+            q x u steps_after
+            (released_on easy sees seeing ready.accepted.settled ready.owns other alone in_formals inner.views ready.class.parts_named may refl refl given_words
+            (λ k m. released_with easy q k (words_of s m k) m) q q x u d steps_after (record {
               at_null = λ k m is. rw is refl;
               at_whole = λ k m v is. rw is refl;
               at_listed = λ k m v is. rw is refl;
               at_cell = λ k m n is alive. rw (is, alive) refl;
-            }) (subst (λ z. shape_of s.table z ≡ shape.Access d false true) (sym type) access) leads (takes_of plain.0 (Release (Name q x path u)) is)
-            (last_kept (acts_in s path) keep) facts_now (good plain.0) allowed_there),
-        release_follows main_turn Left left IsOld (lasting_of s left_scope) (lasting_of s left_scope) inside_left same_scope q x u path
-            (stored_there (Release (Name q x path u)) is x (inl refl)) (with_successors (Release (Name q x path u)) 0 is below_one),
+            }) (subst (λ z. shape_of s.table z ≡ shape.Access d false true) (sym type) access) leads (takes_of plain.0 (Release (Name q x steps_after u)) is)
+            (last_kept (acts_in s steps_after) keep) facts_now (good plain.0) allowed_there),
+        release_follows main_turn Left left IsOld (lasting_of s left_scope) (lasting_of s left_scope) inside_left same_scope q x u steps_after
+            (stored_there (Release (Name q x steps_after u)) is x (inl refl)) (with_successors (Release (Name q x steps_after u)) 0 is below_one),
       )
         where
-          last_kept : (before : List Placed) → AllKeep (is_fixed s sees) (acts (before ++ record { pos = q; act = act.Free (name_of x path) } ∷ [])) → is_fixed s sees (name_of x path) ≡ false
+          last_kept : (before : List Placed) → AllKeep (is_fixed s sees) (acts (before ++ record { pos = q; act = act.Free (name_of x steps_after) } ∷ [])) → is_fixed s sees (name_of x steps_after) ≡ false
           last_kept before keep =
-              (keep_both (is_fixed s sees) (acts before) (act.Free (name_of x path) ∷ [])
-              (subst (AllKeep (is_fixed s sees)) (acts_append before (record { pos = q; act = act.Free (name_of x path) } ∷ [])) keep)).1.0
+              (keep_both (is_fixed s sees) (acts before) (act.Free (name_of x steps_after) ∷ [])
+              (subst (AllKeep (is_fixed s sees)) (acts_append before (record { pos = q; act = act.Free (name_of x steps_after) } ∷ [])) keep)).1.0
       releases plain left target is (v, d, never, access) allowed_there keep = absurd never
 
-      decides : Plainly → (i : Instruction) (is : p.instr ≡ i) (e : TypedTree) → taken i ≡ waits_in e → acts_of_main i ≡ acts (acts_in s e) → Stays s e
+      decides : Plainly → (i : Instruction) (is : inner.p.instr ≡ i) (e : TypedTree) → taken i ≡ waits_in e → acts_of_main i ≡ acts (acts_in s e) → Stays s e
           → AllowsAll facts_now (acts_of_main i) → (k : List machine.Word → ℕ)
           → LeadsFrom i (steps.evaluated main_turn (value (steps.here main_turn) e (start main_turn)) (λ ws m. steps.goes main_turn m (k ws)))
       decides plain i is e takes same_acts stays allowed_there k =
           from_easy i (value (steps.here main_turn) e (start main_turn)) (λ ws m. steps.goes easy m (k ws)) (λ ws m. steps.goes main_turn m (k ws))
           (λ ws m on. goes_too i m (k ws) on)
-          (subst (λ z. Leads_on easy sees seeing ready.accepted.settled ready.owns other alone views ready.class.parts_named may refl refl (after z facts_now)
-          (steps.evaluated easy (value (steps.here easy) e (record { memory = state.memory; waits = given_words })) (λ ws m. steps.goes easy m (k ws)))) (sym same_acts)
-          (decides_on easy sees seeing ready.accepted.settled ready.owns other alone views ready.class.parts_named may refl refl given_words
+          (subst (λ z. Leads_on easy sees seeing ready.accepted.settled ready.owns other alone inner.views ready.class.parts_named may refl refl (after z facts_now)
+          (steps.evaluated easy (value (steps.here easy) e (record { memory = inner.state.memory; waits = given_words })) (λ ws m. steps.goes easy m (k ws)))) (sym same_acts)
+          (decides_on easy sees seeing ready.accepted.settled ready.owns other alone inner.views ready.class.parts_named may refl refl given_words
           e stays (takes_as (taken i) (waits_in e) given_words [] takes (takes_of plain.0 i is)) facts_now (good plain.0) (subst (AllowsAll facts_now) same_acts allowed_there) k))
 
-      chooses : Plainly → (left : Left (steps.waiting main_turn)) (e : TypedTree) (choices : List TypedCode) (is : p.instr ≡ Choose e choices) → Stays s e
+      chooses : Plainly → (left : Left (steps.waiting main_turn)) (e : TypedTree) (choices : List TypedCode) (is : inner.p.instr ≡ Choose e choices) → Stays s e
           → AllowsAll facts_now (acts_of_main (Choose e choices)) → Both left (Choose e choices)
       chooses plain left e choices is stays allowed_there = (
         from_easy (Choose e choices) (value (steps.here main_turn) e (start main_turn))
             (λ ws m. steps.chosen easy (length choices) (steps.choice choices ws) m) (λ ws m. steps.chosen main_turn (length choices) (steps.choice choices ws) m)
             (λ ws m on. chosen_too (nat_lt (steps.choice choices ws) (length choices)) (steps.choice choices ws) m on)
-            (choose_on easy sees seeing ready.accepted.settled ready.owns other alone views ready.class.parts_named may refl refl given_words
+            (choose_on easy sees seeing ready.accepted.settled ready.owns other alone inner.views ready.class.parts_named may refl refl given_words
             e choices stays (takes_of plain.0 (Choose e choices) is) facts_now (good plain.0) allowed_there),
         choose_follows main_turn Left left IsOld (lasting_of s left_scope) (lasting_of s left_scope) inside_left same_scope e choices (ap successors (sym is)),
       )
@@ -662,13 +649,13 @@ module _ (table : Table) (typed : TypedProgram) (effects : Effects) (input : Lis
           chosen_too true k m on = goes_too (Choose e choices) m k on
           chosen_too false k m on = ends_so (Choose e choices) ConstraintError m
 
-      leaves : Plainly → (left : Left (steps.waiting main_turn)) (e : TypedTree) (is : p.instr ≡ LeaveLoop e) → FirstStays s e → AllowsAll facts_now (acts_of_main (LeaveLoop e))
+      leaves : Plainly → (left : Left (steps.waiting main_turn)) (e : TypedTree) (is : inner.p.instr ≡ LeaveLoop e) → FirstStays s e → AllowsAll facts_now (acts_of_main (LeaveLoop e))
           → Both left (LeaveLoop e)
       unfolding acts_in waits_in
-      leaves plain left (More e rest) is (last, stays) allowed_there = (
-        decides plain (LeaveLoop (More e rest)) is e (ap (λ z. waits_in e + waits_in z) last ∙ nothing_more (waits_in e))
+      leaves plain left (More e more) is (last, stays) allowed_there = (
+        decides plain (LeaveLoop (More e more)) is e (ap (λ z. waits_in e + waits_in z) last ∙ nothing_more (waits_in e))
             (ap acts (ap (λ z. acts_in s e ++ acts_in s z) last ∙ append-nil (acts_in s e))) stays allowed_there (λ ws. if run.is_true ws then 0 else 1),
-        test_follows main_turn Left left IsOld (lasting_of s left_scope) (lasting_of s left_scope) inside_left same_scope e (with_successors (LeaveLoop (More e rest)) 1 is below_two),
+        test_follows main_turn Left left IsOld (lasting_of s left_scope) (lasting_of s left_scope) inside_left same_scope e (with_successors (LeaveLoop (More e more)) 1 is below_two),
       )
       leaves plain left NoMore is text allowed_there = (
         skips_so (none_takes (LeaveLoop NoMore) is refl),
@@ -676,13 +663,13 @@ module _ (table : Table) (typed : TypedProgram) (effects : Effects) (input : Lis
       )
       leaves plain left e is never allowed_there = absurd never
 
-      starts : Plainly → (left : Left (steps.waiting main_turn)) (x : ℕ) (reversed : Bool) (low high : TypedTree) (is : p.instr ≡ Start x reversed low high)
+      starts : Plainly → (left : Left (steps.waiting main_turn)) (x : ℕ) (reversed : Bool) (low high : TypedTree) (is : inner.p.instr ≡ Start x reversed low high)
           → is_scalar (full s.table (object_at s x).of) ≡ true → Stays s low → Stays s high → AllowsAll facts_now (acts_of_main (Start x reversed low high))
           → Both left (Start x reversed low high)
       starts plain left x reversed low high is scalar stays stays' allowed_there =
           let two = takes_both (waits_in low) (waits_in high) given_words [] (takes_of plain.0 (Start x reversed low high) is) in (
             start_eased main_turn (LeadsFrom (Start x reversed low high)) (ends_so (Start x reversed low high)) (λ trap m on. on.0 tt) x low high
-                (started_on easy sees seeing ready.accepted.settled ready.owns other alone in_formals views ready.class.parts_named may refl refl given_words two.0
+                (started_on easy sees seeing ready.accepted.settled ready.owns other alone in_formals inner.views ready.class.parts_named may refl refl given_words two.0
                 x (λ b m. started_with easy x b m) low high (record {
                   fails = λ b. int_le (steps.number b.low) (steps.number b.high)
                       && not (fits_type s.table (object_at s x).of b.low && fits_type s.table (object_at s x).of b.high);
@@ -702,31 +689,31 @@ module _ (table : Table) (typed : TypedProgram) (effects : Effects) (input : Lis
           no_second true b e = e
           no_second false b e = refl
 
-      turns : (left : Left (steps.waiting main_turn)) (x : ℕ) (reversed : Bool) (low high : TypedTree) (is : p.instr ≡ Next x reversed low high)
+      turns : (left : Left (steps.waiting main_turn)) (x : ℕ) (reversed : Bool) (low high : TypedTree) (is : inner.p.instr ≡ Next x reversed low high)
           → is_scalar (full s.table (object_at s x).of) ≡ true → Both left (Next x reversed low high)
       turns left x reversed low high is scalar =
           let nothing = none_takes (Next x reversed low high) is refl in (
             to_easy nothing facts_now (turn main_turn (Next x reversed low high))
-                (next_leads main_turn sees seeing ready.accepted.settled ready.owns other alone in_formals views ready.class.parts_named may frames nothing x reversed scalar facts_now
+                (next_leads main_turn sees seeing ready.accepted.settled ready.owns other alone in_formals inner.views ready.class.parts_named may inner.frames nothing x reversed scalar facts_now
                 (good_main nothing)),
             next_follows main_turn Left left IsOld (lasting_of s left_scope) (lasting_of s left_scope) inside_left same_scope
-                (subst Left (ap (λ n. drop n top.frame.waits) (ap taken is) ∙ drop_none top.frame.waits) left) x reversed
-                (may_hold x (lasting_of s left_scope) (inr (within_lasting s x left_scope (ap (is_within x) (ap (λ n. drop n p.scope) (ap taken is) ∙ drop_none p.scope)
-                ∙ last_within x p.scope (ready_there (Next x reversed low high) is)) (scalar_unheld x scalar)))) (with_successors (Next x reversed low high) 1 is below_two),
+                (subst Left (ap (λ n. drop n inner.top.frame.waits) (ap taken is) ∙ drop_none inner.top.frame.waits) left) x reversed
+                (may_hold x (lasting_of s left_scope) (inr (within_lasting s x left_scope (ap (is_within x) (ap (λ n. drop n inner.p.scope) (ap taken is) ∙ drop_none inner.p.scope)
+                ∙ last_within x inner.p.scope (ready_there (Next x reversed low high) is)) (scalar_unheld x scalar)))) (with_successors (Next x reversed low high) 1 is below_two),
           )
 
-      holds_nothing : (left : Left (steps.waiting main_turn)) (v : TypedTree) (is : p.instr ≡ Hold v) → IsOther (Hold v) → (r : Option ℕ) → named.sub.result ≡ r
+      holds_nothing : (left : Left (steps.waiting main_turn)) (v : TypedTree) (is : inner.p.instr ≡ Hold v) → IsOther (Hold v) → (r : Option ℕ) → inner.named.sub.result ≡ r
           → Returns s r v → Both left (Hold v)
       unfolding acts_in waits_in
       holds_nothing left v is other_one None no_result none = subst (Both left) (ap Hold (sym none)) (
-        subst (λ z. Leads_on easy sees seeing ready.accepted.settled ready.owns other alone views ready.class.parts_named may refl refl z (turn main_turn (Hold NoMore)))
+        subst (λ z. Leads_on easy sees seeing ready.accepted.settled ready.owns other alone inner.views ready.class.parts_named may refl refl z (turn main_turn (Hold NoMore)))
             (sym (ap (λ r. after (acts (flow.returned_acts s r NoMore)) facts_now) no_result))
             (skips_so (none_takes (Hold NoMore) (is ∙ ap Hold none) refl)),
         stays_follows main_turn Left left IsOld (lasting_of s left_scope) (lasting_of s left_scope) inside_left same_scope (with_successors (Hold NoMore) 0 (is ∙ ap Hold none) below_one),
       )
       holds_nothing left v is other_one (Some of) result (value_of, same, source) = absurd (subst (λ z. IsOther (Hold z)) same other_one)
 
-      pub each_instruction : Plainly → (left : Left (steps.waiting main_turn)) (i : Instruction) → p.instr ≡ i → IsOther i → IsFine s named.sub.result i → AllowsAll facts_now (acts_of_main i)
+      pub each_instruction : Plainly → (left : Left (steps.waiting main_turn)) (i : Instruction) → inner.p.instr ≡ i → IsOther i → IsFine s inner.named.sub.result i → AllowsAll facts_now (acts_of_main i)
           → AllKeep (is_fixed s sees) (acts_of_main i) → Both left i
       each_instruction plain left Skip is other_one text allowed_there keep = (
         skips_so (none_takes Skip is refl),
@@ -753,16 +740,16 @@ module _ (table : Table) (typed : TypedProgram) (effects : Effects) (input : Lis
       each_instruction plain left (Next x reversed low high) is other_one scalar allowed_there keep = turns left x reversed low high is scalar
       each_instruction plain left (Evaluate temporary e op) is other_one text allowed_there keep = absurd other_one
       each_instruction plain left (LeaveLoop e) is other_one text allowed_there keep = leaves plain left e is text allowed_there
-      each_instruction plain left (Hold v) is other_one text allowed_there keep = holds_nothing left v is other_one named.sub.result refl text
+      each_instruction plain left (Hold v) is other_one text allowed_there keep = holds_nothing left v is other_one inner.named.sub.result refl text
       each_instruction plain left (EndScope x) is other_one text allowed_there keep = absurd (going x is)
       each_instruction plain left Finish is other_one text allowed_there keep = absurd other_one
-      each_instruction plain left Fall is other_one text allowed_there keep = (ends_so Fall ProgramError state.memory, tt)
+      each_instruction plain left Fall is other_one text allowed_there keep = (ends_so Fall ProgramError inner.state.memory, tt)
 
       -- ---- the next point
 
       abbrev pub sparing : Type 0
-      sparing = Spare s (standing.acts_by table typed effects input ready state top older outer named p frames of_sub at_point s p.instr)
+      sparing = Spare s (standing.acts_by table typed effects input ready inner.state inner.top older outer inner.named inner.p inner.frames inner.of_sub inner.at_point s inner.p.instr)
 
-      pub spares : (p.instr ≡ Finish → ⊥) → sparing
+      pub spares : (inner.p.instr ≡ Finish → ⊥) → sparing
       spares end =
-          spare_acts (record { typing = s; result = named.sub.result; roots = standing.roots table typed effects input ready state top older outer named p frames of_sub at_point }) p.pos p.instr (innermost.gives_own table typed effects input ready state top below more_frames rest named p frames deep stages running awaiting of_sub at_point path views viewed_before kept scope holds placed_before above) no_calls going end
+          spare_acts (record { typing = s; result = inner.named.sub.result; roots = standing.roots table typed effects input ready inner.state inner.top older outer inner.named inner.p inner.frames inner.of_sub inner.at_point }) inner.p.pos inner.p.instr (innermost.gives_own table typed effects input ready inner) no_calls going end

@@ -27,10 +27,9 @@ use Rattle.typed_tree.specs.Programs.{TypedProgram}
 use Rattle.flow_paths.specs.declared.report.Effects.{Effects}
 use Rattle.flow_paths.specs.Instructions.{Call, Instruction, EndScope}
 use Rattle.flow_paths.specs.Objects.{Typing, object_at, is_anonymous, is_package_object, is_variable, is_borrower, is_observer, is_borrowing, is_observing, has_scope_end, view_of}
-use Rattle.flow_paths.specs.Points.{NamedPoint, FlowPoint}
-use Rattle.flow_paths.specs.Laid.{FlowSub, FlowProgram, NamedSub, number_in, flow_sub, typing_of, flow_typing, flow_program, flow_named}
-use Rattle.flow_paths.specs.Paths.{ControlPath}
-use Rattle.flow_paths.specs.Effects.{act_reads, act_writes, flow_sub_at, path_points, written_by}
+use Rattle.flow_paths.specs.Points.{FlowPoint}
+use Rattle.flow_paths.specs.Laid.{FlowSub, FlowProgram, number_in, flow_sub, typing_of, flow_typing, flow_program, flow_named}
+use Rattle.flow_paths.specs.Effects.{act_reads, act_writes, flow_sub_at, written_by}
 use Rattle.place_names.specs.Rules.{forbids}
 use Rattle.flow_paths.specs.Scopes.{taken, scope_behind, is_within, is_last, is_ready, is_temporary}
 use Rattle.machine.specs.Words as machine
@@ -45,7 +44,7 @@ use Rattle.soundness.specs.OwnedWays.Ways.{Step, OfVariable, OfRoot, Way, Held, 
 use Rattle.soundness.specs.OwnedWays.Ways as ways
 use Rattle.soundness.specs.Seen.{IsNear, content, word_in, home}
 use Rattle.soundness.specs.Typed.{Kept}
-use Rattle.soundness.specs.Sound.{Stage, facts_of, AreStages, Uses, IsRunnable, is_temporary_object, returns_value, has_returned, InScope, IsNamedSub, IsAtPoint, view_of as view_here, IsPlainValue, IsNoCall}
+use Rattle.soundness.specs.Sound.{Stage, facts_of, Uses, is_temporary_object, returns_value, has_returned, InScope, IsAtPoint, view_of as view_here, IsPlainValue, IsNoCall}
 use Rattle.soundness.specs.Ready.{stored_at, IsSupplied}
 use Rattle.soundness.proofs.Contents.{bool_cases, word_no}
 use Rattle.machine.specs.Run.{no_point}
@@ -63,7 +62,7 @@ use Rattle.soundness.specs.OwnedLoans.Views.{Around, known_gone, Views, Viewed, 
 use Rattle.soundness.proofs.ViewedSoundness.ViewKinds.{true_false, given_view}
 use Rattle.viewed_steps.specs.Awaited.{TakesPassed, IsTakenAt, AreOwnless, AreFor, AreValues, temporaries_of, is_held, lasting_of, awaited, AreAwaited, AreScalar, TakesScalars, StoresNone, IsTaken}
 use Rattle.viewed_steps.proofs.Waited.{split_list, plain_unheld, ended_held, lasting_within, within_lasting, lasting_more, brought_temporaries, Shares, shares, scalar_values}
-use Rattle.viewed_steps.specs.Sound.{IsBeyond, HoldsAt, ArePlaced, NoneAbove, Lasts, ViewStage, stages_of, GoneElsewhere, Disturbs, AreWaiting, LeadsOn, IsResting, HasTraversals}
+use Rattle.viewed_steps.specs.Sound.{ArePlaced, NoneAbove, Lasts, ViewStage, stages_of, GoneElsewhere, Disturbs, AreWaiting, LeadsOn}
 use Rattle.viewed_steps.specs.Ready.{AreOrderly, IsReady, AreNamedIn}
 use Rattle.viewed_steps.proofs.Lent.{ends, Spare, spare_has}
 use Rattle.viewed_steps.proofs.Inherited.{after_more, lending_uses, apart_borrowed, apart_seen}
@@ -85,6 +84,7 @@ use Rattle.viewed_steps.proofs.Supplied.{Supplies, scalar_ownless, ownless_value
 use Rattle.viewed_steps.specs.Seeing.{sees_in}
 use Rattle.viewed_steps.proofs.Sees.{sees_seeing}
 use Rattle.viewed_steps.proofs.Constructors.{is_held_word}
+use Rattle.viewed_steps.proofs.InnerFrame.{InnerFrame}
 
 unless : (b : Bool) → (b ≡ true → ⊥) → b ≡ false
 unless true e = absurd (e refl)
@@ -131,45 +131,34 @@ module _ (table : Table) (typed : TypedProgram) (effects : Effects) (input : Lis
 
   -- ---- a step of a procedure
 
-  module _ (state : State) (top : Stage) (below : ViewStage) (more_frames : List ViewStage) (rest : List Frame) (named : NamedSub) (p : NamedPoint)
-      (frames : state.frames ≡ top.frame ∷ (below.stage.frame ∷ rest)) (deep : top.depth ≡ suc (length rest))
-      (stages : AreStages (stages_of (below ∷ more_frames)) (below.stage.frame ∷ rest))
-      (running : IsRunnable table typed top.frame.sub × IsResting s top × AreWaiting table typed effects state top.frame.sub top.frame.returns (below ∷ more_frames))
-      (awaiting : AreAwaited table typed None (top ∷ stages_of (below ∷ more_frames)))
-      (of_sub : IsNamedSub (flow_named table typed) top.frame.sub named) (at_point : IsAtPoint named.points top.frame.next p)
-      (path : ControlPath (path_points program effects (sub_of program top.frame.sub)) top.before top.frame.next) (views : Views)
-      (viewed_before : ViewedAlone (home s (suc (length rest))) sees (known_gone (home s (suc (length rest))) (GoneElsewhere program effects (below ∷ more_frames))) views
-      (view_here s state) (facts_of program effects top))
-      (kept : Kept s state.memory (waiting_in state)) (scope : InScope s state.memory (suc (length rest)) (lasting_of s p.scope)) (holds : HoldsAt s sees (suc (length rest)) views state.memory p)
-      (placed_before : ArePlaced program (suc (length rest)) (facts_of program effects top) views p.scope × IsBeyond program effects (suc (length rest)) views (below ∷ more_frames)) (above : NoneAbove s (suc (length rest)) state.memory
-      × HasTraversals table typed (view_here s state) (record { stage = top; views = views; cells = [] } ∷ (below ∷ more_frames))) where
+  module _ (inner : InnerFrame table typed effects) where
     abbrev pub outer : List Frame
-    outer = below.stage.frame ∷ rest
+    outer = inner.below.stage.frame ∷ inner.rest
 
     abbrev pub older : List ViewStage
-    older = below ∷ more_frames
+    older = inner.below ∷ inner.more_frames
 
     abbrev pub depth : ℕ
-    depth = suc (length rest)
+    depth = suc (length inner.rest)
 
-    pub between : (g : ViewStage) → Has (below ∷ more_frames) g → StandsBetween table typed effects unmoved_stage local state (suc (length rest)) (below ∷ more_frames) g
-    between g has = all_between table typed effects unmoved_stage local state top.frame.sub (suc (length rest)) top.frame.returns (below ∷ more_frames) (below.stage.frame ∷ rest) stages (omega arith) running.2 g has
+    pub between : (g : ViewStage) → Has (inner.below ∷ inner.more_frames) g → StandsBetween table typed effects unmoved_stage local inner.state (suc (length inner.rest)) (inner.below ∷ inner.more_frames) g
+    between g has = all_between table typed effects unmoved_stage local inner.state inner.top.frame.sub (suc (length inner.rest)) inner.top.frame.returns (inner.below ∷ inner.more_frames) (inner.below.stage.frame ∷ inner.rest) inner.stages (omega arith) inner.running.2 g has
 
     -- what concerns it of them, with their facts on package objects beside its own
-    abbrev pub other : Around (home s (suc (length rest)))
-    other = beside_them table typed effects unmoved_stage local state (suc (length rest)) (below ∷ more_frames) between
+    abbrev pub other : Around (home s (suc (length inner.rest)))
+    other = beside_them table typed effects unmoved_stage local inner.state (suc (length inner.rest)) (inner.below ∷ inner.more_frames) between
 
-    pub alone : (w : Way) → IsNear (suc (length rest)) w → IsFar (suc (length rest)) (GoneElsewhere program effects (below ∷ more_frames)) w → ⊥
+    pub alone : (w : Way) → IsNear (suc (length inner.rest)) w → IsFar (suc (length inner.rest)) (GoneElsewhere program effects (inner.below ∷ inner.more_frames)) w → ⊥
     alone w near o = o.0 near
 
     abbrev pub main_turn : Turn
-    main_turn = standing.t table typed effects input ready state top older outer named p frames of_sub at_point
+    main_turn = standing.t table typed effects input ready inner.state inner.top older outer inner.named inner.p inner.frames inner.of_sub inner.at_point
 
     abbrev pub own_facts : List Fact
-    own_facts = standing.facts table typed effects input ready state top older outer named p frames of_sub at_point path
+    own_facts = standing.facts table typed effects input ready inner.state inner.top older outer inner.named inner.p inner.frames inner.of_sub inner.at_point inner.path
 
     abbrev pub handed_on : List Fact
-    handed_on = handed table typed effects unmoved_stage local state (suc (length rest)) (below ∷ more_frames) between
+    handed_on = handed table typed effects unmoved_stage local inner.state (suc (length inner.rest)) (inner.below ∷ inner.more_frames) between
 
     abbrev pub facts_now : List Fact
     facts_now = own_facts ++ handed_on
@@ -178,111 +167,111 @@ module _ (table : Table) (typed : TypedProgram) (effects : Effects) (input : Lis
     from_both f has = Has-append_cases own_facts handed_on f has
 
     abbrev pub acts_of_main : Instruction → List Act
-    acts_of_main i = standing.acts_here table typed effects input ready state top older outer named p frames of_sub at_point i
+    acts_of_main i = standing.acts_here table typed effects input ready inner.state inner.top older outer inner.named inner.p inner.frames inner.of_sub inner.at_point i
 
-    pub viewed_own : ViewedAlone (home s depth) sees (known_gone (home s depth) (GoneElsewhere program effects older)) views (view_here s state) own_facts
-    viewed_own = subst (ViewedAlone (home s depth) sees (known_gone (home s depth) (GoneElsewhere program effects older)) views (view_here s state)) (standing.facts_are table typed effects input ready state top older outer named p frames of_sub at_point path) viewed_before
+    pub viewed_own : ViewedAlone (home s depth) sees (known_gone (home s depth) (GoneElsewhere program effects older)) inner.views (view_here s inner.state) own_facts
+    viewed_own = subst (ViewedAlone (home s depth) sees (known_gone (home s depth) (GoneElsewhere program effects older)) inner.views (view_here s inner.state)) (standing.facts_are table typed effects input ready inner.state inner.top older outer inner.named inner.p inner.frames inner.of_sub inner.at_point inner.path) inner.viewed_before
 
     -- ---- which package objects it uses
 
-    pub sub_at_all : flow_sub_at program top.frame.sub ≡ flow_sub own named
-    sub_at_all = sub_at_number table typed top.frame.sub named of_sub _
+    pub sub_at_all : flow_sub_at program inner.top.frame.sub ≡ flow_sub own inner.named
+    sub_at_all = sub_at_number table typed inner.top.frame.sub inner.named inner.of_sub _
 
-    pub sub_less : top.frame.sub < length program.subs
-    sub_less = sub_in_range table typed top.frame.sub named of_sub
+    pub sub_less : inner.top.frame.sub < length program.subs
+    sub_less = sub_in_range table typed inner.top.frame.sub inner.named inner.of_sub
 
     abbrev pub LentAround : Loan → PlaceName → Type 0
-    LentAround l name = LentElsewhere table typed effects unmoved_stage local (below ∷ more_frames) l name
+    LentAround l name = LentElsewhere table typed effects unmoved_stage local (inner.below ∷ inner.more_frames) l name
 
     -- it disturbs none of what they keep
-    pub spared_here : (l : Loan) (name : PlaceName) → LentAround l name → Disturbs effects l top.frame.sub name.root → ⊥
+    pub spared_here : (l : Loan) (name : PlaceName) → LentAround l name → Disturbs effects l inner.top.frame.sub name.root → ⊥
     spared_here l name (g, has, some, f, there, shared, kind, is) disturbs =
-        kept_there table typed effects ready.accepted.effects_are (unused_there table typed effects unmoved_stage local) state top.frame.sub top.frame.returns older running.2 g has some f there
+        kept_there table typed effects ready.accepted.effects_are (unused_there table typed effects unmoved_stage local) inner.state inner.top.frame.sub inner.top.frame.returns older inner.running.2 g has some f there
         (ap (λ (z : PlaceName). is_package_object s z.root) is ∙ shared)
-        (subst (λ z. Disturbs effects z top.frame.sub (place f).root) (sym kind) (subst (λ (z : PlaceName). Disturbs effects l top.frame.sub z.root) (sym is) disturbs))
+        (subst (λ z. Disturbs effects z inner.top.frame.sub (place f).root) (sym kind) (subst (λ (z : PlaceName). Disturbs effects l inner.top.frame.sub z.root) (sym is) disturbs))
 
-    pub act_uses : (x : ℕ) → is_package_object s x ≡ true → (q : FlowPoint) → Has (flow_sub own named).points q → (a : Placed) → Has q.acts a
-        → (act_writes x a.act ≡ true) ⊎ (act_reads x a.act ≡ true) → Uses effects top.frame.sub x
+    pub act_uses : (x : ℕ) → is_package_object s x ≡ true → (q : FlowPoint) → Has (flow_sub own inner.named).points q → (a : Placed) → Has q.acts a
+        → (act_writes x a.act ≡ true) ⊎ (act_reads x a.act ≡ true) → Uses effects inner.top.frame.sub x
     act_uses x shared q point a has (inl e) =
-        writes_used program effects ready.accepted.effects_are top.frame.sub (flow_sub own named) sub_at_all sub_less x shared q point a has e
+        writes_used program effects ready.accepted.effects_are inner.top.frame.sub (flow_sub own inner.named) sub_at_all sub_less x shared q point a has e
     act_uses x shared q point a has (inr e) =
-        reads_used program effects ready.accepted.effects_are top.frame.sub (flow_sub own named) sub_at_all sub_less x shared q point a has e
+        reads_used program effects ready.accepted.effects_are inner.top.frame.sub (flow_sub own inner.named) sub_at_all sub_less x shared q point a has e
 
-    pub act_writes_it : (x : ℕ) → is_package_object s x ≡ true → (q : FlowPoint) → Has (flow_sub own named).points q → (a : Placed) → Has q.acts a
-        → act_writes x a.act ≡ true → Has (written_by effects top.frame.sub) x
+    pub act_writes_it : (x : ℕ) → is_package_object s x ≡ true → (q : FlowPoint) → Has (flow_sub own inner.named).points q → (a : Placed) → Has q.acts a
+        → act_writes x a.act ≡ true → Has (written_by effects inner.top.frame.sub) x
     act_writes_it x shared q point a has e =
-        writes_there program effects ready.accepted.effects_are top.frame.sub (flow_sub own named) sub_at_all sub_less x shared q point a has e
+        writes_there program effects ready.accepted.effects_are inner.top.frame.sub (flow_sub own inner.named) sub_at_all sub_less x shared q point a has e
 
     -- its own facts on package objects are of such that it uses, or writes
-    lent_uses : (l : Loan) (h : ℕ) (m : PlaceName) → Has own_facts (Lent l h m) → is_package_object s m.root ≡ true → Uses effects top.frame.sub m.root
+    lent_uses : (l : Loan) (h : ℕ) (m : PlaceName) → Has own_facts (Lent l h m) → is_package_object s m.root ≡ true → Uses effects inner.top.frame.sub m.root
     lent_uses l h m lends shared =
-        let from = fact_added program effects ready.accepted.effects_are (flow_sub own named) top.before (Lent l h m) lends in
+        let from = fact_added program effects ready.accepted.effects_are (flow_sub own inner.named) inner.top.before (Lent l h m) lends in
         act_uses m.root shared from.0 from.2 from.1 from.3 (lending_uses (from.1).act l h m from.4)
 
-    pub borrowed_writes : (h : ℕ) (m : PlaceName) → Has own_facts (Lent Borrowed h m) → is_package_object s m.root ≡ true → Has (written_by effects top.frame.sub) m.root
+    pub borrowed_writes : (h : ℕ) (m : PlaceName) → Has own_facts (Lent Borrowed h m) → is_package_object s m.root ≡ true → Has (written_by effects inner.top.frame.sub) m.root
     borrowed_writes h m lends shared =
-        let from = fact_added program effects ready.accepted.effects_are (flow_sub own named) top.before (Lent Borrowed h m) lends in
+        let from = fact_added program effects ready.accepted.effects_are (flow_sub own inner.named) inner.top.before (Lent Borrowed h m) lends in
         act_writes_it m.root shared from.0 from.2 from.1 from.3 (borrowing_writes (from.1).act h m from.4)
 
-    moved_writes : (m : PlaceName) → Has own_facts (Moved m) → is_package_object s m.root ≡ true → Has (written_by effects top.frame.sub) m.root
+    moved_writes : (m : PlaceName) → Has own_facts (Moved m) → is_package_object s m.root ≡ true → Has (written_by effects inner.top.frame.sub) m.root
     moved_writes m moved shared =
-        let from = fact_added program effects ready.accepted.effects_are (flow_sub own named) top.before (Moved m) moved in
+        let from = fact_added program effects ready.accepted.effects_are (flow_sub own inner.named) inner.top.before (Moved m) moved in
         act_writes_it m.root shared from.0 from.2 from.1 from.3 (moving_writes (from.1).act m from.4)
 
     -- so they meet none of what is handed on
-    pub apart : AreApart table typed effects unmoved_stage local state (suc (length rest)) (below ∷ more_frames) between own_facts
+    pub apart : AreApart table typed effects unmoved_stage local inner.state (suc (length inner.rest)) (inner.below ∷ inner.more_frames) between own_facts
     apart = record {
-      seen = λ n m (g, has, deep_there, f, kept, shared, borrowed, is) (k, there, some, o, sight, also, observed, at) over.
-          held_apart table typed effects ready.accepted.effects_are (unused_there table typed effects unmoved_stage local) state top.frame.sub top.frame.returns older running.2
-          g k has there deep_there some f o kept sight borrowed observed (ap (λ (z : PlaceName). is_package_object s z.root) is ∙ shared)
+      seen = λ n m (g, has, deep_there, f, keeps_it, shared, borrowed, is) (k, there, some, o, sight, also, observed, at) over.
+          held_apart table typed effects ready.accepted.effects_are (unused_there table typed effects unmoved_stage local) inner.state inner.top.frame.sub inner.top.frame.returns older inner.running.2
+          g k has there deep_there some f o keeps_it sight borrowed observed (ap (λ (z : PlaceName). is_package_object s z.root) is ∙ shared)
           ((λ j. overlaps (is j) (at j)) ∙ over);
       own_moved = λ n moved l m lent root. (
           let written = moved_writes n moved (ap (is_package_object s) root ∙ lent.5) in
-          spared_here l m lent (written_disturbs table typed effects ready.accepted.effects_are l top.frame.sub m.root
-          (subst (Has (written_by effects top.frame.sub)) root written)));
+          spared_here l m lent (written_disturbs table typed effects ready.accepted.effects_are l inner.top.frame.sub m.root
+          (subst (Has (written_by effects inner.top.frame.sub)) root written)));
       own_borrowed = λ b n lends l m lent root. (
           let written = borrowed_writes b n lends (ap (is_package_object s) root ∙ lent.5) in
-          spared_here l m lent (written_disturbs table typed effects ready.accepted.effects_are l top.frame.sub m.root
-          (subst (Has (written_by effects top.frame.sub)) root written)));
+          spared_here l m lent (written_disturbs table typed effects ready.accepted.effects_are l inner.top.frame.sub m.root
+          (subst (Has (written_by effects inner.top.frame.sub)) root written)));
       own_seen = λ h m lends n lent root.
-          spared_here Borrowed n lent (subst (Uses effects top.frame.sub) (sym root) (lent_uses Observed h m lends (ap (is_package_object s) (sym root) ∙ lent.5)));
+          spared_here Borrowed n lent (subst (Uses effects inner.top.frame.sub) (sym root) (lent_uses Observed h m lends (ap (is_package_object s) (sym root) ∙ lent.5)));
     }
 
     pub borrower_local : (x : ℕ) → is_borrower s x ≡ true → is_package_object s x ≡ false
     borrower_local x borrows = local x (anonymous_view s x (borrower_anonymous s x borrows))
 
-    pub one_apart : (a : Placed) → Has (standing.acts_by table typed effects input ready state top older outer named p frames of_sub at_point s p.instr) a → ends s a.act ≡ false
+    pub one_apart : (a : Placed) → Has (standing.acts_by table typed effects input ready inner.state inner.top older outer inner.named inner.p inner.frames inner.of_sub inner.at_point s inner.p.instr) a → ends s a.act ≡ false
         → (f : Fact) → Has handed_on f → forbids a.act f ≡ None
     one_apart a has fits f there =
-        let in_point : Has (flow_at own named p).acts a =
-        subst (λ z. Has z a) (standing.acts_agree table typed effects input ready state top older outer named p frames of_sub at_point) has in
-        let in_main = standing.in_sub table typed effects input ready state top older outer named p frames of_sub at_point in
-        let (l, name, is, lent) = handed_lent table typed effects unmoved_stage local state (suc (length rest)) (below ∷ more_frames) between f there in
+        let in_point : Has (flow_at own inner.named inner.p).acts a =
+        subst (λ z. Has z a) (standing.acts_agree table typed effects input ready inner.state inner.top older outer inner.named inner.p inner.frames inner.of_sub inner.at_point) has in
+        let in_main = standing.in_sub table typed effects input ready inner.state inner.top older outer inner.named inner.p inner.frames inner.of_sub inner.at_point in
+        let (l, name, is, lent) = handed_lent table typed effects unmoved_stage local inner.state (suc (length inner.rest)) (inner.below ∷ inner.more_frames) between f there in
         ap (forbids a.act) is ∙ loan_apart l name lent in_main in_point
       where
-        loan_apart : (l : Loan) (name : PlaceName) → LentAround l name → Has (flow_sub own named).points (flow_at own named p) → Has (flow_at own named p).acts a
+        loan_apart : (l : Loan) (name : PlaceName) → LentAround l name → Has (flow_sub own inner.named).points (flow_at own inner.named inner.p) → Has (flow_at own inner.named inner.p).acts a
             → forbids a.act (Lent l name.root name) ≡ None
         loan_apart Borrowed name lent in_main in_point =
             apart_borrowed s name lent.5 borrower_local name.root a.act fits
-            (unless (act_writes name.root a.act) (λ e. spared_here Borrowed name lent (act_uses name.root lent.5 (flow_at own named p) in_main a in_point (inl e))))
-            (unless (act_reads name.root a.act) (λ e. spared_here Borrowed name lent (act_uses name.root lent.5 (flow_at own named p) in_main a in_point (inr e))))
+            (unless (act_writes name.root a.act) (λ e. spared_here Borrowed name lent (act_uses name.root lent.5 (flow_at own inner.named inner.p) in_main a in_point (inl e))))
+            (unless (act_reads name.root a.act) (λ e. spared_here Borrowed name lent (act_uses name.root lent.5 (flow_at own inner.named inner.p) in_main a in_point (inr e))))
         loan_apart Observed name lent in_main in_point =
             apart_seen s name lent.5 borrower_local name.root a.act fits
-            (unless (act_writes name.root a.act) (λ e. spared_here Observed name lent (act_writes_it name.root lent.5 (flow_at own named p) in_main a in_point e)))
+            (unless (act_writes name.root a.act) (λ e. spared_here Observed name lent (act_writes_it name.root lent.5 (flow_at own inner.named inner.p) in_main a in_point e)))
 
-    pub acts_apart : Spare s (standing.acts_by table typed effects input ready state top older outer named p frames of_sub at_point s p.instr) → (a : Act) → Has (acts_of_main p.instr) a
+    pub acts_apart : Spare s (standing.acts_by table typed effects input ready inner.state inner.top older outer inner.named inner.p inner.frames inner.of_sub inner.at_point s inner.p.instr) → (a : Act) → Has (acts_of_main inner.p.instr) a
         → (f : Fact) → Has handed_on f → forbids a f ≡ None
     acts_apart spare a has f there =
-        let from = Has-map_from (λ (z : Placed). z.act) (standing.acts_by table typed effects input ready state top older outer named p frames of_sub at_point s p.instr) a has in
+        let from = Has-map_from (λ (z : Placed). z.act) (standing.acts_by table typed effects input ready inner.state inner.top older outer inner.named inner.p inner.frames inner.of_sub inner.at_point s inner.p.instr) a has in
         ap (λ z. forbids z f) (sym from.2)
-        ∙ one_apart from.0 from.1 (spare_has s (standing.acts_by table typed effects input ready state top older outer named p frames of_sub at_point s p.instr) spare from.0 from.1) f there
+        ∙ one_apart from.0 from.1 (spare_has s (standing.acts_by table typed effects input ready inner.state inner.top older outer inner.named inner.p inner.frames inner.of_sub inner.at_point s inner.p.instr) spare from.0 from.1) f there
 
-    pub allowed_now : Spare s (standing.acts_by table typed effects input ready state top older outer named p frames of_sub at_point s p.instr) → AllowsAll own_facts (acts_of_main p.instr)
-        → AllowsAll facts_now (acts_of_main p.instr)
-    allowed_now spare allows = allowed_beside (acts_of_main p.instr) facts_now own_facts handed_on from_both allows (acts_apart spare)
+    pub allowed_now : Spare s (standing.acts_by table typed effects input ready inner.state inner.top older outer inner.named inner.p inner.frames inner.of_sub inner.at_point s inner.p.instr) → AllowsAll own_facts (acts_of_main inner.p.instr)
+        → AllowsAll facts_now (acts_of_main inner.p.instr)
+    allowed_now spare allows = allowed_beside (acts_of_main inner.p.instr) facts_now own_facts handed_on from_both allows (acts_apart spare)
 
-    pub own_views : (x : ℕ) (w : Way) → views.way x ≡ Some w → is_package_object s x ≡ false
-    own_views x w has = local x (holds.only x w has)
+    pub own_views : (x : ℕ) (w : Way) → inner.views.way x ≡ Some w → is_package_object s x ≡ false
+    own_views x w has = local x (inner.holds.only x w has)
 
     pub package_plain : (x : ℕ) → is_package_object s x ≡ true → is_observer s x ≡ false
     package_plain x shared = unless (is_observer s x) (λ sight. true_false (is_package_object s x) shared (local x (anonymous_view s x (observer_anonymous s x sight))))
@@ -301,25 +290,25 @@ module _ (table : Table) (typed : TypedProgram) (effects : Effects) (input : Lis
         let none : depth ≡ 0 = at_home ∙ ap (λ b. if b then 0 else depth) shared in omega (arith, none)
 
     -- with the views of those that wait, and their facts on package objects
-    pub viewed : Viewed (home s depth) sees other views (view_here s state) facts_now
-    viewed = with_them table typed effects unmoved_stage local state depth older between views (view_here s state) own_facts own_views package_owns apart
-        (theirs table typed effects unmoved_stage local state depth older between) placed_before.1 viewed_own
+    pub viewed : Viewed (home s depth) sees other inner.views (view_here s inner.state) facts_now
+    viewed = with_them table typed effects unmoved_stage local inner.state depth older between inner.views (view_here s inner.state) own_facts own_views package_owns apart
+        (theirs table typed effects unmoved_stage local inner.state depth older between) inner.placed_before.1 viewed_own
 
     -- and without them
     pub apart_from_them : (done : List Act) (v : Views) (view : ways.View) → ((x : ℕ) (w : Way) → v.way x ≡ Some w → is_view s x ≡ true)
         → Viewed (home s depth) sees other v view (after done facts_now)
         → ViewedAlone (home s depth) sees (known_gone (home s depth) (GoneElsewhere program effects older)) v view (after done own_facts)
     apart_from_them done v view only well =
-        without_them table typed effects unmoved_stage local state depth older between v view (after done facts_now) (after done own_facts)
+        without_them table typed effects unmoved_stage local inner.state depth older between v view (after done facts_now) (after done own_facts)
         (λ x w has. local x (only x w has)) package_owns (after_more done own_facts facts_now (λ f has. Has-append_left own_facts handed_on f has))
         (after_splits done facts_now own_facts handed_on from_both) well
 
-    pub placed_own : ArePlaced program (suc (length rest)) own_facts views p.scope
-    placed_own = subst (λ z. ArePlaced program depth z views p.scope) (standing.facts_are table typed effects input ready state top older outer named p frames of_sub at_point path) placed_before.0
+    pub placed_own : ArePlaced program (suc (length inner.rest)) own_facts inner.views inner.p.scope
+    placed_own = subst (λ z. ArePlaced program depth z inner.views inner.p.scope) (standing.facts_are table typed effects input ready inner.state inner.top older outer inner.named inner.p inner.frames inner.of_sub inner.at_point inner.path) inner.placed_before.0
 
     pub placed_by : (some all : List Fact) (v : Views) (scope_there : List ℕ)
         → ((h : ℕ) (m : PlaceName) → sees h ≡ true → Has some (Lent Observed h m) → Has all (Lent Observed h m))
-        → ArePlaced program (suc (length rest)) some v scope_there → ArePlaced program (suc (length rest)) all v scope_there
+        → ArePlaced program (suc (length inner.rest)) some v scope_there → ArePlaced program (suc (length inner.rest)) all v scope_there
     placed_by some all v scope_there lends there x w has = (let old = there x w has in record {
       within = old.within;
       plain = old.plain;
@@ -328,8 +317,8 @@ module _ (table : Table) (typed : TypedProgram) (effects : Effects) (input : Lis
       holder = λ named_up sight. (let h = old.holder named_up sight in (h.0, lends h.0 (ways.name_of (v.loan x)) h.3 h.1, h.2, h.3));
     })
 
-    pub placed : ArePlaced program (suc (length rest)) facts_now views p.scope
-    placed = placed_by own_facts facts_now views p.scope (λ h m sight has. Has-append_left own_facts handed_on (Lent Observed h m) has) placed_own
+    pub placed : ArePlaced program (suc (length inner.rest)) facts_now inner.views inner.p.scope
+    placed = placed_by own_facts facts_now inner.views inner.p.scope (λ h m sight has. Has-append_left own_facts handed_on (Lent Observed h m) has) placed_own
 
     -- loans are those of the frame
     pub own_loans : (done : List Act) (h : ℕ) (m : PlaceName) → sees h ≡ true → Has (after done facts_now) (Lent Observed h m)
@@ -337,122 +326,122 @@ module _ (table : Table) (typed : TypedProgram) (effects : Effects) (input : Lis
     own_loans done h m sight has = elim (after_splits done facts_now own_facts handed_on from_both (Lent Observed h m) has) [
       | inl mine ↦ mine
       | inr there ↦ (
-          let lent = lent_handed table typed effects unmoved_stage local state (suc (length rest)) (below ∷ more_frames) between Observed h m there in
+          let lent = lent_handed table typed effects unmoved_stage local inner.state (suc (length inner.rest)) (inner.below ∷ inner.more_frames) between Observed h m there in
           absurd (true_false (sees h) sight (package_owns h (ap (is_package_object s) lent.0 ∙ (lent.1).5))))
     ]
 
     -- no moved place is handed on
     pub not_handed : (name : PlaceName) → Has handed_on (Moved name) → ⊥
-    not_handed name has = none_moved table typed effects unmoved_stage local state (suc (length rest)) (below ∷ more_frames) between name has
+    not_handed name has = none_moved table typed effects unmoved_stage local inner.state (suc (length inner.rest)) (inner.below ∷ inner.more_frames) between name has
 
-    pub none_takes : (i : Instruction) → p.instr ≡ i → taken i ≡ 0 → taken main_turn.point.instr ≡ 0
+    pub none_takes : (i : Instruction) → inner.p.instr ≡ i → taken i ≡ 0 → taken main_turn.point.instr ≡ 0
     none_takes i e none = ap taken e ∙ none
 
-    pub named_there : Has (flow_named table typed) named
-    named_there = standing.named_in table typed effects input ready state top older outer named p frames of_sub at_point
+    pub named_there : Has (flow_named table typed) inner.named
+    named_there = standing.named_in table typed effects input ready inner.state inner.top older outer inner.named inner.p inner.frames inner.of_sub inner.at_point
 
-    pub point_there_now : Has named.points p
-    point_there_now = standing.point_in_named table typed effects input ready state top older outer named p frames of_sub at_point
+    pub point_there_now : Has inner.named.points inner.p
+    point_there_now = standing.point_in_named table typed effects input ready inner.state inner.top older outer inner.named inner.p inner.frames inner.of_sub inner.at_point
 
-    pub successors_there : length main_turn.point.next ≡ successors p.instr
+    pub successors_there : length main_turn.point.next ≡ successors inner.p.instr
     successors_there =
-        (running.0).leads main_turn.point
-        (subst (λ (z : FlowSub). Has z.points main_turn.point) (sym (standing.sub_is table typed effects input ready state top older outer named p frames of_sub at_point))
-        (standing.in_sub table typed effects input ready state top older outer named p frames of_sub at_point))
+        (inner.running.0).leads main_turn.point
+        (subst (λ (z : FlowSub). Has z.points main_turn.point) (sym (standing.sub_is table typed effects input ready inner.state inner.top older outer inner.named inner.p inner.frames inner.of_sub inner.at_point))
+        (standing.in_sub table typed effects input ready inner.state inner.top older outer inner.named inner.p inner.frames inner.of_sub inner.at_point))
 
-    pub orderly : AreOrderly program p (λ q. (n : ℕ) × Has (map (number_in named.points) p.next) n × IsAtPoint named.points n q)
-    orderly = ready.orderly.points named named_there p point_there_now
+    pub orderly : AreOrderly program inner.p (λ q. (n : ℕ) × Has (map (number_in inner.named.points) inner.p.next) n × IsAtPoint inner.named.points n q)
+    orderly = ready.orderly.points inner.named named_there inner.p point_there_now
 
     -- ---- its result
 
     -- what a function gives belongs to no package
     pub gives_own : (m : PlaceName) (b : Bool)
-        → Has (standing.acts_here table typed effects input ready state top older outer named p frames of_sub at_point p.instr) (act.Give m b) → is_package_object s m.root ≡ false
-    gives_own m b has = unless (is_package_object s m.root) (λ shared. standing.given_here table typed effects input ready state top older outer named p frames of_sub at_point m b has
+        → Has (standing.acts_here table typed effects input ready inner.state inner.top older outer inner.named inner.p inner.frames inner.of_sub inner.at_point inner.p.instr) (act.Give m b) → is_package_object s m.root ≡ false
+    gives_own m b has = unless (is_package_object s m.root) (λ shared. standing.given_here table typed effects input ready inner.state inner.top older outer inner.named inner.p inner.frames inner.of_sub inner.at_point m b has
         (λ f traversed only. (
         let no_view : is_view s m.root ≡ false = unless (is_view s m.root) (λ view. true_false (is_package_object s m.root) shared (local m.root view)) in
-        let root : m.root ≡ f = only.1 m.root (own_root s (sub_acts (flow_sub own named)) f None m.root no_view) in
-        let given = ready.traversing.first top.frame.sub f (running.0).entered
-        (ap (traversed_formal s) (standing.sub_is table typed effects input ready state top older outer named p frames of_sub at_point) ∙ traversed) in
+        let root : m.root ≡ f = only.1 m.root (own_root s (sub_acts (flow_sub own inner.named)) f None m.root no_view) in
+        let given = ready.traversing.first inner.top.frame.sub f (inner.running.0).entered
+        (ap (traversed_formal s) (standing.sub_is table typed effects input ready inner.state inner.top older outer inner.named inner.p inner.frames inner.of_sub inner.at_point) ∙ traversed) in
         true_false (is_view s m.root) (ap (is_view s) root ∙ given_view s f given.1) no_view)))
 
     -- ---- what waits
 
     abbrev pub count : ℕ
-    count = taken p.instr
+    count = taken inner.p.instr
 
     abbrev pub left_scope : List ℕ
-    left_scope = drop count p.scope
+    left_scope = drop count inner.p.scope
 
-    pub waits_here : AreValues s top.frame.waits p.scope
-    waits_here = awaiting.0 named of_sub p at_point
+    pub waits_here : AreValues s inner.top.frame.waits inner.p.scope
+    waits_here = inner.awaiting.0 inner.named inner.of_sub inner.p inner.at_point
 
-    pub supplied_here : IsSupplied s p
-    supplied_here = standing.supplied table typed effects input ready state top older outer named p frames of_sub at_point
+    pub supplied_here : IsSupplied s inner.p
+    supplied_here = standing.supplied table typed effects input ready inner.state inner.top older outer inner.named inner.p inner.frames inner.of_sub inner.at_point
 
-    pub shared : Shares s count top.frame.waits p.scope
-    shared = shares s count top.frame.waits p.scope waits_here supplied_here.0
+    pub shared : Shares s count inner.top.frame.waits inner.p.scope
+    shared = shares s count inner.top.frame.waits inner.p.scope waits_here supplied_here.0
 
     abbrev pub given_words : List (List machine.Word)
     given_words = (start main_turn).waits
 
     -- what is taken is of scalar types, or owns nothing
     abbrev pub Plain : Type 0
-    Plain = AreScalar s (temporaries_of s (take count p.scope))
+    Plain = AreScalar s (temporaries_of s (take count inner.p.scope))
 
     abbrev pub Ownless : Type 0
-    Ownless = AreOwnless s (temporaries_of s (take count p.scope))
+    Ownless = AreOwnless s (temporaries_of s (take count inner.p.scope))
 
-    plain_values : Plain → AllByRecursion (IsPlainValue s) (take count top.frame.waits)
-    plain_values plain = scalar_values s ready.accepted.settled (take count top.frame.waits) (temporaries_of s (take count p.scope)) shared.taken plain
+    plain_values : Plain → AllByRecursion (IsPlainValue s) (take count inner.top.frame.waits)
+    plain_values plain = scalar_values s ready.accepted.settled (take count inner.top.frame.waits) (temporaries_of s (take count inner.p.scope)) shared.taken plain
 
     pub takes_here : Plain → Takes count given_words []
-    takes_here plain = takes_all s (take count top.frame.waits) count shared.count (plain_values plain)
+    takes_here plain = takes_all s (take count inner.top.frame.waits) count shared.count (plain_values plain)
 
-    pub takes_of : Plain → (i : Instruction) → p.instr ≡ i → Takes (taken i) given_words []
+    pub takes_of : Plain → (i : Instruction) → inner.p.instr ≡ i → Takes (taken i) given_words []
     takes_of plain i e = subst (λ z. Takes (taken z) given_words []) e (takes_here plain)
 
     plain_ownless : Plain → Ownless
-    plain_ownless plain = scalar_ownless s ready.owns (temporaries_of s (take count p.scope)) plain
+    plain_ownless plain = scalar_ownless s ready.owns (temporaries_of s (take count inner.p.scope)) plain
 
     -- the step without the values that it takes
     abbrev pub easy : Turn
     easy = eased main_turn
 
-    pub ownless_easy : Ownless → Viewed (home s depth) sees other views (view_here s easy.state) facts_now × Kept s state.memory (waiting_in easy.state)
+    pub ownless_easy : Ownless → Viewed (home s depth) sees other inner.views (view_here s easy.state) facts_now × Kept s inner.state.memory (waiting_in easy.state)
     ownless_easy none =
-        eased_viewed main_turn ready.accepted.settled ready.owns (home s depth) sees other views facts_now frames
-        (ownless_values s ready.owns (take count top.frame.waits) (temporaries_of s (take count p.scope)) shared.taken none) viewed kept
+        eased_viewed main_turn ready.accepted.settled ready.owns (home s depth) sees other inner.views facts_now inner.frames
+        (ownless_values s ready.owns (take count inner.top.frame.waits) (temporaries_of s (take count inner.p.scope)) shared.taken none) viewed inner.kept
 
-    pub viewed_easy : Plain → Viewed (home s depth) sees other views (view_here s easy.state) facts_now × Kept s state.memory (waiting_in easy.state)
+    pub viewed_easy : Plain → Viewed (home s depth) sees other inner.views (view_here s easy.state) facts_now × Kept s inner.state.memory (waiting_in easy.state)
     viewed_easy plain = ownless_easy (plain_ownless plain)
 
-    taken_at : IsTakenAt s named.sub.result p
-    taken_at = ready.valued.takes top.frame.sub (running.0).entered named of_sub p point_there_now
+    taken_at : IsTakenAt s inner.named.sub.result inner.p
+    taken_at = ready.valued.takes inner.top.frame.sub (inner.running.0).entered inner.named inner.of_sub inner.p point_there_now
 
-    pub taken_there : IsNoCall p.instr → IsTaken s named.sub.result p
+    pub taken_there : IsNoCall inner.p.instr → IsTaken s inner.named.sub.result inner.p
     taken_there = taken_at.0
 
     -- where a subprogram is called
-    pub taken_call : (n : ℕ) (actuals : TypedTree) (r : Option ℕ) → p.instr ≡ Call n actuals r → TakesPassed s actuals (temporaries_of s (take count p.scope))
+    pub taken_call : (n : ℕ) (actuals : TypedTree) (r : Option ℕ) → inner.p.instr ≡ Call n actuals r → TakesPassed s actuals (temporaries_of s (take count inner.p.scope))
     taken_call = taken_at.1
 
-    waits_split : waiting_in state ≡ take count top.frame.waits ++ waiting_in easy.state
+    waits_split : waiting_in inner.state ≡ take count inner.top.frame.waits ++ waiting_in easy.state
     waits_split =
-        ap (flat_map waits_of) frames ∙ ap (λ z. z ++ flat_map waits_of outer) (sym (split_list count top.frame.waits))
-        ∙ append_assoc (take count top.frame.waits) (steps.waiting main_turn) (flat_map waits_of outer)
+        ap (flat_map waits_of) inner.frames ∙ ap (λ z. z ++ flat_map waits_of outer) (sym (split_list count inner.top.frame.waits))
+        ∙ append_assoc (take count inner.top.frame.waits) (steps.waiting main_turn) (flat_map waits_of outer)
 
-    pub supplied_call : (n : ℕ) (actuals : TypedTree) (r : Option ℕ) → p.instr ≡ Call n actuals r → Supplies s state.memory (types_taken s actuals) given_words []
+    pub supplied_call : (n : ℕ) (actuals : TypedTree) (r : Option ℕ) → inner.p.instr ≡ Call n actuals r → Supplies s inner.state.memory (types_taken s actuals) given_words []
     supplied_call n actuals r e =
         let there = taken_call n actuals r e in record {
-          values = take count top.frame.waits;
-          is = words_first (take count top.frame.waits);
-          fit = of_types s (types_taken s actuals) (temporaries_of s (take count p.scope)) (take count top.frame.waits) there.2 shared.taken;
-          points = points_there s ready.accepted.settled state.memory (take count top.frame.waits) (waiting_in easy.state) (subst (Kept s state.memory) waits_split kept);
+          values = take count inner.top.frame.waits;
+          is = words_first (take count inner.top.frame.waits);
+          fit = of_types s (types_taken s actuals) (temporaries_of s (take count inner.p.scope)) (take count inner.top.frame.waits) there.2 shared.taken;
+          points = points_there s ready.accepted.settled inner.state.memory (take count inner.top.frame.waits) (waiting_in easy.state) (subst (Kept s inner.state.memory) waits_split inner.kept);
         }
 
     -- and so it is, where a call alone isn't taken
-    pub plain_here : IsNoCall p.instr → StoresNone p.instr → Plain × TakesScalars s p.instr
+    pub plain_here : IsNoCall inner.p.instr → StoresNone inner.p.instr → Plain × TakesScalars s inner.p.instr
     plain_here no_call stores_none = elim (taken_there no_call) [
       | inl plain ↦ plain
       | inr (inl (x, rest_scope, is, q, n, actuals, result, large, by)) ↦ absurd (elim by [
@@ -468,8 +457,8 @@ module _ (table : Table) (typed : TypedProgram) (effects : Effects) (input : Lis
     ]
 
     -- what has an end of its own is there still
-    pub left_within : (x : ℕ) → has_scope_end s x ≡ true → is_held s x ≡ false → is_within x p.scope ≡ true → is_within x left_scope ≡ true
-    left_within x end lasts within = elim (within_left s count p.scope supplied_here.0 x within) [
+    pub left_within : (x : ℕ) → has_scope_end s x ≡ true → is_held s x ≡ false → is_within x inner.p.scope ≡ true → is_within x left_scope ≡ true
+    left_within x end lasts within = elim (within_left s count inner.p.scope supplied_here.0 x within) [
       | inr left ↦ left
       | inl temporary ↦ absurd (true_false (is_held s x) (ended_held s x temporary end) lasts)
     ]
@@ -482,75 +471,75 @@ module _ (table : Table) (typed : TypedProgram) (effects : Effects) (input : Lis
         no_temporary object_kind.Variable is = refl
         no_temporary k is = absurd (false≢true is)
 
-    pub lasts_left : (r x : ℕ) → Lasts program p.scope r x → Lasts program left_scope r x
+    pub lasts_left : (r x : ℕ) → Lasts program inner.p.scope r x → Lasts program left_scope r x
     lasts_left r x (inl shared_object) = inl shared_object
     lasts_left r x (inr (within, end, around, plain)) = inr (left_within r end plain within, end, around, plain)
 
-    pub placed_left : (facts : List Fact) → ArePlaced program (suc (length rest)) facts views p.scope → ArePlaced program (suc (length rest)) facts views left_scope
+    pub placed_left : (facts : List Fact) → ArePlaced program (suc (length inner.rest)) facts inner.views inner.p.scope → ArePlaced program (suc (length inner.rest)) facts inner.views left_scope
     placed_left facts there x w has = (let old = there x w has in record {
-      within = left_within x (view_ends s x (holds.only x w has)) old.plain old.within;
+      within = left_within x (view_ends s x (inner.holds.only x w has)) old.plain old.within;
       plain = old.plain;
-      up = λ named_up. lasts_left (number_of (views.up x)) x (old.up named_up);
+      up = λ named_up. lasts_left (number_of (inner.views.up x)) x (old.up named_up);
       root = λ at_home. lasts_left (number_of w) x (old.root at_home);
       holder = λ named_up sight. (let h = old.holder named_up sight in (h.0, h.1, lasts_left h.0 x h.2, h.3));
     })
 
     -- what is in scope afterwards, but for the result of a call, is of no anonymous type if it is a temporary
     pub named_left_here : AreNamedIn s left_scope
-    named_left_here = named_left s p (ready.valued.seen named named_there p point_there_now)
+    named_left_here = named_left s inner.p (ready.valued.seen inner.named named_there inner.p point_there_now)
 
-    pub named_behind : IsNoCall p.instr → AreNamedIn s (scope_behind p)
-    named_behind no_calls = named_brought program p.instr left_scope no_calls supplied_here.1 (ready.valued.fills named named_there p point_there_now) named_left_here
+    pub named_behind : IsNoCall inner.p.instr → AreNamedIn s (scope_behind inner.p)
+    named_behind no_calls = named_brought program inner.p.instr left_scope no_calls supplied_here.1 (ready.valued.fills inner.named named_there inner.p point_there_now) named_left_here
 
     -- the values that wait on, after an instruction that fills no temporary
     abbrev pub Left : List Waiting → Type 0
-    Left waits = AreValues s waits (scope_behind p)
+    Left waits = AreValues s waits (scope_behind inner.p)
 
-    pub left_after : FillsNone s p.instr → Left (steps.waiting main_turn)
-    left_after none = subst (AreFor s (steps.waiting main_turn)) (sym (brought_temporaries s p.instr left_scope none supplied_here.1 last_there)) shared.left
+    pub left_after : FillsNone s inner.p.instr → Left (steps.waiting main_turn)
+    left_after none = subst (AreFor s (steps.waiting main_turn)) (sym (brought_temporaries s inner.p.instr left_scope none supplied_here.1 last_there)) shared.left
       where
-        last_there : (x : ℕ) → p.instr ≡ EndScope x → is_last x left_scope ≡ true
+        last_there : (x : ℕ) → inner.p.instr ≡ EndScope x → is_last x left_scope ≡ true
         last_there x e =
-            ap (is_last x) (ap (λ n. drop n p.scope) (ap taken e) ∙ drop_none p.scope)
-            ∙ subst (λ z. is_ready p z ≡ true) e (standing.is_ready_there table typed effects input ready state top older outer named p frames of_sub at_point)
+            ap (is_last x) (ap (λ n. drop n inner.p.scope) (ap taken e) ∙ drop_none inner.p.scope)
+            ∙ subst (λ z. is_ready inner.p z ≡ true) e (standing.is_ready_there table typed effects input ready inner.state inner.top older outer inner.named inner.p inner.frames inner.of_sub inner.at_point)
 
     -- ---- what a caller awaits
 
     abbrev pub sub_here : FlowSub
-    sub_here = sub_of program top.frame.sub
+    sub_here = sub_of program inner.top.frame.sub
 
-    pub instr_there : (get_or sub_here.points top.frame.next no_point).instr ≡ p.instr
+    pub instr_there : (get_or sub_here.points inner.top.frame.next no_point).instr ≡ inner.p.instr
     instr_there =
-        ap (λ (z : FlowSub). (get_or z.points top.frame.next no_point).instr) (standing.sub_is table typed effects input ready state top older outer named p frames of_sub at_point)
-        ∙ ap (λ (q : FlowPoint). q.instr) (point_there own named top.frame.next p at_point)
+        ap (λ (z : FlowSub). (get_or z.points inner.top.frame.next no_point).instr) (standing.sub_is table typed effects input ready inner.state inner.top older outer inner.named inner.p inner.frames inner.of_sub inner.at_point)
+        ∙ ap (λ (q : FlowPoint). q.instr) (point_there own inner.named inner.top.frame.next inner.p inner.at_point)
 
     -- an instruction that returns no value leaves that as it is
-    still_awaited : returns_value p.instr ≡ false → awaited sub_here top.before ≡ awaited sub_here (top.frame.next ∷ top.before)
-    still_awaited none = ap (λ b. if b || has_returned sub_here top.before then None else sub_here.result) (sym (ap returns_value instr_there ∙ none))
+    still_awaited : returns_value inner.p.instr ≡ false → awaited sub_here inner.top.before ≡ awaited sub_here (inner.top.frame.next ∷ inner.top.before)
+    still_awaited none = ap (λ b. if b || has_returned sub_here inner.top.before then None else sub_here.result) (sym (ap returns_value instr_there ∙ none))
 
-    pub others_await : returns_value p.instr ≡ false → AreAwaited table typed (awaited sub_here (top.frame.next ∷ top.before)) (stages_of older)
-    others_await none = subst (λ n. AreAwaited table typed n (stages_of older)) (still_awaited none) awaiting.1
+    pub others_await : returns_value inner.p.instr ≡ false → AreAwaited table typed (awaited sub_here (inner.top.frame.next ∷ inner.top.before)) (stages_of older)
+    others_await none = subst (λ n. AreAwaited table typed n (stages_of older)) (still_awaited none) inner.awaiting.1
 
     -- ---- which variables own
 
     -- Those of older frames that own something before the step, and package objects.
     abbrev pub IsOld : ℕ → ℕ → Type 0
     IsOld f x =
-        (f < suc (length rest)) × ((f ≡ 0)
-        ⊎ ((q : List Step) × (k : ℕ) × (word_in s.table (content s state.memory [] (OfRoot (OfVariable f x))) q ≡ Held k)))
+        (f < suc (length inner.rest)) × ((f ≡ 0)
+        ⊎ ((q : List Step) × (k : ℕ) × (word_in s.table (content s inner.state.memory [] (OfRoot (OfVariable f x))) q ≡ Held k)))
 
-    pub inside : Inside s IsOld state.memory depth (lasting_of s p.scope)
-    inside f x q n held = elim (scope f x q n held) [
+    pub inside : Inside s IsOld inner.state.memory depth (lasting_of s inner.p.scope)
+    inside f x q n held = elim (inner.scope f x q n held) [
       | inl less ↦ inl (less, inr (q, n, held))
       | inr mine ↦ inr mine
     ]
 
     -- what is taken owns nothing
-    pub inside_left : Inside s IsOld state.memory depth (lasting_of s left_scope)
+    pub inside_left : Inside s IsOld inner.state.memory depth (lasting_of s left_scope)
     inside_left f x q n held = elim (inside f x q n held) [
       | inl old ↦ inl old
       | inr mine ↦ (
-          let there = lasting_within s x p.scope mine.1 in
+          let there = lasting_within s x inner.p.scope mine.1 in
           inr (mine.0, within_lasting s x left_scope (by_end (has_scope_end s x) refl there.1 there.0) there.1))
     ]
       where
@@ -558,10 +547,10 @@ module _ (table : Table) (typed : TypedProgram) (effects : Effects) (input : Lis
         not_or true b e = absurd (true≢false e)
         not_or false b e = refl
 
-        by_end : (end : Bool) → has_scope_end s x ≡ end → is_held s x ≡ false → is_within x p.scope ≡ true → is_within x left_scope ≡ true
+        by_end : (end : Bool) → has_scope_end s x ≡ end → is_held s x ≡ false → is_within x inner.p.scope ≡ true → is_within x left_scope ≡ true
         by_end true end lasts within = left_within x end lasts within
         by_end false end lasts within =
-            let none = word_no s.table (content s state.memory [] (OfRoot (OfVariable f x))) q
+            let none = word_no s.table (content s inner.state.memory [] (OfRoot (OfVariable f x))) q
             (ownerless s.table ready.owns (object_at s x).of (not_or (is_owning s.table (object_at s x).of) (is_anonymous (view_of s x)) end) q) in
             let no_number : ways.Empty ≡ Held n = sym none ∙ held in absurd (false≢true (ap is_held_word no_number))
 
@@ -569,11 +558,11 @@ module _ (table : Table) (typed : TypedProgram) (effects : Effects) (input : Lis
     in_scope m after_scope in_there f x q n held = elim (in_there f x q n held) [ inl old ↦ inl old.0 | inr mine ↦ inr mine ]
 
     -- what has a number in them had it before
-    pub still : (m : Memory) → OthersKept s depth state.memory m → (f x : ℕ) (q : List Step) (n : ℕ) → 0 < f → f < depth
+    pub still : (m : Memory) → OthersKept s depth inner.state.memory m → (f x : ℕ) (q : List Step) (n : ℕ) → 0 < f → f < depth
         → word_in s.table (content s m [] (OfRoot (OfVariable f x))) q ≡ Held n
-        → word_in s.table (content s state.memory [] (OfRoot (OfVariable f x))) q ≡ Held n
+        → word_in s.table (content s inner.state.memory [] (OfRoot (OfVariable f x))) q ≡ Held n
     still m stay f x q n some less held =
-        faint_held s state.memory m f x (λ o. stay f x (λ first. omega (arith, some, first)) (λ same_depth. omega (arith, less, same_depth)) o) q n held
+        faint_held s inner.state.memory m f x (λ o. stay f x (λ first. omega (arith, some, first)) (λ same_depth. omega (arith, less, same_depth)) o) q n held
 
     pub home_frame : (x : ℕ) → is_package_object s x ≡ false → home s depth x ≡ depth
     home_frame x own_frame = ap (λ b. if b then 0 else depth) own_frame
@@ -591,24 +580,24 @@ module _ (table : Table) (typed : TypedProgram) (effects : Effects) (input : Lis
     ]
 
     -- the variables of views above stay without numbers
-    pub still_above : (m : Memory) → OthersKept s depth state.memory m → NoneAbove s depth m
+    pub still_above : (m : Memory) → OthersKept s depth inner.state.memory m → NoneAbove s depth m
     still_above m stay = (
       λ f x n less view e.
-          (above.0).0 f x n less view (sym (stay f x (λ first. omega (arith, less, first)) (λ same_depth. omega (arith, less, same_depth)) 0).word ∙ e),
+          (inner.above.0).0 f x n less view (sym (stay f x (λ first. omega (arith, less, first)) (λ same_depth. omega (arith, less, same_depth)) 0).word ∙ e),
       λ f x i n less bundle e.
-          (above.0).1 f x i n less bundle (sym (stay f x (λ first. omega (arith, less, first)) (λ same_depth. omega (arith, less, same_depth)) i).word ∙ e),
+          (inner.above.0).1 f x i n less bundle (sym (stay f x (λ first. omega (arith, less, first)) (λ same_depth. omega (arith, less, same_depth)) i).word ∙ e),
     )
 
     -- those that wait do so still
-    pub wait_still : (next : State) (after_scope : List ℕ) → Inside s IsOld next.memory depth after_scope → OthersKept s depth state.memory next.memory
+    pub wait_still : (next : State) (after_scope : List ℕ) → Inside s IsOld next.memory depth after_scope → OthersKept s depth inner.state.memory next.memory
         → AreTheirs table typed effects unmoved_stage local older (view_here s next)
-        → AreWaiting table typed effects next top.frame.sub top.frame.returns older
+        → AreWaiting table typed effects next inner.top.frame.sub inner.top.frame.returns older
     wait_still next after_scope in_there stay reach =
-        all_on table typed effects unmoved_stage local state next depth (still next.memory stay)
+        all_on table typed effects unmoved_stage local inner.state next depth (still next.memory stay)
         (λ f x i some less view. (stay f x (λ first. omega (arith, some, first)) (λ same_depth. omega (arith, less, same_depth)) i).word)
-        top.frame.sub top.frame.returns older outer stages (omega arith) reach running.2
+        inner.top.frame.sub inner.top.frame.returns older outer inner.stages (omega arith) reach inner.running.2
 
-    pub with_successors : (i : Instruction) (n : ℕ) → p.instr ≡ i → n < successors i → n < successors main_turn.point.instr
+    pub with_successors : (i : Instruction) (n : ℕ) → inner.p.instr ≡ i → n < successors i → n < successors main_turn.point.instr
     with_successors i n e less = subst (λ z. n < successors z) (sym e) less
 
     pub same_scope : (x : ℕ) → is_within x (lasting_of s left_scope) ≡ true → is_within x (lasting_of s left_scope) ≡ true
@@ -623,23 +612,23 @@ module _ (table : Table) (typed : TypedProgram) (effects : Effects) (input : Lis
     pub new_one : (x : ℕ) → is_temporary_object s x ≡ false → is_within x (lasting_of s (x ∷ left_scope)) ≡ true
     new_one x plain = within_lasting s x (x ∷ left_scope) (new_there x) (plain_unheld s x plain)
 
-    pub stored_which : (i : Instruction) → p.instr ≡ i → (x : ℕ) → Has (stored_at i) x → (is_package_object s x ≡ true) ⊎ (is_within x left_scope ≡ true)
-    stored_which i e x has = ready.scoped.stored named named_there p point_there_now x (subst (λ z. Has (stored_at z) x) (sym e) has)
+    pub stored_which : (i : Instruction) → inner.p.instr ≡ i → (x : ℕ) → Has (stored_at i) x → (is_package_object s x ≡ true) ⊎ (is_within x left_scope ≡ true)
+    stored_which i e x has = ready.scoped.stored inner.named named_there inner.p point_there_now x (subst (λ z. Has (stored_at z) x) (sym e) has)
 
-    pub stored_there : (i : Instruction) → p.instr ≡ i → (x : ℕ) → Has (stored_at i) x → MayHold s IsOld depth (lasting_of s left_scope) (home s depth x) x
+    pub stored_there : (i : Instruction) → inner.p.instr ≡ i → (x : ℕ) → Has (stored_at i) x → MayHold s IsOld depth (lasting_of s left_scope) (home s depth x) x
     stored_there i e x has = may_hold x (lasting_of s left_scope) (elim (stored_which i e x has) [
       | inl shared_object ↦ inl shared_object
-      | inr within ↦ inr (within_lasting s x left_scope within (ready.valued.lasting named named_there p point_there_now x (subst (λ z. Has (stored_at z) x) (sym e) has)))
+      | inr within ↦ inr (within_lasting s x left_scope within (ready.valued.lasting inner.named named_there inner.p point_there_now x (subst (λ z. Has (stored_at z) x) (sym e) has)))
     ])
 
-    pub ready_there : (i : Instruction) → p.instr ≡ i → is_ready p i ≡ true
-    ready_there i e = subst (λ z. is_ready p z ≡ true) e (standing.is_ready_there table typed effects input ready state top older outer named p frames of_sub at_point)
+    pub ready_there : (i : Instruction) → inner.p.instr ≡ i → is_ready inner.p i ≡ true
+    ready_there i e = subst (λ z. is_ready inner.p z ≡ true) e (standing.is_ready_there table typed effects input ready inner.state inner.top older outer inner.named inner.p inner.frames inner.of_sub inner.at_point)
 
     -- ---- exceptions
 
     -- an exception ends the run
-    pub raised_well : (m : Memory) → WellOwned s (steps.counted (record state { memory = given_up state.memory m }))
-    raised_well m = raised_owned s ready.accepted.settled ready.owns state viewed.owned viewed.covered m
+    pub raised_well : (m : Memory) → WellOwned s (steps.counted (record inner.state { memory = given_up inner.state.memory m }))
+    raised_well m = raised_owned s ready.accepted.settled ready.owns inner.state viewed.owned viewed.covered m
 
     pub ends_raised : (how : Exception) (m : Memory) → LeadsOn table typed effects (steps.raised main_turn how m)
     ends_raised how m = ((λ trap. trap), raised_well m)

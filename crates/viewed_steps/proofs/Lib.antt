@@ -72,6 +72,7 @@ pub mod Eased
 pub mod Blank
 pub mod Standing
 pub mod Packages
+pub mod InnerFrame
 pub mod Innermost
 pub mod EachInstruction
 pub mod Turned

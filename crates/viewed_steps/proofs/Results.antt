@@ -21,16 +21,15 @@ use Rattle.flow_paths.specs.Objects.{Typing, is_package_object, is_anonymous}
 use Rattle.flow_paths.specs.Names.{waiting as waits_in}
 use Rattle.flow_paths.specs.Acts as flow
 use Rattle.flow_paths.specs.Acts.{acts_in}
-use Rattle.flow_paths.specs.Points.{NamedPoint}
-use Rattle.flow_paths.specs.Laid.{FlowProgram, NamedSub, typing_of, flow_typing, flow_program, flow_named, FlowSub}
+use Rattle.flow_paths.specs.Laid.{FlowProgram, typing_of, flow_typing, flow_program, flow_named, FlowSub}
 use Rattle.flow_paths.specs.Paths.{ControlPath, PathPoint, path_point, goes_on, facts_before}
 use Rattle.flow_paths.specs.Effects.{path_points}
 use Rattle.flow_paths.specs.Scopes.{taken, brought, scope_behind, is_within}
 use Rattle.machine.specs.Words as machine
 use Rattle.machine.specs.Memory.{Memory, given_up}
-use Rattle.machine.specs.Evaluate.{Evaluated, Done, value, Raises, Traps}
+use Rattle.machine.specs.Evaluate.{Evaluated, Done, Raises, Traps}
 use Rattle.machine.specs.States.{Waiting, Frame, State, Outcome, Goes, sub_of}
-use Rattle.machine.specs.Step.{Turn, start, successor}
+use Rattle.machine.specs.Step.{Turn, start}
 use Rattle.machine.specs.Step as steps
 use Rattle.machine.specs.Typed.{successors}
 use Rattle.machine.specs.Owners.{WellOwned, waiting_in}
@@ -39,7 +38,7 @@ use Rattle.soundness.specs.OwnedWays.Ways as ways
 use Rattle.soundness.specs.Seen.{IsNear, content, word_in, home, seen}
 use Rattle.soundness.specs.Typed.{Kept}
 use Rattle.soundness.specs.TypedLaws.Needed.{Source}
-use Rattle.soundness.specs.Sound.{IsNoCall, Stage, facts_of, AreStages, IsRunnable, returns_value, InScope, IsNamedSub, IsAtPoint, view_of as view_here, has_returned}
+use Rattle.soundness.specs.Sound.{IsNoCall, Stage, facts_of, returns_value, InScope, view_of as view_here, has_returned}
 use Rattle.soundness.proofs.Scalars.{acts}
 use Rattle.soundness.proofs.Scoped.{Inside}
 use Rattle.soundness.proofs.Around.{IsFar}
@@ -53,7 +52,7 @@ use Rattle.soundness.specs.ViewedSoundness.Holds.{IsNamed, AllKeep, is_view, is_
 use Rattle.soundness.proofs.ViewedSoundness.Outcomes.{unturned}
 use Rattle.viewed_steps.specs.Awaited.{AreFor, AreValues, AreValuesBut, temporaries_of, lasting_of, awaited, AreAwaited, AreScalar, TakesScalars, TakesAlone, TakesTogether}
 use Rattle.viewed_steps.proofs.Waited.{Shares}
-use Rattle.viewed_steps.specs.Sound.{IsWayOf, IsBeyond, HoldsAt, ArePlaced, NoneAbove, ViewStage, stages_of, GoneElsewhere, AreWaiting, IsStoredAt, returns_one, LeadsAlong, IsResting, HasTraversals, NoneGiven, IsGivenBelow, LentBy, KeptBy, withheld, loan_by}
+use Rattle.viewed_steps.specs.Sound.{IsWayOf, IsBeyond, HoldsAt, ArePlaced, NoneAbove, ViewStage, stages_of, GoneElsewhere, AreWaiting, IsStoredAt, returns_one, LeadsAlong, NoneGiven, IsGivenBelow, LentBy, KeptBy, withheld, loan_by}
 use Rattle.viewed_steps.specs.Taken.{TakenBy}
 use Rattle.viewed_steps.specs.Ready.{IsReady}
 use Rattle.viewed_steps.proofs.Lent.{Spare, loans_stay}
@@ -83,6 +82,7 @@ use Rattle.place_names.specs.declared.rule.Loan.{Loan}
 use Rattle.viewed_steps.specs.Seeing.{sees_in}
 use Rattle.viewed_steps.proofs.Sees.{sees_seeing}
 use Rattle.viewed_steps.proofs.Constructors.{is_assign_instruction, is_call_instruction, is_declare_instruction, is_end_scope_instruction, is_finish_instruction}
+use Rattle.viewed_steps.proofs.InnerFrame.{InnerFrame}
 
 none_some : (n : ℕ) → None ≡ Some n → ⊥
 none_some n e = absurd (false≢true (ap is_some e))
@@ -112,162 +112,151 @@ module _ (table : Table) (typed : TypedProgram) (effects : Effects) (input : Lis
   abbrev unmoved_stage : (e : Stage) → e.frame.sub ≡ 0 → (name : PlaceName) → Has (facts_of program effects e) (Moved name) → ⊥
   unmoved_stage = packages.unmoved_stage table typed effects input ready
 
-  module _ (state : State) (top : Stage) (below : ViewStage) (more_frames : List ViewStage) (rest : List Frame) (named : NamedSub) (p : NamedPoint)
-      (frames : state.frames ≡ top.frame ∷ (below.stage.frame ∷ rest)) (deep : top.depth ≡ suc (length rest))
-      (stages : AreStages (stages_of (below ∷ more_frames)) (below.stage.frame ∷ rest))
-      (running : IsRunnable table typed top.frame.sub × IsResting s top × AreWaiting table typed effects state top.frame.sub top.frame.returns (below ∷ more_frames))
-      (awaiting : AreAwaited table typed None (top ∷ stages_of (below ∷ more_frames)))
-      (of_sub : IsNamedSub (flow_named table typed) top.frame.sub named) (at_point : IsAtPoint named.points top.frame.next p)
-      (path : ControlPath (path_points program effects (sub_of program top.frame.sub)) top.before top.frame.next) (views : Views)
-      (viewed_before : ViewedAlone (home s (suc (length rest))) sees (known_gone (home s (suc (length rest))) (GoneElsewhere program effects (below ∷ more_frames))) views
-      (view_here s state) (facts_of program effects top))
-      (kept : Kept s state.memory (waiting_in state)) (scope : InScope s state.memory (suc (length rest)) (lasting_of s p.scope)) (holds : HoldsAt s sees (suc (length rest)) views state.memory p)
-      (placed_before : ArePlaced program (suc (length rest)) (facts_of program effects top) views p.scope × IsBeyond program effects (suc (length rest)) views (below ∷ more_frames)) (above : NoneAbove s (suc (length rest)) state.memory
-      × HasTraversals table typed (view_here s state) (record { stage = top; views = views; cells = [] } ∷ (below ∷ more_frames))) where
+  module _ (inner : InnerFrame table typed effects) where
     abbrev outer : List Frame
-    outer = below.stage.frame ∷ rest
+    outer = inner.below.stage.frame ∷ inner.rest
 
     abbrev older : List ViewStage
-    older = below ∷ more_frames
+    older = inner.below ∷ inner.more_frames
 
     abbrev depth : ℕ
-    depth = suc (length rest)
+    depth = suc (length inner.rest)
 
-    abbrev between : (g : ViewStage) → Has (below ∷ more_frames) g → StandsBetween table typed effects unmoved_stage local state (suc (length rest)) (below ∷ more_frames) g
-    between = innermost.between table typed effects input ready state top below more_frames rest named p frames deep stages running awaiting of_sub at_point path views viewed_before kept scope holds placed_before above
+    abbrev between : (g : ViewStage) → Has (inner.below ∷ inner.more_frames) g → StandsBetween table typed effects unmoved_stage local inner.state (suc (length inner.rest)) (inner.below ∷ inner.more_frames) g
+    between = innermost.between table typed effects input ready inner
 
-    abbrev other : Around (home s (suc (length rest)))
-    other = beside_them table typed effects unmoved_stage local state (suc (length rest)) (below ∷ more_frames) between
+    abbrev other : Around (home s (suc (length inner.rest)))
+    other = beside_them table typed effects unmoved_stage local inner.state (suc (length inner.rest)) (inner.below ∷ inner.more_frames) between
 
-    abbrev alone : (w : Way) → IsNear (suc (length rest)) w → IsFar (suc (length rest)) (GoneElsewhere program effects (below ∷ more_frames)) w → ⊥
-    alone = innermost.alone table typed effects input ready state top below more_frames rest named p frames deep stages running awaiting of_sub at_point path views viewed_before kept scope holds placed_before above
+    abbrev alone : (w : Way) → IsNear (suc (length inner.rest)) w → IsFar (suc (length inner.rest)) (GoneElsewhere program effects (inner.below ∷ inner.more_frames)) w → ⊥
+    alone = innermost.alone table typed effects input ready inner
 
     abbrev main_turn : Turn
-    main_turn = standing.t table typed effects input ready state top older outer named p frames of_sub at_point
+    main_turn = standing.t table typed effects input ready inner.state inner.top older outer inner.named inner.p inner.frames inner.of_sub inner.at_point
 
     abbrev own_facts : List Fact
-    own_facts = standing.facts table typed effects input ready state top older outer named p frames of_sub at_point path
+    own_facts = standing.facts table typed effects input ready inner.state inner.top older outer inner.named inner.p inner.frames inner.of_sub inner.at_point inner.path
 
     abbrev handed_on : List Fact
-    handed_on = handed table typed effects unmoved_stage local state (suc (length rest)) (below ∷ more_frames) between
+    handed_on = handed table typed effects unmoved_stage local inner.state (suc (length inner.rest)) (inner.below ∷ inner.more_frames) between
 
     abbrev facts_now : List Fact
     facts_now = own_facts ++ handed_on
 
     abbrev acts_of_main : Instruction → List Act
-    acts_of_main i = standing.acts_here table typed effects input ready state top older outer named p frames of_sub at_point i
+    acts_of_main i = standing.acts_here table typed effects input ready inner.state inner.top older outer inner.named inner.p inner.frames inner.of_sub inner.at_point i
 
-    abbrev allowed_now : Spare s (standing.acts_by table typed effects input ready state top older outer named p frames of_sub at_point s p.instr) → AllowsAll own_facts (acts_of_main p.instr)
-        → AllowsAll facts_now (acts_of_main p.instr)
-    allowed_now = innermost.allowed_now table typed effects input ready state top below more_frames rest named p frames deep stages running awaiting of_sub at_point path views viewed_before kept scope holds placed_before above
+    abbrev allowed_now : Spare s (standing.acts_by table typed effects input ready inner.state inner.top older outer inner.named inner.p inner.frames inner.of_sub inner.at_point s inner.p.instr) → AllowsAll own_facts (acts_of_main inner.p.instr)
+        → AllowsAll facts_now (acts_of_main inner.p.instr)
+    allowed_now = innermost.allowed_now table typed effects input ready inner
 
-    abbrev viewed : Viewed (home s depth) sees other views (view_here s state) facts_now
-    viewed = innermost.viewed table typed effects input ready state top below more_frames rest named p frames deep stages running awaiting of_sub at_point path views viewed_before kept scope holds placed_before above
+    abbrev viewed : Viewed (home s depth) sees other inner.views (view_here s inner.state) facts_now
+    viewed = innermost.viewed table typed effects input ready inner
 
     abbrev apart_from_them : (done : List Act) (v : Views) (view : ways.View) → ((x : ℕ) (w : Way) → v.way x ≡ Some w → is_view s x ≡ true)
         → Viewed (home s depth) sees other v view (after done facts_now)
         → ViewedAlone (home s depth) sees (known_gone (home s depth) (GoneElsewhere program effects older)) v view (after done own_facts)
-    apart_from_them = innermost.apart_from_them table typed effects input ready state top below more_frames rest named p frames deep stages running awaiting of_sub at_point path views viewed_before kept scope holds placed_before above
+    apart_from_them = innermost.apart_from_them table typed effects input ready inner
 
     abbrev placed_by : (some all : List Fact) (v : Views) (scope_there : List ℕ) → ((h : ℕ) (m : PlaceName) → sees h ≡ true → Has some (Lent Observed h m) → Has all (Lent Observed h m))
-        → ArePlaced program (suc (length rest)) some v scope_there → ArePlaced program (suc (length rest)) all v scope_there
-    placed_by = innermost.placed_by table typed effects input ready state top below more_frames rest named p frames deep stages running awaiting of_sub at_point path views viewed_before kept scope holds placed_before above
+        → ArePlaced program (suc (length inner.rest)) some v scope_there → ArePlaced program (suc (length inner.rest)) all v scope_there
+    placed_by = innermost.placed_by table typed effects input ready inner
 
-    abbrev placed : ArePlaced program (suc (length rest)) facts_now views p.scope
-    placed = innermost.placed table typed effects input ready state top below more_frames rest named p frames deep stages running awaiting of_sub at_point path views viewed_before kept scope holds placed_before above
+    abbrev placed : ArePlaced program (suc (length inner.rest)) facts_now inner.views inner.p.scope
+    placed = innermost.placed table typed effects input ready inner
 
     abbrev own_loans : (done : List Act) (h : ℕ) (m : PlaceName) → sees h ≡ true → Has (after done facts_now) (Lent Observed h m)
         → Has (after done own_facts) (Lent Observed h m)
-    own_loans = innermost.own_loans table typed effects input ready state top below more_frames rest named p frames deep stages running awaiting of_sub at_point path views viewed_before kept scope holds placed_before above
+    own_loans = innermost.own_loans table typed effects input ready inner
 
     abbrev left_scope : List ℕ
-    left_scope = drop (taken p.instr) p.scope
+    left_scope = drop (taken inner.p.instr) inner.p.scope
 
     abbrev given_words : List (List machine.Word)
     given_words = (start main_turn).waits
 
     abbrev Plain : Type 0
-    Plain = AreScalar s (temporaries_of s (take (taken p.instr) p.scope))
+    Plain = AreScalar s (temporaries_of s (take (taken inner.p.instr) inner.p.scope))
 
-    abbrev named_there : Has (flow_named table typed) named
-    named_there = innermost.named_there table typed effects input ready state top below more_frames rest named p frames deep stages running awaiting of_sub at_point path views viewed_before kept scope holds placed_before above
+    abbrev named_there : Has (flow_named table typed) inner.named
+    named_there = innermost.named_there table typed effects input ready inner
 
-    abbrev takes_of : Plain → (i : Instruction) → p.instr ≡ i → Takes (taken i) given_words []
-    takes_of = innermost.takes_of table typed effects input ready state top below more_frames rest named p frames deep stages running awaiting of_sub at_point path views viewed_before kept scope holds placed_before above
+    abbrev takes_of : Plain → (i : Instruction) → inner.p.instr ≡ i → Takes (taken i) given_words []
+    takes_of = innermost.takes_of table typed effects input ready inner
 
     abbrev easy : Turn
     easy = eased main_turn
 
-    abbrev placed_left : (facts : List Fact) → ArePlaced program (suc (length rest)) facts views p.scope → ArePlaced program (suc (length rest)) facts views left_scope
-    placed_left = innermost.placed_left table typed effects input ready state top below more_frames rest named p frames deep stages running awaiting of_sub at_point path views viewed_before kept scope holds placed_before above
+    abbrev placed_left : (facts : List Fact) → ArePlaced program (suc (length inner.rest)) facts inner.views inner.p.scope → ArePlaced program (suc (length inner.rest)) facts inner.views left_scope
+    placed_left = innermost.placed_left table typed effects input ready inner
 
     abbrev Left : List Waiting → Type 0
-    Left waits = AreValues s waits (scope_behind p)
+    Left waits = AreValues s waits (scope_behind inner.p)
 
-    abbrev left_after : FillsNone s p.instr → Left (steps.waiting main_turn)
-    left_after = innermost.left_after table typed effects input ready state top below more_frames rest named p frames deep stages running awaiting of_sub at_point path views viewed_before kept scope holds placed_before above
+    abbrev left_after : FillsNone s inner.p.instr → Left (steps.waiting main_turn)
+    left_after = innermost.left_after table typed effects input ready inner
 
-    abbrev raised_well : (m : Memory) → WellOwned s (steps.counted (record state { memory = given_up state.memory m }))
-    raised_well = innermost.raised_well table typed effects input ready state top below more_frames rest named p frames deep stages running awaiting of_sub at_point path views viewed_before kept scope holds placed_before above
+    abbrev raised_well : (m : Memory) → WellOwned s (steps.counted (record inner.state { memory = given_up inner.state.memory m }))
+    raised_well = innermost.raised_well table typed effects input ready inner
 
-    abbrev successors_there : length main_turn.point.next ≡ successors p.instr
-    successors_there = innermost.successors_there table typed effects input ready state top below more_frames rest named p frames deep stages running awaiting of_sub at_point path views viewed_before kept scope holds placed_before above
+    abbrev successors_there : length main_turn.point.next ≡ successors inner.p.instr
+    successors_there = innermost.successors_there table typed effects input ready inner
 
     abbrev IsOld : ℕ → ℕ → Type 0
     IsOld f x =
-        (f < suc (length rest)) × ((f ≡ 0)
-        ⊎ ((q : List Step) × (k : ℕ) × (word_in s.table (content s state.memory [] (OfRoot (OfVariable f x))) q ≡ Held k)))
+        (f < suc (length inner.rest)) × ((f ≡ 0)
+        ⊎ ((q : List Step) × (k : ℕ) × (word_in s.table (content s inner.state.memory [] (OfRoot (OfVariable f x))) q ≡ Held k)))
 
-    abbrev inside_left : Inside s IsOld state.memory depth (lasting_of s left_scope)
-    inside_left = innermost.inside_left table typed effects input ready state top below more_frames rest named p frames deep stages running awaiting of_sub at_point path views viewed_before kept scope holds placed_before above
+    abbrev inside_left : Inside s IsOld inner.state.memory depth (lasting_of s left_scope)
+    inside_left = innermost.inside_left table typed effects input ready inner
 
     abbrev in_scope : (m : Memory) (after_scope : List ℕ) → Inside s IsOld m depth after_scope → InScope s m depth after_scope
-    in_scope = innermost.in_scope table typed effects input ready state top below more_frames rest named p frames deep stages running awaiting of_sub at_point path views viewed_before kept scope holds placed_before above
+    in_scope = innermost.in_scope table typed effects input ready inner
 
-    abbrev still_above : (m : Memory) → OthersKept s depth state.memory m → NoneAbove s depth m
-    still_above = innermost.still_above table typed effects input ready state top below more_frames rest named p frames deep stages running awaiting of_sub at_point path views viewed_before kept scope holds placed_before above
+    abbrev still_above : (m : Memory) → OthersKept s depth inner.state.memory m → NoneAbove s depth m
+    still_above = innermost.still_above table typed effects input ready inner
 
-    abbrev wait_still : (next : State) (after_scope : List ℕ) → Inside s IsOld next.memory depth after_scope → OthersKept s depth state.memory next.memory
+    abbrev wait_still : (next : State) (after_scope : List ℕ) → Inside s IsOld next.memory depth after_scope → OthersKept s depth inner.state.memory next.memory
         → AreTheirs table typed effects unmoved_stage local older (view_here s next)
-        → AreWaiting table typed effects next top.frame.sub top.frame.returns older
-    wait_still = innermost.wait_still table typed effects input ready state top below more_frames rest named p frames deep stages running awaiting of_sub at_point path views viewed_before kept scope holds placed_before above
+        → AreWaiting table typed effects next inner.top.frame.sub inner.top.frame.returns older
+    wait_still = innermost.wait_still table typed effects input ready inner
 
     abbrev sub_here : FlowSub
-    sub_here = sub_of program top.frame.sub
+    sub_here = sub_of program inner.top.frame.sub
 
-    abbrev instr_there : (get_or sub_here.points top.frame.next no_point).instr ≡ p.instr
-    instr_there = innermost.instr_there table typed effects input ready state top below more_frames rest named p frames deep stages running awaiting of_sub at_point path views viewed_before kept scope holds placed_before above
+    abbrev instr_there : (get_or sub_here.points inner.top.frame.next no_point).instr ≡ inner.p.instr
+    instr_there = innermost.instr_there table typed effects input ready inner
 
-    abbrev supplied_here : IsSupplied s p
-    supplied_here = innermost.supplied_here table typed effects input ready state top below more_frames rest named p frames deep stages running awaiting of_sub at_point path views viewed_before kept scope holds placed_before above
+    abbrev supplied_here : IsSupplied s inner.p
+    supplied_here = innermost.supplied_here table typed effects input ready inner
 
-    abbrev shared : Shares s (taken p.instr) top.frame.waits p.scope
-    shared = innermost.shared table typed effects input ready state top below more_frames rest named p frames deep stages running awaiting of_sub at_point path views viewed_before kept scope holds placed_before above
+    abbrev shared : Shares s (taken inner.p.instr) inner.top.frame.waits inner.p.scope
+    shared = innermost.shared table typed effects input ready inner
 
     -- where it leads, and how the frames come from those before
     abbrev Along : Outcome → Type 0
-    Along outcome = LeadsAlong table typed effects p.instr state.memory (record { stage = top; views = views; cells = [] }) (below ∷ more_frames) outcome
+    Along outcome = LeadsAlong table typed effects inner.p.instr inner.state.memory (record { stage = inner.top; views = inner.views; cells = [] }) (inner.below ∷ inner.more_frames) outcome
 
     abbrev may : ℕ → ℕ → Type 0
-    may x y = MayBe program (scope_behind p) x y × IsStoredAt p.instr x × IsSourceIn (sub_acts (sub_of program top.frame.sub)) x y
+    may x y = MayBe program (scope_behind inner.p) x y × IsStoredAt inner.p.instr x × IsSourceIn (sub_acts (sub_of program inner.top.frame.sub)) x y
 
     abbrev AnyLeft : List Waiting → Type 0
     AnyLeft waits = Unit {0}
 
-    module _ (e last : TypedTree) (is : p.instr ≡ Hold (More e last)) (of : ℕ) (result : named.sub.result ≡ Some of) (source : Source s of e) (alone_there : last ≡ NoMore) where
+    module _ (e last : TypedTree) (is : inner.p.instr ≡ Hold (More e last)) (of : ℕ) (result : inner.named.sub.result ≡ Some of) (source : Source s of e) (alone_there : last ≡ NoMore) where
       sub_result : sub_here.result ≡ Some of
-      sub_result = ap (λ (z : FlowSub). z.result) (standing.sub_is table typed effects input ready state top older outer named p frames of_sub at_point) ∙ result
+      sub_result = ap (λ (z : FlowSub). z.result) (standing.sub_is table typed effects input ready inner.state inner.top older outer inner.named inner.p inner.frames inner.of_sub inner.at_point) ∙ result
 
-      going_then : (x : ℕ) → p.instr ≡ EndScope x → ⊥
+      going_then : (x : ℕ) → inner.p.instr ≡ EndScope x → ⊥
       going_then x same = (let never : Hold (More e last) ≡ EndScope x = sym is ∙ same in absurd (false≢true (ap is_end_scope_instruction never)))
 
-      no_call_then : IsNoCall p.instr
+      no_call_then : IsNoCall inner.p.instr
       no_call_then n actuals temporary same = (let never : Hold (More e last) ≡ Call n actuals temporary = sym is ∙ same in absurd (false≢true (ap is_call_instruction never)))
 
-      no_finish_then : p.instr ≡ Finish → ⊥
+      no_finish_then : inner.p.instr ≡ Finish → ⊥
       no_finish_then same = (let never : Hold (More e last) ≡ Finish = sym is ∙ same in absurd (false≢true (ap is_finish_instruction never)))
 
-      acts_then : is_anonymous (full s.table of) ≡ false → acts_of_main p.instr ≡ acts (acts_in s e)
+      acts_then : is_anonymous (full s.table of) ≡ false → acts_of_main inner.p.instr ≡ acts (acts_in s e)
       unfolding acts_in
       acts_then plain_result =
           ap acts_of_main is ∙ ap (λ r. acts (flow.returned_acts s r (More e last))) result
@@ -280,21 +269,21 @@ module _ (table : Table) (typed : TypedProgram) (effects : Effects) (input : Lis
           takes_as (taken (Hold (More e last))) (waits_in e) given_words []
           (ap (λ z. waits_in e + waits_in z) alone_there ∙ nothing_more (waits_in e)) (takes_of plain (Hold (More e last)) is)
 
-      plainly_value : TakesScalars s p.instr → GivesPlainly s e
+      plainly_value : TakesScalars s inner.p.instr → GivesPlainly s e
       unfolding GivesPlainly
       plainly_value plain = (subst (TakesScalars s) is plain).0
 
-      abbrev spare_value : Spare s (standing.acts_by table typed effects input ready state top older outer named p frames of_sub at_point s p.instr)
-      spare_value = each.spares table typed effects input ready state top below more_frames rest named p frames deep stages running awaiting of_sub at_point path views viewed_before kept scope holds placed_before above going_then no_call_then no_finish_then
+      abbrev spare_value : Spare s (standing.acts_by table typed effects input ready inner.state inner.top older outer inner.named inner.p inner.frames inner.of_sub inner.at_point s inner.p.instr)
+      spare_value = each.spares table typed effects input ready inner going_then no_call_then no_finish_then
 
-      pub allowed_then : AllowsAll facts_now (acts_of_main p.instr)
-      allowed_then = allowed_now spare_value (standing.allowed table typed effects input ready state top older outer named p frames of_sub at_point path no_call_then)
+      pub allowed_then : AllowsAll facts_now (acts_of_main inner.p.instr)
+      allowed_then = allowed_now spare_value (standing.allowed table typed effects input ready inner.state inner.top older outer inner.named inner.p inner.frames inner.of_sub inner.at_point inner.path no_call_then)
 
       allowed_value : is_anonymous (full s.table of) ≡ false → AllowsAll facts_now (acts (acts_in s e))
-      allowed_value plain_result = subst (AllowsAll facts_now) (acts_then plain_result) (allowed_now spare_value (standing.allowed table typed effects input ready state top older outer named p frames of_sub at_point path no_call_then))
+      allowed_value plain_result = subst (AllowsAll facts_now) (acts_then plain_result) (allowed_now spare_value (standing.allowed table typed effects input ready inner.state inner.top older outer inner.named inner.p inner.frames inner.of_sub inner.at_point inner.path no_call_then))
 
       keeps_value : is_anonymous (full s.table of) ≡ false → AllKeep (is_fixed s sees) (acts (acts_in s e))
-      keeps_value plain_result = subst (AllKeep (is_fixed s sees)) (acts_then plain_result) (standing.keeps_there table typed effects input ready state top older outer named p frames of_sub at_point)
+      keeps_value plain_result = subst (AllKeep (is_fixed s sees)) (acts_then plain_result) (standing.keeps_there table typed effects input ready inner.state inner.top older outer inner.named inner.p inner.frames inner.of_sub inner.at_point)
 
       left_values : Left (steps.waiting main_turn)
       left_values = left_after (subst (FillsNone s) (sym is) tt)
@@ -311,42 +300,42 @@ module _ (table : Table) (typed : TypedProgram) (effects : Effects) (input : Lis
       some_result : is_some sub_here.result ≡ true
       some_result = ap is_some sub_result
 
-      returns_here : returns_value (get_or sub_here.points top.frame.next no_point).instr ≡ true
+      returns_here : returns_value (get_or sub_here.points inner.top.frame.next no_point).instr ≡ true
       returns_here = ap returns_value (instr_there ∙ is)
 
       -- it hasn't returned before, and it has then
-      awaited_before : awaited sub_here top.before ≡ Some of
+      awaited_before : awaited sub_here inner.top.before ≡ Some of
       awaited_before =
-          let not_yet = (ready.returning top.frame.sub (running.0).entered some_result top.before top.frame.next path).0 returns_here in
+          let not_yet = (ready.returning inner.top.frame.sub (inner.running.0).entered some_result inner.top.before inner.top.frame.next inner.path).0 returns_here in
           ap (λ z. if z then None else sub_here.result) not_yet ∙ sub_result
 
-      awaited_then : awaited sub_here (top.frame.next ∷ top.before) ≡ None
-      awaited_then = ap (λ z. if z || has_returned sub_here top.before then None else sub_here.result) returns_here
+      awaited_then : awaited sub_here (inner.top.frame.next ∷ inner.top.before) ≡ None
+      awaited_then = ap (λ z. if z || has_returned sub_here inner.top.before then None else sub_here.result) returns_here
 
-      one_awaited : AreAwaited table typed (Some of) (stages_of (below ∷ more_frames))
-      one_awaited = subst (λ n. AreAwaited table typed n (stages_of (below ∷ more_frames))) awaited_before awaiting.1
+      one_awaited : AreAwaited table typed (Some of) (stages_of (inner.below ∷ inner.more_frames))
+      one_awaited = subst (λ n. AreAwaited table typed n (stages_of (inner.below ∷ inner.more_frames))) awaited_before inner.awaiting.1
 
       abbrev value_of : List machine.Word → Waiting
       value_of ws = record { of = of; words = ws }
 
       abbrev pub below_with : Waiting → ViewStage
-      below_with v = record below { stage = record below.stage { frame = record below.stage.frame { waits = v ∷ below.stage.frame.waits } } }
+      below_with v = record inner.below { stage = record inner.below.stage { frame = record inner.below.stage.frame { waits = v ∷ inner.below.stage.frame.waits } } }
 
       value_there : (ws : List machine.Word) → length ws ≡ words s.table of → (waits : List Waiting) (xs : List ℕ) → AreValuesBut s (Some of) waits xs
           → AreFor s (value_of ws ∷ waits) xs
       value_there ws long waits [] all = absurd all
       value_there ws long waits (x ∷ xs) (fits, all) = ((fits, long), all)
 
-      await_with : (ws : List machine.Word) → length ws ≡ words s.table of → (others : List ViewStage) → AreAwaited table typed (Some of) (stages_of (below ∷ others))
+      await_with : (ws : List machine.Word) → length ws ≡ words s.table of → (others : List ViewStage) → AreAwaited table typed (Some of) (stages_of (inner.below ∷ others))
           → AreAwaited table typed None (stages_of (below_with (value_of ws) ∷ others))
       await_with ws long [] await = (let never = await.0 in absurd (none_some of (sym never)))
       await_with ws long (h ∷ others) await = (
-        λ other_named other_stands q at_q. value_there ws long below.stage.frame.waits (temporaries_of s q.scope) (await.0 other_named other_stands q at_q),
+        λ other_named other_stands q at_q. value_there ws long inner.below.stage.frame.waits (temporaries_of s q.scope) (await.0 other_named other_stands q at_q),
         await.1,
       )
 
-      wait_with : (v : Waiting) (st : State) (others : List ViewStage) → AreAwaited table typed (Some of) (stages_of (below ∷ others))
-          → AreWaiting table typed effects st top.frame.sub top.frame.returns (below ∷ others) → AreWaiting table typed effects st top.frame.sub top.frame.returns (below_with v ∷ others)
+      wait_with : (v : Waiting) (st : State) (others : List ViewStage) → AreAwaited table typed (Some of) (stages_of (inner.below ∷ others))
+          → AreWaiting table typed effects st inner.top.frame.sub inner.top.frame.returns (inner.below ∷ others) → AreWaiting table typed effects st inner.top.frame.sub inner.top.frame.returns (below_with v ∷ others)
       wait_with v st [] await waits = (let never = await.0 in absurd (none_some of (sym never)))
       wait_with v st (h ∷ others) await waits =
           let was = waits.0 in (
@@ -396,18 +385,18 @@ module _ (table : Table) (typed : TypedProgram) (effects : Effects) (input : Lis
             waits.3,
           )
 
-      past_with : (v : Waiting) → IsBeyond program effects depth views (below ∷ more_frames) → IsBeyond program effects depth views (below_with v ∷ more_frames)
-      past_with v past = (λ x w has given sight k n kept goes. past_one x w has given sight k n kept goes, (λ x w has given named_there. shared_one (sees x) w (past.1.0 x w has given named_there), λ x q w has named_there. shared_one true w (past.1.1 x q w has named_there)))
+      past_with : (v : Waiting) → IsBeyond program effects depth inner.views (inner.below ∷ inner.more_frames) → IsBeyond program effects depth inner.views (below_with v ∷ inner.more_frames)
+      past_with v past = (λ x w has given sight k n keeps_it goes. past_one x w has given sight k n keeps_it goes, (λ x w has given named_there. shared_one (sees x) w (past.1.0 x w has given named_there), λ x q w has named_there. shared_one true w (past.1.1 x q w has named_there)))
         where
-          way_from : (g : ViewStage) (k : Way) (n : ℕ) → below_with v ≡ g → IsWayOf g k n → IsWayOf below k n
-          way_from g k n same way = subst (λ (z : ViewStage). IsWayOf z k n → IsWayOf below k n) same (λ there. there) way
+          way_from : (g : ViewStage) (k : Way) (n : ℕ) → below_with v ≡ g → IsWayOf g k n → IsWayOf inner.below k n
+          way_from g k n same way = subst (λ (z : ViewStage). IsWayOf z k n → IsWayOf inner.below k n) same (λ there. there) way
 
-          past_one : (x : ℕ) (w : Way) → views.way x ≡ Some w → (ways.Named (home s depth) (views.up x) → ⊥) → sees x ≡ false → (k : Way) (n : ℕ)
-              → KeptBy (below_with v ∷ more_frames) k n → ways.Past w k → ⊥
+          past_one : (x : ℕ) (w : Way) → inner.views.way x ≡ Some w → (ways.Named (home s depth) (inner.views.up x) → ⊥) → sees x ≡ false → (k : Way) (n : ℕ)
+              → KeptBy (below_with v ∷ inner.more_frames) k n → ways.Past w k → ⊥
           past_one x w has given sight k n (g, inr there, way) goes = past.0 x w has given sight k n (g, inr there, way) goes
-          past_one x w has given sight k n (g, inl same, way) goes = past.0 x w has given sight k n (below, inl refl, way_from g k n same way) goes
+          past_one x w has given sight k n (g, inl same, way) goes = past.0 x w has given sight k n (inner.below, inl refl, way_from g k n same way) goes
 
-          lent_with : (l : Loan) (name : PlaceName) → LentBy program effects (below ∷ more_frames) l name → LentBy program effects (below_with v ∷ more_frames) l name
+          lent_with : (l : Loan) (name : PlaceName) → LentBy program effects (inner.below ∷ inner.more_frames) l name → LentBy program effects (below_with v ∷ inner.more_frames) l name
           lent_with l name lent = elim lent.1 [
             | inr there ↦ (lent.0, inr there, lent.2, lent.3, lent.4, lent.5, lent.6, lent.7)
             | inl same ↦ (
@@ -418,16 +407,16 @@ module _ (table : Table) (typed : TypedProgram) (effects : Effects) (input : Lis
                 )
           ]
 
-          shared_one : (sight : Bool) (w : Way) → IsShared (home s depth) (LentBy program effects (below ∷ more_frames)) sight w
-              → IsShared (home s depth) (LentBy program effects (below_with v ∷ more_frames)) sight w
+          shared_one : (sight : Bool) (w : Way) → IsShared (home s depth) (LentBy program effects (inner.below ∷ inner.more_frames)) sight w
+              → IsShared (home s depth) (LentBy program effects (below_with v ∷ inner.more_frames)) sight w
           shared_one sight w (l, through, changed) = (l, (through.0, through.1, through.2, lent_with l (ways.name_of through.0) through.3), changed)
 
-      elsewhere_from : (v : Waiting) (w : Way) → GoneElsewhere program effects (below_with v ∷ more_frames) w → GoneElsewhere program effects (below ∷ more_frames) w
+      elsewhere_from : (v : Waiting) (w : Way) → GoneElsewhere program effects (below_with v ∷ inner.more_frames) w → GoneElsewhere program effects (inner.below ∷ inner.more_frames) w
       elsewhere_from v w (g, inr has, what) = (g, inr has, what)
       elsewhere_from v w (g, inl same, what) =
-          (below, inl refl, subst (λ (z : ViewStage). IsMovedBy (home s z.stage.depth) z.views (facts_of program effects z.stage) w ⊎ TakenBy z.stage.returns w) (sym same) what)
+          (inner.below, inl refl, subst (λ (z : ViewStage). IsMovedBy (home s z.stage.depth) z.views (facts_of program effects z.stage) w ⊎ TakenBy z.stage.returns w) (sym same) what)
 
-      elsewhere_with : (v : Waiting) (w : Way) → GoneElsewhere program effects (below ∷ more_frames) w → GoneElsewhere program effects (below_with v ∷ more_frames) w
+      elsewhere_with : (v : Waiting) (w : Way) → GoneElsewhere program effects (inner.below ∷ inner.more_frames) w → GoneElsewhere program effects (below_with v ∷ inner.more_frames) w
       elsewhere_with v w (g, inr has, what) = (g, inr has, what)
       elsewhere_with v w (g, inl same, what) =
           (below_with v, inl refl, subst (λ (z : ViewStage). IsMovedBy (home s z.stage.depth) z.views (facts_of program effects z.stage) w ⊎ TakenBy z.stage.returns w) (sym same) what)
@@ -444,74 +433,74 @@ module _ (table : Table) (typed : TypedProgram) (effects : Effects) (input : Lis
           first_has (x ∷ xs) less = inl refl
 
       abbrev top_then : Stage
-      top_then = standing.at_next table typed effects input ready state top older outer named p frames of_sub at_point path (steps.waiting main_turn) top.frame.loops next_number
+      top_then = standing.at_next table typed effects input ready inner.state inner.top older outer inner.named inner.p inner.frames inner.of_sub inner.at_point inner.path (steps.waiting main_turn) inner.top.frame.loops next_number
 
       abbrev pub state_then : List machine.Word → Memory → State
-      state_then ws m = handed_over program input main_turn.point state top.frame below.stage.frame rest of ws m
+      state_then ws m = handed_over program input main_turn.point inner.state inner.top.frame inner.below.stage.frame inner.rest of ws m
 
       hands_then : (ws : List machine.Word) (m : Memory) → waiting_in (state_then ws m) ≡ value_of ws ∷ waiting_in easy.state
       hands_then ws m =
-          ap (λ z. z ++ (value_of ws ∷ (below.stage.frame.waits ++ flat_map waits_of rest))) no_value_left
-          ∙ ap (λ z. value_of ws ∷ (z ++ (below.stage.frame.waits ++ flat_map waits_of rest))) (sym no_value_left)
+          ap (λ z. z ++ (value_of ws ∷ (inner.below.stage.frame.waits ++ flat_map waits_of inner.rest))) no_value_left
+          ∙ ap (λ z. value_of ws ∷ (z ++ (inner.below.stage.frame.waits ++ flat_map waits_of inner.rest))) (sym no_value_left)
 
       abbrev facts_then : List Fact
-      facts_then = after (acts_of_main p.instr) own_facts
+      facts_then = after (acts_of_main inner.p.instr) own_facts
 
       -- the top frame afterwards
       abbrev pub top_stage_then : ViewStage
-      top_stage_then = record { stage = top_then; views = views; cells = [] }
+      top_stage_then = record { stage = top_then; views = inner.views; cells = [] }
 
       pub returned_to : (ws : List machine.Word) (m : Memory)
-          → Viewed (home s depth) sees other views (seen s m (value_of ws ∷ waiting_in easy.state) state.leaks) (after (acts_of_main p.instr) facts_now)
-          → Kept s m (value_of ws ∷ waiting_in easy.state) → Holds s sees depth views m → length ws ≡ words s.table of → Inside s IsOld m depth (lasting_of s left_scope)
-          → OthersKept s depth state.memory m → IsGivenBelow table typed (seen s m (value_of ws ∷ waiting_in easy.state) state.leaks) top_stage_then (below_with (value_of ws))
+          → Viewed (home s depth) sees other inner.views (seen s m (value_of ws ∷ waiting_in easy.state) inner.state.leaks) (after (acts_of_main inner.p.instr) facts_now)
+          → Kept s m (value_of ws ∷ waiting_in easy.state) → Holds s sees depth inner.views m → length ws ≡ words s.table of → Inside s IsOld m depth (lasting_of s left_scope)
+          → OthersKept s depth inner.state.memory m → IsGivenBelow table typed (seen s m (value_of ws ∷ waiting_in easy.state) inner.state.leaks) top_stage_then (below_with (value_of ws))
           → Along (Goes (state_then ws m))
       returned_to ws m viewed_then kept_then holds_then long inside_then stay given_then =
           let v : Waiting = value_of ws in
-          let view = seen s m (v ∷ waiting_in easy.state) state.leaks in
-          let view_same : view ≡ view_here s (state_then ws m) = ap (λ z. seen s m z state.leaks) (sym (hands_then ws m)) in
-          let well_all : Viewed (home s depth) sees other views view (after (acts_of_main p.instr) facts_now) =
+          let view = seen s m (v ∷ waiting_in easy.state) inner.state.leaks in
+          let view_same : view ≡ view_here s (state_then ws m) = ap (λ z. seen s m z inner.state.leaks) (sym (hands_then ws m)) in
+          let well_all : Viewed (home s depth) sees other inner.views view (after (acts_of_main inner.p.instr) facts_now) =
           viewed_then in
-          let well = apart_from_them (acts_of_main p.instr) views view holds.only well_all in
-          let found = standing.next_at table typed effects input ready state top older outer named p frames of_sub at_point path next_number next_has in
-          let step_on : Has (path_point (standing.points table typed effects input ready state top older outer named p frames of_sub at_point) top.frame.next).next next_number =
-          subst (λ (z : PathPoint). Has z.next next_number) (sym (path_there own named top.frame.next p at_point program effects)) next_has in
+          let well = apart_from_them (acts_of_main inner.p.instr) inner.views view inner.holds.only well_all in
+          let found = standing.next_at table typed effects input ready inner.state inner.top older outer inner.named inner.p inner.frames inner.of_sub inner.at_point inner.path next_number next_has in
+          let step_on : Has (path_point (standing.points table typed effects input ready inner.state inner.top older outer inner.named inner.p inner.frames inner.of_sub inner.at_point) inner.top.frame.next).next next_number =
+          subst (λ (z : PathPoint). Has z.next next_number) (sym (path_there own inner.named inner.top.frame.next inner.p inner.at_point program effects)) next_has in
           let facts_there : facts_of program effects top_then ≡ facts_then =
-          ap (λ (z : FlowSub). facts_before (path_points program effects z) (top.frame.next ∷ top.before)) (standing.sub_is table typed effects input ready state top older outer named p frames of_sub at_point)
-          ∙ standing.facts_on table typed effects input ready state top older outer named p frames of_sub at_point path no_call_then in
-          let inside_behind : Inside s IsOld m depth (lasting_of s (scope_behind p)) = subst (λ i. Inside s IsOld m depth (lasting_of s (brought i left_scope))) (sym is) inside_then in
-          let more_behind : (x : ℕ) → is_within x left_scope ≡ true → is_within x (scope_behind p) ≡ true =
+          ap (λ (z : FlowSub). facts_before (path_points program effects z) (inner.top.frame.next ∷ inner.top.before)) (standing.sub_is table typed effects input ready inner.state inner.top older outer inner.named inner.p inner.frames inner.of_sub inner.at_point)
+          ∙ standing.facts_on table typed effects input ready inner.state inner.top older outer inner.named inner.p inner.frames inner.of_sub inner.at_point inner.path no_call_then in
+          let inside_behind : Inside s IsOld m depth (lasting_of s (scope_behind inner.p)) = subst (λ i. Inside s IsOld m depth (lasting_of s (brought i left_scope))) (sym is) inside_then in
+          let more_behind : (x : ℕ) → is_within x left_scope ≡ true → is_within x (scope_behind inner.p) ≡ true =
           (λ x within. subst (λ i. is_within x (brought i left_scope) ≡ true) (sym is) within) in
-          let there = turned_placed easy sees seeing ready.accepted.settled ready.owns other alone views ready.class.parts_named left_scope (scope_behind p) refl refl
-          ready.orderly.transitive ready.orderly.itself local holds.only (holds.lies, holds.low) more_behind views facts_now (after (acts_of_main p.instr) facts_now)
-          (λ h n has. loans_stay s (standing.acts_by table typed effects input ready state top older outer named p frames of_sub at_point s p.instr) spare_value facts_now Observed h n has)
-          (placed_left facts_now placed) (unturned easy sees seeing ready.accepted.settled ready.owns other alone views ready.class.parts_named (λ x y. MayBe program (scope_behind p) x y) refl refl (after (acts_of_main p.instr) facts_now)) in
-          let placed_next = placed_on program depth (after (acts_of_main p.instr) facts_now) views (scope_behind p) (found.0).scope holds.only found.2 there in (
+          let there = turned_placed easy sees seeing ready.accepted.settled ready.owns other alone inner.views ready.class.parts_named left_scope (scope_behind inner.p) refl refl
+          ready.orderly.transitive ready.orderly.itself local inner.holds.only (inner.holds.lies, inner.holds.low) more_behind inner.views facts_now (after (acts_of_main inner.p.instr) facts_now)
+          (λ h n has. loans_stay s (standing.acts_by table typed effects input ready inner.state inner.top older outer inner.named inner.p inner.frames inner.of_sub inner.at_point s inner.p.instr) spare_value facts_now Observed h n has)
+          (placed_left facts_now placed) (unturned easy sees seeing ready.accepted.settled ready.owns other alone inner.views ready.class.parts_named (λ x y. MayBe program (scope_behind inner.p) x y) refl refl (after (acts_of_main inner.p.instr) facts_now)) in
+          let placed_next = placed_on program depth (after (acts_of_main inner.p.instr) facts_now) inner.views (scope_behind inner.p) (found.0).scope inner.holds.only found.2 there in (
             record {
               top = top_then;
-              views = views;
-              older = below_with v ∷ more_frames;
-              stages = (refl, deep, (refl, stages.1, stages.2));
+              views = inner.views;
+              older = below_with v ∷ inner.more_frames;
+              stages = (refl, inner.deep, (refl, inner.stages.1, inner.stages.2));
               running = (
-                running.0,
-                running.1,
-                wait_with v (state_then ws m) more_frames one_awaited
-                    (wait_still (state_then ws m) (lasting_of s (scope_behind p)) inside_behind stay
+                inner.running.0,
+                inner.running.1,
+                wait_with v (state_then ws m) inner.more_frames one_awaited
+                    (wait_still (state_then ws m) (lasting_of s (scope_behind inner.p)) inside_behind stay
                     (record {
                       far = λ w n keeps. subst (λ z. ways.Reaches z w (ways.OfCell n)) view_same (well_all.far w n keeps);
-                      bare = λ w n p bare q c held. well_all.bare w n p bare q c (subst (λ z. z.word (ways.part n (q ++ p)) ≡ Held c) (sym view_same) held);
+                      bare = λ w n part_path bare q c held. well_all.bare w n part_path bare q c (subst (λ z. z.word (ways.part n (q ++ part_path)) ≡ Held c) (sym view_same) held);
                     })),
               );
               awaited = (
-                standing.waits_next table typed effects input ready state top older outer named p frames of_sub at_point path (steps.waiting main_turn) top.frame.loops next_number next_has left_values,
-                subst (λ n. AreAwaited table typed n (stages_of (below_with v ∷ more_frames))) (sym awaited_then) (await_with ws long more_frames one_awaited),
+                standing.waits_next table typed effects input ready inner.state inner.top older outer inner.named inner.p inner.frames inner.of_sub inner.at_point inner.path (steps.waiting main_turn) inner.top.frame.loops next_number next_has left_values,
+                subst (λ n. AreAwaited table typed n (stages_of (below_with v ∷ inner.more_frames))) (sym awaited_then) (await_with ws long inner.more_frames one_awaited),
               );
-              path = subst (λ (z : FlowSub). ControlPath (path_points program effects z) (top.frame.next ∷ top.before) next_number)
-                  (sym (standing.sub_is table typed effects input ready state top older outer named p frames of_sub at_point))
-                  (goes_on top.before top.frame.next next_number (standing.path_here table typed effects input ready state top older outer named p frames of_sub at_point path) step_on);
-              viewed = subst (λ z. ViewedAlone (home s top.depth) sees (known_gone (home s top.depth) (GoneElsewhere program effects (below_with v ∷ more_frames))) views z (facts_of program effects top_then)) view_same
-                  (subst (λ d. ViewedAlone (home s d) sees (known_gone (home s d) (GoneElsewhere program effects (below_with v ∷ more_frames))) views view (facts_of program effects top_then)) (sym deep)
-                  (subst (ViewedAlone (home s depth) sees (known_gone (home s depth) (GoneElsewhere program effects (below_with v ∷ more_frames))) views view) (sym facts_there)
+              path = subst (λ (z : FlowSub). ControlPath (path_points program effects z) (inner.top.frame.next ∷ inner.top.before) next_number)
+                  (sym (standing.sub_is table typed effects input ready inner.state inner.top older outer inner.named inner.p inner.frames inner.of_sub inner.at_point))
+                  (goes_on inner.top.before inner.top.frame.next next_number (standing.path_here table typed effects input ready inner.state inner.top older outer inner.named inner.p inner.frames inner.of_sub inner.at_point inner.path) step_on);
+              viewed = subst (λ z. ViewedAlone (home s inner.top.depth) sees (known_gone (home s inner.top.depth) (GoneElsewhere program effects (below_with v ∷ inner.more_frames))) inner.views z (facts_of program effects top_then)) view_same
+                  (subst (λ d. ViewedAlone (home s d) sees (known_gone (home s d) (GoneElsewhere program effects (below_with v ∷ inner.more_frames))) inner.views view (facts_of program effects top_then)) (sym inner.deep)
+                  (subst (ViewedAlone (home s depth) sees (known_gone (home s depth) (GoneElsewhere program effects (below_with v ∷ inner.more_frames))) inner.views view) (sym facts_there)
                   (record {
                     owned = well.owned;
                     covered = well.covered;
@@ -519,41 +508,41 @@ module _ (table : Table) (typed : TypedProgram) (effects : Effects) (input : Lis
                     clear = well.clear;
                     views = well.views;
                     whole = λ x w z has foreign gone meets. well.whole x w z has foreign (elsewhere_from v z gone) meets;
-                    whole_parts = λ x p w z has gone meets. well.whole_parts x p w z has (elsewhere_from v z gone) meets;
+                    whole_parts = λ x part_path w z has gone meets. well.whole_parts x part_path w z has (elsewhere_from v z gone) meets;
                   })));
               kept = subst (Kept s m) (sym (hands_then ws m)) kept_then;
-              named = named;
-              of_sub = of_sub;
+              named = inner.named;
+              of_sub = inner.of_sub;
               point = found.0;
               at_point = found.1;
-              scope = subst (λ d. InScope s m d (lasting_of s (found.0).scope)) (sym deep)
-                  (scope_on s ready.owns m depth (scope_behind p) (found.0).scope (in_scope m (lasting_of s (scope_behind p)) inside_behind) found.2);
-              holds = subst (λ d. HoldsAt s sees d views m found.0) (sym deep) (record {
+              scope = subst (λ d. InScope s m d (lasting_of s (found.0).scope)) (sym inner.deep)
+                  (scope_on s ready.owns m depth (scope_behind inner.p) (found.0).scope (in_scope m (lasting_of s (scope_behind inner.p)) inside_behind) found.2);
+              holds = subst (λ d. HoldsAt s sees d inner.views m found.0) (sym inner.deep) (record {
                 held = λ x n lasts view_is bare at. holds_then.held x n view_is bare at;
                 within = λ x n view_is bare at. (let own_way = holds_then.held x n view_is bare at in (placed_next x own_way.0 own_way.1).within);
-                only = holds.only;
-                lies = holds.lies;
-                owners = holds.owners;
-                passed = holds.passed;
-                own = holds.own;
-                taken = holds.taken;
+                only = inner.holds.only;
+                lies = inner.holds.lies;
+                owners = inner.holds.owners;
+                passed = inner.holds.passed;
+                own = inner.holds.own;
+                taken = inner.holds.taken;
                 parts = holds_then.parts;
-                low = holds.low;
+                low = inner.holds.low;
               });
-              placed = subst (λ d. ArePlaced program d (facts_of program effects top_then) views (found.0).scope) (sym deep) (subst (λ z. ArePlaced program depth z views (found.0).scope) (sym facts_there)
-                  (placed_by (after (acts_of_main p.instr) facts_now) facts_then views (found.0).scope (own_loans (acts_of_main p.instr)) placed_next));
-              past = subst (λ d. IsBeyond program effects d views (below_with v ∷ more_frames)) (sym deep) (past_with v placed_before.1);
-              none_above = subst (λ d. NoneAbove s d m) (sym deep) (still_above m stay);
+              placed = subst (λ d. ArePlaced program d (facts_of program effects top_then) inner.views (found.0).scope) (sym inner.deep) (subst (λ z. ArePlaced program depth z inner.views (found.0).scope) (sym facts_there)
+                  (placed_by (after (acts_of_main inner.p.instr) facts_now) facts_then inner.views (found.0).scope (own_loans (acts_of_main inner.p.instr)) placed_next));
+              past = subst (λ d. IsBeyond program effects d inner.views (below_with v ∷ inner.more_frames)) (sym inner.deep) (past_with v inner.placed_before.1);
+              none_above = subst (λ d. NoneAbove s d m) (sym inner.deep) (still_above m stay);
               traversals = (
                 (
-                  none_given table typed (view_here s (state_then ws m)) (record { stage = top_then; views = views; cells = [] }) (empty_given table typed (record { stage = top_then; views = views; cells = [] }) no_value_left),
+                  none_given table typed (view_here s (state_then ws m)) (record { stage = top_then; views = inner.views; cells = [] }) (empty_given table typed (record { stage = top_then; views = inner.views; cells = [] }) no_value_left),
                   subst (λ z. IsGivenBelow table typed z top_stage_then (below_with v)) view_same given_then,
-                  (above.1).0.2,
+                  (inner.above.1).0.2,
                 ),
-                ((above.1).1.0, (above.1).1.1),
+                ((inner.above.1).1.0, (inner.above.1).1.1),
               );
             },
-            returns_one no_call_then no_finish_then going_then below more_frames (v ∷ below.stage.frame.waits) refl (refl, refl, refl) (λ x w has. inl has) refl,
+            returns_one no_call_then no_finish_then going_then inner.below inner.more_frames (v ∷ inner.below.stage.frame.waits) refl (refl, refl, refl) (λ x w has. inl has) refl,
           )
 
       -- a result of no anonymous type
@@ -568,12 +557,12 @@ module _ (table : Table) (typed : TypedProgram) (effects : Effects) (input : Lis
             first = cc
 
         then_returned : (y : Evaluated (List machine.Word))
-            → Given (steps.here main_turn) sees seeing ready.accepted.settled state.leaks [] other alone (keeps s ready.accepted.settled ready.owns) index_law ready.owns views
+            → Given (steps.here main_turn) sees seeing ready.accepted.settled inner.state.leaks [] other alone (keeps s ready.accepted.settled ready.owns) index_law ready.owns inner.views
             ready.class.parts_named of (waiting_in easy.state) (after (acts (acts_in s e)) facts_now) y
-            → Gets (λ ws m. Inside s IsOld m depth (lasting_of s left_scope)) y → Gets (λ ws m. OthersKept s depth state.memory m) y
+            → Gets (λ ws m. Inside s IsOld m depth (lasting_of s left_scope)) y → Gets (λ ws m. OthersKept s depth inner.state.memory m) y
             → Along (steps.evaluated main_turn y (λ ws m. Goes (state_then ws m)))
         then_returned (Done ws n) (good, long, same) inside_then stay =
-            returned_to ws n.memory (subst (λ z. Viewed (home s depth) sees other views (seen s n.memory (value_of ws ∷ waiting_in easy.state) state.leaks) (after z facts_now))
+            returned_to ws n.memory (subst (λ z. Viewed (home s depth) sees other inner.views (seen s n.memory (value_of ws ∷ waiting_in easy.state) inner.state.leaks) (after z facts_now))
             (sym (acts_then plain_result)) good.viewed) good.kept good.holds long inside_then stay (inl (named_value ws))
         then_returned (Raises x n) given inside_then stay = ((λ trap. trap), raised_well n.memory)
         then_returned (Traps x n) never inside_then stay = absurd never
@@ -581,24 +570,24 @@ module _ (table : Table) (typed : TypedProgram) (effects : Effects) (input : Lis
         -- what the value comes to
         abbrev IsGivenValue : Type 0
         IsGivenValue =
-            Given (steps.here main_turn) sees seeing ready.accepted.settled state.leaks [] other alone (keeps s ready.accepted.settled ready.owns) index_law ready.owns views
+            Given (steps.here main_turn) sees seeing ready.accepted.settled inner.state.leaks [] other alone (keeps s ready.accepted.settled ready.owns) index_law ready.owns inner.views
             ready.class.parts_named of (waiting_in easy.state) (after (acts (acts_in s e)) facts_now) (steps.taken_by main_turn of e (start main_turn))
 
         pub value_step : IsGivenValue → Along (steps.hold main_turn (More e last))
         value_step given =
-            subst (Along) (sym (hold_is program input main_turn.point state top.frame below.stage.frame rest e last of sub_result))
+            subst (Along) (sym (hold_is program input main_turn.point inner.state inner.top.frame inner.below.stage.frame inner.rest e last of sub_result))
             (then_returned (steps.taken_by main_turn of e (start main_turn)) given
             (source_inside main_turn AnyLeft tt IsOld (lasting_of s left_scope) (lasting_of s left_scope) inside_left (λ x within. within) of e)
             (source_stays main_turn of e))
 
-        pub plain_given : Plain × TakesScalars s p.instr → IsGivenValue
+        pub plain_given : Plain × TakesScalars s inner.p.instr → IsGivenValue
         plain_given plain =
-            source_given easy sees seeing ready.accepted.settled ready.owns other alone in_formals views ready.class.parts_named may refl refl given_words of e named_result source
+            source_given easy sees seeing ready.accepted.settled ready.owns other alone in_formals inner.views ready.class.parts_named may refl refl given_words of e named_result source
             (plainly_value plain.1) (takes_value plain.0) facts_now
-            (each.good table typed effects input ready state top below more_frames rest named p frames deep stages running awaiting of_sub at_point path views viewed_before kept scope holds placed_before above going_then no_call_then plain.0) (allowed_value plain_result) (keeps_value plain_result)
+            (each.good table typed effects input ready inner going_then no_call_then plain.0) (allowed_value plain_result) (keeps_value plain_result)
 
         -- or of a value that is made of what is taken
-        pub within_given : TakesTogether s named.sub.result p → IsGivenValue
+        pub within_given : TakesTogether s inner.named.sub.result inner.p → IsGivenValue
         unfolding types_taken
         within_given within = elim within.1 [
           | inl (x, other_instr, owner) ↦ (let never : Hold (More e last) ≡ Declare x (More within.0 NoMore) = sym is ∙ other_instr in absurd (false≢true (ap is_declare_instruction never)))
@@ -606,16 +595,16 @@ module _ (table : Table) (typed : TypedProgram) (effects : Effects) (input : Lis
           | inr (inr (same_instr, plain_then)) ↦ (
               let both : Hold (More e last) ≡ Hold (More within.0 NoMore) = sym is ∙ same_instr in
               let same_tree : e ≡ within.0 = cc in
-              let fit : AreOfTypes s (types_taken s within.0) (take (taken p.instr) top.frame.waits) = holding.values_fit table typed effects input ready state top below more_frames rest named p frames deep stages running awaiting of_sub at_point path views viewed_before kept scope holds placed_before above going_then within (Hold (More within.0 NoMore)) same_instr in
+              let fit : AreOfTypes s (types_taken s within.0) (take (taken inner.p.instr) inner.top.frame.waits) = holding.values_fit table typed effects input ready inner going_then within (Hold (More within.0 NoMore)) same_instr in
               subst (λ z. Source s of z → AllowsAll facts_now (acts (acts_in s z)) → AllKeep (is_fixed s sees) (acts (acts_in s z))
-              → Given (steps.here main_turn) sees seeing ready.accepted.settled state.leaks [] other alone (keeps s ready.accepted.settled ready.owns)
-              index_law ready.owns views ready.class.parts_named of (waiting_in easy.state) (after (acts (acts_in s z)) facts_now) (steps.taken_by main_turn of z (start main_turn)))
+              → Given (steps.here main_turn) sees seeing ready.accepted.settled inner.state.leaks [] other alone (keeps s ready.accepted.settled ready.owns)
+              index_law ready.owns inner.views ready.class.parts_named of (waiting_in easy.state) (after (acts (acts_in s z)) facts_now) (steps.taken_by main_turn of z (start main_turn)))
               (sym same_tree)
-              (λ source_tree allows keeps_it. holding.alone_within table typed effects input ready state top below more_frames rest named p frames deep stages running awaiting of_sub at_point path views viewed_before kept scope holds placed_before above going_then within of named_result source_tree fit allows keeps_it) source (allowed_value plain_result) (keeps_value plain_result))
+              (λ source_tree allows keeps_it. holding.alone_within table typed effects input ready inner going_then within of named_result source_tree fit allows keeps_it) source (allowed_value plain_result) (keeps_value plain_result))
         ]
 
         -- what was given alone
-        pub alone_given : TakesAlone s p → IsGivenValue
+        pub alone_given : TakesAlone s inner.p → IsGivenValue
         unfolding acts_in
         alone_given alone_taken = elim (alone_taken.8) [
           | inl (x, other_instr) ↦ (let never : Hold (More e last) ≡ Declare x (More (CallIn alone_taken.3 alone_taken.4 alone_taken.5) NoMore) = sym is ∙ other_instr in absurd (false≢true (ap is_declare_instruction never)))
@@ -625,8 +614,8 @@ module _ (table : Table) (typed : TypedProgram) (effects : Effects) (input : Lis
               let call : TypedTree = CallIn alone_taken.3 alone_taken.4 alone_taken.5 in
               let both : Hold (More e last) ≡ Hold (More call NoMore) = sym is ∙ same_instr in
               let is_call : e ≡ call = cc in
-              subst (λ z. Source s of z → Given (steps.here main_turn) sees seeing ready.accepted.settled state.leaks [] other alone (keeps s ready.accepted.settled ready.owns)
-              index_law ready.owns views ready.class.parts_named of (waiting_in easy.state) (after (acts (acts_in s z)) facts_now) (steps.taken_by main_turn of z (start main_turn)))
+              subst (λ z. Source s of z → Given (steps.here main_turn) sees seeing ready.accepted.settled inner.state.leaks [] other alone (keeps s ready.accepted.settled ready.owns)
+              index_law ready.owns inner.views ready.class.parts_named of (waiting_in easy.state) (after (acts (acts_in s z)) facts_now) (steps.taken_by main_turn of z (start main_turn)))
               (sym is_call)
-              (λ source_call. alone_value.source_alone table typed effects input ready state top below more_frames rest named p frames deep stages running awaiting of_sub at_point path views viewed_before kept scope holds placed_before above going_then alone_taken of named_result source_call) source)
+              (λ source_call. alone_value.source_alone table typed effects input ready inner going_then alone_taken of named_result source_call) source)
         ]

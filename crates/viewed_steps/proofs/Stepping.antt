@@ -1,6 +1,6 @@
 -- Each step of a sound state leads on, in a program with borrowers and observers that is ready.
 use Rattle.viewed_steps.specs.Traversals.{AreGiven}
-use Rattle.std.proofs.Common.{◌≡◌, refl, sym, ap, ◌∙◌, subst, ℕ, suc, List, [], ◌∷◌, length, None, inl, inr, Bool, false}
+use Rattle.std.proofs.Common.{◌≡◌, refl, sym, ap, ◌∙◌, subst, ℕ, List, [], ◌∷◌, None, inl, inr, Bool, false}
 use Rattle.std.proofs.lemmas.Bool.{false≢true}
 use Rattle.type_definitions.specs.Types.{Table}
 use Rattle.typed_tree.specs.Trees.{More}
@@ -18,11 +18,11 @@ use Rattle.machine.specs.Owners.{waiting_in}
 use Rattle.machine.specs.Run.{step}
 use Rattle.soundness.specs.Seen.{home}
 use Rattle.soundness.specs.Typed.{Kept}
-use Rattle.soundness.specs.Sound.{Stage, facts_of, AreStages, IsRunnable, returns_value, InScope, IsNamedSub, IsAtPoint, view_of as view_here, IsNoCall}
+use Rattle.soundness.specs.Sound.{Stage, facts_of, AreStages, returns_value, InScope, IsNamedSub, IsAtPoint, view_of as view_here, IsNoCall}
 use Rattle.soundness.proofs.Waited.{FillsNone}
 use Rattle.soundness.specs.OwnedLoans.Views.{known_gone, Views, ViewedAlone}
 use Rattle.viewed_steps.specs.Awaited.{lasting_of, AreAwaited, IsTaken}
-use Rattle.viewed_steps.specs.Sound.{IsBeyond, HoldsAt, ArePlaced, NoneAbove, ViewStage, stages_of, GoneElsewhere, AreWaiting, IsRunning, LeadsAlong, StepsLeadAlong, LeadsOn, StepsLeadOn, IsResting, HasTraversals}
+use Rattle.viewed_steps.specs.Sound.{IsBeyond, HoldsAt, ArePlaced, NoneAbove, ViewStage, stages_of, GoneElsewhere, IsRunning, LeadsAlong, StepsLeadAlong, LeadsOn, StepsLeadOn, HasTraversals}
 use Rattle.viewed_steps.specs.Ready.{IsReady}
 use Rattle.viewed_steps.proofs.Beside.{IsOther}
 use Rattle.viewed_steps.proofs.Standing as standing
@@ -38,6 +38,7 @@ use Rattle.viewed_steps.proofs.CallEnds as ends
 use Rattle.viewed_steps.proofs.CallEnters as call_enters
 use Rattle.viewed_steps.specs.Seeing.{sees_in}
 use Rattle.viewed_steps.proofs.Constructors.{is_call_instruction, is_end_scope_instruction, is_finish_instruction}
+use Rattle.viewed_steps.proofs.InnerFrame.{InnerFrame}
 
 module _ (table : Table) (typed : TypedProgram) (effects : Effects) (input : List ℕ) (ready : IsReady table typed effects) where
   abbrev sees : ℕ → Bool
@@ -49,67 +50,56 @@ module _ (table : Table) (typed : TypedProgram) (effects : Effects) (input : Lis
   abbrev s : Typing
   s = flow_typing program
 
-  module _ (state : State) (top : Stage) (below : ViewStage) (more_frames : List ViewStage) (rest : List Frame) (named : NamedSub) (p : NamedPoint)
-      (frames : state.frames ≡ top.frame ∷ (below.stage.frame ∷ rest)) (deep : top.depth ≡ suc (length rest))
-      (stages : AreStages (stages_of (below ∷ more_frames)) (below.stage.frame ∷ rest))
-      (running : IsRunnable table typed top.frame.sub × IsResting s top × AreWaiting table typed effects state top.frame.sub top.frame.returns (below ∷ more_frames))
-      (awaiting : AreAwaited table typed None (top ∷ stages_of (below ∷ more_frames)))
-      (of_sub : IsNamedSub (flow_named table typed) top.frame.sub named) (at_point : IsAtPoint named.points top.frame.next p)
-      (path : ControlPath (path_points program effects (sub_of program top.frame.sub)) top.before top.frame.next) (views : Views)
-      (viewed_before : ViewedAlone (home s (suc (length rest))) sees (known_gone (home s (suc (length rest))) (GoneElsewhere program effects (below ∷ more_frames))) views
-      (view_here s state) (facts_of program effects top))
-      (kept : Kept s state.memory (waiting_in state)) (scope : InScope s state.memory (suc (length rest)) (lasting_of s p.scope)) (holds : HoldsAt s sees (suc (length rest)) views state.memory p)
-      (placed_before : ArePlaced program (suc (length rest)) (facts_of program effects top) views p.scope × IsBeyond program effects (suc (length rest)) views (below ∷ more_frames)) (above : NoneAbove s (suc (length rest)) state.memory
-      × HasTraversals table typed (view_here s state) (record { stage = top; views = views; cells = [] } ∷ (below ∷ more_frames))) where
+  module _ (inner : InnerFrame table typed effects) where
     abbrev outer : List Frame
-    outer = below.stage.frame ∷ rest
+    outer = inner.below.stage.frame ∷ inner.rest
 
     abbrev older : List ViewStage
-    older = below ∷ more_frames
+    older = inner.below ∷ inner.more_frames
 
     abbrev main_turn : Turn
-    main_turn = standing.t table typed effects input ready state top older outer named p frames of_sub at_point
+    main_turn = standing.t table typed effects input ready inner.state inner.top older outer inner.named inner.p inner.frames inner.of_sub inner.at_point
 
     -- where it leads, and how the frames come from those before
     abbrev Along : Outcome → Type 0
-    Along outcome = LeadsAlong table typed effects p.instr state.memory (record { stage = top; views = views; cells = [] }) (below ∷ more_frames) outcome
+    Along outcome = LeadsAlong table typed effects inner.p.instr inner.state.memory (record { stage = inner.top; views = inner.views; cells = [] }) (inner.below ∷ inner.more_frames) outcome
 
     -- what is neither a call nor the end of one, nor the end of a scope, nor gives back a value
-    other_instruction : (i : Instruction) → p.instr ≡ i → IsOther i → FillsNone s i → is_end_scope_instruction i ≡ false → is_call_instruction i ≡ false
+    other_instruction : (i : Instruction) → inner.p.instr ≡ i → IsOther i → FillsNone s i → is_end_scope_instruction i ≡ false → is_call_instruction i ≡ false
         → is_finish_instruction i ≡ false → returns_value i ≡ false → Along (turn main_turn i)
     other_instruction i is other fills no_end no_call no_end_of_call valueless = subst (λ z. Along (turn main_turn z)) is (elim taken_there [
-      | inl plain ↦ turned.goes_plainly table typed effects input ready state top below more_frames rest named p frames deep stages running awaiting of_sub at_point path views viewed_before kept scope holds placed_before above
+      | inl plain ↦ turned.goes_plainly table typed effects input ready inner
           going_here no_calls plain (subst IsOther (sym is) other) (subst (FillsNone s) (sym is) fills) no_finish (ap returns_value is ∙ valueless)
-      | inr (inr within) ↦ holding.goes_within table typed effects input ready state top below more_frames rest named p frames deep stages running awaiting of_sub at_point path views viewed_before kept scope holds placed_before above
+      | inr (inr within) ↦ holding.goes_within table typed effects input ready inner
           going_here no_calls within (subst IsOther (sym is) other) (subst (FillsNone s) (sym is) fills) no_finish (ap returns_value is ∙ valueless)
-      | inr (inl alone_taken) ↦ taking.goes_alone table typed effects input ready state top below more_frames rest named p frames deep stages running awaiting of_sub at_point path views viewed_before kept scope holds placed_before above
-          going_here no_calls alone_taken (subst (λ d. AreGiven s (view_here s state) d p.instr views top.frame.waits) deep ((above.1).0.0 named of_sub p at_point)) (subst IsOther (sym is) other) (subst (FillsNone s) (sym is) fills) no_finish (ap returns_value is ∙ valueless)
+      | inr (inl alone_taken) ↦ taking.goes_alone table typed effects input ready inner
+          going_here no_calls alone_taken (subst (λ d. AreGiven s (view_here s inner.state) d inner.p.instr inner.views inner.top.frame.waits) inner.deep ((inner.above.1).0.0 inner.named inner.of_sub inner.p inner.at_point)) (subst IsOther (sym is) other) (subst (FillsNone s) (sym is) fills) no_finish (ap returns_value is ∙ valueless)
     ])
       where
-        going_here : (y : ℕ) → p.instr ≡ EndScope y → ⊥
+        going_here : (y : ℕ) → inner.p.instr ≡ EndScope y → ⊥
         going_here y e = false≢true (sym no_end ∙ ap is_end_scope_instruction (sym is ∙ e))
 
-        no_calls : IsNoCall p.instr
+        no_calls : IsNoCall inner.p.instr
         no_calls n actuals result e = false≢true (sym no_call ∙ ap is_call_instruction (sym is ∙ e))
 
-        no_finish : p.instr ≡ Finish → ⊥
+        no_finish : inner.p.instr ≡ Finish → ⊥
         no_finish e = false≢true (sym no_end_of_call ∙ ap is_finish_instruction (sym is ∙ e))
 
-        taken_there : IsTaken s named.sub.result p
-        taken_there = innermost.taken_there table typed effects input ready state top below more_frames rest named p frames deep stages running awaiting of_sub at_point path views viewed_before kept scope holds placed_before above no_calls
+        taken_there : IsTaken s inner.named.sub.result inner.p
+        taken_there = innermost.taken_there table typed effects input ready inner no_calls
 
-    by_instruction : (i : Instruction) → p.instr ≡ i → Along (turn main_turn i)
-    by_instruction Finish is = ends.ends_call table typed effects input ready state top below more_frames rest named p frames deep stages running awaiting of_sub at_point path views viewed_before kept scope holds placed_before above is
-    by_instruction (Call n actuals result) is = call_enters.calls_it table typed effects input ready state top below more_frames rest named p frames deep stages running awaiting of_sub at_point path views viewed_before kept scope holds placed_before above n actuals result is
-    by_instruction (Evaluate temporary e op) is = short_circuits.operand_step table typed effects input ready state top below more_frames rest named p frames deep stages running awaiting of_sub at_point path views viewed_before kept scope holds placed_before above temporary e op is
-    by_instruction (Hold (More e last)) is = giving.return_step table typed effects input ready state top below more_frames rest named p frames deep stages running awaiting of_sub at_point path views viewed_before kept scope holds placed_before above e last is
-    by_instruction (EndScope y) is = scopes.ends_scope table typed effects input ready state top below more_frames rest named p frames deep stages running awaiting of_sub at_point path views viewed_before kept scope holds placed_before above y is
+    by_instruction : (i : Instruction) → inner.p.instr ≡ i → Along (turn main_turn i)
+    by_instruction Finish is = ends.ends_call table typed effects input ready inner is
+    by_instruction (Call n actuals result) is = call_enters.calls_it table typed effects input ready inner n actuals result is
+    by_instruction (Evaluate temporary e op) is = short_circuits.operand_step table typed effects input ready inner temporary e op is
+    by_instruction (Hold (More e last)) is = giving.return_step table typed effects input ready inner e last is
+    by_instruction (EndScope y) is = scopes.ends_scope table typed effects input ready inner y is
     by_instruction i is = other_instruction i is tt tt refl refl refl refl
 
-    pub main_step : Along (step program input state)
+    pub main_step : Along (step program input inner.state)
     main_step =
-        subst Along (sym (standing.step_is table typed effects input ready state top older outer named p frames of_sub at_point))
-        (by_instruction p.instr refl)
+        subst Along (sym (standing.step_is table typed effects input ready inner.state inner.top older outer inner.named inner.p inner.frames inner.of_sub inner.at_point))
+        (by_instruction inner.p.instr refl)
 
   -- ---- each step
 
@@ -128,11 +118,30 @@ module _ (table : Table) (typed : TypedProgram) (effects : Effects) (input : Lis
       (subst (λ d. ViewedAlone (home s d) sees (known_gone (home s d) (GoneElsewhere program effects [])) views (view_here s state) (facts_of program effects top)) deep seen_well) kept
       (subst (λ d. InScope s state.memory d (lasting_of s p.scope)) deep scope) (subst (λ d. HoldsAt s sees d views state.memory p) deep holds)
   by_stages state top views (below ∷ more) (f ∷ (g ∷ rest)) is (frame, deep, (around_frame, deeper, others)) running awaiting path seen_well kept named of_sub p at_point scope holds there above =
-      main_step state top below more rest named p (is ∙ (λ j. sym frame j ∷ (sym around_frame j ∷ rest))) deep (refl, deeper, others) running awaiting of_sub at_point path views
-      (subst (λ d. ViewedAlone (home s d) sees (known_gone (home s d) (GoneElsewhere program effects (below ∷ more))) views (view_here s state) (facts_of program effects top)) deep seen_well) kept
-      (subst (λ d. InScope s state.memory d (lasting_of s p.scope)) deep scope) (subst (λ d. HoldsAt s sees d views state.memory p) deep holds)
-      (subst (λ d. ArePlaced program d (facts_of program effects top) views p.scope × IsBeyond program effects d views (below ∷ more)) deep there)
-      (subst (λ d. NoneAbove s d state.memory) deep above.0, above.1)
+      main_step (record {
+        state = state;
+        top = top;
+        below = below;
+        more_frames = more;
+        rest = rest;
+        named = named;
+        p = p;
+        frames = is ∙ (λ j. sym frame j ∷ (sym around_frame j ∷ rest));
+        deep = deep;
+        stages = (refl, deeper, others);
+        running = running;
+        awaiting = awaiting;
+        of_sub = of_sub;
+        at_point = at_point;
+        path = path;
+        views = views;
+        viewed_before = subst (λ d. ViewedAlone (home s d) sees (known_gone (home s d) (GoneElsewhere program effects (below ∷ more))) views (view_here s state) (facts_of program effects top)) deep seen_well;
+        kept = kept;
+        scope = subst (λ d. InScope s state.memory d (lasting_of s p.scope)) deep scope;
+        holds = subst (λ d. HoldsAt s sees d views state.memory p) deep holds;
+        placed_before = subst (λ d. ArePlaced program d (facts_of program effects top) views p.scope × IsBeyond program effects d views (below ∷ more)) deep there;
+        above = (subst (λ d. NoneAbove s d state.memory) deep above.0, above.1);
+      })
   by_stages state top views [] [] is stages running awaiting path seen_well kept named of_sub p at_point scope holds there above = absurd stages
   by_stages state top views [] (f ∷ (g ∷ others)) is stages running awaiting path seen_well kept named of_sub p at_point scope holds there above = absurd stages.2
   by_stages state top views (below ∷ more) [] is stages running awaiting path seen_well kept named of_sub p at_point scope holds there above = absurd stages

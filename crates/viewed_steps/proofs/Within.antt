@@ -7,7 +7,7 @@ use Rattle.viewed_steps.specs.Traversals.{IsSourceIn}
 use Rattle.machine.specs.Calls.{checks_at}
 use Rattle.spark_base.specs.declared.position.Pos.{Pos}
 use Rattle.soundness.proofs.ViewedSoundness.ViewKinds.{plain_named, true_false}
-use Rattle.std.proofs.Common.{◌≡◌, refl, sym, ap, ◌∙◌, subst, ◌⊎◌, inl, inr, ℕ, suc, ◌<◌, true, false, List, [], ◌∷◌, ◌++◌, drop, length, None, if◌then◌else◌, take, map}
+use Rattle.std.proofs.Common.{◌≡◌, refl, sym, ap, ◌∙◌, subst, ◌⊎◌, inl, inr, ℕ, suc, ◌<◌, true, false, List, [], ◌∷◌, ◌++◌, drop, length, if◌then◌else◌, take, map}
 use Rattle.spark_base.specs.Lists.{Has}
 use Rattle.place_names.specs.declared.act.Act.{Act}
 use Rattle.place_names.specs.declared.act.Act.TheVariants as act
@@ -23,42 +23,37 @@ use Rattle.flow_paths.specs.Objects.{Typing, is_anonymous, is_package_object, is
 use Rattle.flow_paths.specs.Names.{waiting as waits_in, name_of}
 use Rattle.flow_paths.specs.Acts as flow
 use Rattle.flow_paths.specs.Acts.{acts_in}
-use Rattle.flow_paths.specs.Points.{NamedPoint}
-use Rattle.flow_paths.specs.Laid.{FlowProgram, NamedSub, typing_of, flow_typing, flow_program, flow_named, number_in}
-use Rattle.flow_paths.specs.Paths.{ControlPath}
-use Rattle.flow_paths.specs.Effects.{path_points}
+use Rattle.flow_paths.specs.Laid.{FlowProgram, typing_of, flow_typing, flow_program, number_in}
 use Rattle.flow_paths.specs.Scopes.{taken, scope_behind}
-use Rattle.machine.specs.Words.{fits_type}
 use Rattle.machine.specs.Words as machine
 use Rattle.machine.specs.Memory.{declared, stored}
-use Rattle.machine.specs.Evaluate.{Exception, ConstraintError, ProgramError, Evaluated, Done, followed_by, value, place_of, text_of, Now, checked, initial}
+use Rattle.machine.specs.Evaluate.{Evaluated, Done, followed_by, value, place_of, Now, checked, initial}
 use Rattle.machine.specs.Evaluate as run
-use Rattle.machine.specs.States.{Waiting, Frame, State, Outcome, sub_of}
-use Rattle.machine.specs.Step.{Turn, turn, start, successor}
+use Rattle.machine.specs.States.{Waiting, Frame, Outcome, sub_of}
+use Rattle.machine.specs.Step.{Turn, turn, start}
 use Rattle.machine.specs.Step as steps
 use Rattle.machine.specs.Owners.{waiting_in}
 use Rattle.soundness.specs.OwnedWays.Ways.{Step, OfVariable, OfRoot, Way, Held, after, AllowsAll}
 use Rattle.soundness.specs.Seen.{IsNear, content, word_in, home, seen}
 use Rattle.soundness.specs.Typed.{Kept}
 use Rattle.soundness.specs.TypedLaws.Needed.{IsFine, Source, Leads}
-use Rattle.soundness.specs.Sound.{IsNoCall, Stage, facts_of, AreStages, IsRunnable, InScope, IsNamedSub, IsAtPoint, view_of as view_here}
+use Rattle.soundness.specs.Sound.{IsNoCall, Stage, facts_of, IsAtPoint, view_of as view_here}
 use Rattle.soundness.proofs.Scalars.{acts, acts_append, after_append}
 use Rattle.soundness.proofs.Scoped.{Inside}
 use Rattle.soundness.proofs.Around.{IsFar}
 use Rattle.soundness.proofs.Waits.{waits_of}
 use Rattle.soundness.proofs.Waited.{FillsNone}
 use Rattle.soundness.proofs.Eased.{eased, goes_same}
-use Rattle.soundness.specs.OwnedLoans.Views.{Around, known_gone, Views, Viewed, ViewedAlone}
+use Rattle.soundness.specs.OwnedLoans.Views.{Around, Viewed}
 use Rattle.soundness.specs.ViewedSoundness.Holds.{IsNamed, AllKeep, is_view, is_fixed, Seeing}
 use Rattle.soundness.proofs.ViewedSoundness.Outcomes.{named_plain, Leads_on, stored_goes, not_views, assigned_acts}
-use Rattle.viewed_steps.specs.Awaited.{AreValues, temporaries_of, lasting_of, AreAwaited, types_for, TakesTogether}
+use Rattle.viewed_steps.specs.Awaited.{AreValues, temporaries_of, lasting_of, types_for, TakesTogether}
 use Rattle.viewed_steps.proofs.Waited.{Shares, split_list}
-use Rattle.viewed_steps.specs.Sound.{IsBeyond, IsResting, HoldsAt, ArePlaced, NoneAbove, ViewStage, stages_of, GoneElsewhere, AreWaiting, IsStoredAt, LeadsAlong, HasTraversals}
+use Rattle.viewed_steps.specs.Sound.{ViewStage, GoneElsewhere, IsStoredAt, LeadsAlong}
 use Rattle.viewed_steps.specs.Ready.{IsReady, AreOrderly}
 use Rattle.viewed_steps.proofs.Lent.{Spare}
 use Rattle.viewed_steps.proofs.Placed.{MayBe}
 use Rattle.viewed_steps.proofs.Waiting.{StandsBetween, beside_them, handed, apart_elsewhere}
-use Rattle.viewed_steps.proofs.Standing.{or_right}
 use Rattle.viewed_steps.proofs.Standing as standing
 use Rattle.soundness.proofs.Following.{Each}
 use Rattle.flow_paths.specs.Scopes.{brought}
@@ -78,7 +73,6 @@ use Rattle.viewed_steps.proofs.Packages as packages
 use Rattle.viewed_steps.proofs.Innermost as innermost
 use Rattle.std.specs.Prelude.{flat_map, Bool}
 use Rattle.std.proofs.lemmas.Bool.{false≢true}
-use Rattle.machine.specs.Step.{led}
 use Rattle.machine.specs.Evaluate.{Raises, Traps}
 use Rattle.soundness.proofs.Numbers.{index_law}
 use Rattle.soundness.proofs.Lasting.{keeps}
@@ -90,6 +84,7 @@ use Rattle.viewed_steps.proofs.Views.{AreAccess, all_held}
 use Rattle.viewed_steps.specs.Seeing.{sees_in}
 use Rattle.viewed_steps.proofs.Sees.{sees_seeing}
 use Rattle.viewed_steps.proofs.Constructors.{is_declare_instruction}
+use Rattle.viewed_steps.proofs.InnerFrame.{InnerFrame}
 
 module _ (table : Table) (typed : TypedProgram) (effects : Effects) (input : List ℕ) (ready : IsReady table typed effects) where
   abbrev sees : ℕ → Bool
@@ -116,60 +111,49 @@ module _ (table : Table) (typed : TypedProgram) (effects : Effects) (input : Lis
   abbrev unmoved_stage : (e : Stage) → e.frame.sub ≡ 0 → (name : PlaceName) → Has (facts_of program effects e) (Moved name) → ⊥
   unmoved_stage = packages.unmoved_stage table typed effects input ready
 
-  module _ (state : State) (top : Stage) (below : ViewStage) (more_frames : List ViewStage) (rest : List Frame) (named : NamedSub) (p : NamedPoint)
-      (frames : state.frames ≡ top.frame ∷ (below.stage.frame ∷ rest)) (deep : top.depth ≡ suc (length rest))
-      (stages : AreStages (stages_of (below ∷ more_frames)) (below.stage.frame ∷ rest))
-      (running : IsRunnable table typed top.frame.sub × IsResting s top × AreWaiting table typed effects state top.frame.sub top.frame.returns (below ∷ more_frames))
-      (awaiting : AreAwaited table typed None (top ∷ stages_of (below ∷ more_frames)))
-      (of_sub : IsNamedSub (flow_named table typed) top.frame.sub named) (at_point : IsAtPoint named.points top.frame.next p)
-      (path : ControlPath (path_points program effects (sub_of program top.frame.sub)) top.before top.frame.next) (views : Views)
-      (viewed_before : ViewedAlone (home s (suc (length rest))) sees (known_gone (home s (suc (length rest))) (GoneElsewhere program effects (below ∷ more_frames))) views
-      (view_here s state) (facts_of program effects top))
-      (kept : Kept s state.memory (waiting_in state)) (scope : InScope s state.memory (suc (length rest)) (lasting_of s p.scope)) (holds : HoldsAt s sees (suc (length rest)) views state.memory p)
-      (placed_before : ArePlaced program (suc (length rest)) (facts_of program effects top) views p.scope × IsBeyond program effects (suc (length rest)) views (below ∷ more_frames)) (above : NoneAbove s (suc (length rest)) state.memory
-      × HasTraversals table typed (view_here s state) (record { stage = top; views = views; cells = [] } ∷ (below ∷ more_frames))) where
+  module _ (inner : InnerFrame table typed effects) where
     abbrev outer : List Frame
-    outer = below.stage.frame ∷ rest
+    outer = inner.below.stage.frame ∷ inner.rest
 
     abbrev older : List ViewStage
-    older = below ∷ more_frames
+    older = inner.below ∷ inner.more_frames
 
     abbrev depth : ℕ
-    depth = suc (length rest)
+    depth = suc (length inner.rest)
 
-    abbrev between : (g : ViewStage) → Has (below ∷ more_frames) g → StandsBetween table typed effects unmoved_stage local state (suc (length rest)) (below ∷ more_frames) g
-    between = innermost.between table typed effects input ready state top below more_frames rest named p frames deep stages running awaiting of_sub at_point path views viewed_before kept scope holds placed_before above
+    abbrev between : (g : ViewStage) → Has (inner.below ∷ inner.more_frames) g → StandsBetween table typed effects unmoved_stage local inner.state (suc (length inner.rest)) (inner.below ∷ inner.more_frames) g
+    between = innermost.between table typed effects input ready inner
 
-    abbrev other : Around (home s (suc (length rest)))
-    other = beside_them table typed effects unmoved_stage local state (suc (length rest)) (below ∷ more_frames) between
+    abbrev other : Around (home s (suc (length inner.rest)))
+    other = beside_them table typed effects unmoved_stage local inner.state (suc (length inner.rest)) (inner.below ∷ inner.more_frames) between
 
-    abbrev alone : (w : Way) → IsNear (suc (length rest)) w → IsFar (suc (length rest)) (GoneElsewhere program effects (below ∷ more_frames)) w → ⊥
-    alone = innermost.alone table typed effects input ready state top below more_frames rest named p frames deep stages running awaiting of_sub at_point path views viewed_before kept scope holds placed_before above
+    abbrev alone : (w : Way) → IsNear (suc (length inner.rest)) w → IsFar (suc (length inner.rest)) (GoneElsewhere program effects (inner.below ∷ inner.more_frames)) w → ⊥
+    alone = innermost.alone table typed effects input ready inner
 
     abbrev main_turn : Turn
-    main_turn = standing.t table typed effects input ready state top older outer named p frames of_sub at_point
+    main_turn = standing.t table typed effects input ready inner.state inner.top older outer inner.named inner.p inner.frames inner.of_sub inner.at_point
 
     abbrev own_facts : List Fact
-    own_facts = standing.facts table typed effects input ready state top older outer named p frames of_sub at_point path
+    own_facts = standing.facts table typed effects input ready inner.state inner.top older outer inner.named inner.p inner.frames inner.of_sub inner.at_point inner.path
 
     abbrev handed_on : List Fact
-    handed_on = handed table typed effects unmoved_stage local state (suc (length rest)) (below ∷ more_frames) between
+    handed_on = handed table typed effects unmoved_stage local inner.state (suc (length inner.rest)) (inner.below ∷ inner.more_frames) between
 
     abbrev facts_now : List Fact
     facts_now = own_facts ++ handed_on
 
     abbrev acts_of_main : Instruction → List Act
-    acts_of_main i = standing.acts_here table typed effects input ready state top older outer named p frames of_sub at_point i
+    acts_of_main i = standing.acts_here table typed effects input ready inner.state inner.top older outer inner.named inner.p inner.frames inner.of_sub inner.at_point i
 
-    abbrev allowed_now : Spare s (standing.acts_by table typed effects input ready state top older outer named p frames of_sub at_point s p.instr) → AllowsAll own_facts (acts_of_main p.instr)
-        → AllowsAll facts_now (acts_of_main p.instr)
-    allowed_now = innermost.allowed_now table typed effects input ready state top below more_frames rest named p frames deep stages running awaiting of_sub at_point path views viewed_before kept scope holds placed_before above
+    abbrev allowed_now : Spare s (standing.acts_by table typed effects input ready inner.state inner.top older outer inner.named inner.p inner.frames inner.of_sub inner.at_point s inner.p.instr) → AllowsAll own_facts (acts_of_main inner.p.instr)
+        → AllowsAll facts_now (acts_of_main inner.p.instr)
+    allowed_now = innermost.allowed_now table typed effects input ready inner
 
-    abbrev viewed : Viewed (home s depth) sees other views (view_here s state) facts_now
-    viewed = innermost.viewed table typed effects input ready state top below more_frames rest named p frames deep stages running awaiting of_sub at_point path views viewed_before kept scope holds placed_before above
+    abbrev viewed : Viewed (home s depth) sees other inner.views (view_here s inner.state) facts_now
+    viewed = innermost.viewed table typed effects input ready inner
 
     abbrev left_scope : List ℕ
-    left_scope = drop (taken p.instr) p.scope
+    left_scope = drop (taken inner.p.instr) inner.p.scope
 
     abbrev given_words : List (List machine.Word)
     given_words = (start main_turn).waits
@@ -178,113 +162,113 @@ module _ (table : Table) (typed : TypedProgram) (effects : Effects) (input : Lis
     easy = eased main_turn
 
     abbrev Left : List Waiting → Type 0
-    Left waits = AreValues s waits (scope_behind p)
+    Left waits = AreValues s waits (scope_behind inner.p)
 
-    abbrev left_after : FillsNone s p.instr → Left (steps.waiting main_turn)
-    left_after = innermost.left_after table typed effects input ready state top below more_frames rest named p frames deep stages running awaiting of_sub at_point path views viewed_before kept scope holds placed_before above
+    abbrev left_after : FillsNone s inner.p.instr → Left (steps.waiting main_turn)
+    left_after = innermost.left_after table typed effects input ready inner
 
     abbrev IsOld : ℕ → ℕ → Type 0
     IsOld f x =
-        (f < suc (length rest)) × ((f ≡ 0)
-        ⊎ ((q : List Step) × (k : ℕ) × (word_in s.table (content s state.memory [] (OfRoot (OfVariable f x))) q ≡ Held k)))
+        (f < suc (length inner.rest)) × ((f ≡ 0)
+        ⊎ ((q : List Step) × (k : ℕ) × (word_in s.table (content s inner.state.memory [] (OfRoot (OfVariable f x))) q ≡ Held k)))
 
-    abbrev inside_left : Inside s IsOld state.memory depth (lasting_of s left_scope)
-    inside_left = innermost.inside_left table typed effects input ready state top below more_frames rest named p frames deep stages running awaiting of_sub at_point path views viewed_before kept scope holds placed_before above
+    abbrev inside_left : Inside s IsOld inner.state.memory depth (lasting_of s left_scope)
+    inside_left = innermost.inside_left table typed effects input ready inner
 
-    abbrev supplied_here : IsSupplied s p
-    supplied_here = innermost.supplied_here table typed effects input ready state top below more_frames rest named p frames deep stages running awaiting of_sub at_point path views viewed_before kept scope holds placed_before above
+    abbrev supplied_here : IsSupplied s inner.p
+    supplied_here = innermost.supplied_here table typed effects input ready inner
 
-    abbrev shared : Shares s (taken p.instr) top.frame.waits p.scope
-    shared = innermost.shared table typed effects input ready state top below more_frames rest named p frames deep stages running awaiting of_sub at_point path views viewed_before kept scope holds placed_before above
+    abbrev shared : Shares s (taken inner.p.instr) inner.top.frame.waits inner.p.scope
+    shared = innermost.shared table typed effects input ready inner
 
     -- where it leads, and how the frames come from those before
     abbrev Along : Outcome → Type 0
-    Along outcome = LeadsAlong table typed effects p.instr state.memory (record { stage = top; views = views; cells = [] }) (below ∷ more_frames) outcome
+    Along outcome = LeadsAlong table typed effects inner.p.instr inner.state.memory (record { stage = inner.top; views = inner.views; cells = [] }) (inner.below ∷ inner.more_frames) outcome
 
     abbrev may : ℕ → ℕ → Type 0
-    may x y = MayBe program (scope_behind p) x y × IsStoredAt p.instr x × IsSourceIn (sub_acts (sub_of program top.frame.sub)) x y
+    may x y = MayBe program (scope_behind inner.p) x y × IsStoredAt inner.p.instr x × IsSourceIn (sub_acts (sub_of program inner.top.frame.sub)) x y
 
     abbrev LeadsFrom : Instruction → Outcome → Type 0
-    LeadsFrom i outcome = Leads_on easy sees seeing ready.accepted.settled ready.owns other alone views ready.class.parts_named may refl refl (after (acts_of_main i) facts_now) outcome
+    LeadsFrom i outcome = Leads_on easy sees seeing ready.accepted.settled ready.owns other alone inner.views ready.class.parts_named may refl refl (after (acts_of_main i) facts_now) outcome
 
-    abbrev orderly : AreOrderly program p (λ q. (n : ℕ) × Has (map (number_in named.points) p.next) n × IsAtPoint named.points n q)
-    orderly = innermost.orderly table typed effects input ready state top below more_frames rest named p frames deep stages running awaiting of_sub at_point path views viewed_before kept scope holds placed_before above
+    abbrev orderly : AreOrderly program inner.p (λ q. (n : ℕ) × Has (map (number_in inner.named.points) inner.p.next) n × IsAtPoint inner.named.points n q)
+    orderly = innermost.orderly table typed effects input ready inner
 
     -- ---- the value
 
-    module _ (going : (y : ℕ) → p.instr ≡ EndScope y → ⊥) (taken_within : TakesTogether s named.sub.result p) where
+    module _ (going : (y : ℕ) → inner.p.instr ≡ EndScope y → ⊥) (taken_within : TakesTogether s inner.named.sub.result inner.p) where
       abbrev pub tree : TypedTree
       tree = taken_within.0
 
       -- what is taken waits above what waits on
       abbrev pub front : List Waiting
-      front = take (taken p.instr) top.frame.waits
+      front = take (taken inner.p.instr) inner.top.frame.waits
 
-      pub values_fit : (i : Instruction) → p.instr ≡ i → AreOfTypes s (types_for s i) front
+      pub values_fit : (i : Instruction) → inner.p.instr ≡ i → AreOfTypes s (types_for s i) front
       values_fit i is =
           subst (λ z. AreOfTypes s (types_for s z) front) is
-          (of_types s (types_for s p.instr) (temporaries_of s (take (taken p.instr) p.scope)) front taken_within.3 shared.taken)
+          (of_types s (types_for s inner.p.instr) (temporaries_of s (take (taken inner.p.instr) inner.p.scope)) front taken_within.3 shared.taken)
 
-      waits_split : waiting_in state ≡ front ++ waiting_in easy.state
+      waits_split : waiting_in inner.state ≡ front ++ waiting_in easy.state
       waits_split =
-          ap (flat_map waits_of) frames ∙ ap (λ z. z ++ flat_map waits_of outer) (sym (split_list (taken p.instr) top.frame.waits))
+          ap (flat_map waits_of) inner.frames ∙ ap (λ z. z ++ flat_map waits_of outer) (sym (split_list (taken inner.p.instr) inner.top.frame.waits))
           ∙ append_assoc front (steps.waiting main_turn) (flat_map waits_of outer)
 
       words_given : given_words ≡ first_words front []
       words_given = words_first front
 
-      pub ready_value : Ready (steps.here main_turn) sees seeing ready.accepted.settled state.leaks [] other alone (keeps s ready.accepted.settled ready.owns) index_law ready.owns views
-          ready.class.parts_named state.memory (front ++ waiting_in easy.state) facts_now
+      pub ready_value : Ready (steps.here main_turn) sees seeing ready.accepted.settled inner.state.leaks [] other alone (keeps s ready.accepted.settled ready.owns) index_law ready.owns inner.views
+          ready.class.parts_named inner.state.memory (front ++ waiting_in easy.state) facts_now
       ready_value = record {
-        viewed = subst (λ z. Viewed (home s depth) sees other views (seen s state.memory z state.leaks) facts_now) waits_split viewed;
-        kept = subst (Kept s state.memory) waits_split kept;
-        holds = all_held s sees in_formals depth views state.memory (λ y n view bare e. holds.held y n (λ fading. going fading.0 fading.1) view bare e) holds.only holds.owners holds.own holds.taken holds.parts;
+        viewed = subst (λ z. Viewed (home s depth) sees other inner.views (seen s inner.state.memory z inner.state.leaks) facts_now) waits_split viewed;
+        kept = subst (Kept s inner.state.memory) waits_split inner.kept;
+        holds = all_held s sees in_formals depth inner.views inner.state.memory (λ y n view bare e. inner.holds.held y n (λ fading. going fading.0 fading.1) view bare e) inner.holds.only inner.holds.owners inner.holds.own inner.holds.taken inner.holds.parts;
       }
 
       -- scalar values may wait above it
       pub source_within : (u : ℕ) → IsNamed s.table u → Source s u tree → (later first : List Waiting) → front ≡ later ++ first → AreScalarValues s later
           → AreOfTypes s (types_taken s tree) first → AllowsAll facts_now (acts (acts_in s tree)) → AllKeep (is_fixed s sees) (acts (acts_in s tree))
-          → GivenOn (steps.here main_turn) sees seeing ready.accepted.settled state.leaks [] other alone (keeps s ready.accepted.settled ready.owns) index_law ready.owns views
+          → GivenOn (steps.here main_turn) sees seeing ready.accepted.settled inner.state.leaks [] other alone (keeps s ready.accepted.settled ready.owns) index_law ready.owns inner.views
           ready.class.parts_named (first_words later []) u (waiting_in easy.state) (after (acts (acts_in s tree)) facts_now) (steps.taken_by main_turn u tree (start main_turn))
       source_within u named_type (inl (view, is)) later first split scalar fit allowed keep = absurd (true_false (is_anonymous (full s.table u)) view (named_plain s.table u named_type))
       source_within u named_type (inr gives) later first split scalar fit allowed keep =
-          let now : List (List machine.Word) → Now = (λ ws. record { memory = state.memory; waits = ws }) in
-          subst (λ b. GivenOn (steps.here main_turn) sees seeing ready.accepted.settled state.leaks [] other alone (keeps s ready.accepted.settled ready.owns) index_law ready.owns views
+          let now : List (List machine.Word) → Now = (λ ws. record { memory = inner.state.memory; waits = ws }) in
+          subst (λ b. GivenOn (steps.here main_turn) sees seeing ready.accepted.settled inner.state.leaks [] other alone (keeps s ready.accepted.settled ready.owns) index_law ready.owns inner.views
           ready.class.parts_named (first_words later []) u (waiting_in easy.state) (after (acts (acts_in s tree)) facts_now)
           (if b then run.viewed (steps.here main_turn) tree (start main_turn) else followed_by (value (steps.here main_turn) tree (start main_turn)) (checked (steps.here main_turn) u)))
           (sym (named_plain s.table u named_type))
-          (checked_on (steps.here main_turn) sees seeing ready.accepted.settled state.leaks [] other alone (keeps s ready.accepted.settled ready.owns) index_law ready.owns views
+          (checked_on (steps.here main_turn) sees seeing ready.accepted.settled inner.state.leaks [] other alone (keeps s ready.accepted.settled ready.owns) index_law ready.owns inner.views
           ready.class.parts_named (first_words later []) u u (waiting_in easy.state) (after (acts (acts_in s tree)) facts_now) (value (steps.here main_turn) tree (start main_turn))
-          (subst (λ ws. GivenOn (steps.here main_turn) sees seeing ready.accepted.settled state.leaks [] other alone (keeps s ready.accepted.settled ready.owns) index_law ready.owns views
+          (subst (λ ws. GivenOn (steps.here main_turn) sees seeing ready.accepted.settled inner.state.leaks [] other alone (keeps s ready.accepted.settled ready.owns) index_law ready.owns inner.views
           ready.class.parts_named (first_words later []) u (waiting_in easy.state) (after (acts (acts_in s tree)) facts_now) (value (steps.here main_turn) tree (now ws)))
           (sym (words_given ∙ ap (λ z. first_words z []) split))
-          (fed_alone (steps.here main_turn) sees seeing ready.accepted.settled state.leaks [] other alone (keeps s ready.accepted.settled ready.owns) index_law ready.owns views
-          ready.class.parts_named tree u gives taken_within.2 later first scalar fit (waiting_in easy.state) [] state.memory facts_now
-          (subst (λ z. Ready (steps.here main_turn) sees seeing ready.accepted.settled state.leaks [] other alone (keeps s ready.accepted.settled ready.owns) index_law ready.owns views
-          ready.class.parts_named state.memory (z ++ waiting_in easy.state) facts_now) split ready_value) allowed named_type keep)))
+          (fed_alone (steps.here main_turn) sees seeing ready.accepted.settled inner.state.leaks [] other alone (keeps s ready.accepted.settled ready.owns) index_law ready.owns inner.views
+          ready.class.parts_named tree u gives taken_within.2 later first scalar fit (waiting_in easy.state) [] inner.state.memory facts_now
+          (subst (λ z. Ready (steps.here main_turn) sees seeing ready.accepted.settled inner.state.leaks [] other alone (keeps s ready.accepted.settled ready.owns) index_law ready.owns inner.views
+          ready.class.parts_named inner.state.memory (z ++ waiting_in easy.state) facts_now) split ready_value) allowed named_type keep)))
 
       pub alone_within : (u : ℕ) → IsNamed s.table u → Source s u tree → AreOfTypes s (types_taken s tree) front → AllowsAll facts_now (acts (acts_in s tree))
           → AllKeep (is_fixed s sees) (acts (acts_in s tree))
-          → Given (steps.here main_turn) sees seeing ready.accepted.settled state.leaks [] other alone (keeps s ready.accepted.settled ready.owns) index_law ready.owns views
+          → Given (steps.here main_turn) sees seeing ready.accepted.settled inner.state.leaks [] other alone (keeps s ready.accepted.settled ready.owns) index_law ready.owns inner.views
           ready.class.parts_named u (waiting_in easy.state) (after (acts (acts_in s tree)) facts_now) (steps.taken_by main_turn u tree (start main_turn))
       alone_within u named_type source fit allowed keep = source_within u named_type source [] front refl tt fit allowed keep
 
     -- ---- a declaration or an assignment
 
-    module _ (going : (y : ℕ) → p.instr ≡ EndScope y → ⊥) (no_calls : IsNoCall p.instr) (taken_within : TakesTogether s named.sub.result p) where
+    module _ (going : (y : ℕ) → inner.p.instr ≡ EndScope y → ⊥) (no_calls : IsNoCall inner.p.instr) (taken_within : TakesTogether s inner.named.sub.result inner.p) where
       abbrev held : TypedTree
       held = taken_within.0
 
-      allowed_there : (p.instr ≡ Finish → ⊥) → AllowsAll facts_now (acts_of_main p.instr)
+      allowed_there : (inner.p.instr ≡ Finish → ⊥) → AllowsAll facts_now (acts_of_main inner.p.instr)
       allowed_there end =
-          allowed_now (each.spares table typed effects input ready state top below more_frames rest named p frames deep stages running awaiting of_sub at_point path views viewed_before kept scope holds placed_before above going no_calls end)
-          (standing.allowed table typed effects input ready state top older outer named p frames of_sub at_point path no_calls)
+          allowed_now (each.spares table typed effects input ready inner going no_calls end)
+          (standing.allowed table typed effects input ready inner.state inner.top older outer inner.named inner.p inner.frames inner.of_sub inner.at_point inner.path no_calls)
 
-      keeps_there : AllKeep (is_fixed s sees) (acts_of_main p.instr)
-      keeps_there = standing.keeps_there table typed effects input ready state top older outer named p frames of_sub at_point
+      keeps_there : AllKeep (is_fixed s sees) (acts_of_main inner.p.instr)
+      keeps_there = standing.keeps_there table typed effects input ready inner.state inner.top older outer inner.named inner.p inner.frames inner.of_sub inner.at_point
 
       -- an object that is no view
-      module _ (y : ℕ) (is : p.instr ≡ Declare y (More held NoMore)) (owner : is_anonymous (view_of s y) ≡ false) where
+      module _ (y : ℕ) (is : inner.p.instr ≡ Declare y (More held NoMore)) (owner : is_anonymous (view_of s y) ≡ false) where
         abbrev v : TypedTree
         v = More held NoMore
 
@@ -309,7 +293,7 @@ module _ (table : Table) (typed : TypedProgram) (effects : Effects) (input : Lis
         keeps_here = subst (AllKeep (is_fixed s sees)) acts_same (subst (λ i. AllKeep (is_fixed s sees) (acts_of_main i)) is keeps_there)
 
         pub source_here : Source s (object_at s y).of held
-        source_here = (subst (IsFine s named.sub.result) is (standing.fine table typed effects input ready state top older outer named p frames of_sub at_point)).1
+        source_here = (subst (IsFine s inner.named.sub.result) is (standing.fine table typed effects input ready inner.state inner.top older outer inner.named inner.p inner.frames inner.of_sub inner.at_point)).1
 
         pub facts_same : after (acts (acts_in s held)) facts_now ≡ after (acts_of_main (Declare y v)) facts_now
         facts_same = ap (λ z. after z facts_now) (sym acts_same)
@@ -319,41 +303,41 @@ module _ (table : Table) (typed : TypedProgram) (effects : Effects) (input : Lis
         values_here = values_fit going taken_within (Declare y v) is
 
         declared_value : (z : Evaluated (List machine.Word))
-            → Given (steps.here main_turn) sees seeing ready.accepted.settled state.leaks [] other alone (keeps s ready.accepted.settled ready.owns) index_law ready.owns views
+            → Given (steps.here main_turn) sees seeing ready.accepted.settled inner.state.leaks [] other alone (keeps s ready.accepted.settled ready.owns) index_law ready.owns inner.views
             ready.class.parts_named (object_at s y).of (waiting_in easy.state) (after (acts_of_main (Declare y v)) facts_now) z
-            → FadesTo (steps.here main_turn) state.memory z
+            → FadesTo (steps.here main_turn) inner.state.memory z
             → LeadsFrom (Declare y v) (steps.evaluated main_turn z (λ vs m. steps.goes main_turn (declared depth y vs m) 0))
         declared_value (Done ws n) given faint =
-            each.goes_too table typed effects input ready state top below more_frames rest named p frames deep stages running awaiting of_sub at_point path views viewed_before kept scope holds placed_before above going no_calls
+            each.goes_too table typed effects input ready inner going no_calls
             (Declare y v) (declared depth y ws n.memory) 0
-            (declared_goes easy sees seeing ready.accepted.settled ready.owns other alone in_formals views ready.class.parts_named may refl refl y (after (acts_of_main (Declare y v)) facts_now)
+            (declared_goes easy sees seeing ready.accepted.settled ready.owns other alone in_formals inner.views ready.class.parts_named may refl refl y (after (acts_of_main (Declare y v)) facts_now)
             named_object (orderly.begun y v is) ws n given faint
-            (λ q. each.blank table typed effects input ready state top below more_frames rest named p frames deep stages running awaiting of_sub at_point path views viewed_before kept scope holds placed_before above going no_calls y v is q
-            (word_in s.table (content s state.memory [] (OfRoot (OfVariable depth y))) q) refl)
-            (each.after_it table typed effects input ready state top below more_frames rest named p frames deep stages running awaiting of_sub at_point path views viewed_before kept scope holds placed_before above going no_calls y v is)
-            (each.free table typed effects input ready state top below more_frames rest named p frames deep stages running awaiting of_sub at_point path views viewed_before kept scope holds placed_before above going no_calls y v is)
-            (apart_elsewhere table typed effects unmoved_stage local state depth older between y))
+            (λ q. each.blank table typed effects input ready inner going no_calls y v is q
+            (word_in s.table (content s inner.state.memory [] (OfRoot (OfVariable depth y))) q) refl)
+            (each.after_it table typed effects input ready inner going no_calls y v is)
+            (each.free table typed effects input ready inner going no_calls y v is)
+            (apart_elsewhere table typed effects unmoved_stage local inner.state depth older between y))
         declared_value (Raises how n) given faint =
-            each.ends_so table typed effects input ready state top below more_frames rest named p frames deep stages running awaiting of_sub at_point path views viewed_before kept scope holds placed_before above going no_calls (Declare y v) how n.memory
+            each.ends_so table typed effects input ready inner going no_calls (Declare y v) how n.memory
         declared_value (Traps how n) never faint = absurd never
 
         pub declares_within : LeadsFrom (Declare y v) (turn main_turn (Declare y v))
         unfolding initial
         declares_within =
             declared_value (steps.first_value main_turn (object_at s y).of v (start main_turn))
-            (subst (λ z. Given (steps.here main_turn) sees seeing ready.accepted.settled state.leaks [] other alone (keeps s ready.accepted.settled ready.owns) index_law ready.owns views
+            (subst (λ z. Given (steps.here main_turn) sees seeing ready.accepted.settled inner.state.leaks [] other alone (keeps s ready.accepted.settled ready.owns) index_law ready.owns inner.views
             ready.class.parts_named (object_at s y).of (waiting_in easy.state) z (steps.taken_by main_turn (object_at s y).of held (start main_turn))) facts_same
             (alone_within going taken_within (object_at s y).of named_object source_here values_here allowed_here keeps_here))
-            (first_fades easy sees seeing ready.accepted.settled ready.owns other alone in_formals views ready.class.parts_named may refl refl given_words (object_at s y).of v (refl, source_here))
+            (first_fades easy sees seeing ready.accepted.settled ready.owns other alone in_formals inner.views ready.class.parts_named may refl refl given_words (object_at s y).of v (refl, source_here))
 
       -- a place that is no view
-      module _ (r : Pos) (y : ℕ) (path_there : TypedTree) (u : ℕ) (is : p.instr ≡ Assign (Name r y path_there u) held) (path_scalar : AreScalarTypes s (types_taken s path_there)) (end : p.instr ≡ Finish → ⊥)
+      module _ (r : Pos) (y : ℕ) (path_there : TypedTree) (u : ℕ) (is : inner.p.instr ≡ Assign (Name r y path_there u) held) (path_scalar : AreScalarTypes s (types_taken s path_there)) (end : inner.p.instr ≡ Finish → ⊥)
           (plain_target : is_anonymous (full s.table u) ≡ false) where
         abbrev target : TypedTree
         target = Name r y path_there u
 
-        text_there : IsFine s named.sub.result (Assign target held)
-        text_there = subst (IsFine s named.sub.result) is (standing.fine table typed effects input ready state top older outer named p frames of_sub at_point)
+        text_there : IsFine s inner.named.sub.result (Assign target held)
+        text_there = subst (IsFine s inner.named.sub.result) is (standing.fine table typed effects input ready inner.state inner.top older outer inner.named inner.p inner.frames inner.of_sub inner.at_point)
 
         pub leads_there : Leads s (object_at s y).of path_there u
         leads_there = text_there.1.0
@@ -372,7 +356,7 @@ module _ (table : Table) (typed : TypedProgram) (effects : Effects) (input : Lis
 
         pub acts_there : acts_of_main (Assign target held) ≡ first_acts ++ last_acts
         acts_there =
-            ap acts (assigned_acts s p.pos y u target path_there held named_target leads_there)
+            ap acts (assigned_acts s inner.p.pos y u target path_there held named_target leads_there)
             ∙ acts_append (acts_in s held ++ acts_in s path_there) (record { pos = r; act = act.Write (name_of y path_there) } ∷ [])
             ∙ ap (λ z. z ++ (act.Write (name_of y path_there) ∷ [])) (acts_append (acts_in s held) (acts_in s path_there))
             ∙ append_assoc first_acts (acts (acts_in s path_there)) (act.Write (name_of y path_there) ∷ [])
@@ -408,17 +392,17 @@ module _ (table : Table) (typed : TypedProgram) (effects : Effects) (input : Lis
             (takes_values s ready.accepted.settled (types_taken s path_there) fronts.0 fronts.3 path_scalar [])
 
         stored_value : (z : Evaluated steps.Stored)
-            → Assigns (steps.here main_turn) sees seeing ready.accepted.settled state.leaks [] other alone (keeps s ready.accepted.settled ready.owns) index_law ready.owns views
+            → Assigns (steps.here main_turn) sees seeing ready.accepted.settled inner.state.leaks [] other alone (keeps s ready.accepted.settled ready.owns) index_law ready.owns inner.views
             ready.class.parts_named (waiting_in easy.state) (after (acts_of_main (Assign target held)) facts_now) z
             → LeadsFrom (Assign target held) (steps.evaluated main_turn z (λ (st : steps.Stored) m. steps.leaking_goes (checks_at s (steps.target_pos main_turn target) m st.place)
             (steps.goes main_turn (stored s st.place st.words m) 0)))
         stored_value (Done st n) given =
             subst (λ z. LeadsFrom (Assign target held) (steps.leaking_goes (checks_at s (steps.target_pos main_turn target) n.memory st.place) z))
             (goes_same main_turn (stored s st.place st.words n.memory) 0)
-            (stored_goes easy sees seeing ready.accepted.settled ready.owns other alone views ready.class.parts_named may refl refl
+            (stored_goes easy sees seeing ready.accepted.settled ready.owns other alone inner.views ready.class.parts_named may refl refl
             (after (acts_of_main (Assign target held)) facts_now) (steps.target_pos main_turn target) st n given)
         stored_value (Raises how n) given =
-            each.ends_so table typed effects input ready state top below more_frames rest named p frames deep stages running awaiting of_sub at_point path views viewed_before kept scope holds placed_before above going no_calls (Assign target held) how n.memory
+            each.ends_so table typed effects input ready inner going no_calls (Assign target held) how n.memory
         stored_value (Traps how n) never = absurd never
 
         pub assigns_within : LeadsFrom (Assign target held) (turn main_turn (Assign target held))
@@ -426,10 +410,10 @@ module _ (table : Table) (typed : TypedProgram) (effects : Effects) (input : Lis
         assigns_within =
             stored_value (followed_by (steps.taken_by main_turn u held (start main_turn))
             (λ ws now. followed_by (place_of (steps.here main_turn) target now) (λ k now. Done (record { words = ws; place = k }) now)))
-            (subst (λ z. Assigns (steps.here main_turn) sees seeing ready.accepted.settled state.leaks [] other alone (keeps s ready.accepted.settled ready.owns) index_law ready.owns views
+            (subst (λ z. Assigns (steps.here main_turn) sees seeing ready.accepted.settled inner.state.leaks [] other alone (keeps s ready.accepted.settled ready.owns) index_law ready.owns inner.views
             ready.class.parts_named (waiting_in easy.state) z (followed_by (steps.taken_by main_turn u held (start main_turn))
             (λ ws now. followed_by (place_of (steps.here main_turn) target now) (λ k now. Done (record { words = ws; place = k }) now)))) facts_there
-            (then_placed (steps.here main_turn) sees seeing ready.accepted.settled state.leaks [] other alone (keeps s ready.accepted.settled ready.owns) index_law ready.owns views
+            (then_placed (steps.here main_turn) sees seeing ready.accepted.settled inner.state.leaks [] other alone (keeps s ready.accepted.settled ready.owns) index_law ready.owns inner.views
             ready.class.parts_named (first_words fronts.0 []) [] r y u path_there (waiting_in easy.state) (after first_acts facts_now) named_target plain_root leads_there path_takes
             each_allowed.1 (steps.taken_by main_turn u held (start main_turn))
             (source_within going taken_within u named_target source_there fronts.0 fronts.1 fronts.2 (scalar_values s (types_taken s path_there) fronts.0 fronts.3 path_scalar) fronts.4
@@ -437,29 +421,29 @@ module _ (table : Table) (typed : TypedProgram) (effects : Effects) (input : Lis
 
       -- ---- what follows
 
-      pub goes_within : IsOther p.instr → FillsNone s p.instr → (p.instr ≡ Finish → ⊥) → returns_value p.instr ≡ false → Along (turn main_turn p.instr)
+      pub goes_within : IsOther inner.p.instr → FillsNone s inner.p.instr → (inner.p.instr ≡ Finish → ⊥) → returns_value inner.p.instr ≡ false → Along (turn main_turn inner.p.instr)
       goes_within other_one fills end none = elim taken_within.1 [
         | inl (y, is, owner) ↦ finish (Declare y (More held NoMore)) is (declares_within y is owner)
             (declare_follows main_turn Left left IsOld (lasting_of s left_scope) (lasting_of s (y ∷ left_scope)) inside_left
-            (innermost.one_more table typed effects input ready state top below more_frames rest named p frames deep stages running awaiting of_sub at_point path views viewed_before kept scope holds placed_before above y) y (More held NoMore)
-            (innermost.new_one table typed effects input ready state top below more_frames rest named p frames deep stages running awaiting of_sub at_point path views viewed_before kept scope holds placed_before above y
+            (innermost.one_more table typed effects input ready inner y) y (More held NoMore)
+            (innermost.new_one table typed effects input ready inner y
             (subst (λ i. Fills s i left_scope) is supplied_here.1))
-            (innermost.with_successors table typed effects input ready state top below more_frames rest named p frames deep stages running awaiting of_sub at_point path views viewed_before kept scope holds placed_before above (Declare y (More held NoMore)) 0 is below_one))
+            (innermost.with_successors table typed effects input ready inner (Declare y (More held NoMore)) 0 is below_one))
         | inr (inl (r, y, steps, u, is, place, scalar)) ↦ finish (Assign (Name r y steps u) held) is (assigns_within r y steps u is scalar end place)
             (assign_follows main_turn Left left IsOld (lasting_of s left_scope) (lasting_of s left_scope) inside_left (λ x within. within) r y u steps held
-            (innermost.stored_there table typed effects input ready state top below more_frames rest named p frames deep stages running awaiting of_sub at_point path views viewed_before kept scope holds placed_before above (Assign (Name r y steps u) held) is y (inl refl))
-            (innermost.with_successors table typed effects input ready state top below more_frames rest named p frames deep stages running awaiting of_sub at_point path views viewed_before kept scope holds placed_before above (Assign (Name r y steps u) held) 0 is below_one))
+            (innermost.stored_there table typed effects input ready inner (Assign (Name r y steps u) held) is y (inl refl))
+            (innermost.with_successors table typed effects input ready inner (Assign (Name r y steps u) held) 0 is below_one))
         | inr (inr (is, plain_result)) ↦ absurd (subst IsOther is other_one)
       ]
         where
           left : Left (steps.waiting main_turn)
           left = left_after fills
 
-          finish : (i : Instruction) → p.instr ≡ i → LeadsFrom i (turn main_turn i)
-              → Each (GoesOn main_turn Left left IsOld (lasting_of s left_scope) (lasting_of s (brought i left_scope)) inside_left) (turn main_turn i) → Along (turn main_turn p.instr)
+          finish : (i : Instruction) → inner.p.instr ≡ i → LeadsFrom i (turn main_turn i)
+              → Each (GoesOn main_turn Left left IsOld (lasting_of s left_scope) (lasting_of s (brought i left_scope)) inside_left) (turn main_turn i) → Along (turn main_turn inner.p.instr)
           finish i is leads on =
-              turned.then_on table typed effects input ready state top below more_frames rest named p frames deep stages running awaiting of_sub at_point path views viewed_before kept scope holds placed_before above going no_calls left
-              (each.spares table typed effects input ready state top below more_frames rest named p frames deep stages running awaiting of_sub at_point path views viewed_before kept scope holds placed_before above going no_calls end) end none
-              (turn main_turn p.instr) (subst (λ z. LeadsFrom z (turn main_turn z)) (sym is) leads)
+              turned.then_on table typed effects input ready inner going no_calls left
+              (each.spares table typed effects input ready inner going no_calls end) end none
+              (turn main_turn inner.p.instr) (subst (λ z. LeadsFrom z (turn main_turn z)) (sym is) leads)
               (subst (λ z. Each (GoesOn main_turn Left left IsOld (lasting_of s left_scope) (lasting_of s (brought z left_scope)) inside_left) (turn main_turn z)) (sym is) on)
-              (others_keep main_turn named.sub.result p.instr (standing.fine table typed effects input ready state top older outer named p frames of_sub at_point) other_one)
+              (others_keep main_turn inner.named.sub.result inner.p.instr (standing.fine table typed effects input ready inner.state inner.top older outer inner.named inner.p inner.frames inner.of_sub inner.at_point) other_one)

@@ -21,10 +21,10 @@ use Rattle.machine.specs.Run.{step}
 use Rattle.soundness.specs.OwnedWays.Ways.{OfVariable, OfRoot, Under, base_of, Way, Loc, Gone, Reaches, Told, name_of, OfCell, Step, along, part, Owned}
 use Rattle.soundness.specs.Seen.{home, seen}
 use Rattle.soundness.specs.Typed.{Kept}
-use Rattle.soundness.specs.Sound.{Stage, facts_of, AreStages, IsRunnable, InScope, IsNamedSub, IsAtPoint, IsNoCall, IsOnward, view_of as view_here}
+use Rattle.soundness.specs.Sound.{Stage, facts_of, AreStages, InScope, IsNamedSub, IsAtPoint, IsNoCall, IsOnward, view_of as view_here}
 use Rattle.soundness.proofs.Points.{sub_there}
 use Rattle.soundness.specs.OwnedLoans.Views.{known_gone, Views, expand, ViewedAlone}
-use Rattle.viewed_steps.specs.Sound.{IsBeyond, IsResting, HoldsAt, ArePlaced, NoneAbove, ViewStage, stages_of, GoneElsewhere, AreWaiting, IsRunning, AreTurned, AreLeft, Follows, steps_on, leaves_scope, begins_main, returns_one, calls_one, ends_one, LeadsAlong, IsSound, HasTraversals, loan_by, IsWaiting, LentBy}
+use Rattle.viewed_steps.specs.Sound.{IsBeyond, HoldsAt, ArePlaced, NoneAbove, ViewStage, stages_of, GoneElsewhere, AreWaiting, IsRunning, AreTurned, AreLeft, Follows, steps_on, leaves_scope, begins_main, returns_one, calls_one, ends_one, LeadsAlong, IsSound, HasTraversals, loan_by, IsWaiting, LentBy}
 use Rattle.viewed_steps.specs.Awaited.{AreAwaited, lasting_of}
 use Rattle.viewed_steps.specs.Ready.{IsReady}
 use Rattle.viewed_steps.proofs.Waiting.{StandsBetween, all_between, gone_low, unused_there}
@@ -55,6 +55,7 @@ use Rattle.viewed_steps.proofs.Roots.{FromGiven}
 use Rattle.soundness.proofs.Contents.{bool_cases}
 use Rattle.soundness.proofs.ViewedSoundness.ViewKinds.{true_false}
 use Rattle.viewed_steps.specs.Seeing.{sees_in}
+use Rattle.viewed_steps.proofs.InnerFrame.{InnerFrame}
 
 module _ (table : Table) (typed : TypedProgram) (effects : Effects) (input : List ℕ) (ready : IsReady table typed effects) where
   abbrev sees : ℕ → Bool
@@ -385,30 +386,18 @@ module _ (table : Table) (typed : TypedProgram) (effects : Effects) (input : Lis
       × ((n : PlaceName) → Has (facts_then top) (Moved n) → sees n.root ≡ false)
       × ((x : ℕ) (p : List Step) (w : Way) → later.part_way x p ≡ Some w → sees x ≡ true)
 
-  module _ (state : State) (top : Stage) (below : ViewStage) (more_frames : List ViewStage) (rest : List Frame) (named : NamedSub) (p : NamedPoint)
-      (frames : state.frames ≡ top.frame ∷ (below.stage.frame ∷ rest)) (deep : top.depth ≡ suc (length rest))
-      (stages : AreStages (stages_of (below ∷ more_frames)) (below.stage.frame ∷ rest))
-      (running : IsRunnable table typed top.frame.sub × IsResting s top × AreWaiting table typed effects state top.frame.sub top.frame.returns (below ∷ more_frames))
-      (awaiting : AreAwaited table typed None (top ∷ stages_of (below ∷ more_frames)))
-      (of_sub : IsNamedSub (flow_named table typed) top.frame.sub named) (at_point : IsAtPoint named.points top.frame.next p)
-      (path : ControlPath (path_points program effects (sub_of program top.frame.sub)) top.before top.frame.next) (views : Views)
-      (viewed_before : ViewedAlone (home s (suc (length rest))) sees (known_gone (home s (suc (length rest))) (GoneElsewhere program effects (below ∷ more_frames))) views
-      (view_here s state) (facts_of program effects top))
-      (kept : Kept s state.memory (waiting_in state)) (scope : InScope s state.memory (suc (length rest)) (lasting_of s p.scope)) (holds : HoldsAt s sees (suc (length rest)) views state.memory p)
-      (placed_before : ArePlaced program (suc (length rest)) (facts_of program effects top) views p.scope × IsBeyond program effects (suc (length rest)) views (below ∷ more_frames)) (above : NoneAbove s (suc (length rest)) state.memory
-      × HasTraversals table typed (view_here s state) (record { stage = top; views = views; cells = [] } ∷ (below ∷ more_frames)))
-      (exact_before : Told (seen s state.memory [] []) (IsDefiniteOf program effects (record { stage = top; views = views; cells = [] } ∷ (below ∷ more_frames)))) where
-    main_told : (next : State) → step program input state ≡ Goes next → (later : Views) → AreClearThen top later → Stays (suc (length rest)) p.instr views later
-        → Told (seen s next.memory [] []) (Here (suc (length rest)) later (facts_then top) (below ∷ more_frames))
+  module _ (inner : InnerFrame table typed effects) (exact_before : Told (seen s inner.state.memory [] []) (IsDefiniteOf program effects (record { stage = inner.top; views = inner.views; cells = [] } ∷ (inner.below ∷ inner.more_frames)))) where
+    main_told : (next : State) → step program input inner.state ≡ Goes next → (later : Views) → AreClearThen inner.top later → Stays (suc (length inner.rest)) inner.p.instr inner.views later
+        → Told (seen s next.memory [] []) (Here (suc (length inner.rest)) later (facts_then inner.top) (inner.below ∷ inner.more_frames))
     main_told next goes later (only, clear, parts) (inr (y, is, left)) =
-        subst (λ (z : FlowSub). Told (seen s next.memory [] []) (Here (suc (length rest)) later (facts_before (path_points program effects z) (top.frame.next ∷ top.before)) (below ∷ more_frames)))
-        (sym (sub_there table typed top.frame.sub named of_sub)) (told_left table typed effects input ready state top below more_frames rest named p frames deep stages running awaiting of_sub at_point path views viewed_before kept scope holds placed_before above exact_before y is next goes later only parts left)
+        subst (λ (z : FlowSub). Told (seen s next.memory [] []) (Here (suc (length inner.rest)) later (facts_before (path_points program effects z) (inner.top.frame.next ∷ inner.top.before)) (inner.below ∷ inner.more_frames)))
+        (sym (sub_there table typed inner.top.frame.sub inner.named inner.of_sub)) (told_left table typed effects input ready inner exact_before y is next goes later only parts left)
     main_told next goes later (only, clear, parts) (inl (calls, end, going, turned)) =
-        subst (λ (z : FlowSub). Told (seen s next.memory [] []) (Here (suc (length rest)) later (facts_before (path_points program effects z) (top.frame.next ∷ top.before)) (below ∷ more_frames)))
-        (sym (sub_there table typed top.frame.sub named of_sub))
-        (told_next table typed effects input ready state top below more_frames rest named p frames deep stages running awaiting of_sub at_point path views viewed_before kept scope holds placed_before above exact_before going calls end next goes later only parts
-        (λ n has. clear n (subst (λ (z : FlowSub). Has (facts_before (path_points program effects z) (top.frame.next ∷ top.before)) (Moved n))
-        (sym (sub_there table typed top.frame.sub named of_sub)) has)) turned)
+        subst (λ (z : FlowSub). Told (seen s next.memory [] []) (Here (suc (length inner.rest)) later (facts_before (path_points program effects z) (inner.top.frame.next ∷ inner.top.before)) (inner.below ∷ inner.more_frames)))
+        (sym (sub_there table typed inner.top.frame.sub inner.named inner.of_sub))
+        (told_next table typed effects input ready inner exact_before going calls end next goes later only parts
+        (λ n has. clear n (subst (λ (z : FlowSub). Has (facts_before (path_points program effects z) (inner.top.frame.next ∷ inner.top.before)) (Moved n))
+        (sym (sub_there table typed inner.top.frame.sub inner.named inner.of_sub)) has)) turned)
 
   step_told : (state : State) (top : Stage) (views : Views) (older : List ViewStage) (fs : List Frame) → state.frames ≡ fs → AreStages (top ∷ stages_of older) fs
       → IsRunning table typed effects state (record { stage = top; views = views; cells = [] }) older → AreAwaited table typed None (top ∷ stages_of older)
@@ -426,11 +415,30 @@ module _ (table : Table) (typed : TypedProgram) (effects : Effects) (input : Lis
   step_told state top views (below ∷ more) (f ∷ (g ∷ rest)) is (frame, deep, (around_frame, deeper, others)) running awaiting path well kept named of_sub p at_point scope holds there above exact
       next goes later clear stays =
       subst (λ d. Told (seen s next.memory [] []) (Here d later (facts_then top) (below ∷ more))) (sym deep)
-      (main_told state top below more rest named p (is ∙ (λ j. sym frame j ∷ (sym around_frame j ∷ rest))) deep (refl, deeper, others) running awaiting of_sub at_point path views
-      (subst (λ d. ViewedAlone (home s d) sees (known_gone (home s d) (GoneElsewhere program effects (below ∷ more))) views (view_here s state) (facts_of program effects top)) deep well) kept
-      (subst (λ d. InScope s state.memory d (lasting_of s p.scope)) deep scope) (subst (λ d. HoldsAt s sees d views state.memory p) deep holds)
-      (subst (λ d. ArePlaced program d (facts_of program effects top) views p.scope × IsBeyond program effects d views (below ∷ more)) deep there)
-      (subst (λ d. NoneAbove s d state.memory) deep above.0, above.1) exact next goes later clear (subst (λ d. Stays d p.instr views later) deep stays))
+      (main_told (record {
+        state = state;
+        top = top;
+        below = below;
+        more_frames = more;
+        rest = rest;
+        named = named;
+        p = p;
+        frames = is ∙ (λ j. sym frame j ∷ (sym around_frame j ∷ rest));
+        deep = deep;
+        stages = (refl, deeper, others);
+        running = running;
+        awaiting = awaiting;
+        of_sub = of_sub;
+        at_point = at_point;
+        path = path;
+        views = views;
+        viewed_before = subst (λ d. ViewedAlone (home s d) sees (known_gone (home s d) (GoneElsewhere program effects (below ∷ more))) views (view_here s state) (facts_of program effects top)) deep well;
+        kept = kept;
+        scope = subst (λ d. InScope s state.memory d (lasting_of s p.scope)) deep scope;
+        holds = subst (λ d. HoldsAt s sees d views state.memory p) deep holds;
+        placed_before = subst (λ d. ArePlaced program d (facts_of program effects top) views p.scope × IsBeyond program effects d views (below ∷ more)) deep there;
+        above = (subst (λ d. NoneAbove s d state.memory) deep above.0, above.1);
+      }) exact next goes later clear (subst (λ d. Stays d p.instr views later) deep stays))
   step_told state top views (below ∷ more) [] is stages running awaiting path well kept named of_sub p at_point scope holds there above exact next goes later clear stays = absurd stages
   step_told state top views (below ∷ more) (f ∷ []) is stages running awaiting path well kept named of_sub p at_point scope holds there above exact next goes later clear stays = absurd stages.2
 

@@ -34,7 +34,7 @@ use Rattle.machine.specs.Run.{no_point, step}
 use Rattle.soundness.specs.OwnedWays.Ways.{Way, View, Told}
 use Rattle.soundness.specs.Seen.{home, seen}
 use Rattle.soundness.specs.Typed.{Kept}
-use Rattle.soundness.specs.Sound.{Stage, facts_of, AreStages, IsRunnable, InScope, IsNamedSub, IsAtPoint, view_of as view_here}
+use Rattle.soundness.specs.Sound.{Stage, facts_of, AreStages, InScope, IsNamedSub, IsAtPoint, view_of as view_here}
 use Rattle.soundness.proofs.Points.{flow_at, sub_there, point_there, point_in}
 use Rattle.soundness.proofs.Successors.{call_or, finish_or}
 use Rattle.soundness.proofs.Scalars.{acts}
@@ -42,7 +42,7 @@ use Rattle.soundness.proofs.Stays.{Quiet}
 use Rattle.soundness.proofs.Typings.{Agree}
 use Rattle.soundness.proofs.Passing.{Enters, frames_with, signature_is}
 use Rattle.soundness.specs.OwnedLoans.Views.{Around, known_gone, Views, ViewedAlone}
-use Rattle.viewed_steps.specs.Sound.{IsBeyond, IsResting, HoldsAt, ArePlaced, NoneAbove, ViewStage, stages_of, GoneElsewhere, AreWaiting, IsRunning, HasTraversals}
+use Rattle.viewed_steps.specs.Sound.{IsBeyond, HoldsAt, ArePlaced, NoneAbove, ViewStage, stages_of, GoneElsewhere, IsRunning, HasTraversals}
 use Rattle.viewed_steps.specs.Awaited.{AreAwaited, lasting_of}
 use Rattle.viewed_steps.specs.Ready.{IsCalled, IsReady}
 use Rattle.viewed_steps.proofs.Called.{call_adds_none, passes_to}
@@ -67,6 +67,7 @@ use Rattle.recycled_runs.specs.ViewedFacts.Exact.{IsDefinite, IsDefiniteOf, Excu
 use Rattle.recycled_runs.proofs.ViewedFacts.Stepping.{checks_hold}
 use Rattle.recycled_runs.proofs.ViewedFacts.ScopeEnds.{ended_checks_hold}
 use Rattle.viewed_steps.specs.Seeing.{sees_in}
+use Rattle.viewed_steps.proofs.InnerFrame.{InnerFrame}
 
 pub end_or : (i : Instruction) → ((x : ℕ) × (i ≡ EndScope x)) ⊎ ((x : ℕ) → i ≡ EndScope x → ⊥)
 end_or (EndScope x) = inl (x, refl)
@@ -123,36 +124,24 @@ module _ (table : Table) (typed : TypedProgram) (effects : Effects) (input : Lis
       let declares = ready.elaborated.declared here in_first in
       declare_holds state top named p of_sub at_point declares.0 declares.1 declares.2
 
-  module _ (state : State) (top : Stage) (below : ViewStage) (more_frames : List ViewStage) (rest : List Frame) (named : NamedSub) (p : NamedPoint)
-      (frames : state.frames ≡ top.frame ∷ (below.stage.frame ∷ rest)) (deep : top.depth ≡ suc (length rest))
-      (stages : AreStages (stages_of (below ∷ more_frames)) (below.stage.frame ∷ rest))
-      (running : IsRunnable table typed top.frame.sub × IsResting s top × AreWaiting table typed effects state top.frame.sub top.frame.returns (below ∷ more_frames))
-      (awaiting : AreAwaited table typed None (top ∷ stages_of (below ∷ more_frames)))
-      (of_sub : IsNamedSub (flow_named table typed) top.frame.sub named) (at_point : IsAtPoint named.points top.frame.next p)
-      (path : ControlPath (path_points program effects (sub_of program top.frame.sub)) top.before top.frame.next) (views : Views)
-      (viewed_before : ViewedAlone (home s (suc (length rest))) sees (known_gone (home s (suc (length rest))) (GoneElsewhere program effects (below ∷ more_frames))) views
-      (view_here s state) (facts_of program effects top))
-      (kept : Kept s state.memory (waiting_in state)) (scope : InScope s state.memory (suc (length rest)) (lasting_of s p.scope)) (holds : HoldsAt s sees (suc (length rest)) views state.memory p)
-      (placed_before : ArePlaced program (suc (length rest)) (facts_of program effects top) views p.scope × IsBeyond program effects (suc (length rest)) views (below ∷ more_frames)) (above : NoneAbove s (suc (length rest)) state.memory
-      × HasTraversals table typed (view_here s state) (record { stage = top; views = views; cells = [] } ∷ (below ∷ more_frames)))
-      (exact_before : Told (seen s state.memory [] []) (IsDefiniteOf program effects (record { stage = top; views = views; cells = [] } ∷ (below ∷ more_frames)))) where
+  module _ (inner : InnerFrame table typed effects) (exact_before : Told (seen s inner.state.memory [] []) (IsDefiniteOf program effects (record { stage = inner.top; views = inner.views; cells = [] } ∷ (inner.below ∷ inner.more_frames)))) where
     abbrev outer : List Frame
-    outer = below.stage.frame ∷ rest
+    outer = inner.below.stage.frame ∷ inner.rest
 
     abbrev older : List ViewStage
-    older = below ∷ more_frames
+    older = inner.below ∷ inner.more_frames
 
     -- ---- a call
 
-    module _ (n : ℕ) (actuals : TypedTree) (result : Option ℕ) (e : p.instr ≡ Call n actuals result) where
+    module _ (n : ℕ) (actuals : TypedTree) (result : Option ℕ) (e : inner.p.instr ≡ Call n actuals result) where
       abbrev at : Turn
-      at = standing.t table typed effects input ready state top older outer named p frames of_sub at_point
+      at = standing.t table typed effects input ready inner.state inner.top older outer inner.named inner.p inner.frames inner.of_sub inner.at_point
 
       abbrev depth : ℕ
-      depth = suc (length rest)
+      depth = suc (length inner.rest)
 
       abbrev called : IsCalled table typed n actuals result
-      called = calling.called table typed effects input ready state top below more_frames rest named p frames deep stages running awaiting of_sub at_point path views viewed_before kept scope holds placed_before above n actuals result e
+      called = calling.called table typed effects input ready inner n actuals result e
 
       abbrev formals : List ℕ
       formals = (sub_of program n).formals
@@ -170,30 +159,30 @@ module _ (table : Table) (typed : TypedProgram) (effects : Effects) (input : Lis
       copies = actual_acts ways_there actuals
 
       abbrev Excused : LeakSpot → Type 0
-      Excused = IsExcused (path_points program effects (flow_sub own named)) top.frame.next
+      Excused = IsExcused (path_points program effects (flow_sub own inner.named)) inner.top.frame.next
 
       abbrev spots : List LeakSpot
       spots = call_spots s ways_there actuals (length values)
 
       abbrev facts_here : List Fact
-      facts_here = here.facts_now table typed effects input ready state top below more_frames rest named p frames deep stages running awaiting of_sub at_point path views viewed_before kept scope holds placed_before above exact_before
+      facts_here = here.facts_now table typed effects input ready inner exact_before
 
       abbrev elsewhere_here : Way → Type 0
-      elsewhere_here = here.elsewhere table typed effects input ready state top below more_frames rest named p frames deep stages running awaiting of_sub at_point path views viewed_before kept scope holds placed_before above exact_before
+      elsewhere_here = here.elsewhere table typed effects input ready inner exact_before
 
-      abbrev other : Around (home s (suc (length rest)))
-      other = here.other table typed effects input ready state top below more_frames rest named p frames deep stages running awaiting of_sub at_point path views viewed_before kept scope holds placed_before above exact_before
+      abbrev other : Around (home s (suc (length inner.rest)))
+      other = here.other table typed effects input ready inner exact_before
 
-      variables_here : (w : Way) → IsDefinite (home s (suc (length rest))) views elsewhere_here facts_here w → IsOfVariable w
+      variables_here : (w : Way) → IsDefinite (home s (suc (length inner.rest))) inner.views elsewhere_here facts_here w → IsOfVariable w
       variables_here =
-          definite_variable (home s depth) sees other views elsewhere_here (λ w gone. of_others s depth other w (here.away table typed effects input ready state top below more_frames rest named p frames deep stages running awaiting of_sub at_point path views viewed_before kept scope holds placed_before above exact_before w gone))
-          (view_here s state) facts_here (here.viewed table typed effects input ready state top below more_frames rest named p frames deep stages running awaiting of_sub at_point path views viewed_before kept scope holds placed_before above exact_before)
+          definite_variable (home s depth) sees other inner.views elsewhere_here (λ w gone. of_others s depth other w (here.away table typed effects input ready inner exact_before w gone))
+          (view_here s inner.state) facts_here (here.viewed table typed effects input ready inner exact_before)
 
       abbrev view_there : View
-      view_there = calling.view_now table typed effects input ready state top below more_frames rest named p frames deep stages running awaiting of_sub at_point path views viewed_before kept scope holds placed_before above n actuals result e
+      view_there = calling.view_now table typed effects input ready inner n actuals result e
 
       abbrev Given_there : List Passed → Type 0
-      Given_there = calling.Given table typed effects input ready state top below more_frames rest named p frames deep stages running awaiting of_sub at_point path views viewed_before kept scope holds placed_before above n actuals result e
+      Given_there = calling.Given table typed effects input ready inner n actuals result e
 
       agree : Agree s own
       agree = standing.agree table typed effects input ready
@@ -212,71 +201,71 @@ module _ (table : Table) (typed : TypedProgram) (effects : Effects) (input : Lis
         spots_are : call_spots own (passings own (sub_at own n)) actuals (length (actual_values own (passings own (sub_at own n)) actuals)) ≡ spots
         spots_are =
             ap (λ z. call_spots own z actuals (length (actual_values own z actuals))) own_ways
-            ∙ ap (λ z. call_spots own ways_there actuals (length z)) (sym (values_same s own agree p.pos ways_there actuals))
+            ∙ ap (λ z. call_spots own ways_there actuals (length z)) (sym (values_same s own agree inner.p.pos ways_there actuals))
             ∙ sym (call_same s own agree ways_there actuals (length values))
 
-        acts_are : standing.acts_by table typed effects input ready state top older outer named p frames of_sub at_point s (Call n actuals result) ≡ values ++ copies
+        acts_are : standing.acts_by table typed effects input ready inner.state inner.top older outer inner.named inner.p inner.frames inner.of_sub inner.at_point s (Call n actuals result) ≡ values ++ copies
         acts_are = ap (λ z. actual_values s z actuals ++ actual_acts z actuals) ways_are
 
         -- what an excused one knows before the call
         knows_there : (front others : List Placed) → values ++ copies ≡ front ++ others → (name : PlaceName) (q' : Pos) (q : List Sel) → Excused (spot q' name (length front) q)
             → (has_elem (name.sels ++ q) ≡ false) × Has facts_here (Moved (extend name q))
         knows_there front others is name q' q excused =
-            let known = here.knows table typed effects input ready state top below more_frames rest named p frames deep stages running awaiting of_sub at_point path views viewed_before kept scope holds placed_before above exact_before
+            let known = here.knows table typed effects input ready inner exact_before
             (Call n actuals result) e front others (acts_are ∙ is) q' name (q ∷ []) q (inl refl) excused in (
               known.0,
               after_less (acts front)
                   (λ a there. (let from = Has-map_from (λ (z : Placed). z.act) front a there in
                   λ f new. call_adds_none s ready.owns procedure ready.class.parts_named formals actuals
-                  (acting.unseen_plain table typed effects input ready state top below more_frames rest named p frames deep stages running awaiting of_sub at_point path views viewed_before kept scope holds placed_before above n actuals result e none) called.actuals_stay from.0
+                  (acting.unseen_plain table typed effects input ready inner n actuals result e none) called.actuals_stay from.0
                   (subst (λ z. Has z from.0) (sym is) (Has-append_left front others from.0 from.1)) f (subst (λ z. Has (adds z) f) (sym from.2) new)))
                   facts_here (Moved (extend name q)) known.1,
             )
 
         -- where the actuals are evaluated, the checks of the outs are made in the memory before the call
-        entered_holds : (f : List Passed → Memory → Outcome) → Enters at ready.accepted.settled n actuals f → (passed : List Passed) → AreLaidOut s sees state.memory depth views view_there formals actuals passed
-            → NoneFails Excused spots (checks_of (f passed state.memory))
-        entered_holds f enters passed laid = by_room (nat_le (frames_with at ready.accepted.settled n actuals passed state.memory) stack_words) refl
+        entered_holds : (f : List Passed → Memory → Outcome) → Enters at ready.accepted.settled n actuals f → (passed : List Passed) → AreLaidOut s sees inner.state.memory depth inner.views view_there formals actuals passed
+            → NoneFails Excused spots (checks_of (f passed inner.state.memory))
+        entered_holds f enters passed laid = by_room (nat_le (frames_with at ready.accepted.settled n actuals passed inner.state.memory) stack_words) refl
           where
-            by_room : (b : Bool) → nat_le (frames_with at ready.accepted.settled n actuals passed state.memory) stack_words ≡ b → NoneFails Excused spots (checks_of (f passed state.memory))
-            by_room false full = subst (λ z. NoneFails Excused spots (checks_of z)) (sym (enters.full passed state.memory full)) (none_made Excused spots)
+            by_room : (b : Bool) → nat_le (frames_with at ready.accepted.settled n actuals passed inner.state.memory) stack_words ≡ b → NoneFails Excused spots (checks_of (f passed inner.state.memory))
+            by_room false full = subst (λ z. NoneFails Excused spots (checks_of z)) (sym (enters.full passed inner.state.memory full)) (none_made Excused spots)
             by_room true fits =
-                subst (λ z. NoneFails Excused spots (checks_of z)) (sym (enters.fits passed state.memory fits))
-                (outs_hold s sees ready.accepted.settled depth views elsewhere_here state.memory (waiting_in (here.easy table typed effects input ready state top below more_frames rest named p frames deep stages running awaiting of_sub at_point path views viewed_before kept scope holds placed_before above exact_before).state) state.leaks facts_here variables_here (here.exact table typed effects input ready state top below more_frames rest named p frames deep stages running awaiting of_sub at_point path views viewed_before kept scope holds placed_before above exact_before) (innermost.ownless_easy table typed effects input ready state top below more_frames rest named p frames deep stages running awaiting of_sub at_point path views viewed_before kept scope holds placed_before above
-                (calling.plain_there table typed effects input ready state top below more_frames rest named p frames deep stages running awaiting of_sub at_point path views viewed_before kept scope holds placed_before above n actuals result e).0).1 (holds.only, holds.parts.only) Excused p.pos procedure
+                subst (λ z. NoneFails Excused spots (checks_of z)) (sym (enters.fits passed inner.state.memory fits))
+                (outs_hold s sees ready.accepted.settled depth inner.views elsewhere_here inner.state.memory (waiting_in (here.easy table typed effects input ready inner exact_before).state) inner.state.leaks facts_here variables_here (here.exact table typed effects input ready inner exact_before) (innermost.ownless_easy table typed effects input ready inner
+                (calling.plain_there table typed effects input ready inner n actuals result e).0).1 (inner.holds.only, inner.holds.parts.only) Excused inner.p.pos procedure
                 (values ++ copies) knows_there formals actuals passed laid called.actuals_stay values refl)
 
         evaluated_holds : (f : List Passed → Memory → Outcome) → Enters at ready.accepted.settled n actuals f → (y : Evaluated (List Passed))
-            → Quiet (calling.then_now table typed effects input ready state top below more_frames rest named p frames deep stages running awaiting of_sub at_point path views viewed_before kept scope holds placed_before above n actuals result e) Given_there y → NoneFails Excused spots (checks_of (steps.evaluated at y f))
+            → Quiet (calling.then_now table typed effects input ready inner n actuals result e) Given_there y → NoneFails Excused spots (checks_of (steps.evaluated at y f))
         evaluated_holds f enters (Done passed now) (same, given) =
-            subst (λ (z : Now). NoneFails Excused spots (checks_of (f passed z.memory))) (sym same) (entered_holds f enters passed (calling.given_laid table typed effects input ready state top below more_frames rest named p frames deep stages running awaiting of_sub at_point path views viewed_before kept scope holds placed_before above n actuals result e passed given))
+            subst (λ (z : Now). NoneFails Excused spots (checks_of (f passed z.memory))) (sym same) (entered_holds f enters passed (calling.given_laid table typed effects input ready inner n actuals result e passed given))
         evaluated_holds f enters (Raises how now) same = none_made Excused spots
         evaluated_holds f enters (Traps how now) never = absurd never
 
-        plain_holds : Holds top state
+        plain_holds : Holds inner.top inner.state
         plain_holds =
-            laid_holds state top named p of_sub at_point (subst (HoldsBy state top named p of_sub at_point) (sym e)
-            (subst (λ z. NoneFails Excused z (checks_of (step program input state))) (sym spots_are)
-            (subst (λ z. NoneFails Excused spots (checks_of z)) (sym (standing.step_is table typed effects input ready state top older outer named p frames of_sub at_point ∙ ap (turn at) e))
+            laid_holds inner.state inner.top inner.named inner.p inner.of_sub inner.at_point (subst (HoldsBy inner.state inner.top inner.named inner.p inner.of_sub inner.at_point) (sym e)
+            (subst (λ z. NoneFails Excused z (checks_of (step program input inner.state))) (sym spots_are)
+            (subst (λ z. NoneFails Excused spots (checks_of z)) (sym (standing.step_is table typed effects input ready inner.state inner.top older outer inner.named inner.p inner.frames inner.of_sub inner.at_point ∙ ap (turn at) e))
             (called_holds (record { fits = λ passed m fits. rw fits refl; full = λ passed m full. rw full refl })))))
           where
             -- as the machine calls
             called_holds : {f : List Passed → Memory → Outcome} → Enters at ready.accepted.settled n actuals f
                 → NoneFails Excused spots (checks_of (steps.evaluated at (all_passed (steps.here at) (passings s (sub_at s n)) formals actuals (start at)) f))
             called_holds {f} enters =
-                evaluated_holds f enters (all_passed (steps.here at) (passings s (sub_at s n)) formals actuals (start at)) (calling.passed_quiet table typed effects input ready state top below more_frames rest named p frames deep stages running awaiting of_sub at_point path views viewed_before kept scope holds placed_before above n actuals result e)
+                evaluated_holds f enters (all_passed (steps.here at) (passings s (sub_at s n)) formals actuals (start at)) (calling.passed_quiet table typed effects input ready inner n actuals result e)
 
       -- where one is, nothing is passed for a formal of mode `out`
-      traversal_holds : (f : ℕ) → traversed_formal s (sub_of program n) ≡ Some f → Holds top state
+      traversal_holds : (f : ℕ) → traversed_formal s (sub_of program n) ≡ Some f → Holds inner.top inner.state
       traversal_holds f traversed =
-          laid_holds state top named p of_sub at_point (subst (HoldsBy state top named p of_sub at_point) (sym e)
-          (subst (λ z. NoneFails Excused z (checks_of (step program input state))) (sym none_there) tt))
+          laid_holds inner.state inner.top inner.named inner.p inner.of_sub inner.at_point (subst (HoldsBy inner.state inner.top inner.named inner.p inner.of_sub inner.at_point) (sym e)
+          (subst (λ z. NoneFails Excused z (checks_of (step program input inner.state))) (sym none_there) tt))
         where
           made : IsTraversing program n f
-          made = acting.traversing table typed effects input ready state top below more_frames rest named p frames deep stages running awaiting of_sub at_point path views viewed_before kept scope holds placed_before above n actuals result e f traversed
+          made = acting.traversing table typed effects input ready inner n actuals result e f traversed
 
-          made_call : IsTraversalCall s named (flow_at own named p).next n actuals
-          made_call = acting.made table typed effects input ready state top below more_frames rest named p frames deep stages running awaiting of_sub at_point path views viewed_before kept scope holds placed_before above n actuals result e f traversed
+          made_call : IsTraversalCall s inner.named (flow_at own inner.named inner.p).next n actuals
+          made_call = acting.made table typed effects input ready inner n actuals result e f traversed
 
           all_ways : passings own (sub_at own n) ≡ Traversed ∷ map (passing s false) made.rest
           all_ways =
@@ -290,21 +279,21 @@ module _ (table : Table) (typed : TypedProgram) (effects : Effects) (input : Lis
           none_there =
               ap (λ z. call_spots own z actuals counted) all_ways ∙ ap (λ z. call_spots own (Traversed ∷ map (passing s false) made.rest) z counted) made_call.actuals_are
               ∙ ins_none s own false made.rest ((made_call.call).others) (counted + 0)
-              (followed.modes table typed effects input ready state top older outer named p frames of_sub at_point path n actuals result e f traversed)
+              (followed.modes table typed effects input ready inner.state inner.top older outer inner.named inner.p inner.frames inner.of_sub inner.at_point inner.path n actuals result e f traversed)
 
-      call_holds : Holds top state
-      call_holds = elim (acting.traverses_or table typed effects input ready state top below more_frames rest named p frames deep stages running awaiting of_sub at_point path views viewed_before kept scope holds placed_before above n actuals result e) [
+      call_holds : Holds inner.top inner.state
+      call_holds = elim (acting.traverses_or table typed effects input ready inner n actuals result e) [
         | inl none ↦ plain_holds none
         | inr (f, traversed) ↦ traversal_holds f traversed
       ]
 
-    main_holds : Holds top state
-    main_holds = elim (finish_or p.instr) [
-      | inl finishes ↦ finish_holds state top named p of_sub at_point finishes
-      | inr end ↦ elim (end_or p.instr) [
-        | inl (y, is) ↦ laid_holds state top named p of_sub at_point (ended_checks_hold table typed effects input ready state top below more_frames rest named p frames deep stages running awaiting of_sub at_point path views viewed_before kept scope holds placed_before above exact_before y is)
-        | inr going ↦ elim (call_or p.instr) [
-          | inr calls ↦ laid_holds state top named p of_sub at_point (checks_hold table typed effects input ready state top below more_frames rest named p frames deep stages running awaiting of_sub at_point path views viewed_before kept scope holds placed_before above exact_before going calls end)
+    main_holds : Holds inner.top inner.state
+    main_holds = elim (finish_or inner.p.instr) [
+      | inl finishes ↦ finish_holds inner.state inner.top inner.named inner.p inner.of_sub inner.at_point finishes
+      | inr end ↦ elim (end_or inner.p.instr) [
+        | inl (y, is) ↦ laid_holds inner.state inner.top inner.named inner.p inner.of_sub inner.at_point (ended_checks_hold table typed effects input ready inner exact_before y is)
+        | inr going ↦ elim (call_or inner.p.instr) [
+          | inr calls ↦ laid_holds inner.state inner.top inner.named inner.p inner.of_sub inner.at_point (checks_hold table typed effects input ready inner exact_before going calls end)
           | inl (n, actuals, result, e) ↦ call_holds n actuals result e
         ]
       ]
@@ -323,11 +312,30 @@ module _ (table : Table) (typed : TypedProgram) (effects : Effects) (input : Lis
   by_stages state top views [] fs is stages running awaiting path well kept named of_sub p at_point scope holds there above exact =
       package_holds state top named p running.0 of_sub at_point
   by_stages state top views (below ∷ more) (f ∷ (g ∷ rest)) is (frame, deep, (around_frame, deeper, others)) running awaiting path well kept named of_sub p at_point scope holds there above exact =
-      main_holds state top below more rest named p (is ∙ (λ j. sym frame j ∷ (sym around_frame j ∷ rest))) deep (refl, deeper, others) running awaiting of_sub at_point path views
-      (subst (λ d. ViewedAlone (home s d) sees (known_gone (home s d) (GoneElsewhere program effects (below ∷ more))) views (view_here s state) (facts_of program effects top)) deep well) kept
-      (subst (λ d. InScope s state.memory d (lasting_of s p.scope)) deep scope) (subst (λ d. HoldsAt s sees d views state.memory p) deep holds)
-      (subst (λ d. ArePlaced program d (facts_of program effects top) views p.scope × IsBeyond program effects d views (below ∷ more)) deep there)
-      (subst (λ d. NoneAbove s d state.memory) deep above.0, above.1) exact
+      main_holds (record {
+        state = state;
+        top = top;
+        below = below;
+        more_frames = more;
+        rest = rest;
+        named = named;
+        p = p;
+        frames = is ∙ (λ j. sym frame j ∷ (sym around_frame j ∷ rest));
+        deep = deep;
+        stages = (refl, deeper, others);
+        running = running;
+        awaiting = awaiting;
+        of_sub = of_sub;
+        at_point = at_point;
+        path = path;
+        views = views;
+        viewed_before = subst (λ d. ViewedAlone (home s d) sees (known_gone (home s d) (GoneElsewhere program effects (below ∷ more))) views (view_here s state) (facts_of program effects top)) deep well;
+        kept = kept;
+        scope = subst (λ d. InScope s state.memory d (lasting_of s p.scope)) deep scope;
+        holds = subst (λ d. HoldsAt s sees d views state.memory p) deep holds;
+        placed_before = subst (λ d. ArePlaced program d (facts_of program effects top) views p.scope × IsBeyond program effects d views (below ∷ more)) deep there;
+        above = (subst (λ d. NoneAbove s d state.memory) deep above.0, above.1);
+      }) exact
   by_stages state top views (below ∷ more) [] is stages running awaiting path well kept named of_sub p at_point scope holds there above exact = absurd stages
   by_stages state top views (below ∷ more) (f ∷ []) is stages running awaiting path well kept named of_sub p at_point scope holds there above exact = absurd stages.2
 

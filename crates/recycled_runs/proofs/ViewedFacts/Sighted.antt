@@ -1,5 +1,5 @@
 -- Facts without an element stay exact where a view takes what a function gave that goes through a name.
-use Rattle.std.proofs.Common.{◌≡◌, refl, sym, subst, ℕ, suc, true, false, List, [], ◌∷◌, ◌++◌, length, None, Bool}
+use Rattle.std.proofs.Common.{◌≡◌, refl, sym, subst, ℕ, suc, true, false, List, [], ◌∷◌, ◌++◌, length, Bool}
 use Rattle.spark_base.specs.Lists.{Has}
 use Rattle.spark_base.specs.declared.position.Pos.{Pos}
 use Rattle.place_names.specs.declared.act.Act.{Act}
@@ -13,30 +13,27 @@ use Rattle.flow_paths.specs.declared.report.Effects.{Effects}
 use Rattle.flow_paths.specs.declared.point.LeakSpot.{LeakSpot}
 use Rattle.flow_paths.specs.Instructions.{Instruction, Declare, Assign, EndScope}
 use Rattle.flow_paths.specs.Objects.{Typing, object_at, is_anonymous, is_package_object, view_of, is_variable}
-use Rattle.flow_paths.specs.Points.{NamedPoint}
-use Rattle.flow_paths.specs.Laid.{FlowProgram, NamedSub, flow_sub, typing_of, flow_typing, flow_program, flow_named}
-use Rattle.flow_paths.specs.Paths.{PathPoint, ControlPath}
+use Rattle.flow_paths.specs.Laid.{FlowProgram, flow_sub, typing_of, flow_typing, flow_program}
+use Rattle.flow_paths.specs.Paths.{PathPoint}
 use Rattle.flow_paths.specs.Effects.{path_points}
 use Rattle.flow_paths.specs.LeakPlan.{IsExcused}
 use Rattle.machine.specs.Memory.{declared, stored}
 use Rattle.machine.specs.Words as machine
 use Rattle.machine.specs.Calls.{checks_at}
 use Rattle.machine.specs.Evaluate.{Now, Done, followed_by, place_of}
-use Rattle.machine.specs.States.{Frame, State, Outcome, sub_of}
+use Rattle.machine.specs.States.{Frame, Outcome}
 use Rattle.machine.specs.Step.{Turn, start}
 use Rattle.machine.specs.Step as steps
-use Rattle.machine.specs.Owners.{waiting_in}
 use Rattle.soundness.specs.OwnedWays.Ways.{Way, Told, after}
 use Rattle.soundness.specs.Seen.{home, seen, IsNear}
-use Rattle.soundness.specs.Typed.{Kept}
-use Rattle.soundness.specs.Sound.{Stage, facts_of, AreStages, IsRunnable, IsNoCall, InScope, IsNamedSub, IsAtPoint, view_of as view_here}
+use Rattle.soundness.specs.Sound.{Stage, facts_of, IsNoCall, view_of as view_here}
 use Rattle.soundness.proofs.Eased.{eased}
 use Rattle.soundness.proofs.Around.{IsFar}
-use Rattle.soundness.specs.OwnedLoans.Views.{Around, known_gone, Views, ViewedAlone}
+use Rattle.soundness.specs.OwnedLoans.Views.{Around}
 use Rattle.soundness.specs.ViewedSoundness.Holds.{is_view, Seeing}
 use Rattle.soundness.proofs.ViewedSoundness.Outcomes.{IsGood}
-use Rattle.viewed_steps.specs.Sound.{IsBeyond, IsResting, HoldsAt, ArePlaced, NoneAbove, ViewStage, stages_of, GoneElsewhere, AreWaiting, HasTraversals, IsStoredAt}
-use Rattle.viewed_steps.specs.Awaited.{AreAwaited, lasting_of, TakesAlone}
+use Rattle.viewed_steps.specs.Sound.{ViewStage, GoneElsewhere, IsStoredAt}
+use Rattle.viewed_steps.specs.Awaited.{TakesAlone}
 use Rattle.viewed_steps.specs.Ready.{IsReady}
 use Rattle.viewed_steps.proofs.Waiting.{StandsBetween, beside_them, handed}
 use Rattle.viewed_steps.proofs.Standing as standing
@@ -55,6 +52,7 @@ use Rattle.viewed_steps.specs.Traversals.{AreGiven, GivesView}
 use Rattle.soundness.proofs.ViewedSoundness.Lends.{Sees}
 use Rattle.viewed_steps.specs.Seeing.{sees_in}
 use Rattle.viewed_steps.proofs.Sees.{sees_seeing}
+use Rattle.viewed_steps.proofs.InnerFrame.{InnerFrame}
 
 module _ (table : Table) (typed : TypedProgram) (effects : Effects) (input : List ℕ) (ready : IsReady table typed effects) where
   abbrev sees : ℕ → Bool
@@ -82,72 +80,60 @@ module _ (table : Table) (typed : TypedProgram) (effects : Effects) (input : Lis
   unmoved_stage = packages.unmoved_stage table typed effects input ready
 
   -- a point of a procedure, in a state that is sound and whose facts are exact
-  module _ (state : State) (top : Stage) (below : ViewStage) (more_frames : List ViewStage) (rest : List Frame) (named : NamedSub) (p : NamedPoint)
-      (frames : state.frames ≡ top.frame ∷ (below.stage.frame ∷ rest)) (deep : top.depth ≡ suc (length rest))
-      (stages : AreStages (stages_of (below ∷ more_frames)) (below.stage.frame ∷ rest))
-      (running : IsRunnable table typed top.frame.sub × IsResting s top × AreWaiting table typed effects state top.frame.sub top.frame.returns (below ∷ more_frames))
-      (awaiting : AreAwaited table typed None (top ∷ stages_of (below ∷ more_frames)))
-      (of_sub : IsNamedSub (flow_named table typed) top.frame.sub named) (at_point : IsAtPoint named.points top.frame.next p)
-      (path : ControlPath (path_points program effects (sub_of program top.frame.sub)) top.before top.frame.next) (views : Views)
-      (viewed_before : ViewedAlone (home s (suc (length rest))) sees (known_gone (home s (suc (length rest))) (GoneElsewhere program effects (below ∷ more_frames))) views
-      (view_here s state) (facts_of program effects top))
-      (kept : Kept s state.memory (waiting_in state)) (scope : InScope s state.memory (suc (length rest)) (lasting_of s p.scope)) (holds : HoldsAt s sees (suc (length rest)) views state.memory p)
-      (placed_before : ArePlaced program (suc (length rest)) (facts_of program effects top) views p.scope × IsBeyond program effects (suc (length rest)) views (below ∷ more_frames)) (above : NoneAbove s (suc (length rest)) state.memory
-      × HasTraversals table typed (view_here s state) (record { stage = top; views = views; cells = [] } ∷ (below ∷ more_frames)))
-      (exact_before : Told (seen s state.memory [] []) (IsDefiniteOf program effects (record { stage = top; views = views; cells = [] } ∷ (below ∷ more_frames)))) where
+  module _ (inner : InnerFrame table typed effects) (exact_before : Told (seen s inner.state.memory [] []) (IsDefiniteOf program effects (record { stage = inner.top; views = inner.views; cells = [] } ∷ (inner.below ∷ inner.more_frames)))) where
     abbrev outer : List Frame
-    outer = below.stage.frame ∷ rest
+    outer = inner.below.stage.frame ∷ inner.rest
 
     abbrev older : List ViewStage
-    older = below ∷ more_frames
+    older = inner.below ∷ inner.more_frames
 
     abbrev depth : ℕ
-    depth = suc (length rest)
+    depth = suc (length inner.rest)
 
-    abbrev between : (g : ViewStage) → Has (below ∷ more_frames) g → StandsBetween table typed effects unmoved_stage local state (suc (length rest)) (below ∷ more_frames) g
-    between = innermost.between table typed effects input ready state top below more_frames rest named p frames deep stages running awaiting of_sub at_point path views viewed_before kept scope holds placed_before above
+    abbrev between : (g : ViewStage) → Has (inner.below ∷ inner.more_frames) g → StandsBetween table typed effects unmoved_stage local inner.state (suc (length inner.rest)) (inner.below ∷ inner.more_frames) g
+    between = innermost.between table typed effects input ready inner
 
-    abbrev other : Around (home s (suc (length rest)))
-    other = beside_them table typed effects unmoved_stage local state (suc (length rest)) (below ∷ more_frames) between
+    abbrev other : Around (home s (suc (length inner.rest)))
+    other = beside_them table typed effects unmoved_stage local inner.state (suc (length inner.rest)) (inner.below ∷ inner.more_frames) between
 
-    abbrev alone : (w : Way) → IsNear (suc (length rest)) w → IsFar (suc (length rest)) (GoneElsewhere program effects (below ∷ more_frames)) w → ⊥
-    alone = innermost.alone table typed effects input ready state top below more_frames rest named p frames deep stages running awaiting of_sub at_point path views viewed_before kept scope holds placed_before above
+    abbrev alone : (w : Way) → IsNear (suc (length inner.rest)) w → IsFar (suc (length inner.rest)) (GoneElsewhere program effects (inner.below ∷ inner.more_frames)) w → ⊥
+    alone = innermost.alone table typed effects input ready inner
 
     abbrev elsewhere : Way → Type 0
-    elsewhere = moved_elsewhere table typed effects unmoved_stage local state (suc (length rest)) (below ∷ more_frames) between views (innermost.own_views table typed effects input ready state top below more_frames rest named p frames deep stages running awaiting of_sub at_point path views viewed_before kept scope holds placed_before above)
+    elsewhere = moved_elsewhere table typed effects unmoved_stage local inner.state (suc (length inner.rest)) (inner.below ∷ inner.more_frames) between inner.views (innermost.own_views table typed effects input ready inner)
 
-    abbrev away : (w : Way) → elsewhere w → IsAway s (suc (length rest)) other w
-    away = here.away table typed effects input ready state top below more_frames rest named p frames deep stages running awaiting of_sub at_point path views viewed_before kept scope holds placed_before above exact_before
+    abbrev away : (w : Way) → elsewhere w → IsAway s (suc (length inner.rest)) other w
+    away = here.away table typed effects input ready inner exact_before
 
     abbrev at : Turn
-    at = standing.t table typed effects input ready state top older outer named p frames of_sub at_point
+    at = standing.t table typed effects input ready inner.state inner.top older outer inner.named inner.p inner.frames inner.of_sub inner.at_point
 
     abbrev points : List PathPoint
-    points = path_points program effects (flow_sub own named)
+    points = path_points program effects (flow_sub own inner.named)
 
     abbrev own_facts : List Fact
-    own_facts = standing.facts table typed effects input ready state top older outer named p frames of_sub at_point path
+    own_facts = standing.facts table typed effects input ready inner.state inner.top older outer inner.named inner.p inner.frames inner.of_sub inner.at_point inner.path
 
     abbrev around : List Fact
-    around = handed table typed effects unmoved_stage local state depth older between
+    around = handed table typed effects unmoved_stage local inner.state depth older between
 
     abbrev facts_now : List Fact
     facts_now = own_facts ++ around
 
     abbrev home_frame : (x : ℕ) → is_package_object s x ≡ false → home s depth x ≡ depth
-    home_frame = innermost.home_frame table typed effects input ready state top below more_frames rest named p frames deep stages running awaiting of_sub at_point path views viewed_before kept scope holds placed_before above
+    home_frame = innermost.home_frame table typed effects input ready inner
 
     abbrev none_taken : ℕ → ℕ → Type 0
     none_taken a b = ⊥
 
-    abbrev exact : IsExact s (home s depth) views elsewhere state.memory facts_now
-    exact = here.exact table typed effects input ready state top below more_frames rest named p frames deep stages running awaiting of_sub at_point path views viewed_before kept scope holds placed_before above exact_before
+    abbrev exact : IsExact s (home s depth) inner.views elsewhere inner.state.memory facts_now
+    exact = here.exact table typed effects input ready inner exact_before
 
     abbrev Excused : LeakSpot → Type 0
-    Excused = IsExcused points top.frame.next
+    Excused = IsExcused points inner.top.frame.next
 
     abbrev acts_by : Instruction → List Act
-    acts_by i = standing.acts_here table typed effects input ready state top older outer named p frames of_sub at_point i
+    acts_by i = standing.acts_here table typed effects input ready inner.state inner.top older outer inner.named inner.p inner.frames inner.of_sub inner.at_point i
 
     abbrev given_words : List (List machine.Word)
     given_words = (start at).waits
@@ -157,31 +143,31 @@ module _ (table : Table) (typed : TypedProgram) (effects : Effects) (input : Lis
 
     -- ---- what is taken, by a view
 
-    module _ (going : (x : ℕ) → p.instr ≡ EndScope x → ⊥) (no_calls : IsNoCall p.instr) (taken_alone : TakesAlone s p) where
+    module _ (going : (x : ℕ) → inner.p.instr ≡ EndScope x → ⊥) (no_calls : IsNoCall inner.p.instr) (taken_alone : TakesAlone s inner.p) where
       abbrev ExactAt : List Fact → List LeakSpot → Outcome → Type 0
-      ExactAt facts spots outcome = ExactOn easy sees seeing ready.accepted.settled ready.owns other alone in_formals views ready.class.parts_named none_taken refl refl elsewhere away Excused facts spots outcome
+      ExactAt facts spots outcome = ExactOn easy sees seeing ready.accepted.settled ready.owns other alone in_formals inner.views ready.class.parts_named none_taken refl refl elsewhere away Excused facts spots outcome
 
       abbrev call : TypedTree
-      call = alone_value.call table typed effects input ready state top below more_frames rest named p frames deep stages running awaiting of_sub at_point path views viewed_before kept scope holds placed_before above going taken_alone
+      call = alone_value.call table typed effects input ready inner going taken_alone
 
-      given_here : AreGiven s (view_here s state) depth p.instr views top.frame.waits
-      given_here = subst (λ d. AreGiven s (view_here s state) d p.instr views top.frame.waits) deep ((above.1).0.0 named of_sub p at_point)
+      given_here : AreGiven s (view_here s inner.state) depth inner.p.instr inner.views inner.top.frame.waits
+      given_here = subst (λ d. AreGiven s (view_here s inner.state) d inner.p.instr inner.views inner.top.frame.waits) inner.deep ((inner.above.1).0.0 inner.named inner.of_sub inner.p inner.at_point)
 
       -- the call goes through a name, and its value is that of a view
       module _ (x n : ℕ) (q r : Pos) (path_of : TypedTree) (u : ℕ) (others : TypedTree) (y : ℕ) (call_is : call ≡ call_tree r n q y path_of u others)
-          (gives : GivesView s n (object_at s x).of) (view : is_anonymous (view_of s x) ≡ true) (variable : is_variable (object_at s x).kind ≡ true) (stored_there : IsStoredAt p.instr x) where
+          (gives : GivesView s n (object_at s x).of) (view : is_anonymous (view_of s x) ≡ true) (variable : is_variable (object_at s x).kind ≡ true) (stored_there : IsStoredAt inner.p.instr x) where
         abbrev word_now : machine.Word
-        word_now = taking.word_there table typed effects input ready state top below more_frames rest named p frames deep stages running awaiting of_sub at_point path views viewed_before kept scope holds placed_before above going no_calls taken_alone given_here (object_at s x).of n q r path_of u others y call_is gives
+        word_now = taking.word_there table typed effects input ready inner going no_calls taken_alone given_here (object_at s x).of n q r path_of u others y call_is gives
 
         words_now : given_words ≡ (word_now ∷ []) ∷ []
-        words_now = taking.words_there table typed effects input ready state top below more_frames rest named p frames deep stages running awaiting of_sub at_point path views viewed_before kept scope holds placed_before above going no_calls taken_alone given_here (object_at s x).of n q r path_of u others y call_is gives
+        words_now = taking.words_there table typed effects input ready inner going no_calls taken_alone given_here (object_at s x).of n q r path_of u others y call_is gives
 
-        good_now : IsGood easy sees seeing ready.accepted.settled ready.owns other alone views ready.class.parts_named none_taken refl refl views facts_now easy.state
+        good_now : IsGood easy sees seeing ready.accepted.settled ready.owns other alone inner.views ready.class.parts_named none_taken refl refl inner.views facts_now easy.state
         good_now =
-            let good_there = taking.good_there table typed effects input ready state top below more_frames rest named p frames deep stages running awaiting of_sub at_point path views viewed_before kept scope holds placed_before above going no_calls taken_alone given_here (object_at s x).of n q r path_of u others y call_is gives in
+            let good_there = taking.good_there table typed effects input ready inner going no_calls taken_alone given_here (object_at s x).of n q r path_of u others y call_is gives in
             record { viewed = good_there.viewed; kept = good_there.kept; holds = good_there.holds }
 
-        looks_now : Sees easy sees seeing ready.accepted.settled ready.owns other alone views ready.class.parts_named none_taken refl refl x gives.d
+        looks_now : Sees easy sees seeing ready.accepted.settled ready.owns other alone inner.views ready.class.parts_named none_taken refl refl x gives.d
         looks_now = record {
           k = gives.k;
           e = gives.e;
@@ -201,8 +187,8 @@ module _ (table : Table) (typed : TypedProgram) (effects : Effects) (input : Lis
             subst (λ c. ExactAt (after (acts_by (Declare x (More c NoMore))) facts_now) []
             (steps.evaluated easy (steps.taken_by at (object_at s x).of c (start at)) (λ vs m. steps.goes easy (declared depth x vs m) 0))) (sym call_is)
             (subst (λ ws. ExactAt (after (acts_by (Declare x (More tree_now NoMore))) facts_now) []
-            (steps.evaluated easy (steps.taken_by at (object_at s x).of tree_now (record { memory = state.memory; waits = ws })) (λ vs m. steps.goes easy (declared depth x vs m) 0))) (sym words_now)
-            (given_declared easy sees seeing ready.accepted.settled ready.owns other alone in_formals views ready.class.parts_named none_taken refl refl elsewhere away Excused r n q y path_of u others x gives.d word_now facts_now looks_now good_now exact variable))
+            (steps.evaluated easy (steps.taken_by at (object_at s x).of tree_now (record { memory = inner.state.memory; waits = ws })) (λ vs m. steps.goes easy (declared depth x vs m) 0))) (sym words_now)
+            (given_declared easy sees seeing ready.accepted.settled ready.owns other alone in_formals inner.views ready.class.parts_named none_taken refl refl elsewhere away Excused r n q y path_of u others x gives.d word_now facts_now looks_now good_now exact variable))
 
         abbrev pub Puts_now : Pos → TypedTree → Now → Outcome
         Puts_now k c before =
@@ -213,5 +199,5 @@ module _ (table : Table) (typed : TypedProgram) (effects : Effects) (input : Lis
         pub put_so : (k : Pos) → ExactAt (after (acts_by (Assign (Name k x NoMore (object_at s x).of) call)) facts_now) [] (Puts_now k call (start at))
         put_so k =
             subst (λ c. ExactAt (after (acts_by (Assign (Name k x NoMore (object_at s x).of) c)) facts_now) [] (Puts_now k c (start at))) (sym call_is)
-            (subst (λ ws. ExactAt (after (acts_by (Assign (Name k x NoMore (object_at s x).of) tree_now)) facts_now) [] (Puts_now k tree_now (record { memory = state.memory; waits = ws }))) (sym words_now)
-            (given_put easy sees seeing ready.accepted.settled ready.owns other alone in_formals views ready.class.parts_named none_taken refl refl elsewhere away Excused r n q y path_of u others x gives.d word_now facts_now looks_now good_now exact variable p.pos (steps.target_pos at (Name k x NoMore (object_at s x).of)) k))
+            (subst (λ ws. ExactAt (after (acts_by (Assign (Name k x NoMore (object_at s x).of) tree_now)) facts_now) [] (Puts_now k tree_now (record { memory = inner.state.memory; waits = ws }))) (sym words_now)
+            (given_put easy sees seeing ready.accepted.settled ready.owns other alone in_formals inner.views ready.class.parts_named none_taken refl refl elsewhere away Excused r n q y path_of u others x gives.d word_now facts_now looks_now good_now exact variable inner.p.pos (steps.target_pos at (Name k x NoMore (object_at s x).of)) k))

@@ -29,9 +29,8 @@ use Rattle.flow_paths.specs.Objects.{Typing, object_at, is_anonymous, is_package
 use Rattle.flow_paths.specs.Names.{has_call, name_of, waiting as waits_in}
 use Rattle.flow_paths.specs.Acts as flow
 use Rattle.flow_paths.specs.Acts.{acts_in, leaks_of, spot, stored_acts}
-use Rattle.flow_paths.specs.Points.{NamedPoint}
-use Rattle.flow_paths.specs.Laid.{FlowProgram, NamedSub, number_in, flow_sub, typing_of, flow_typing, flow_program, flow_named}
-use Rattle.flow_paths.specs.Paths.{PathPoint, ControlPath}
+use Rattle.flow_paths.specs.Laid.{FlowProgram, number_in, flow_sub, typing_of, flow_typing, flow_program}
+use Rattle.flow_paths.specs.Paths.{PathPoint}
 use Rattle.flow_paths.specs.Effects.{path_points}
 use Rattle.flow_paths.specs.LeakPlan.{IsExcused}
 use Rattle.flow_paths.specs.Scopes.{taken}
@@ -42,7 +41,7 @@ use Rattle.machine.specs.Calls.{checks_at}
 use Rattle.machine.specs.Evaluate.{Now, Exception, ConstraintError, Evaluated, Done, followed_by, value, place_of, text_of, checked, evaluate, initial}
 use Rattle.machine.specs.Evaluate as run
 use Rattle.run_values.specs.Items.{next_item}
-use Rattle.machine.specs.States.{Frame, State, Outcome, Goes, Ends, sub_of}
+use Rattle.machine.specs.States.{Frame, Outcome, Goes, Ends}
 use Rattle.machine.specs.Step.{Turn, turn, start, waiting, behind}
 use Rattle.machine.specs.Step as steps
 use Rattle.machine.specs.Owners.{waiting_in}
@@ -50,7 +49,7 @@ use Rattle.machine.specs.Run.{step}
 use Rattle.soundness.specs.OwnedWays.Ways.{Way, Told, after, AllowsAll}
 use Rattle.soundness.specs.Seen.{home, seen, IsNear}
 use Rattle.soundness.specs.Typed.{Kept}
-use Rattle.soundness.specs.Sound.{Stage, facts_of, AreStages, IsRunnable, IsNoCall, IsTrap, InScope, IsNamedSub, IsAtPoint, view_of as view_here}
+use Rattle.soundness.specs.Sound.{Stage, facts_of, IsNoCall, IsTrap, IsAtPoint, view_of as view_here}
 use Rattle.soundness.specs.TypedLaws.Needed.{IsFine, Source, FirstSource, FirstWrites, FirstStays, Stays, Returns}
 use Rattle.soundness.proofs.Contents.{bool_cases}
 use Rattle.soundness.proofs.Scalars.{after_append, acts, acts_append}
@@ -59,13 +58,13 @@ use Rattle.soundness.proofs.Eased.{eased}
 use Rattle.soundness.proofs.Continued.{got_with, released_with, started_with, input_eased, release_eased, start_eased}
 use Rattle.soundness.proofs.Inherited.{after_splits}
 use Rattle.soundness.proofs.Around.{IsFar}
-use Rattle.soundness.specs.OwnedLoans.Views.{Around, known_gone, Views, Viewed, ViewedAlone}
+use Rattle.soundness.specs.OwnedLoans.Views.{Around, Viewed}
 use Rattle.soundness.specs.ViewedSoundness.Holds.{is_fixed, is_view, IsNamed, AllKeep, Seeing}
 use Rattle.soundness.proofs.ViewedSoundness.ViewKinds.{plain_named, true_false}
 use Rattle.soundness.proofs.ViewedSoundness.Evaluated.{keep_both}
 use Rattle.soundness.proofs.ViewedSoundness.Outcomes.{named_plain, IsGood, Leads_on, assigned_acts}
-use Rattle.viewed_steps.specs.Sound.{IsBeyond, IsResting, HoldsAt, ArePlaced, NoneAbove, ViewStage, stages_of, GoneElsewhere, AreWaiting, HasTraversals, IsStoredAt}
-use Rattle.viewed_steps.specs.Awaited.{AreAwaited, lasting_of, AreScalar, temporaries_of, TakesScalars, TakesAlone}
+use Rattle.viewed_steps.specs.Sound.{ViewStage, GoneElsewhere, IsStoredAt}
+use Rattle.viewed_steps.specs.Awaited.{AreScalar, temporaries_of, TakesScalars, TakesAlone}
 use Rattle.viewed_steps.specs.Ready.{AreOrderly, IsReady}
 use Rattle.viewed_steps.proofs.Sources.{leads_or}
 use Rattle.viewed_steps.proofs.Waiting.{StandsBetween, beside_them, handed}
@@ -95,6 +94,7 @@ use Rattle.recycled_runs.proofs.ViewedFacts.Steps.{IsAway}
 use Rattle.recycled_runs.proofs.ViewedFacts.Given.{gives_no_call, first_plain}
 use Rattle.viewed_steps.specs.Seeing.{sees_in}
 use Rattle.viewed_steps.proofs.Sees.{sees_seeing}
+use Rattle.viewed_steps.proofs.InnerFrame.{InnerFrame}
 
 module _ (table : Table) (typed : TypedProgram) (effects : Effects) (input : List ℕ) (ready : IsReady table typed effects) where
   abbrev sees : ℕ → Bool
@@ -122,146 +122,134 @@ module _ (table : Table) (typed : TypedProgram) (effects : Effects) (input : Lis
   unmoved_stage = packages.unmoved_stage table typed effects input ready
 
   -- a point of a procedure, in a state that is sound and whose facts are exact
-  module _ (state : State) (top : Stage) (below : ViewStage) (more_frames : List ViewStage) (rest : List Frame) (named : NamedSub) (p : NamedPoint)
-      (frames : state.frames ≡ top.frame ∷ (below.stage.frame ∷ rest)) (deep : top.depth ≡ suc (length rest))
-      (stages : AreStages (stages_of (below ∷ more_frames)) (below.stage.frame ∷ rest))
-      (running : IsRunnable table typed top.frame.sub × IsResting s top × AreWaiting table typed effects state top.frame.sub top.frame.returns (below ∷ more_frames))
-      (awaiting : AreAwaited table typed None (top ∷ stages_of (below ∷ more_frames)))
-      (of_sub : IsNamedSub (flow_named table typed) top.frame.sub named) (at_point : IsAtPoint named.points top.frame.next p)
-      (path : ControlPath (path_points program effects (sub_of program top.frame.sub)) top.before top.frame.next) (views : Views)
-      (viewed_before : ViewedAlone (home s (suc (length rest))) sees (known_gone (home s (suc (length rest))) (GoneElsewhere program effects (below ∷ more_frames))) views
-      (view_here s state) (facts_of program effects top))
-      (kept : Kept s state.memory (waiting_in state)) (scope : InScope s state.memory (suc (length rest)) (lasting_of s p.scope)) (holds : HoldsAt s sees (suc (length rest)) views state.memory p)
-      (placed_before : ArePlaced program (suc (length rest)) (facts_of program effects top) views p.scope × IsBeyond program effects (suc (length rest)) views (below ∷ more_frames)) (above : NoneAbove s (suc (length rest)) state.memory
-      × HasTraversals table typed (view_here s state) (record { stage = top; views = views; cells = [] } ∷ (below ∷ more_frames)))
-      (exact_before : Told (seen s state.memory [] []) (IsDefiniteOf program effects (record { stage = top; views = views; cells = [] } ∷ (below ∷ more_frames)))) where
+  module _ (inner : InnerFrame table typed effects) (exact_before : Told (seen s inner.state.memory [] []) (IsDefiniteOf program effects (record { stage = inner.top; views = inner.views; cells = [] } ∷ (inner.below ∷ inner.more_frames)))) where
     abbrev outer : List Frame
-    outer = below.stage.frame ∷ rest
+    outer = inner.below.stage.frame ∷ inner.rest
 
     abbrev older : List ViewStage
-    older = below ∷ more_frames
+    older = inner.below ∷ inner.more_frames
 
     abbrev depth : ℕ
-    depth = suc (length rest)
+    depth = suc (length inner.rest)
 
-    abbrev between : (g : ViewStage) → Has (below ∷ more_frames) g → StandsBetween table typed effects unmoved_stage local state (suc (length rest)) (below ∷ more_frames) g
-    between = innermost.between table typed effects input ready state top below more_frames rest named p frames deep stages running awaiting of_sub at_point path views viewed_before kept scope holds placed_before above
+    abbrev between : (g : ViewStage) → Has (inner.below ∷ inner.more_frames) g → StandsBetween table typed effects unmoved_stage local inner.state (suc (length inner.rest)) (inner.below ∷ inner.more_frames) g
+    between = innermost.between table typed effects input ready inner
 
-    abbrev other : Around (home s (suc (length rest)))
-    other = beside_them table typed effects unmoved_stage local state (suc (length rest)) (below ∷ more_frames) between
+    abbrev other : Around (home s (suc (length inner.rest)))
+    other = beside_them table typed effects unmoved_stage local inner.state (suc (length inner.rest)) (inner.below ∷ inner.more_frames) between
 
-    abbrev alone : (w : Way) → IsNear (suc (length rest)) w → IsFar (suc (length rest)) (GoneElsewhere program effects (below ∷ more_frames)) w → ⊥
-    alone = innermost.alone table typed effects input ready state top below more_frames rest named p frames deep stages running awaiting of_sub at_point path views viewed_before kept scope holds placed_before above
+    abbrev alone : (w : Way) → IsNear (suc (length inner.rest)) w → IsFar (suc (length inner.rest)) (GoneElsewhere program effects (inner.below ∷ inner.more_frames)) w → ⊥
+    alone = innermost.alone table typed effects input ready inner
 
     abbrev elsewhere : Way → Type 0
-    elsewhere = moved_elsewhere table typed effects unmoved_stage local state (suc (length rest)) (below ∷ more_frames) between views (innermost.own_views table typed effects input ready state top below more_frames rest named p frames deep stages running awaiting of_sub at_point path views viewed_before kept scope holds placed_before above)
+    elsewhere = moved_elsewhere table typed effects unmoved_stage local inner.state (suc (length inner.rest)) (inner.below ∷ inner.more_frames) between inner.views (innermost.own_views table typed effects input ready inner)
 
-    abbrev away : (w : Way) → elsewhere w → IsAway s (suc (length rest)) other w
-    away = here.away table typed effects input ready state top below more_frames rest named p frames deep stages running awaiting of_sub at_point path views viewed_before kept scope holds placed_before above exact_before
+    abbrev away : (w : Way) → elsewhere w → IsAway s (suc (length inner.rest)) other w
+    away = here.away table typed effects input ready inner exact_before
 
     abbrev at : Turn
-    at = standing.t table typed effects input ready state top older outer named p frames of_sub at_point
+    at = standing.t table typed effects input ready inner.state inner.top older outer inner.named inner.p inner.frames inner.of_sub inner.at_point
 
     abbrev points : List PathPoint
-    points = path_points program effects (flow_sub own named)
+    points = path_points program effects (flow_sub own inner.named)
 
     abbrev own_facts : List Fact
-    own_facts = standing.facts table typed effects input ready state top older outer named p frames of_sub at_point path
+    own_facts = standing.facts table typed effects input ready inner.state inner.top older outer inner.named inner.p inner.frames inner.of_sub inner.at_point inner.path
 
     abbrev around : List Fact
-    around = handed table typed effects unmoved_stage local state depth older between
+    around = handed table typed effects unmoved_stage local inner.state depth older between
 
     abbrev facts_now : List Fact
     facts_now = own_facts ++ around
 
-    abbrev viewed : Viewed (home s depth) sees other views (view_here s state) facts_now
-    viewed = innermost.viewed table typed effects input ready state top below more_frames rest named p frames deep stages running awaiting of_sub at_point path views viewed_before kept scope holds placed_before above
+    abbrev viewed : Viewed (home s depth) sees other inner.views (view_here s inner.state) facts_now
+    viewed = innermost.viewed table typed effects input ready inner
 
-    abbrev own_views : (x : ℕ) (w : Way) → views.way x ≡ Some w → is_package_object s x ≡ false
-    own_views = innermost.own_views table typed effects input ready state top below more_frames rest named p frames deep stages running awaiting of_sub at_point path views viewed_before kept scope holds placed_before above
+    abbrev own_views : (x : ℕ) (w : Way) → inner.views.way x ≡ Some w → is_package_object s x ≡ false
+    own_views = innermost.own_views table typed effects input ready inner
 
     abbrev home_frame : (x : ℕ) → is_package_object s x ≡ false → home s depth x ≡ depth
-    home_frame = innermost.home_frame table typed effects input ready state top below more_frames rest named p frames deep stages running awaiting of_sub at_point path views viewed_before kept scope holds placed_before above
+    home_frame = innermost.home_frame table typed effects input ready inner
 
-    abbrev orderly : AreOrderly program p (λ q. (n : ℕ) × Has (map (number_in named.points) p.next) n × IsAtPoint named.points n q)
-    orderly = innermost.orderly table typed effects input ready state top below more_frames rest named p frames deep stages running awaiting of_sub at_point path views viewed_before kept scope holds placed_before above
+    abbrev orderly : AreOrderly program inner.p (λ q. (n : ℕ) × Has (map (number_in inner.named.points) inner.p.next) n × IsAtPoint inner.named.points n q)
+    orderly = innermost.orderly table typed effects input ready inner
 
     abbrev none_taken : ℕ → ℕ → Type 0
     none_taken a b = ⊥
 
-    abbrev exact : IsExact s (home s depth) views elsewhere state.memory facts_now
-    exact = here.exact table typed effects input ready state top below more_frames rest named p frames deep stages running awaiting of_sub at_point path views viewed_before kept scope holds placed_before above exact_before
+    abbrev exact : IsExact s (home s depth) inner.views elsewhere inner.state.memory facts_now
+    exact = here.exact table typed effects input ready inner exact_before
 
     abbrev Excused : LeakSpot → Type 0
-    Excused = IsExcused points top.frame.next
+    Excused = IsExcused points inner.top.frame.next
 
     abbrev frame_by : Typing → flow.Frame
-    frame_by z = record { typing = z; result = named.sub.result; roots = standing.roots table typed effects input ready state top older outer named p frames of_sub at_point }
+    frame_by z = record { typing = z; result = inner.named.sub.result; roots = standing.roots table typed effects input ready inner.state inner.top older outer inner.named inner.p inner.frames inner.of_sub inner.at_point }
 
     abbrev placed_by : Instruction → List Placed
-    placed_by i = standing.acts_by table typed effects input ready state top older outer named p frames of_sub at_point s i
+    placed_by i = standing.acts_by table typed effects input ready inner.state inner.top older outer inner.named inner.p inner.frames inner.of_sub inner.at_point s i
 
     abbrev spots_by : Instruction → List LeakSpot
-    spots_by i = leaks_of (frame_by s) p.pos i
+    spots_by i = leaks_of (frame_by s) inner.p.pos i
 
     abbrev acts_by : Instruction → List Act
-    acts_by i = standing.acts_here table typed effects input ready state top older outer named p frames of_sub at_point i
+    acts_by i = standing.acts_here table typed effects input ready inner.state inner.top older outer inner.named inner.p inner.frames inner.of_sub inner.at_point i
 
     abbrev given_words : List (List machine.Word)
     given_words = (start at).waits
 
     abbrev Plain : Type 0
-    Plain = AreScalar s (temporaries_of s (take (taken p.instr) p.scope))
+    Plain = AreScalar s (temporaries_of s (take (taken inner.p.instr) inner.p.scope))
 
     abbrev Plainly : Type 0
-    Plainly = Plain × TakesScalars s p.instr
+    Plainly = Plain × TakesScalars s inner.p.instr
 
-    abbrev takes_of : Plain → (i : Instruction) → p.instr ≡ i → Takes (taken i) given_words []
-    takes_of = innermost.takes_of table typed effects input ready state top below more_frames rest named p frames deep stages running awaiting of_sub at_point path views viewed_before kept scope holds placed_before above
+    abbrev takes_of : Plain → (i : Instruction) → inner.p.instr ≡ i → Takes (taken i) given_words []
+    takes_of = innermost.takes_of table typed effects input ready inner
 
     abbrev easy : Turn
     easy = eased at
 
-    abbrev viewed_easy : Plain → Viewed (home s depth) sees other views (view_here s easy.state) facts_now × Kept s state.memory (waiting_in easy.state)
-    viewed_easy = innermost.viewed_easy table typed effects input ready state top below more_frames rest named p frames deep stages running awaiting of_sub at_point path views viewed_before kept scope holds placed_before above
+    abbrev viewed_easy : Plain → Viewed (home s depth) sees other inner.views (view_here s easy.state) facts_now × Kept s inner.state.memory (waiting_in easy.state)
+    viewed_easy = innermost.viewed_easy table typed effects input ready inner
 
-    abbrev knows : (i : Instruction) → p.instr ≡ i → (front others : List Placed) → placed_by i ≡ front ++ others → (pos : Pos) (name : PlaceName) (qs : List (List Sel))
+    abbrev knows : (i : Instruction) → inner.p.instr ≡ i → (front others : List Placed) → placed_by i ≡ front ++ others → (pos : Pos) (name : PlaceName) (qs : List (List Sel))
         → Knows Excused pos name (length front) (after (acts front) facts_now) qs
-    knows = here.knows table typed effects input ready state top below more_frames rest named p frames deep stages running awaiting of_sub at_point path views viewed_before kept scope holds placed_before above exact_before
+    knows = here.knows table typed effects input ready inner exact_before
 
-    abbrev fine_here : IsFine s named.sub.result p.instr
-    fine_here = here.fine_here table typed effects input ready state top below more_frames rest named p frames deep stages running awaiting of_sub at_point path views viewed_before kept scope holds placed_before above exact_before
+    abbrev fine_here : IsFine s inner.named.sub.result inner.p.instr
+    fine_here = here.fine_here table typed effects input ready inner exact_before
 
-    abbrev leaks_there : IsNoCall p.instr → leaks_of (frame_by s) p.pos p.instr ≡ leaks_of (frame_by own) p.pos p.instr
-    leaks_there = here.leaks_there table typed effects input ready state top below more_frames rest named p frames deep stages running awaiting of_sub at_point path views viewed_before kept scope holds placed_before above exact_before
+    abbrev leaks_there : IsNoCall inner.p.instr → leaks_of (frame_by s) inner.p.pos inner.p.instr ≡ leaks_of (frame_by own) inner.p.pos inner.p.instr
+    leaks_there = here.leaks_there table typed effects input ready inner exact_before
 
     -- ---- an instruction that isn't the end of a scope
 
-    module _ (going : (x : ℕ) → p.instr ≡ EndScope x → ⊥) (no_calls : IsNoCall p.instr) where
+    module _ (going : (x : ℕ) → inner.p.instr ≡ EndScope x → ⊥) (no_calls : IsNoCall inner.p.instr) where
       abbrev pub ExactAt : List Fact → List LeakSpot → Outcome → Type 0
-      ExactAt facts spots outcome = ExactOn easy sees seeing ready.accepted.settled ready.owns other alone in_formals views ready.class.parts_named none_taken refl refl elsewhere away Excused facts spots outcome
+      ExactAt facts spots outcome = ExactOn easy sees seeing ready.accepted.settled ready.owns other alone in_formals inner.views ready.class.parts_named none_taken refl refl elsewhere away Excused facts spots outcome
 
       abbrev Exacts : Instruction → Type 0
       Exacts i = ExactAt (after (acts_by i) facts_now) (spots_by i) (turn at i)
 
-      pub good : Plainly → IsGood easy sees seeing ready.accepted.settled ready.owns other alone views ready.class.parts_named none_taken refl refl views facts_now easy.state
+      pub good : Plainly → IsGood easy sees seeing ready.accepted.settled ready.owns other alone inner.views ready.class.parts_named none_taken refl refl inner.views facts_now easy.state
       good plain = record {
         viewed = (viewed_easy plain.0).0;
         kept = (viewed_easy plain.0).1;
-        holds = all_held s sees in_formals depth views state.memory (λ x n view bare e. holds.held x n (λ fading. going fading.0 fading.1) view bare e) holds.only holds.owners holds.own holds.taken holds.parts;
+        holds = all_held s sees in_formals depth inner.views inner.state.memory (λ x n view bare e. inner.holds.held x n (λ fading. going fading.0 fading.1) view bare e) inner.holds.only inner.holds.owners inner.holds.own inner.holds.taken inner.holds.parts;
       }
 
       abbrev eased_on : (facts : List Fact) (spots : List LeakSpot) {A : Type 0} (y : Evaluated A) (f g : A → Memory → Outcome)
           → ((a : A) (m : Memory) → ExactAt facts spots (f a m) → ExactAt facts spots (g a m))
           → ExactAt facts spots (steps.evaluated easy y f) → ExactAt facts spots (steps.evaluated at y g)
-      eased_on = turning.eased_on table typed effects input ready state top below more_frames rest named p frames deep stages running awaiting of_sub at_point path views viewed_before kept scope holds placed_before above exact_before going no_calls
+      eased_on = turning.eased_on table typed effects input ready inner exact_before going no_calls
 
       -- no trap, and exact
       abbrev NoTrap : Outcome → Type 0
       NoTrap (Goes t) = Unit {0}
       NoTrap (Ends e t) = IsTrap e → ⊥
 
-      no_trap : (facts : List Fact) (o : Outcome) → Leads_on easy sees seeing ready.accepted.settled ready.owns other alone views ready.class.parts_named none_taken refl refl facts o → NoTrap o
+      no_trap : (facts : List Fact) (o : Outcome) → Leads_on easy sees seeing ready.accepted.settled ready.owns other alone inner.views ready.class.parts_named none_taken refl refl facts o → NoTrap o
       no_trap facts (Goes t) leads = tt
       no_trap facts (Ends e t) leads = leads.0
 
@@ -273,26 +261,26 @@ module _ (table : Table) (typed : TypedProgram) (effects : Effects) (input : Lis
 
       -- where nothing is taken, the step is like it is
       module _ (nothing : taken at.point.instr ≡ 0) where
-        good_there : IsGood at sees seeing ready.accepted.settled ready.owns other alone views ready.class.parts_named none_taken frames nothing views facts_now state
-        good_there = record { viewed = viewed; kept = kept; holds = all_held s sees in_formals depth views state.memory (λ x n view bare e. holds.held x n (λ fading. going fading.0 fading.1) view bare e) holds.only holds.owners holds.own holds.taken holds.parts }
+        good_there : IsGood at sees seeing ready.accepted.settled ready.owns other alone inner.views ready.class.parts_named none_taken inner.frames nothing inner.views facts_now inner.state
+        good_there = record { viewed = viewed; kept = inner.kept; holds = all_held s sees in_formals depth inner.views inner.state.memory (λ x n view bare e. inner.holds.held x n (λ fading. going fading.0 fading.1) view bare e) inner.holds.only inner.holds.owners inner.holds.own inner.holds.taken inner.holds.parts }
 
         writes_line : (line : Bool) → Exacts (Output NoMore line)
         unfolding acts_in
         writes_line line =
-            line_exact at sees seeing ready.accepted.settled ready.owns other alone in_formals views ready.class.parts_named none_taken frames nothing elsewhere away Excused line facts_now exact
+            line_exact at sees seeing ready.accepted.settled ready.owns other alone in_formals inner.views ready.class.parts_named none_taken inner.frames nothing elsewhere away Excused line facts_now exact
 
         turns : (x : ℕ) (reversed : Bool) (low high : TypedTree) → is_scalar (full s.table (object_at s x).of) ≡ true → Exacts (Next x reversed low high)
         turns x reversed low high scalar =
-            next_exact at sees seeing ready.accepted.settled ready.owns other alone in_formals views ready.class.parts_named none_taken frames nothing elsewhere away Excused
+            next_exact at sees seeing ready.accepted.settled ready.owns other alone in_formals inner.views ready.class.parts_named none_taken inner.frames nothing elsewhere away Excused
             x reversed scalar facts_now good_there exact
 
       skips : Exacts Skip
-      skips = skip_exact easy sees seeing ready.accepted.settled ready.owns other alone in_formals views ready.class.parts_named none_taken refl refl elsewhere away Excused facts_now exact
+      skips = skip_exact easy sees seeing ready.accepted.settled ready.owns other alone in_formals inner.views ready.class.parts_named none_taken refl refl elsewhere away Excused facts_now exact
 
       abbrev declared_main : (facts : List Fact) (x : ℕ) (w : TypedTree)
           → ExactAt facts [] (steps.evaluated easy (steps.first_value at (object_at s x).of w (start at)) (λ vs m. steps.goes easy (declared depth x vs m) 0))
           → ExactAt facts [] (steps.evaluated at (steps.first_value at (object_at s x).of w (start at)) (λ vs m. steps.goes at (declared depth x vs m) 0))
-      declared_main = turning.declared_main table typed effects input ready state top below more_frames rest named p frames deep stages running awaiting of_sub at_point path views viewed_before kept scope holds placed_before above exact_before going no_calls
+      declared_main = turning.declared_main table typed effects input ready inner exact_before going no_calls
 
       abbrev assigned_main : (facts : List Fact) (spots : List LeakSpot) (target : TypedTree) (of : ℕ) (e : TypedTree)
           → ExactAt facts spots (steps.evaluated easy (followed_by (steps.taken_by at of e (start at))
@@ -301,43 +289,43 @@ module _ (table : Table) (typed : TypedProgram) (effects : Effects) (input : Lis
           → ExactAt facts spots (steps.evaluated at (followed_by (steps.taken_by at of e (start at))
           (λ ws now. followed_by (place_of (steps.here at) target now) (λ k now. Done (record { words = ws; place = k }) now)))
           (λ (st : steps.Stored) m. steps.leaking_goes (checks_at s (steps.target_pos at target) m st.place) (steps.goes at (stored s st.place st.words m) 0)))
-      assigned_main = turning.assigned_main table typed effects input ready state top below more_frames rest named p frames deep stages running awaiting of_sub at_point path views viewed_before kept scope holds placed_before above exact_before going no_calls
+      assigned_main = turning.assigned_main table typed effects input ready inner exact_before going no_calls
 
-      abbrev holds_value : (e : TypedTree) (of : ℕ) → p.instr ≡ Hold (More e NoMore) → named.sub.result ≡ Some of → is_anonymous (full s.table of) ≡ false
+      abbrev holds_value : (e : TypedTree) (of : ℕ) → inner.p.instr ≡ Hold (More e NoMore) → inner.named.sub.result ≡ Some of → is_anonymous (full s.table of) ≡ false
           → (IsNamed s.table of → AllowsAll facts_now (acts (acts_in s e)) → AllKeep (is_fixed s sees) (acts (acts_in s e))
-          → ExactTo (steps.here at) sees seeing ready.accepted.settled state.leaks [] other alone (keeps s ready.accepted.settled ready.owns) index_law ready.owns views
+          → ExactTo (steps.here at) sees seeing ready.accepted.settled inner.state.leaks [] other alone (keeps s ready.accepted.settled ready.owns) index_law ready.owns inner.views
           ready.class.parts_named elsewhere away (after (acts (acts_in s e)) facts_now) (steps.taken_by at of e (start at)))
           → AllowsAll facts_now (acts_by (Hold (More e NoMore))) → AllKeep (is_fixed s sees) (acts_by (Hold (More e NoMore))) → Exacts (Hold (More e NoMore))
-      holds_value = turning.holds_value table typed effects input ready state top below more_frames rest named p frames deep stages running awaiting of_sub at_point path views viewed_before kept scope holds placed_before above exact_before going no_calls
+      holds_value = turning.holds_value table typed effects input ready inner exact_before going no_calls
 
-      abbrev returns_view : (e : TypedTree) (of : ℕ) → p.instr ≡ Hold (More e NoMore) → named.sub.result ≡ Some of → Source s of e → is_anonymous (full s.table of) ≡ true
+      abbrev returns_view : (e : TypedTree) (of : ℕ) → inner.p.instr ≡ Hold (More e NoMore) → inner.named.sub.result ≡ Some of → Source s of e → is_anonymous (full s.table of) ≡ true
           → Exacts (Hold (More e NoMore))
-      returns_view = turning.returns_view table typed effects input ready state top below more_frames rest named p frames deep stages running awaiting of_sub at_point path views viewed_before kept scope holds placed_before above exact_before going no_calls
+      returns_view = turning.returns_view table typed effects input ready inner exact_before going no_calls
 
       -- ---- what a function gave, alone
 
-      module _ (taken_alone : TakesAlone s p) where
+      module _ (taken_alone : TakesAlone s inner.p) where
         abbrev call : TypedTree
-        call = alone_value.call table typed effects input ready state top below more_frames rest named p frames deep stages running awaiting of_sub at_point path views viewed_before kept scope holds placed_before above going taken_alone
+        call = alone_value.call table typed effects input ready inner going taken_alone
 
         abbrev CallExact : ℕ → Type 0
         CallExact u =
-            ExactTo (steps.here at) sees seeing ready.accepted.settled state.leaks [] other alone (keeps s ready.accepted.settled ready.owns) index_law ready.owns views
+            ExactTo (steps.here at) sees seeing ready.accepted.settled inner.state.leaks [] other alone (keeps s ready.accepted.settled ready.owns) index_law ready.owns inner.views
             ready.class.parts_named elsewhere away facts_now (steps.taken_by at u (CallIn taken_alone.3 taken_alone.4 taken_alone.5) (start at))
 
         -- the value comes from the frame, and memory is as it was
         call_exact : (u : ℕ) → IsNamed s.table u → CallExact u
         unfolding evaluate
         call_exact u type_there =
-            let words : List machine.Word = (alone_value.first_value table typed effects input ready state top below more_frames rest named p frames deep stages running awaiting of_sub at_point path views viewed_before kept scope holds placed_before above going taken_alone).0.words in
-            let now : List (List machine.Word) → Now = (λ ws. record { memory = state.memory; waits = ws }) in
-            subst (λ b. ExactTo (steps.here at) sees seeing ready.accepted.settled state.leaks [] other alone (keeps s ready.accepted.settled ready.owns) index_law ready.owns views
+            let words : List machine.Word = (alone_value.first_value table typed effects input ready inner going taken_alone).0.words in
+            let now : List (List machine.Word) → Now = (λ ws. record { memory = inner.state.memory; waits = ws }) in
+            subst (λ b. ExactTo (steps.here at) sees seeing ready.accepted.settled inner.state.leaks [] other alone (keeps s ready.accepted.settled ready.owns) index_law ready.owns inner.views
             ready.class.parts_named elsewhere away facts_now (if b then run.viewed (steps.here at) call (start at) else followed_by (value (steps.here at) call (start at)) (checked (steps.here at) u)))
             (sym (named_plain s.table u type_there))
-            (checked_exact (steps.here at) sees seeing ready.accepted.settled state.leaks [] other alone (keeps s ready.accepted.settled ready.owns) index_law ready.owns views
+            (checked_exact (steps.here at) sees seeing ready.accepted.settled inner.state.leaks [] other alone (keeps s ready.accepted.settled ready.owns) index_law ready.owns inner.views
             ready.class.parts_named elsewhere away u facts_now (value (steps.here at) call (start at))
-            (subst (λ ws. ExactTo (steps.here at) sees seeing ready.accepted.settled state.leaks [] other alone (keeps s ready.accepted.settled ready.owns) index_law ready.owns views
-            ready.class.parts_named elsewhere away facts_now (value (steps.here at) call (now ws))) (sym (alone_value.first_value table typed effects input ready state top below more_frames rest named p frames deep stages running awaiting of_sub at_point path views viewed_before kept scope holds placed_before above going taken_alone).1.3) exact))
+            (subst (λ ws. ExactTo (steps.here at) sees seeing ready.accepted.settled inner.state.leaks [] other alone (keeps s ready.accepted.settled ready.owns) index_law ready.owns inner.views
+            ready.class.parts_named elsewhere away facts_now (value (steps.here at) call (now ws))) (sym (alone_value.first_value table typed effects input ready inner going taken_alone).1.3) exact))
 
         no_name : (r : Pos) (b : ℕ) (w : TypedTree) (o : ℕ) → call ≡ Name r b w o → ⊥
         no_name r b w o e = cc
@@ -345,7 +333,7 @@ module _ (table : Table) (typed : TypedProgram) (effects : Effects) (input : Lis
         same_first : (a b : TypedTree) → ◌≡◌ {A = TypedTree} (More a NoMore) (More b NoMore) → a ≡ b
         same_first a b e = cc
 
-        declares_view : (y : ℕ) → p.instr ≡ Declare y (More call NoMore) → is_anonymous (view_of s y) ≡ true → Exacts (Declare y (More call NoMore))
+        declares_view : (y : ℕ) → inner.p.instr ≡ Declare y (More call NoMore) → is_anonymous (view_of s y) ≡ true → Exacts (Declare y (More call NoMore))
         unfolding initial
         declares_view y is view =
             let found = orderly.declared y (More call NoMore) is view in
@@ -353,78 +341,78 @@ module _ (table : Table) (typed : TypedProgram) (effects : Effects) (input : Lis
             elim found.6 [
               | inl name ↦ absurd (no_name found.0 found.1 found.2 found.3 (tree_is ∙ name))
               | inr (r, n, others, call_is, gives) ↦ declared_main (after (acts_by (Declare y (More call NoMore))) facts_now) y (More call NoMore)
-                  (sighted.declared_so table typed effects input ready state top below more_frames rest named p frames deep stages running awaiting of_sub at_point path views viewed_before kept scope holds placed_before above exact_before going no_calls taken_alone y n found.0 r found.2 found.3 others found.1 (tree_is ∙ call_is) gives view (orderly.variables y (inl (inl (More call NoMore, is))) view) (inl (More call NoMore, is)))
+                  (sighted.declared_so table typed effects input ready inner exact_before going no_calls taken_alone y n found.0 r found.2 found.3 others found.1 (tree_is ∙ call_is) gives view (orderly.variables y (inl (inl (More call NoMore, is))) view) (inl (More call NoMore, is)))
             ]
 
-        assigns_view : (k : Pos) (y : ℕ) → p.instr ≡ Assign (Name k y NoMore (object_at s y).of) call → is_anonymous (view_of s y) ≡ true
+        assigns_view : (k : Pos) (y : ℕ) → inner.p.instr ≡ Assign (Name k y NoMore (object_at s y).of) call → is_anonymous (view_of s y) ≡ true
             → Exacts (Assign (Name k y NoMore (object_at s y).of) call)
         assigns_view k y is view =
             let found = orderly.assigned k y (object_at s y).of call is view in
             let target : TypedTree = Name k y NoMore (object_at s y).of in
-            let stored_there : IsStoredAt p.instr y = inr (k, (object_at s y).of, call, is) in
+            let stored_there : IsStoredAt inner.p.instr y = inr (k, (object_at s y).of, call, is) in
             elim found.4 [
               | inl name ↦ absurd (no_name found.0 found.1 found.2 found.3 name)
               | inr (r, n, others, call_is, gives) ↦
                   subst (λ z. ExactAt (after (acts_by (Assign target call)) facts_now) (map (spot k (name_of y NoMore) (length (acts_in s call ++ acts_in s NoMore))) z) (turn at (Assign target call)))
-                  (sym (view_parts easy sees seeing ready.accepted.settled ready.owns other alone in_formals views ready.class.parts_named none_taken refl refl elsewhere away Excused y view))
+                  (sym (view_parts easy sees seeing ready.accepted.settled ready.owns other alone in_formals inner.views ready.class.parts_named none_taken refl refl elsewhere away Excused y view))
                   (assigned_main (after (acts_by (Assign target call)) facts_now) [] target (object_at s y).of call
-                  (sighted.put_so table typed effects input ready state top below more_frames rest named p frames deep stages running awaiting of_sub at_point path views viewed_before kept scope holds placed_before above exact_before going no_calls taken_alone y n found.0 r found.2 found.3 others found.1 call_is gives view (orderly.variables y (inl stored_there) view) stored_there k))
+                  (sighted.put_so table typed effects input ready inner exact_before going no_calls taken_alone y n found.0 r found.2 found.3 others found.1 call_is gives view (orderly.variables y (inl stored_there) view) stored_there k))
             ]
 
-        declares_owner : (y : ℕ) → p.instr ≡ Declare y (More call NoMore) → is_anonymous (view_of s y) ≡ false → Exacts (Declare y (More call NoMore))
+        declares_owner : (y : ℕ) → inner.p.instr ≡ Declare y (More call NoMore) → is_anonymous (view_of s y) ≡ false → Exacts (Declare y (More call NoMore))
         unfolding acts_in initial
         declares_owner y is owner =
-            let type_there = alone_value.named_object table typed effects input ready state top below more_frames rest named p frames deep stages running awaiting of_sub at_point path views viewed_before kept scope holds placed_before above going no_calls taken_alone y is owner in
-            let same = alone_value.acts_same table typed effects input ready state top below more_frames rest named p frames deep stages running awaiting of_sub at_point path views viewed_before kept scope holds placed_before above going no_calls taken_alone y is owner in
+            let type_there = alone_value.named_object table typed effects input ready inner going no_calls taken_alone y is owner in
+            let same = alone_value.acts_same table typed effects input ready inner going no_calls taken_alone y is owner in
             declared_main (after (acts_by (Declare y (More call NoMore))) facts_now) y (More call NoMore)
             (subst (λ z. ExactAt (after z facts_now) [] (steps.evaluated easy (steps.first_value at (object_at s y).of (More call NoMore) (start at))
             (λ vs m. steps.goes easy (declared depth y vs m) 0))) (sym same)
-            (then_declared easy sees seeing ready.accepted.settled ready.owns other alone in_formals views ready.class.parts_named none_taken refl refl elsewhere away Excused y (orderly.begun y (More call NoMore) is) facts_now (steps.first_value at (object_at s y).of (More call NoMore) (start at))
-            (alone_value.source_alone table typed effects input ready state top below more_frames rest named p frames deep stages running awaiting of_sub at_point path views viewed_before kept scope holds placed_before above going taken_alone (object_at s y).of type_there (alone_value.source_here table typed effects input ready state top below more_frames rest named p frames deep stages running awaiting of_sub at_point path views viewed_before kept scope holds placed_before above going no_calls taken_alone y is owner))
+            (then_declared easy sees seeing ready.accepted.settled ready.owns other alone in_formals inner.views ready.class.parts_named none_taken refl refl elsewhere away Excused y (orderly.begun y (More call NoMore) is) facts_now (steps.first_value at (object_at s y).of (More call NoMore) (start at))
+            (alone_value.source_alone table typed effects input ready inner going taken_alone (object_at s y).of type_there (alone_value.source_here table typed effects input ready inner going no_calls taken_alone y is owner))
             (call_exact (object_at s y).of type_there)
-            (each.unmoved_now table typed effects input ready state top below more_frames rest named p frames deep stages running awaiting of_sub at_point path views viewed_before kept scope holds placed_before above going no_calls y (More call NoMore) is, each.free table typed effects input ready state top below more_frames rest named p frames deep stages running awaiting of_sub at_point path views viewed_before kept scope holds placed_before above going no_calls y (More call NoMore) is)))
+            (each.unmoved_now table typed effects input ready inner going no_calls y (More call NoMore) is, each.free table typed effects input ready inner going no_calls y (More call NoMore) is)))
 
-        declares_alone : (y : ℕ) → p.instr ≡ Declare y (More call NoMore) → Exacts (Declare y (More call NoMore))
+        declares_alone : (y : ℕ) → inner.p.instr ≡ Declare y (More call NoMore) → Exacts (Declare y (More call NoMore))
         declares_alone y is = by_kind (is_anonymous (view_of s y)) refl
           where
             by_kind : (b : Bool) → is_anonymous (view_of s y) ≡ b → Exacts (Declare y (More call NoMore))
             by_kind true view = declares_view y is view
             by_kind false owner = declares_owner y is owner
 
-        assigns_place : (r : Pos) (y : ℕ) (steps_there : TypedTree) (u : ℕ) → p.instr ≡ Assign (Name r y steps_there u) call → has_call steps_there ≡ false → (p.instr ≡ Finish → ⊥)
+        assigns_place : (r : Pos) (y : ℕ) (steps_there : TypedTree) (u : ℕ) → inner.p.instr ≡ Assign (Name r y steps_there u) call → has_call steps_there ≡ false → (inner.p.instr ≡ Finish → ⊥)
             → is_anonymous (full s.table u) ≡ false → Exacts (Assign (Name r y steps_there u) call)
         unfolding acts_in
         assigns_place r y steps_there u is calls end place =
             let target : TypedTree = Name r y steps_there u in
-            let type_there = alone_value.named_target table typed effects input ready state top below more_frames rest named p frames deep stages running awaiting of_sub at_point path views viewed_before kept scope holds placed_before above going no_calls taken_alone r y steps_there u is calls end place in
-            let leads = alone_value.leads_there table typed effects input ready state top below more_frames rest named p frames deep stages running awaiting of_sub at_point path views viewed_before kept scope holds placed_before above going no_calls taken_alone r y steps_there u is calls end place in
+            let type_there = alone_value.named_target table typed effects input ready inner going no_calls taken_alone r y steps_there u is calls end place in
+            let leads = alone_value.leads_there table typed effects input ready inner going no_calls taken_alone r y steps_there u is calls end place in
             let a : List Act = acts (acts_in s steps_there) in
             let whole : after (acts_by (Assign target call)) facts_now ≡ effect (act.Write (name_of y steps_there)) (after a facts_now) =
-            ap (λ z. after z facts_now) (alone_value.acts_there table typed effects input ready state top below more_frames rest named p frames deep stages running awaiting of_sub at_point path views viewed_before kept scope holds placed_before above going no_calls taken_alone r y steps_there u is calls end place)
+            ap (λ z. after z facts_now) (alone_value.acts_there table typed effects input ready inner going no_calls taken_alone r y steps_there u is calls end place)
             ∙ after_append a (act.Write (name_of y steps_there) ∷ []) facts_now in
             assigned_main (after (acts_by (Assign target call)) facts_now) (spots_by (Assign target call)) target u call
             (subst (λ z. ExactAt z (spots_by (Assign target call)) (steps.evaluated easy (followed_by (steps.taken_by at u call (start at))
             (λ ws now. followed_by (place_of (steps.here at) target now) (λ k now. Done (record { words = ws; place = k }) now)))
             (λ (st : steps.Stored) m. steps.leaking_goes (checks_at s (steps.target_pos at target) m st.place) (steps.goes easy (stored s st.place st.words m) 0)))) (sym whole)
-            (then_stored easy sees seeing ready.accepted.settled ready.owns other alone in_formals views ready.class.parts_named none_taken refl refl elsewhere away Excused (name_of y steps_there) u (after a facts_now) (effect (act.Write (name_of y steps_there)) (after a facts_now)) (steps.target_pos at target)
+            (then_stored easy sees seeing ready.accepted.settled ready.owns other alone in_formals inner.views ready.class.parts_named none_taken refl refl elsewhere away Excused (name_of y steps_there) u (after a facts_now) (effect (act.Write (name_of y steps_there)) (after a facts_now)) (steps.target_pos at target)
             r (length (acts_in s steps_there))
             (knows (Assign target call) is (acts_in s steps_there) (record { pos = r; act = act.Write (name_of y steps_there) } ∷ [])
-            (assigned_acts s p.pos y u target steps_there call type_there leads) r (name_of y steps_there) (parts s.table u))
+            (assigned_acts s inner.p.pos y u target steps_there call type_there leads) r (name_of y steps_there) (parts s.table u))
             (followed_by (steps.taken_by at u call (start at))
             (λ ws now. followed_by (place_of (steps.here at) target now) (λ k now. Done (record { words = ws; place = k }) now)))
-            (then_placed (steps.here at) sees seeing ready.accepted.settled state.leaks [] other alone (keeps s ready.accepted.settled ready.owns) index_law ready.owns views
+            (then_placed (steps.here at) sees seeing ready.accepted.settled inner.state.leaks [] other alone (keeps s ready.accepted.settled ready.owns) index_law ready.owns inner.views
             ready.class.parts_named elsewhere away Excused [] [] r y u steps_there (waiting_in easy.state) facts_now
-            (alone_value.plain_root table typed effects input ready state top below more_frames rest named p frames deep stages running awaiting of_sub at_point path views viewed_before kept scope holds placed_before above going no_calls taken_alone r y steps_there u is calls end place) leads (no_takes steps_there calls [])
-            (alone_value.allowed_steps table typed effects input ready state top below more_frames rest named p frames deep stages running awaiting of_sub at_point path views viewed_before kept scope holds placed_before above going no_calls taken_alone r y steps_there u is calls end place) (steps.taken_by at u call (start at))
-            (alone_value.source_alone table typed effects input ready state top below more_frames rest named p frames deep stages running awaiting of_sub at_point path views viewed_before kept scope holds placed_before above going taken_alone u type_there (alone_value.source_there table typed effects input ready state top below more_frames rest named p frames deep stages running awaiting of_sub at_point path views viewed_before kept scope holds placed_before above going no_calls taken_alone r y steps_there u is calls end place))
+            (alone_value.plain_root table typed effects input ready inner going no_calls taken_alone r y steps_there u is calls end place) leads (no_takes steps_there calls [])
+            (alone_value.allowed_steps table typed effects input ready inner going no_calls taken_alone r y steps_there u is calls end place) (steps.taken_by at u call (start at))
+            (alone_value.source_alone table typed effects input ready inner going taken_alone u type_there (alone_value.source_there table typed effects input ready inner going no_calls taken_alone r y steps_there u is calls end place))
             (call_exact u type_there))))
 
-        assigns_alone : (r : Pos) (y : ℕ) (steps_there : TypedTree) (u : ℕ) → p.instr ≡ Assign (Name r y steps_there u) call → has_call steps_there ≡ false → (p.instr ≡ Finish → ⊥)
+        assigns_alone : (r : Pos) (y : ℕ) (steps_there : TypedTree) (u : ℕ) → inner.p.instr ≡ Assign (Name r y steps_there u) call → has_call steps_there ≡ false → (inner.p.instr ≡ Finish → ⊥)
             → Exacts (Assign (Name r y steps_there u) call)
         assigns_alone r y steps_there u is calls end = by_kind (is_anonymous (full s.table u)) refl
           where
-            text_there : IsFine s named.sub.result (Assign (Name r y steps_there u) call)
-            text_there = subst (IsFine s named.sub.result) is fine_here
+            text_there : IsFine s inner.named.sub.result (Assign (Name r y steps_there u) call)
+            text_there = subst (IsFine s inner.named.sub.result) is fine_here
 
             by_kind : (b : Bool) → is_anonymous (full s.table u) ≡ b → Exacts (Assign (Name r y steps_there u) call)
             by_kind false place = assigns_place r y steps_there u is calls end place
@@ -436,7 +424,7 @@ module _ (table : Table) (typed : TypedProgram) (effects : Effects) (input : Lis
                   (assigns_view r y (is ∙ ap (λ z. Assign z call) target_is) (ap (λ z. is_anonymous (full s.table z)) whole.1 ∙ view)))
             ]
 
-        returns_alone : (of : ℕ) → p.instr ≡ Hold (More call NoMore) → named.sub.result ≡ Some of → Source s of call
+        returns_alone : (of : ℕ) → inner.p.instr ≡ Hold (More call NoMore) → inner.named.sub.result ≡ Some of → Source s of call
             → AllowsAll facts_now (acts_by (Hold (More call NoMore))) → AllKeep (is_fixed s sees) (acts_by (Hold (More call NoMore))) → Exacts (Hold (More call NoMore))
         unfolding acts_in
         returns_alone of is result source allowed_there keep = elim (bool_cases (is_anonymous (full s.table of))) [
@@ -445,17 +433,17 @@ module _ (table : Table) (typed : TypedProgram) (effects : Effects) (input : Lis
         ]
 
         -- the value is of what the function returns
-        result_there : p.instr ≡ Hold (More call NoMore) → (r : Option ℕ) → named.sub.result ≡ r → Returns s r (More call NoMore)
-            → (of : ℕ) × (named.sub.result ≡ Some of) × Source s of call
+        result_there : inner.p.instr ≡ Hold (More call NoMore) → (r : Option ℕ) → inner.named.sub.result ≡ r → Returns s r (More call NoMore)
+            → (of : ℕ) × (inner.named.sub.result ≡ Some of) × Source s of call
         result_there is None result none = (let never : ◌≡◌ {A = TypedTree} (More call NoMore) NoMore = none in cc)
         result_there is (Some of) result (e, same, source) = (of, result, subst (Source s of) (sym (same_first call e same)) source)
 
-        alone_exact : (p.instr ≡ Finish → ⊥) → AllowsAll facts_now (acts_by p.instr) → AllKeep (is_fixed s sees) (acts_by p.instr) → Exacts p.instr
+        alone_exact : (inner.p.instr ≡ Finish → ⊥) → AllowsAll facts_now (acts_by inner.p.instr) → AllKeep (is_fixed s sees) (acts_by inner.p.instr) → Exacts inner.p.instr
         alone_exact end allowed_there keep = elim taken_alone.8 [
           | inl (y, is) ↦ subst Exacts (sym is) (declares_alone y is)
           | inr (inl (r, y, steps_there, u, is, calls)) ↦ subst Exacts (sym is) (assigns_alone r y steps_there u is calls end)
           | inr (inr is) ↦ (
-              let result = result_there is named.sub.result refl (subst (IsFine s named.sub.result) is fine_here) in
+              let result = result_there is inner.named.sub.result refl (subst (IsFine s inner.named.sub.result) is fine_here) in
               subst Exacts (sym is)
               (returns_alone result.0 is result.1 result.2 (subst (λ i. AllowsAll facts_now (acts_by i)) is allowed_there) (subst (λ i. AllKeep (is_fixed s sees) (acts_by i)) is keep)))
         ]
@@ -464,25 +452,25 @@ module _ (table : Table) (typed : TypedProgram) (effects : Effects) (input : Lis
 
       module _ (plain : Plainly) where
         value_taken : (e : TypedTree) → Stays s e → Takes (waits_in e) given_words [] → AllowsAll facts_now (acts (acts_in s e))
-            → (f : List machine.Word → Memory → Outcome) → ((ws : List machine.Word) → ExactAt facts_now [] (f ws state.memory))
+            → (f : List machine.Word → Memory → Outcome) → ((ws : List machine.Word) → ExactAt facts_now [] (f ws inner.state.memory))
             → ExactAt (after (acts (acts_in s e)) facts_now) [] (steps.evaluated at (value (steps.here at) e (start at)) f)
         value_taken e stays takes allowed_there f next =
             eased_on (after (acts (acts_in s e)) facts_now) [] (value (steps.here at) e (start at)) f f (λ ws m on. on)
-            (value_on easy sees seeing ready.accepted.settled ready.owns other alone in_formals views ready.class.parts_named none_taken refl refl elsewhere away Excused given_words e stays takes facts_now (good plain) allowed_there exact f next)
+            (value_on easy sees seeing ready.accepted.settled ready.owns other alone in_formals inner.views ready.class.parts_named none_taken refl refl elsewhere away Excused given_words e stays takes facts_now (good plain) allowed_there exact f next)
 
         -- ---- declarations
 
-        declares : (x : ℕ) (v : TypedTree) → p.instr ≡ Declare x v → FirstSource s (object_at s x).of v
+        declares : (x : ℕ) (v : TypedTree) → inner.p.instr ≡ Declare x v → FirstSource s (object_at s x).of v
             → AllowsAll facts_now (acts_by (Declare x v)) → AllKeep (is_fixed s sees) (acts_by (Declare x v)) → Exacts (Declare x v)
         unfolding waits_in
         declares x v e text allowed_there keep = by_view (is_anonymous (view_of s x)) refl
           where
             after_it : (name : PlaceName) → Has (after (acts_by (Declare x v)) facts_now) (Moved name) → name.root ≡ x → depth ≡ home s depth x → ⊥
             after_it name has root at_home =
-                elim (after_splits (acts_by (Declare x v)) facts_now own_facts around (innermost.from_both table typed effects input ready state top below more_frames rest named p frames deep stages running awaiting of_sub at_point path views viewed_before kept scope holds placed_before above) (Moved name) has) [
-                  | inl mine ↦ packages.new_after table typed effects input ready state top older outer named p frames of_sub at_point path x v e no_calls name
+                elim (after_splits (acts_by (Declare x v)) facts_now own_facts around (innermost.from_both table typed effects input ready inner) (Moved name) has) [
+                  | inl mine ↦ packages.new_after table typed effects input ready inner.state inner.top older outer inner.named inner.p inner.frames inner.of_sub inner.at_point inner.path x v e no_calls name
                       (subst (λ i. Has (after (acts_by i) own_facts) (Moved name)) (sym e) mine) root
-                  | inr there ↦ absurd (innermost.not_handed table typed effects input ready state top below more_frames rest named p frames deep stages running awaiting of_sub at_point path views viewed_before kept scope holds placed_before above name there)
+                  | inr there ↦ absurd (innermost.not_handed table typed effects input ready inner name there)
                 ]
 
             from_source : (q : Pos) (y u : ℕ) (path_of : TypedTree) → v ≡ More (Name q y path_of u) NoMore → is_anonymous (view_of s x) ≡ true → Exacts (Declare x v)
@@ -493,7 +481,7 @@ module _ (table : Table) (typed : TypedProgram) (effects : Effects) (input : Lis
                 (subst (λ z. Takes (taken (Declare x z)) given_words []) here_is (takes_of plain.0 (Declare x v) e)) in
                 subst (λ z. Exacts (Declare x z)) (sym here_is)
                 (declared_main (after (acts_by (Declare x (More (Name q y path_of u) NoMore))) facts_now) x (More (Name q y path_of u) NoMore)
-                (view_declared_on easy sees seeing ready.accepted.settled ready.owns other alone in_formals views ready.class.parts_named none_taken refl refl elsewhere away Excused given_words q x y u path_of view (orderly.variables x (inl (inl (v, e))) view) (home_frame x (local x (anonymous_view s x view))) text_there.1 takes facts_now (good plain)
+                (view_declared_on easy sees seeing ready.accepted.settled ready.owns other alone in_formals inner.views ready.class.parts_named none_taken refl refl elsewhere away Excused given_words q x y u path_of view (orderly.variables x (inl (inl (v, e))) view) (home_frame x (local x (anonymous_view s x view))) text_there.1 takes facts_now (good plain)
                 (subst (λ z. AllowsAll facts_now (acts_by (Declare x z))) here_is allowed_there) exact))
 
             by_view : (b : Bool) → is_anonymous (view_of s x) ≡ b → Exacts (Declare x v)
@@ -507,13 +495,13 @@ module _ (table : Table) (typed : TypedProgram) (effects : Effects) (input : Lis
                 ]
             by_view false owner =
                 declared_main (after (acts_by (Declare x v)) facts_now) x v
-                (declare_on easy sees seeing ready.accepted.settled ready.owns other alone in_formals views ready.class.parts_named none_taken refl refl elsewhere away Excused given_words x v (plain_named s.table (object_at s x).of owner) (orderly.begun x v e) text
+                (declare_on easy sees seeing ready.accepted.settled ready.owns other alone in_formals inner.views ready.class.parts_named none_taken refl refl elsewhere away Excused given_words x v (plain_named s.table (object_at s x).of owner) (orderly.begun x v e) text
                 (subst (TakesScalars s) e plain.1) (takes_of plain.0 (Declare x v) e) facts_now (good plain) allowed_there keep
-                (after_it, each.free table typed effects input ready state top below more_frames rest named p frames deep stages running awaiting of_sub at_point path views viewed_before kept scope holds placed_before above going no_calls x v e) exact)
+                (after_it, each.free table typed effects input ready inner going no_calls x v e) exact)
 
         -- ---- assignments
 
-        assigns : (target e : TypedTree) → p.instr ≡ Assign target e → IsFine s None (Assign target e)
+        assigns : (target e : TypedTree) → inner.p.instr ≡ Assign target e → IsFine s None (Assign target e)
             → AllowsAll facts_now (acts_by (Assign target e)) → AllKeep (is_fixed s sees) (acts_by (Assign target e)) → Exacts (Assign target e)
         unfolding waits_in
         assigns (Name q x steps u) e is (v, (leads, type), source) allowed_there keep =
@@ -522,7 +510,7 @@ module _ (table : Table) (typed : TypedProgram) (effects : Effects) (input : Lis
             front : List Placed
             front = acts_in s e ++ acts_in s steps
 
-            to_view : Source s (object_at s x).of e → is_anonymous (view_of s x) ≡ true → p.instr ≡ Assign (Name q x NoMore (object_at s x).of) e
+            to_view : Source s (object_at s x).of e → is_anonymous (view_of s x) ≡ true → inner.p.instr ≡ Assign (Name q x NoMore (object_at s x).of) e
                 → AllowsAll facts_now (acts_by (Assign (Name q x NoMore (object_at s x).of) e)) → Exacts (Assign (Name q x NoMore (object_at s x).of) e)
             to_view source view instr_is allowed_here =
                 let found = orderly.assigned q x (object_at s x).of e instr_is view in
@@ -542,9 +530,9 @@ module _ (table : Table) (typed : TypedProgram) (effects : Effects) (input : Lis
                     subst (λ z. Exacts (Assign (Name q x NoMore (object_at s x).of) z)) (sym here_is)
                     (subst (λ z. ExactAt (after (acts_by (Assign (Name q x NoMore (object_at s x).of) (Name r y path_of w))) facts_now)
                     (map (spot q (name_of x NoMore) (length (acts_in s (Name r y path_of w) ++ acts_in s NoMore))) z)
-                    (turn at (Assign (Name q x NoMore (object_at s x).of) (Name r y path_of w)))) (sym (view_parts easy sees seeing ready.accepted.settled ready.owns other alone in_formals views ready.class.parts_named none_taken refl refl elsewhere away Excused x view))
+                    (turn at (Assign (Name q x NoMore (object_at s x).of) (Name r y path_of w)))) (sym (view_parts easy sees seeing ready.accepted.settled ready.owns other alone in_formals inner.views ready.class.parts_named none_taken refl refl elsewhere away Excused x view))
                     (assigned_main (after (acts_by (Assign (Name q x NoMore of) (Name r y path_of w))) facts_now) [] (Name q x NoMore of) of (Name r y path_of w)
-                    (view_assigned_on easy sees seeing ready.accepted.settled ready.owns other alone in_formals views ready.class.parts_named none_taken refl refl elsewhere away Excused given_words p.pos q r x y w path_of view (orderly.variables x (inl (inr (q, (object_at s x).of, e, instr_is))) view) (home_frame x (local x (anonymous_view s x view)))
+                    (view_assigned_on easy sees seeing ready.accepted.settled ready.owns other alone in_formals inner.views ready.class.parts_named none_taken refl refl elsewhere away Excused given_words inner.p.pos q r x y w path_of view (orderly.variables x (inl (inr (q, (object_at s x).of, e, instr_is))) view) (home_frame x (local x (anonymous_view s x view)))
                     (subst (Source s (object_at s x).of) here_is source) takes itself facts_now (good plain)
                     (subst (λ z. AllowsAll facts_now (acts_by (Assign (Name q x NoMore (object_at s x).of) z))) here_is allowed_here) exact)))
 
@@ -553,11 +541,11 @@ module _ (table : Table) (typed : TypedProgram) (effects : Effects) (input : Lis
               | inl view ↦ absurd (true_false (is_anonymous (full s.table u)) view.0 owner)
               | inr gives ↦ (
                   let own_type : IsNamed s.table u = plain_named s.table u owner in
-                  let same_acts = assigned_acts s p.pos x u (Name q x steps u) steps e own_type leads in
+                  let same_acts = assigned_acts s inner.p.pos x u (Name q x steps u) steps e own_type leads in
                   let two = takes_both (waits_in e) (waits_in steps) given_words [] (takes_of plain.0 (Assign (Name q x steps u) e) is) in
                   subst (λ z. ExactAt (after (acts z) facts_now) (spots_by (Assign (Name q x steps u) e)) (turn at (Assign (Name q x steps u) e))) (sym same_acts)
                   (assigned_main (after (acts (stored_acts s (Name q x steps u) e)) facts_now) (spots_by (Assign (Name q x steps u) e)) (Name q x steps u) u e
-                  (assign_on easy sees seeing ready.accepted.settled ready.owns other alone in_formals views ready.class.parts_named none_taken refl refl elsewhere away Excused given_words two.0 q x u steps e own_type gives leads
+                  (assign_on easy sees seeing ready.accepted.settled ready.owns other alone in_formals inner.views ready.class.parts_named none_taken refl refl elsewhere away Excused given_words two.0 q x u steps e own_type gives leads
                   (subst (TakesScalars s) is plain.1) two.1 two.2 facts_now (good plain)
                   (subst (λ z. AllowsAll facts_now (acts z)) same_acts allowed_there) (subst (λ z. AllKeep (is_fixed s sees) (acts z)) same_acts keep) exact (length front)
                   (knows (Assign (Name q x steps u) e) is front (record { pos = q; act = act.Write (name_of x steps) } ∷ []) same_acts q (name_of x steps) (parts s.table u)))))
@@ -574,25 +562,25 @@ module _ (table : Table) (typed : TypedProgram) (effects : Effects) (input : Lis
 
         -- ---- other instructions
 
-        writes : (text : TypedTree) (line : Bool) → p.instr ≡ Output text line → FirstWrites s text
+        writes : (text : TypedTree) (line : Bool) → inner.p.instr ≡ Output text line → FirstWrites s text
             → AllowsAll facts_now (acts_by (Output text line)) → Exacts (Output text line)
         unfolding acts_in waits_in
         writes (More e last) line is (none, text) allowed_there =
             eased_on (after (acts_by (Output (More e last) line)) facts_now) [] (text_of (steps.here at) e (start at))
-            (λ bytes m. Goes (record (behind easy (waiting easy) m 0) { output = state.output ++ bytes ++ (if line then 10 ∷ [] else []) }))
-            (λ bytes m. Goes (record (behind at (waiting at) m 0) { output = state.output ++ bytes ++ (if line then 10 ∷ [] else []) }))
+            (λ bytes m. Goes (record (behind easy (waiting easy) m 0) { output = inner.state.output ++ bytes ++ (if line then 10 ∷ [] else []) }))
+            (λ bytes m. Goes (record (behind at (waiting at) m 0) { output = inner.state.output ++ bytes ++ (if line then 10 ∷ [] else []) }))
             (λ bytes m on. on)
-            (output_on easy sees seeing ready.accepted.settled ready.owns other alone in_formals views ready.class.parts_named none_taken refl refl elsewhere away Excused given_words e last line none text
+            (output_on easy sees seeing ready.accepted.settled ready.owns other alone in_formals inner.views ready.class.parts_named none_taken refl refl elsewhere away Excused given_words e last line none text
             (takes_as (taken (Output (More e last) line)) (waits_in e) given_words [] (ap (λ z. waits_in e + waits_in z) none ∙ nothing_more (waits_in e))
             (takes_of plain.0 (Output (More e last) line) is))
             facts_now (good plain) allowed_there exact)
-        writes NoMore line is text allowed_there = writes_line (innermost.none_takes table typed effects input ready state top below more_frames rest named p frames deep stages running awaiting of_sub at_point path views viewed_before kept scope holds placed_before above (Output NoMore line) is refl) line
+        writes NoMore line is text allowed_there = writes_line (innermost.none_takes table typed effects input ready inner (Output NoMore line) is refl) line
         writes other_text line is never allowed_there = absurd never
 
         abbrev gets_here : Place → Memory → Outcome
-        gets_here k m = got_with easy k (next_item input state.at) m
+        gets_here k m = got_with easy k (next_item input inner.state.at) m
 
-        gets_so : Gets easy sees seeing ready.accepted.settled ready.owns other alone in_formals views ready.class.parts_named none_taken refl refl gets_here
+        gets_so : Gets easy sees seeing ready.accepted.settled ready.owns other alone in_formals inner.views ready.class.parts_named none_taken refl refl gets_here
         gets_so = record {
           at_missing = λ k m next. rw next refl;
           at_bad = λ k m next. rw next refl;
@@ -600,16 +588,16 @@ module _ (table : Table) (typed : TypedProgram) (effects : Effects) (input : Lis
           at_outside = λ k m v end next out. rw (next, out) refl;
         }
 
-        reads : (target : TypedTree) → p.instr ≡ Input target → IsFine s None (Input target)
+        reads : (target : TypedTree) → inner.p.instr ≡ Input target → IsFine s None (Input target)
             → AllowsAll facts_now (acts_by (Input target)) → Exacts (Input target)
         unfolding waits_in
         reads (Name q x path_of u) is (v, (leads, type), scalar) allowed_there =
             let target : TypedTree = Name q x path_of u in
             let scalar_there : is_scalar (full s.table u) ≡ true = subst (λ z. is_scalar (full s.table z) ≡ true) (sym type) scalar in
             (input_eased at (Both (Input target)) (raising (Input target)) (λ trap m on. on.0 tt) target (
-              no_trap _ _ (sound_got_on easy sees seeing ready.accepted.settled ready.owns other alone in_formals views ready.class.parts_named none_taken refl refl given_words
+              no_trap _ _ (sound_got_on easy sees seeing ready.accepted.settled ready.owns other alone in_formals inner.views ready.class.parts_named none_taken refl refl given_words
                   gets_here q x u path_of gets_so scalar_there leads (takes_of plain.0 (Input target) is) (orderly.read q x u path_of is) facts_now (good plain) allowed_there),
-              got_on easy sees seeing ready.accepted.settled ready.owns other alone in_formals views ready.class.parts_named none_taken refl refl elsewhere away Excused given_words
+              got_on easy sees seeing ready.accepted.settled ready.owns other alone in_formals inner.views ready.class.parts_named none_taken refl refl elsewhere away Excused given_words
                   gets_here q x u path_of gets_so scalar_there leads (takes_of plain.0 (Input target) is) (orderly.read q x u path_of is) facts_now (good plain) allowed_there exact,
             )).1
         reads target is (v, never, scalar) allowed_there = absurd never
@@ -617,7 +605,7 @@ module _ (table : Table) (typed : TypedProgram) (effects : Effects) (input : Lis
         abbrev frees_here : Pos → Place → Memory → Outcome
         frees_here q k m = released_with easy q k (words_of s m k) m
 
-        frees_so : (q : Pos) → Releases easy sees seeing ready.accepted.settled ready.owns other alone in_formals views ready.class.parts_named none_taken refl refl (frees_here q) q
+        frees_so : (q : Pos) → Releases easy sees seeing ready.accepted.settled ready.owns other alone in_formals inner.views ready.class.parts_named none_taken refl refl (frees_here q) q
         frees_so q = record {
           at_null = λ k m is. rw is refl;
           at_whole = λ k m v is. rw is refl;
@@ -625,16 +613,16 @@ module _ (table : Table) (typed : TypedProgram) (effects : Effects) (input : Lis
           at_cell = λ k m n is alive. rw (is, alive) refl;
         }
 
-        releases : (target : TypedTree) → p.instr ≡ Release target → IsFine s None (Release target)
+        releases : (target : TypedTree) → inner.p.instr ≡ Release target → IsFine s None (Release target)
             → AllowsAll facts_now (acts_by (Release target)) → AllKeep (is_fixed s sees) (acts_by (Release target)) → Exacts (Release target)
         unfolding waits_in
         releases (Name q x path_of u) is (v, d, (leads, type), access) allowed_there keep =
             let target : TypedTree = Name q x path_of u in
             let access_there : shape_of s.table u ≡ shape.Access d false true = subst (λ z. shape_of s.table z ≡ shape.Access d false true) (sym type) access in
             (release_eased at (Both (Release target)) (raising (Release target)) (λ trap m on. on.0 tt) q x u path_of (
-              no_trap _ _ (sound_released_on easy sees seeing ready.accepted.settled ready.owns other alone in_formals views ready.class.parts_named none_taken refl refl given_words
+              no_trap _ _ (sound_released_on easy sees seeing ready.accepted.settled ready.owns other alone in_formals inner.views ready.class.parts_named none_taken refl refl given_words
                   (frees_here q) q q x u d path_of (frees_so q) access_there leads (takes_of plain.0 (Release target) is) (last_kept (acts_in s path_of) keep) facts_now (good plain) allowed_there),
-              released_on easy sees seeing ready.accepted.settled ready.owns other alone in_formals views ready.class.parts_named none_taken refl refl elsewhere away Excused given_words
+              released_on easy sees seeing ready.accepted.settled ready.owns other alone in_formals inner.views ready.class.parts_named none_taken refl refl elsewhere away Excused given_words
                   (frees_here q) q q x u d path_of (frees_so q) access_there leads (takes_of plain.0 (Release target) is) (last_kept (acts_in s path_of) keep) facts_now (good plain) allowed_there exact
                   q (length (acts_in s path_of))
                   (knows (Release target) is (acts_in s path_of) (record { pos = q; act = act.Free (name_of x path_of) } ∷ []) refl
@@ -647,17 +635,17 @@ module _ (table : Table) (typed : TypedProgram) (effects : Effects) (input : Lis
                 (subst (AllKeep (is_fixed s sees)) (acts_append before (record { pos = q; act = act.Free (name_of x path_of) } ∷ [])) keep)).1.0
         releases target is (v, d, never, access) allowed_there keep = absurd never
 
-        chosen_exact : (b : Bool) (k : ℕ) → ExactAt facts_now [] (if b then steps.goes at state.memory k else steps.raised at ConstraintError state.memory)
+        chosen_exact : (b : Bool) (k : ℕ) → ExactAt facts_now [] (if b then steps.goes at inner.state.memory k else steps.raised at ConstraintError inner.state.memory)
         chosen_exact true k = (exact, tt)
         chosen_exact false k = tt
 
-        chooses : (e : TypedTree) (choices : List TypedCode) → p.instr ≡ Choose e choices → Stays s e
+        chooses : (e : TypedTree) (choices : List TypedCode) → inner.p.instr ≡ Choose e choices → Stays s e
             → AllowsAll facts_now (acts_by (Choose e choices)) → Exacts (Choose e choices)
         chooses e choices is stays allowed_there =
             value_taken e stays (takes_of plain.0 (Choose e choices) is) allowed_there (λ ws m. steps.chosen at (length choices) (steps.choice choices ws) m)
             (λ ws. chosen_exact (nat_lt (steps.choice choices ws) (length choices)) (steps.choice choices ws))
 
-        leaves : (e : TypedTree) → p.instr ≡ LeaveLoop e → FirstStays s e → AllowsAll facts_now (acts_by (LeaveLoop e)) → Exacts (LeaveLoop e)
+        leaves : (e : TypedTree) → inner.p.instr ≡ LeaveLoop e → FirstStays s e → AllowsAll facts_now (acts_by (LeaveLoop e)) → Exacts (LeaveLoop e)
         unfolding acts_in waits_in
         leaves (More e last) is (none, stays) allowed_there =
             let same : acts_in s e ++ acts_in s last ≡ acts_in s e = ap (λ z. acts_in s e ++ acts_in s z) none ∙ append-nil (acts_in s e) in
@@ -672,7 +660,7 @@ module _ (table : Table) (typed : TypedProgram) (effects : Effects) (input : Lis
         abbrev starts_here : ℕ → steps.Bounds → Memory → Outcome
         starts_here x b m = started_with easy x b m
 
-        starts_so : (x : ℕ) → Starts easy sees seeing ready.accepted.settled ready.owns other alone in_formals views ready.class.parts_named none_taken refl refl x (starts_here x)
+        starts_so : (x : ℕ) → Starts easy sees seeing ready.accepted.settled ready.owns other alone in_formals inner.views ready.class.parts_named none_taken refl refl x (starts_here x)
         starts_so x = record {
           fails = λ b. int_le (steps.number b.low) (steps.number b.high)
               && not (fits_type s.table (object_at s x).of b.low && fits_type s.table (object_at s x).of b.high);
@@ -681,18 +669,18 @@ module _ (table : Table) (typed : TypedProgram) (effects : Effects) (input : Lis
           at_turn = λ b m e. rw e refl;
         }
 
-        starts : (x : ℕ) (reversed : Bool) (low high : TypedTree) → p.instr ≡ Start x reversed low high → is_scalar (full s.table (object_at s x).of) ≡ true
+        starts : (x : ℕ) (reversed : Bool) (low high : TypedTree) → inner.p.instr ≡ Start x reversed low high → is_scalar (full s.table (object_at s x).of) ≡ true
             → Stays s low → Stays s high → AllowsAll facts_now (acts_by (Start x reversed low high)) → Exacts (Start x reversed low high)
         starts x reversed low high is scalar stays stays' allowed_there =
             let two = takes_both (waits_in low) (waits_in high) given_words [] (takes_of plain.0 (Start x reversed low high) is) in
             (start_eased at (Both (Start x reversed low high)) (raising (Start x reversed low high)) (λ trap m on. on.0 tt) x low high (
-              no_trap _ _ (sound_started_on easy sees seeing ready.accepted.settled ready.owns other alone in_formals views ready.class.parts_named none_taken refl refl given_words two.0
+              no_trap _ _ (sound_started_on easy sees seeing ready.accepted.settled ready.owns other alone in_formals inner.views ready.class.parts_named none_taken refl refl given_words two.0
                   x (starts_here x) low high (starts_so x) scalar stays stays' two.1 two.2 facts_now (good plain) allowed_there),
-              started_on easy sees seeing ready.accepted.settled ready.owns other alone in_formals views ready.class.parts_named none_taken refl refl elsewhere away Excused given_words two.0
+              started_on easy sees seeing ready.accepted.settled ready.owns other alone in_formals inner.views ready.class.parts_named none_taken refl refl elsewhere away Excused given_words two.0
                   x (starts_here x) low high (starts_so x) scalar stays stays' two.1 two.2 facts_now (good plain) allowed_there exact,
             )).1
 
-        operates : (temporary : ℕ) (e : TypedTree) (op : Option ShortCircuit) → p.instr ≡ Evaluate temporary e op → Stays s e
+        operates : (temporary : ℕ) (e : TypedTree) (op : Option ShortCircuit) → inner.p.instr ≡ Evaluate temporary e op → Stays s e
             → AllowsAll facts_now (acts_by (Evaluate temporary e op)) → Exacts (Evaluate temporary e op)
         operates temporary e (Some o) is stays allowed_there =
             value_taken e stays (takes_of plain.0 (Evaluate temporary e (Some o)) is) allowed_there
@@ -702,18 +690,18 @@ module _ (table : Table) (typed : TypedProgram) (effects : Effects) (input : Lis
             (λ ws m. Goes (behind at (steps.truth_waiting ws ∷ drop 1 (waiting at)) m 0)) (λ ws. (exact, tt))
 
         -- a return with a value, and one without
-        holds_plain : (e : TypedTree) (of : ℕ) → p.instr ≡ Hold (More e NoMore) → named.sub.result ≡ Some of → Source s of e
+        holds_plain : (e : TypedTree) (of : ℕ) → inner.p.instr ≡ Hold (More e NoMore) → inner.named.sub.result ≡ Some of → Source s of e
             → AllowsAll facts_now (acts_by (Hold (More e NoMore))) → AllKeep (is_fixed s sees) (acts_by (Hold (More e NoMore))) → Exacts (Hold (More e NoMore))
         unfolding GivesPlainly waits_in
         holds_plain e of is result source allowed_there keep = elim (bool_cases (is_anonymous (full s.table of))) [
           | inl view ↦ returns_view e of is result source view
           | inr owner ↦ holds_value e of is result owner (λ type_there allows keeps.
-              source_exact easy sees seeing ready.accepted.settled ready.owns other alone in_formals views ready.class.parts_named none_taken refl refl elsewhere away Excused given_words of e type_there source (subst (TakesScalars s) is plain.1).0
+              source_exact easy sees seeing ready.accepted.settled ready.owns other alone in_formals inner.views ready.class.parts_named none_taken refl refl elsewhere away Excused given_words of e type_there source (subst (TakesScalars s) is plain.1).0
               (takes_as (taken (Hold (More e NoMore))) (waits_in e) given_words [] (nothing_more (waits_in e)) (takes_of plain.0 (Hold (More e NoMore)) is))
               facts_now (good plain) allows keeps exact) allowed_there keep
         ]
 
-        returns : (v : TypedTree) (r : Option ℕ) → p.instr ≡ Hold v → named.sub.result ≡ r → Returns s r v → AllowsAll facts_now (acts_by (Hold v))
+        returns : (v : TypedTree) (r : Option ℕ) → inner.p.instr ≡ Hold v → inner.named.sub.result ≡ r → Returns s r v → AllowsAll facts_now (acts_by (Hold v))
             → AllKeep (is_fixed s sees) (acts_by (Hold v)) → Exacts (Hold v)
         unfolding acts_in waits_in
         returns v None is result none allowed_there keep =
@@ -724,7 +712,7 @@ module _ (table : Table) (typed : TypedProgram) (effects : Effects) (input : Lis
             (holds_plain e of (is ∙ ap Hold same) result source (subst (λ z. AllowsAll facts_now (acts_by (Hold z))) same allowed_there)
             (subst (λ z. AllKeep (is_fixed s sees) (acts_by (Hold z))) same keep))
 
-        each_instruction : (i : Instruction) → p.instr ≡ i → (i ≡ Finish → ⊥) → IsFine s named.sub.result i → AllowsAll facts_now (acts_by i)
+        each_instruction : (i : Instruction) → inner.p.instr ≡ i → (i ≡ Finish → ⊥) → IsFine s inner.named.sub.result i → AllowsAll facts_now (acts_by i)
             → AllKeep (is_fixed s sees) (acts_by i) → Exacts i
         each_instruction Skip is end text allowed_there keep = skips
         each_instruction (Declare x v) is end text allowed_there keep = declares x v is text allowed_there keep
@@ -738,35 +726,35 @@ module _ (table : Table) (typed : TypedProgram) (effects : Effects) (input : Lis
         each_instruction (Choose e choices) is end stays allowed_there keep = chooses e choices is stays allowed_there
         each_instruction (Start x reversed low high) is end (scalar, stays, stays') allowed_there keep = starts x reversed low high is scalar stays stays' allowed_there
         each_instruction (Next x reversed low high) is end scalar allowed_there keep =
-            turns (innermost.none_takes table typed effects input ready state top below more_frames rest named p frames deep stages running awaiting of_sub at_point path views viewed_before kept scope holds placed_before above (Next x reversed low high) is refl) x reversed low high scalar
+            turns (innermost.none_takes table typed effects input ready inner (Next x reversed low high) is refl) x reversed low high scalar
         each_instruction (Evaluate temporary e op) is end stays allowed_there keep = operates temporary e op is stays allowed_there
         each_instruction (LeaveLoop e) is end text allowed_there keep = leaves e is text allowed_there
-        each_instruction (Hold v) is end text allowed_there keep = returns v named.sub.result is refl text allowed_there keep
+        each_instruction (Hold v) is end text allowed_there keep = returns v inner.named.sub.result is refl text allowed_there keep
         each_instruction (EndScope x) is end text allowed_there keep = absurd (going x is)
         each_instruction Finish is end text allowed_there keep = absurd (end refl)
         each_instruction Fall is end text allowed_there keep = tt
 
-      pub allowed_there : (p.instr ≡ Finish → ⊥) → AllowsAll facts_now (acts_by p.instr)
-      allowed_there end = innermost.allowed_now table typed effects input ready state top below more_frames rest named p frames deep stages running awaiting of_sub at_point path views viewed_before kept scope holds placed_before above (each.spares table typed effects input ready state top below more_frames rest named p frames deep stages running awaiting of_sub at_point path views viewed_before kept scope holds placed_before above going no_calls end) (standing.allowed table typed effects input ready state top older outer named p frames of_sub at_point path no_calls)
+      pub allowed_there : (inner.p.instr ≡ Finish → ⊥) → AllowsAll facts_now (acts_by inner.p.instr)
+      allowed_there end = innermost.allowed_now table typed effects input ready inner (each.spares table typed effects input ready inner going no_calls end) (standing.allowed table typed effects input ready inner.state inner.top older outer inner.named inner.p inner.frames inner.of_sub inner.at_point inner.path no_calls)
 
-      instruction_exact : (p.instr ≡ Finish → ⊥) → Exacts p.instr
-      instruction_exact end = elim (innermost.taken_there table typed effects input ready state top below more_frames rest named p frames deep stages running awaiting of_sub at_point path views viewed_before kept scope holds placed_before above no_calls) [
-        | inl plain ↦ each_instruction plain p.instr refl end fine_here (allowed_there end) (standing.keeps_there table typed effects input ready state top older outer named p frames of_sub at_point)
-        | inr (inl taken_alone) ↦ alone_exact taken_alone end (allowed_there end) (standing.keeps_there table typed effects input ready state top older outer named p frames of_sub at_point)
-        | inr (inr taken_within) ↦ within_value.within_exact table typed effects input ready state top below more_frames rest named p frames deep stages running awaiting of_sub at_point path views viewed_before kept scope holds placed_before above exact_before going no_calls taken_within end (allowed_there end)
-            (standing.keeps_there table typed effects input ready state top older outer named p frames of_sub at_point)
+      instruction_exact : (inner.p.instr ≡ Finish → ⊥) → Exacts inner.p.instr
+      instruction_exact end = elim (innermost.taken_there table typed effects input ready inner no_calls) [
+        | inl plain ↦ each_instruction plain inner.p.instr refl end fine_here (allowed_there end) (standing.keeps_there table typed effects input ready inner.state inner.top older outer inner.named inner.p inner.frames inner.of_sub inner.at_point)
+        | inr (inl taken_alone) ↦ alone_exact taken_alone end (allowed_there end) (standing.keeps_there table typed effects input ready inner.state inner.top older outer inner.named inner.p inner.frames inner.of_sub inner.at_point)
+        | inr (inr taken_within) ↦ within_value.within_exact table typed effects input ready inner exact_before going no_calls taken_within end (allowed_there end)
+            (standing.keeps_there table typed effects input ready inner.state inner.top older outer inner.named inner.p inner.frames inner.of_sub inner.at_point)
       ]
 
       -- Where the step goes on, facts are exact after its acts; and of the leak checks of the point none fails that is excused.
-      pub main_exact : (p.instr ≡ Finish → ⊥) → ExactAt (after (acts_by p.instr) facts_now) at.point.leaks (step program input state)
+      pub main_exact : (inner.p.instr ≡ Finish → ⊥) → ExactAt (after (acts_by inner.p.instr) facts_now) at.point.leaks (step program input inner.state)
       main_exact end =
-          subst (λ z. ExactAt (after (acts_by p.instr) facts_now) z (step program input state)) (leaks_there no_calls)
-          (subst (ExactAt (after (acts_by p.instr) facts_now) (spots_by p.instr)) (sym (standing.step_is table typed effects input ready state top older outer named p frames of_sub at_point))
+          subst (λ z. ExactAt (after (acts_by inner.p.instr) facts_now) z (step program input inner.state)) (leaks_there no_calls)
+          (subst (ExactAt (after (acts_by inner.p.instr) facts_now) (spots_by inner.p.instr)) (sym (standing.step_is table typed effects input ready inner.state inner.top older outer inner.named inner.p inner.frames inner.of_sub inner.at_point))
           (instruction_exact end))
 
-      pub checks_hold : (p.instr ≡ Finish → ⊥) → NoneFails Excused at.point.leaks (checks_of (step program input state))
-      checks_hold end = its_checks (step program input state) (main_exact end)
+      pub checks_hold : (inner.p.instr ≡ Finish → ⊥) → NoneFails Excused at.point.leaks (checks_of (step program input inner.state))
+      checks_hold end = its_checks (step program input inner.state) (main_exact end)
         where
-          its_checks : (outcome : Outcome) → ExactAt (after (acts_by p.instr) facts_now) at.point.leaks outcome → NoneFails Excused at.point.leaks (checks_of outcome)
+          its_checks : (outcome : Outcome) → ExactAt (after (acts_by inner.p.instr) facts_now) at.point.leaks outcome → NoneFails Excused at.point.leaks (checks_of outcome)
           its_checks (Goes after_step) on = on.1
           its_checks (Ends how after_step) on = on

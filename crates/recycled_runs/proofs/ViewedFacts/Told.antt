@@ -19,33 +19,30 @@ use Rattle.flow_paths.specs.declared.point.LeakSpot.{LeakSpot}
 use Rattle.flow_paths.specs.Instructions.{Instruction, Declare, Assign, Hold, EndScope, Finish}
 use Rattle.flow_paths.specs.Objects.{Typing, object_at, is_anonymous, is_package_object, is_observer, view_of, is_variable, is_borrowing, is_observing, is_borrower}
 use Rattle.flow_paths.specs.Names.{waiting as waits_in, name_of, selectors}
-use Rattle.flow_paths.specs.Points.{NamedPoint}
-use Rattle.flow_paths.specs.Laid.{FlowProgram, NamedSub, number_in, flow_sub, typing_of, flow_typing, flow_program, flow_named}
-use Rattle.flow_paths.specs.Paths.{PathPoint, ControlPath, facts_before}
+use Rattle.flow_paths.specs.Laid.{FlowProgram, number_in, flow_sub, typing_of, flow_typing, flow_program}
+use Rattle.flow_paths.specs.Paths.{PathPoint, facts_before}
 use Rattle.flow_paths.specs.Effects.{path_points}
 use Rattle.flow_paths.specs.LeakPlan.{IsExcused}
 use Rattle.flow_paths.specs.Scopes.{taken}
 use Rattle.machine.specs.Memory.{Memory, stored}
 use Rattle.machine.specs.Words as machine
-use Rattle.machine.specs.States.{Frame, State, Outcome, Goes, Ends, sub_of}
+use Rattle.machine.specs.States.{Frame, State, Outcome, Goes, Ends}
 use Rattle.machine.specs.Step.{Turn, start}
-use Rattle.machine.specs.Owners.{waiting_in}
 use Rattle.machine.specs.Run.{step}
 use Rattle.soundness.specs.OwnedWays.Ways.{Step, name_of as way_name, Way, Told, after, AllowsAll, Allows}
 use Rattle.soundness.specs.Seen.{home, seen, IsNear, is_view_formal}
-use Rattle.soundness.specs.Typed.{Kept}
-use Rattle.soundness.specs.Sound.{Stage, facts_of, AreStages, IsRunnable, IsNoCall, InScope, IsNamedSub, IsAtPoint, view_of as view_here}
+use Rattle.soundness.specs.Sound.{Stage, facts_of, IsNoCall, IsAtPoint, view_of as view_here}
 use Rattle.soundness.specs.TypedLaws.Needed.{IsFine, Leads, Source}
 use Rattle.soundness.proofs.Contents.{bool_cases}
 use Rattle.soundness.proofs.Taking.{Takes, takes_as, nothing_more}
 use Rattle.soundness.proofs.Eased.{eased}
 use Rattle.soundness.proofs.Inherited.{after_splits}
 use Rattle.soundness.proofs.Around.{IsFar}
-use Rattle.soundness.specs.OwnedLoans.Views.{Around, known_gone, Views, Viewed, ViewedAlone}
+use Rattle.soundness.specs.OwnedLoans.Views.{Around, Views, Viewed}
 use Rattle.soundness.proofs.ViewedSoundness.ViewKinds.{true_false, free_formal, plain_named}
 use Rattle.soundness.proofs.ViewedSoundness.Outcomes.{IsGood, assigned_acts}
-use Rattle.viewed_steps.specs.Sound.{IsBeyond, IsResting, HoldsAt, ArePlaced, NoneAbove, ViewStage, stages_of, GoneElsewhere, AreWaiting, IsStoredAt, AreTurned, HasTraversals}
-use Rattle.viewed_steps.specs.Awaited.{AreAwaited, lasting_of, AreScalar, temporaries_of, TakesScalars}
+use Rattle.viewed_steps.specs.Sound.{ViewStage, GoneElsewhere, IsStoredAt, AreTurned}
+use Rattle.viewed_steps.specs.Awaited.{AreScalar, temporaries_of, TakesScalars}
 use Rattle.viewed_steps.specs.Ready.{AreOrderly, IsReady}
 use Rattle.viewed_steps.proofs.Waiting.{StandsBetween, beside_them, handed}
 use Rattle.viewed_steps.proofs.Standing as standing
@@ -68,6 +65,7 @@ use Rattle.viewed_steps.proofs.Ended.{view_kinds}
 use Rattle.viewed_steps.specs.Seeing.{sees_in}
 use Rattle.viewed_steps.proofs.Sees.{sees_seeing}
 use Rattle.recycled_runs.proofs.ViewedFacts.Constructors.{is_declare_instruction, is_goes_outcome, is_hold_instruction}
+use Rattle.viewed_steps.proofs.InnerFrame.{InnerFrame}
 
 assigned_same : {a b c d : TypedTree} → Assign a b ≡ Assign c d → b ≡ d
 assigned_same e = cc
@@ -104,130 +102,118 @@ module _ (table : Table) (typed : TypedProgram) (effects : Effects) (input : Lis
   unmoved_stage = packages.unmoved_stage table typed effects input ready
 
   -- a point of a procedure, in a state that is sound and whose facts are exact
-  module _ (state : State) (top : Stage) (below : ViewStage) (more_frames : List ViewStage) (rest : List Frame) (named : NamedSub) (p : NamedPoint)
-      (frames : state.frames ≡ top.frame ∷ (below.stage.frame ∷ rest)) (deep : top.depth ≡ suc (length rest))
-      (stages : AreStages (stages_of (below ∷ more_frames)) (below.stage.frame ∷ rest))
-      (running : IsRunnable table typed top.frame.sub × IsResting s top × AreWaiting table typed effects state top.frame.sub top.frame.returns (below ∷ more_frames))
-      (awaiting : AreAwaited table typed None (top ∷ stages_of (below ∷ more_frames)))
-      (of_sub : IsNamedSub (flow_named table typed) top.frame.sub named) (at_point : IsAtPoint named.points top.frame.next p)
-      (path : ControlPath (path_points program effects (sub_of program top.frame.sub)) top.before top.frame.next) (views : Views)
-      (viewed_before : ViewedAlone (home s (suc (length rest))) sees (known_gone (home s (suc (length rest))) (GoneElsewhere program effects (below ∷ more_frames))) views
-      (view_here s state) (facts_of program effects top))
-      (kept : Kept s state.memory (waiting_in state)) (scope : InScope s state.memory (suc (length rest)) (lasting_of s p.scope)) (holds : HoldsAt s sees (suc (length rest)) views state.memory p)
-      (placed_before : ArePlaced program (suc (length rest)) (facts_of program effects top) views p.scope × IsBeyond program effects (suc (length rest)) views (below ∷ more_frames)) (above : NoneAbove s (suc (length rest)) state.memory
-      × HasTraversals table typed (view_here s state) (record { stage = top; views = views; cells = [] } ∷ (below ∷ more_frames)))
-      (exact_before : Told (seen s state.memory [] []) (IsDefiniteOf program effects (record { stage = top; views = views; cells = [] } ∷ (below ∷ more_frames)))) where
+  module _ (inner : InnerFrame table typed effects) (exact_before : Told (seen s inner.state.memory [] []) (IsDefiniteOf program effects (record { stage = inner.top; views = inner.views; cells = [] } ∷ (inner.below ∷ inner.more_frames)))) where
     abbrev outer : List Frame
-    outer = below.stage.frame ∷ rest
+    outer = inner.below.stage.frame ∷ inner.rest
 
     abbrev older : List ViewStage
-    older = below ∷ more_frames
+    older = inner.below ∷ inner.more_frames
 
     abbrev depth : ℕ
-    depth = suc (length rest)
+    depth = suc (length inner.rest)
 
-    abbrev between : (g : ViewStage) → Has (below ∷ more_frames) g → StandsBetween table typed effects unmoved_stage local state (suc (length rest)) (below ∷ more_frames) g
-    between = innermost.between table typed effects input ready state top below more_frames rest named p frames deep stages running awaiting of_sub at_point path views viewed_before kept scope holds placed_before above
+    abbrev between : (g : ViewStage) → Has (inner.below ∷ inner.more_frames) g → StandsBetween table typed effects unmoved_stage local inner.state (suc (length inner.rest)) (inner.below ∷ inner.more_frames) g
+    between = innermost.between table typed effects input ready inner
 
-    abbrev other : Around (home s (suc (length rest)))
-    other = beside_them table typed effects unmoved_stage local state (suc (length rest)) (below ∷ more_frames) between
+    abbrev other : Around (home s (suc (length inner.rest)))
+    other = beside_them table typed effects unmoved_stage local inner.state (suc (length inner.rest)) (inner.below ∷ inner.more_frames) between
 
-    abbrev alone : (w : Way) → IsNear (suc (length rest)) w → IsFar (suc (length rest)) (GoneElsewhere program effects (below ∷ more_frames)) w → ⊥
-    alone = innermost.alone table typed effects input ready state top below more_frames rest named p frames deep stages running awaiting of_sub at_point path views viewed_before kept scope holds placed_before above
+    abbrev alone : (w : Way) → IsNear (suc (length inner.rest)) w → IsFar (suc (length inner.rest)) (GoneElsewhere program effects (inner.below ∷ inner.more_frames)) w → ⊥
+    alone = innermost.alone table typed effects input ready inner
 
     abbrev elsewhere : Way → Type 0
-    elsewhere = moved_elsewhere table typed effects unmoved_stage local state (suc (length rest)) (below ∷ more_frames) between views (innermost.own_views table typed effects input ready state top below more_frames rest named p frames deep stages running awaiting of_sub at_point path views viewed_before kept scope holds placed_before above)
+    elsewhere = moved_elsewhere table typed effects unmoved_stage local inner.state (suc (length inner.rest)) (inner.below ∷ inner.more_frames) between inner.views (innermost.own_views table typed effects input ready inner)
 
-    abbrev away : (w : Way) → elsewhere w → IsAway s (suc (length rest)) other w
-    away = here.away table typed effects input ready state top below more_frames rest named p frames deep stages running awaiting of_sub at_point path views viewed_before kept scope holds placed_before above exact_before
+    abbrev away : (w : Way) → elsewhere w → IsAway s (suc (length inner.rest)) other w
+    away = here.away table typed effects input ready inner exact_before
 
     abbrev at : Turn
-    at = standing.t table typed effects input ready state top older outer named p frames of_sub at_point
+    at = standing.t table typed effects input ready inner.state inner.top older outer inner.named inner.p inner.frames inner.of_sub inner.at_point
 
     abbrev points : List PathPoint
-    points = path_points program effects (flow_sub own named)
+    points = path_points program effects (flow_sub own inner.named)
 
     abbrev own_facts : List Fact
-    own_facts = standing.facts table typed effects input ready state top older outer named p frames of_sub at_point path
+    own_facts = standing.facts table typed effects input ready inner.state inner.top older outer inner.named inner.p inner.frames inner.of_sub inner.at_point inner.path
 
     abbrev around : List Fact
-    around = handed table typed effects unmoved_stage local state depth older between
+    around = handed table typed effects unmoved_stage local inner.state depth older between
 
     abbrev facts_now : List Fact
     facts_now = own_facts ++ around
 
-    abbrev own_views : (x : ℕ) (w : Way) → views.way x ≡ Some w → is_package_object s x ≡ false
-    own_views = innermost.own_views table typed effects input ready state top below more_frames rest named p frames deep stages running awaiting of_sub at_point path views viewed_before kept scope holds placed_before above
+    abbrev own_views : (x : ℕ) (w : Way) → inner.views.way x ≡ Some w → is_package_object s x ≡ false
+    own_views = innermost.own_views table typed effects input ready inner
 
-    abbrev viewed : Viewed (home s depth) sees other views (view_here s state) facts_now
-    viewed = here.viewed table typed effects input ready state top below more_frames rest named p frames deep stages running awaiting of_sub at_point path views viewed_before kept scope holds placed_before above exact_before
+    abbrev viewed : Viewed (home s depth) sees other inner.views (view_here s inner.state) facts_now
+    viewed = here.viewed table typed effects input ready inner exact_before
 
     abbrev home_frame : (x : ℕ) → is_package_object s x ≡ false → home s depth x ≡ depth
-    home_frame = innermost.home_frame table typed effects input ready state top below more_frames rest named p frames deep stages running awaiting of_sub at_point path views viewed_before kept scope holds placed_before above
+    home_frame = innermost.home_frame table typed effects input ready inner
 
-    abbrev orderly : AreOrderly program p (λ q. (n : ℕ) × Has (map (number_in named.points) p.next) n × IsAtPoint named.points n q)
-    orderly = innermost.orderly table typed effects input ready state top below more_frames rest named p frames deep stages running awaiting of_sub at_point path views viewed_before kept scope holds placed_before above
+    abbrev orderly : AreOrderly program inner.p (λ q. (n : ℕ) × Has (map (number_in inner.named.points) inner.p.next) n × IsAtPoint inner.named.points n q)
+    orderly = innermost.orderly table typed effects input ready inner
 
     abbrev none_taken : ℕ → ℕ → Type 0
     none_taken a b = ⊥
 
-    abbrev exact : IsExact s (home s depth) views elsewhere state.memory facts_now
-    exact = here.exact table typed effects input ready state top below more_frames rest named p frames deep stages running awaiting of_sub at_point path views viewed_before kept scope holds placed_before above exact_before
+    abbrev exact : IsExact s (home s depth) inner.views elsewhere inner.state.memory facts_now
+    exact = here.exact table typed effects input ready inner exact_before
 
     abbrev Excused : LeakSpot → Type 0
-    Excused = IsExcused points top.frame.next
+    Excused = IsExcused points inner.top.frame.next
 
     abbrev placed_by : Instruction → List Placed
-    placed_by i = standing.acts_by table typed effects input ready state top older outer named p frames of_sub at_point s i
+    placed_by i = standing.acts_by table typed effects input ready inner.state inner.top older outer inner.named inner.p inner.frames inner.of_sub inner.at_point s i
 
     abbrev acts_by : Instruction → List Act
-    acts_by i = standing.acts_here table typed effects input ready state top older outer named p frames of_sub at_point i
+    acts_by i = standing.acts_here table typed effects input ready inner.state inner.top older outer inner.named inner.p inner.frames inner.of_sub inner.at_point i
 
     abbrev given_words : List (List machine.Word)
     given_words = (start at).waits
 
     abbrev Plain : Type 0
-    Plain = AreScalar s (temporaries_of s (take (taken p.instr) p.scope))
+    Plain = AreScalar s (temporaries_of s (take (taken inner.p.instr) inner.p.scope))
 
     abbrev Plainly : Type 0
-    Plainly = Plain × TakesScalars s p.instr
+    Plainly = Plain × TakesScalars s inner.p.instr
 
-    abbrev takes_of : Plain → (i : Instruction) → p.instr ≡ i → Takes (taken i) given_words []
-    takes_of = innermost.takes_of table typed effects input ready state top below more_frames rest named p frames deep stages running awaiting of_sub at_point path views viewed_before kept scope holds placed_before above
+    abbrev takes_of : Plain → (i : Instruction) → inner.p.instr ≡ i → Takes (taken i) given_words []
+    takes_of = innermost.takes_of table typed effects input ready inner
 
     abbrev easy : Turn
     easy = eased at
 
-    abbrev fine_here : IsFine s named.sub.result p.instr
-    fine_here = here.fine_here table typed effects input ready state top below more_frames rest named p frames deep stages running awaiting of_sub at_point path views viewed_before kept scope holds placed_before above exact_before
+    abbrev fine_here : IsFine s inner.named.sub.result inner.p.instr
+    fine_here = here.fine_here table typed effects input ready inner exact_before
 
-    abbrev all_told : (next : Memory) (later : Views) → ((x : ℕ) (w : Way) → later.way x ≡ Some w → is_view s x ≡ true) → IsNoCall p.instr
-        → IsExact s (home s depth) later elsewhere next (after (acts_by p.instr) facts_now)
-        → Told (seen s next [] []) (IsDefiniteHere table typed effects unmoved_stage local depth later (facts_before points (top.frame.next ∷ top.before)) older)
-    all_told = here.all_told table typed effects input ready state top below more_frames rest named p frames deep stages running awaiting of_sub at_point path views viewed_before kept scope holds placed_before above exact_before
+    abbrev all_told : (next : Memory) (later : Views) → ((x : ℕ) (w : Way) → later.way x ≡ Some w → is_view s x ≡ true) → IsNoCall inner.p.instr
+        → IsExact s (home s depth) later elsewhere next (after (acts_by inner.p.instr) facts_now)
+        → Told (seen s next [] []) (IsDefiniteHere table typed effects unmoved_stage local depth later (facts_before points (inner.top.frame.next ∷ inner.top.before)) older)
+    all_told = here.all_told table typed effects input ready inner exact_before
 
     -- ---- an instruction that isn't the end of a scope
 
-    module _ (going : (x : ℕ) → p.instr ≡ EndScope x → ⊥) (no_calls : IsNoCall p.instr) where
+    module _ (going : (x : ℕ) → inner.p.instr ≡ EndScope x → ⊥) (no_calls : IsNoCall inner.p.instr) where
       abbrev ExactAt : List Fact → List LeakSpot → Outcome → Type 0
-      ExactAt facts spots outcome = ExactOn easy sees seeing ready.accepted.settled ready.owns other alone in_formals views ready.class.parts_named none_taken refl refl elsewhere away Excused facts spots outcome
+      ExactAt facts spots outcome = ExactOn easy sees seeing ready.accepted.settled ready.owns other alone in_formals inner.views ready.class.parts_named none_taken refl refl elsewhere away Excused facts spots outcome
 
-      abbrev good : Plainly → IsGood easy sees seeing ready.accepted.settled ready.owns other alone views ready.class.parts_named none_taken refl refl views facts_now easy.state
-      good = stepping.good table typed effects input ready state top below more_frames rest named p frames deep stages running awaiting of_sub at_point path views viewed_before kept scope holds placed_before above exact_before going no_calls
+      abbrev good : Plainly → IsGood easy sees seeing ready.accepted.settled ready.owns other alone inner.views ready.class.parts_named none_taken refl refl inner.views facts_now easy.state
+      good = stepping.good table typed effects input ready inner exact_before going no_calls
 
-      abbrev allowed_there : (p.instr ≡ Finish → ⊥) → AllowsAll facts_now (acts_by p.instr)
-      allowed_there = stepping.allowed_there table typed effects input ready state top below more_frames rest named p frames deep stages running awaiting of_sub at_point path views viewed_before kept scope holds placed_before above exact_before going no_calls
+      abbrev allowed_there : (inner.p.instr ≡ Finish → ⊥) → AllowsAll facts_now (acts_by inner.p.instr)
+      allowed_there = stepping.allowed_there table typed effects input ready inner exact_before going no_calls
 
-      abbrev main_exact : (p.instr ≡ Finish → ⊥) → ExactAt (after (acts_by p.instr) facts_now) at.point.leaks (step program input state)
-      main_exact = stepping.main_exact table typed effects input ready state top below more_frames rest named p frames deep stages running awaiting of_sub at_point path views viewed_before kept scope holds placed_before above exact_before going no_calls
+      abbrev main_exact : (inner.p.instr ≡ Finish → ⊥) → ExactAt (after (acts_by inner.p.instr) facts_now) at.point.leaks (step program input inner.state)
+      main_exact = stepping.main_exact table typed effects input ready inner exact_before going no_calls
 
       -- ---- facts of all frames
 
       -- what a view gets from a name isn't what a function gave
-      plain_there : (q : Pos) (x u : ℕ) (e : TypedTree) (k : Pos) (z : ℕ) (path_of : TypedTree) (o : ℕ) → e ≡ Name k z path_of o → p.instr ≡ Assign (Name q x NoMore u) e
+      plain_there : (q : Pos) (x u : ℕ) (e : TypedTree) (k : Pos) (z : ℕ) (path_of : TypedTree) (o : ℕ) → e ≡ Name k z path_of o → inner.p.instr ≡ Assign (Name q x NoMore u) e
           → is_anonymous (full s.table u) ≡ true → Plainly
       plain_there q x u e k z path_of o named_so is view =
-          elim (innermost.taken_there table typed effects input ready state top below more_frames rest named p frames deep stages running awaiting of_sub at_point path views viewed_before kept scope holds placed_before above no_calls) [
+          elim (innermost.taken_there table typed effects input ready inner no_calls) [
             | inl plain ↦ plain
             | inr (inr together) ↦ absurd (elim together.1 [
               | inl (y, other_instr, owner) ↦ (let never : Assign (Name q x NoMore u) e ≡ Declare y (More together.0 NoMore) = sym is ∙ other_instr in absurd (false≢true (ap is_declare_instruction never)))
@@ -246,11 +232,11 @@ module _ (table : Table) (typed : TypedProgram) (effects : Effects) (input : Lis
           ]
 
       -- no moved name is rooted in a view that is declared or assigned
-      assigned_unmoved : (q : Pos) (x u : ℕ) (e : TypedTree) → p.instr ≡ Assign (Name q x NoMore u) e → (p.instr ≡ Finish → ⊥)
+      assigned_unmoved : (q : Pos) (x u : ℕ) (e : TypedTree) → inner.p.instr ≡ Assign (Name q x NoMore u) e → (inner.p.instr ≡ Finish → ⊥)
           → is_anonymous (view_of s x) ≡ true → is_observer s x ≡ false
-          → (n : PlaceName) → Has (after (acts_by p.instr) facts_now) (Moved n) → n.root ≡ x → ⊥
+          → (n : PlaceName) → Has (after (acts_by inner.p.instr) facts_now) (Moved n) → n.root ≡ x → ⊥
       unfolding Leads waits_in
-      assigned_unmoved q x u e is end view borrows n has root = by_fine (subst (IsFine s named.sub.result) is fine_here)
+      assigned_unmoved q x u e is end view borrows n has root = by_fine (subst (IsFine s inner.named.sub.result) is fine_here)
         where
           by_fine : IsFine s None (Assign (Name q x NoMore u) e) → ⊥
           by_fine (v, (leads, type), source) =
@@ -264,31 +250,31 @@ module _ (table : Table) (typed : TypedProgram) (effects : Effects) (input : Lis
               from_call : (a : Pos) (y w : ℕ) (path_of : TypedTree) (r : Pos) (k : ℕ) (more : TypedTree) → e ≡ call_tree r k a y path_of w more → (object_at s x).of ≡ u → ⊥
               from_call a y w path_of r k more here_is of =
                   let call_there : TypedTree = call_tree r k a y path_of w more in
-                  let instr_is : p.instr ≡ Assign (Name q x NoMore (object_at s x).of) call_there =
+                  let instr_is : inner.p.instr ≡ Assign (Name q x NoMore (object_at s x).of) call_there =
                   is ∙ (λ j. Assign (Name q x NoMore (sym of j)) (here_is j)) in
                   let one : is_borrower s x ≡ true =
                   view_kinds (is_variable (object_at s x).kind) (is_borrowing (view_of s x)) (is_observing (view_of s x)) view (orderly.variables x (inl (inr (q, u, e, is))) view) borrows in
-                  let same = reborrowed_acts s p.pos q r a k x y w (object_at s x).of path_of more one in
+                  let same = reborrowed_acts s inner.p.pos q r a k x y w (object_at s x).of path_of more one in
                   let mine : Allows facts_now (act.Reborrow x (name_of y path_of)) =
                   (subst (λ z. AllowsAll facts_now (acts z)) same (subst (λ i. AllowsAll facts_now (acts_by i)) instr_is (allowed_there end))).0 in
-                  given_unmoved (home s depth) sees other views (view_here s state) facts_now viewed x (name_of y path_of) mine n
+                  given_unmoved (home s depth) sees other inner.views (view_here s inner.state) facts_now viewed x (name_of y path_of) mine n
                   (subst (λ z. Has (after (acts z) facts_now) (Moved n)) same (subst (λ i. Has (after (acts_by i) facts_now) (Moved n)) instr_is has)) root
 
               from_name : Plainly → (r : Pos) (y w : ℕ) (path_of : TypedTree) → e ≡ Name r y path_of w → y ≡ x → Source s (object_at s x).of e → (object_at s x).of ≡ u → ⊥
               from_name plain r y w path_of here_is itself source_there of =
-                  let instr_is : p.instr ≡ Assign (Name q x NoMore (object_at s x).of) (Name r y path_of w) =
+                  let instr_is : inner.p.instr ≡ Assign (Name q x NoMore (object_at s x).of) (Name r y path_of w) =
                   is ∙ (λ j. Assign (Name q x NoMore (sym of j)) (here_is j)) in
                   let takes : Takes (waits_in path_of) given_words [] =
                   takes_as (taken (Assign (Name q x NoMore (object_at s x).of) (Name r y path_of w))) (waits_in path_of) given_words [] (nothing_more (waits_in path_of))
                   (takes_of plain.0 (Assign (Name q x NoMore (object_at s x).of) (Name r y path_of w)) instr_is) in
-                  reborrow_unmoved easy sees seeing ready.accepted.settled ready.owns other alone in_formals views ready.class.parts_named none_taken refl refl elsewhere away Excused given_words p.pos q r x y w path_of view (orderly.variables x (inl (inr (q, u, e, is))) view) (home_frame x (local x (anonymous_view s x view)))
+                  reborrow_unmoved easy sees seeing ready.accepted.settled ready.owns other alone in_formals inner.views ready.class.parts_named none_taken refl refl elsewhere away Excused given_words inner.p.pos q r x y w path_of view (orderly.variables x (inl (inr (q, u, e, is))) view) (home_frame x (local x (anonymous_view s x view)))
                   (subst (Source s (object_at s x).of) here_is source_there) takes borrows itself facts_now (good plain)
                   (subst (λ i. AllowsAll facts_now (acts_by i)) instr_is (allowed_there end)) n (subst (λ i. Has (after (acts_by i) facts_now) (Moved n)) instr_is has) root
 
       -- a formal that owns nothing isn't assigned itself
-      formal_kept : (q : Pos) (x u : ℕ) (e : TypedTree) → p.instr ≡ Assign (Name q x NoMore u) e → (p.instr ≡ Finish → ⊥) → is_view_formal s x ≡ true → ⊥
+      formal_kept : (q : Pos) (x u : ℕ) (e : TypedTree) → inner.p.instr ≡ Assign (Name q x NoMore u) e → (inner.p.instr ≡ Finish → ⊥) → is_view_formal s x ≡ true → ⊥
       unfolding Leads selectors
-      formal_kept q x u e is end formal = by_fine (subst (IsFine s named.sub.result) is fine_here)
+      formal_kept q x u e is end formal = by_fine (subst (IsFine s inner.named.sub.result) is fine_here)
         where
           owner : is_anonymous (view_of s x) ≡ false
           owner = elim (bool_cases (is_anonymous (view_of s x))) [ inl anonymous ↦ absurd ((in_formals x formal).1 anonymous) | inr none ↦ none ]
@@ -300,19 +286,19 @@ module _ (table : Table) (typed : TypedProgram) (effects : Effects) (input : Lis
           by_fine (v, (leads, type), source) =
               let named_type : IsNamed s.table u = plain_named s.table u (ap (λ z. is_anonymous (full s.table z)) (sym leads) ∙ owner) in
               let keep : AllKeep (is_fixed s sees) (acts_by (Assign target e)) =
-              subst (λ i. AllKeep (is_fixed s sees) (acts_by i)) is (standing.keeps_there table typed effects input ready state top older outer named p frames of_sub at_point) in
-              let stores = subst (λ z. AllKeep (is_fixed s sees) (acts z)) (assigned_acts s p.pos x u target NoMore e named_type leads) keep in
+              subst (λ i. AllKeep (is_fixed s sees) (acts_by i)) is (standing.keeps_there table typed effects input ready inner.state inner.top older outer inner.named inner.p inner.frames inner.of_sub inner.at_point) in
+              let stores = subst (λ z. AllKeep (is_fixed s sees) (acts z)) (assigned_acts s inner.p.pos x u target NoMore e named_type leads) keep in
               let last = keep_both (is_fixed s sees) (acts (before_write s target e)) (act.Write (name_of x NoMore) ∷ [])
               (subst (AllKeep (is_fixed s sees)) (acts_append (before_write s target e) (record { pos = q; act = act.Write (name_of x NoMore) } ∷ [])) stores) in
               free_formal s sees (name_of x NoMore) (last.1).0 formal refl
 
-      stored_unmoved : (p.instr ≡ Finish → ⊥) → ((n : PlaceName) → Has (after (acts_by p.instr) own_facts) (Moved n) → sees n.root ≡ false)
-          → (x : ℕ) → is_view s x ≡ true → IsStoredAt p.instr x → (n : PlaceName) → Has (after (acts_by p.instr) facts_now) (Moved n) → n.root ≡ x → ⊥
+      stored_unmoved : (inner.p.instr ≡ Finish → ⊥) → ((n : PlaceName) → Has (after (acts_by inner.p.instr) own_facts) (Moved n) → sees n.root ≡ false)
+          → (x : ℕ) → is_view s x ≡ true → IsStoredAt inner.p.instr x → (n : PlaceName) → Has (after (acts_by inner.p.instr) facts_now) (Moved n) → n.root ≡ x → ⊥
       stored_unmoved end clear x view stored n has root =
-          elim (after_splits (acts_by p.instr) facts_now own_facts around (innermost.from_both table typed effects input ready state top below more_frames rest named p frames deep stages running awaiting of_sub at_point path views viewed_before kept scope holds placed_before above) (Moved n) has) [
-            | inr there ↦ innermost.not_handed table typed effects input ready state top below more_frames rest named p frames deep stages running awaiting of_sub at_point path views viewed_before kept scope holds placed_before above n there
+          elim (after_splits (acts_by inner.p.instr) facts_now own_facts around (innermost.from_both table typed effects input ready inner) (Moved n) has) [
+            | inr there ↦ innermost.not_handed table typed effects input ready inner n there
             | inl mine ↦ elim stored [
-              | inl (v, e) ↦ packages.new_after table typed effects input ready state top older outer named p frames of_sub at_point path x v e no_calls n mine root
+              | inl (v, e) ↦ packages.new_after table typed effects input ready inner.state inner.top older outer inner.named inner.p inner.frames inner.of_sub inner.at_point inner.path x v e no_calls n mine root
               | inr (q, u, e, is) ↦ elim (view_cases s x view) [
                 | inr formal ↦ formal_kept q x u e is end formal
                 | inl anonymous ↦ elim (bool_cases (is_observer s x)) [
@@ -324,32 +310,32 @@ module _ (table : Table) (typed : TypedProgram) (effects : Effects) (input : Lis
           ]
 
       -- They are exact after the step, too, with the views then.
-      pub told_next : (p.instr ≡ Finish → ⊥) → (next : State) → step program input state ≡ Goes next → (later : Views)
-          → ((x : ℕ) (w : Way) → later.way x ≡ Some w → is_view s x ≡ true) → ((x : ℕ) (p : List Step) (w : Way) → later.part_way x p ≡ Some w → sees x ≡ true)
-          → ((n : PlaceName) → Has (facts_before points (top.frame.next ∷ top.before)) (Moved n) → sees n.root ≡ false) → AreTurned p.instr views later
-          → Told (seen s next.memory [] []) (IsDefiniteHere table typed effects unmoved_stage local depth later (facts_before points (top.frame.next ∷ top.before)) older)
+      pub told_next : (inner.p.instr ≡ Finish → ⊥) → (next : State) → step program input inner.state ≡ Goes next → (later : Views)
+          → ((x : ℕ) (w : Way) → later.way x ≡ Some w → is_view s x ≡ true) → ((x : ℕ) (part_path : List Step) (w : Way) → later.part_way x part_path ≡ Some w → sees x ≡ true)
+          → ((n : PlaceName) → Has (facts_before points (inner.top.frame.next ∷ inner.top.before)) (Moved n) → sees n.root ≡ false) → AreTurned inner.p.instr inner.views later
+          → Told (seen s next.memory [] []) (IsDefiniteHere table typed effects unmoved_stage local depth later (facts_before points (inner.top.frame.next ∷ inner.top.before)) older)
       told_next end next is later only parts clear turned =
           all_told next.memory later only no_calls
-          (turned_exact easy sees seeing ready.accepted.settled ready.owns other alone in_formals views ready.class.parts_named none_taken refl refl elsewhere away Excused next.memory later (after (acts_by p.instr) facts_now) holds.only
-          (λ x q w has. holds.parts.looks x (holds.parts.only x q w has)) parts
+          (turned_exact easy sees seeing ready.accepted.settled ready.owns other alone in_formals inner.views ready.class.parts_named none_taken refl refl elsewhere away Excused next.memory later (after (acts_by inner.p.instr) facts_now) inner.holds.only
+          (λ x q w has. inner.holds.parts.looks x (inner.holds.parts.only x q w has)) parts
           (λ u moved. plain_after (way_name u) moved.1)
           (λ x w has. elim (turned x w has) [
             | inl old ↦ inl old
             | inr stored ↦ inr (λ n moved root.
-                stored_unmoved end (λ m has_it. clear m (subst (λ z. Has z (Moved m)) (sym (standing.facts_on table typed effects input ready state top older outer named p frames of_sub at_point path no_calls)) has_it)) x (only x w has) stored n moved root)
+                stored_unmoved end (λ m has_it. clear m (subst (λ z. Has z (Moved m)) (sym (standing.facts_on table typed effects input ready inner.state inner.top older outer inner.named inner.p inner.frames inner.of_sub inner.at_point inner.path no_calls)) has_it)) x (only x w has) stored n moved root)
           ])
-          (goes_exact (step program input state) is (main_exact end)))
+          (goes_exact (step program input inner.state) is (main_exact end)))
         where
-          plain_after : (n : PlaceName) → Has (after (acts_by p.instr) facts_now) (Moved n) → sees n.root ≡ false
+          plain_after : (n : PlaceName) → Has (after (acts_by inner.p.instr) facts_now) (Moved n) → sees n.root ≡ false
           plain_after n has =
-              elim (after_splits (acts_by p.instr) facts_now own_facts around (innermost.from_both table typed effects input ready state top below more_frames rest named p frames deep stages running awaiting of_sub at_point path views viewed_before kept scope holds placed_before above) (Moved n) has) [
-                | inr there ↦ absurd (innermost.not_handed table typed effects input ready state top below more_frames rest named p frames deep stages running awaiting of_sub at_point path views viewed_before kept scope holds placed_before above n there)
-                | inl mine ↦ clear n (subst (λ z. Has z (Moved n)) (sym (standing.facts_on table typed effects input ready state top older outer named p frames of_sub at_point path no_calls)) mine)
+              elim (after_splits (acts_by inner.p.instr) facts_now own_facts around (innermost.from_both table typed effects input ready inner) (Moved n) has) [
+                | inr there ↦ absurd (innermost.not_handed table typed effects input ready inner n there)
+                | inl mine ↦ clear n (subst (λ z. Has z (Moved n)) (sym (standing.facts_on table typed effects input ready inner.state inner.top older outer inner.named inner.p inner.frames inner.of_sub inner.at_point inner.path no_calls)) mine)
               ]
 
-          goes_exact : (outcome : Outcome) → outcome ≡ Goes next → ExactAt (after (acts_by p.instr) facts_now) at.point.leaks outcome
-              → IsExact s (home s depth) views elsewhere next.memory (after (acts_by p.instr) facts_now)
+          goes_exact : (outcome : Outcome) → outcome ≡ Goes next → ExactAt (after (acts_by inner.p.instr) facts_now) at.point.leaks outcome
+              → IsExact s (home s depth) inner.views elsewhere next.memory (after (acts_by inner.p.instr) facts_now)
           goes_exact (Goes after_step) same_step on = (
               let state_same : after_step ≡ next = cc in
-              subst (λ (z : State). IsExact s (home s depth) views elsewhere z.memory (after (acts_by p.instr) facts_now)) state_same on.0)
+              subst (λ (z : State). IsExact s (home s depth) inner.views elsewhere z.memory (after (acts_by inner.p.instr) facts_now)) state_same on.0)
           goes_exact (Ends how after_step) same_step on = absurd (false≢true (ap is_goes_outcome same_step))

@@ -1,5 +1,5 @@
 -- A declaration, an assignment or a return, once the value that it takes is out of the frame.
-use Rattle.std.proofs.Common.{◌≡◌, refl, sym, ap, ◌∙◌, subst, ℕ, suc, true, false, List, [], ◌∷◌, ◌++◌, length, append-nil, Some, None, if◌then◌else◌, Bool}
+use Rattle.std.proofs.Common.{◌≡◌, refl, sym, ap, ◌∙◌, subst, ℕ, suc, true, false, List, [], ◌∷◌, ◌++◌, length, append-nil, Some, if◌then◌else◌, Bool}
 use Rattle.recycled_runs.proofs.ViewedFacts.Evaluated.{ExactTo}
 use Rattle.soundness.proofs.Lasting.{keeps}
 use Rattle.soundness.proofs.Numbers.{index_law}
@@ -18,32 +18,28 @@ use Rattle.flow_paths.specs.Instructions.{Instruction, Hold, EndScope}
 use Rattle.flow_paths.specs.Objects.{Typing, object_at, is_package_object}
 use Rattle.flow_paths.specs.Acts as flow
 use Rattle.flow_paths.specs.Acts.{acts_in, leaks_of}
-use Rattle.flow_paths.specs.Points.{NamedPoint}
-use Rattle.flow_paths.specs.Laid.{FlowSub, FlowProgram, NamedSub, flow_sub, typing_of, flow_typing, flow_program, flow_named}
-use Rattle.flow_paths.specs.Paths.{PathPoint, ControlPath}
+use Rattle.flow_paths.specs.Laid.{FlowSub, FlowProgram, flow_sub, typing_of, flow_typing, flow_program}
+use Rattle.flow_paths.specs.Paths.{PathPoint}
 use Rattle.flow_paths.specs.Effects.{path_points}
 use Rattle.flow_paths.specs.LeakPlan.{IsExcused}
 use Rattle.machine.specs.Memory.{Memory, declared, stored}
 use Rattle.machine.specs.Calls.{checks_at}
 use Rattle.machine.specs.Evaluate.{Evaluated, Done, Raises, Traps, followed_by, place_of}
-use Rattle.machine.specs.States.{Frame, State, Outcome, Goes, sub_of}
+use Rattle.machine.specs.States.{Frame, Outcome, Goes, sub_of}
 use Rattle.machine.specs.Step.{Turn, turn, start}
 use Rattle.machine.specs.Step as steps
-use Rattle.machine.specs.Owners.{waiting_in}
 use Rattle.soundness.specs.OwnedWays.Ways.{Way, Told, after, AllowsAll}
 use Rattle.soundness.specs.Seen.{home, seen, IsNear}
-use Rattle.soundness.specs.Typed.{Kept}
-use Rattle.soundness.specs.Sound.{Stage, facts_of, AreStages, IsRunnable, IsNoCall, InScope, IsNamedSub, IsAtPoint, view_of as view_here}
+use Rattle.soundness.specs.Sound.{Stage, facts_of, IsNoCall}
 use Rattle.soundness.proofs.Scalars.{acts}
 use Rattle.soundness.proofs.Eased.{eased}
 use Rattle.soundness.proofs.Operands.{handed_over, hold_is}
 use Rattle.soundness.proofs.Around.{IsFar}
-use Rattle.soundness.specs.OwnedLoans.Views.{Around, known_gone, Views, ViewedAlone}
+use Rattle.soundness.specs.OwnedLoans.Views.{Around}
 use Rattle.soundness.specs.ViewedSoundness.Holds.{is_fixed, is_view, IsNamed, AllKeep, Seeing}
 use Rattle.soundness.proofs.ViewedSoundness.ViewKinds.{plain_named}
 use Rattle.soundness.proofs.ViewedSoundness.Outcomes.{named_plain}
-use Rattle.viewed_steps.specs.Sound.{IsBeyond, IsResting, HoldsAt, ArePlaced, NoneAbove, ViewStage, stages_of, GoneElsewhere, AreWaiting, HasTraversals}
-use Rattle.viewed_steps.specs.Awaited.{AreAwaited, lasting_of}
+use Rattle.viewed_steps.specs.Sound.{ViewStage, GoneElsewhere}
 use Rattle.viewed_steps.specs.Ready.{IsReady}
 use Rattle.viewed_steps.proofs.Waiting.{StandsBetween, beside_them, handed}
 use Rattle.viewed_steps.proofs.Standing as standing
@@ -64,6 +60,7 @@ use Rattle.viewed_steps.proofs.Views.{AreAccess}
 use Rattle.recycled_runs.proofs.ViewedFacts.Steps.{IsAway}
 use Rattle.viewed_steps.specs.Seeing.{sees_in}
 use Rattle.viewed_steps.proofs.Sees.{sees_seeing}
+use Rattle.viewed_steps.proofs.InnerFrame.{InnerFrame}
 
 module _ (table : Table) (typed : TypedProgram) (effects : Effects) (input : List ℕ) (ready : IsReady table typed effects) where
   abbrev sees : ℕ → Bool
@@ -91,54 +88,42 @@ module _ (table : Table) (typed : TypedProgram) (effects : Effects) (input : Lis
   unmoved_stage = packages.unmoved_stage table typed effects input ready
 
   -- a point of a procedure, in a state that is sound and whose facts are exact
-  module _ (state : State) (top : Stage) (below : ViewStage) (more_frames : List ViewStage) (rest : List Frame) (named : NamedSub) (p : NamedPoint)
-      (frames : state.frames ≡ top.frame ∷ (below.stage.frame ∷ rest)) (deep : top.depth ≡ suc (length rest))
-      (stages : AreStages (stages_of (below ∷ more_frames)) (below.stage.frame ∷ rest))
-      (running : IsRunnable table typed top.frame.sub × IsResting s top × AreWaiting table typed effects state top.frame.sub top.frame.returns (below ∷ more_frames))
-      (awaiting : AreAwaited table typed None (top ∷ stages_of (below ∷ more_frames)))
-      (of_sub : IsNamedSub (flow_named table typed) top.frame.sub named) (at_point : IsAtPoint named.points top.frame.next p)
-      (path : ControlPath (path_points program effects (sub_of program top.frame.sub)) top.before top.frame.next) (views : Views)
-      (viewed_before : ViewedAlone (home s (suc (length rest))) sees (known_gone (home s (suc (length rest))) (GoneElsewhere program effects (below ∷ more_frames))) views
-      (view_here s state) (facts_of program effects top))
-      (kept : Kept s state.memory (waiting_in state)) (scope : InScope s state.memory (suc (length rest)) (lasting_of s p.scope)) (holds : HoldsAt s sees (suc (length rest)) views state.memory p)
-      (placed_before : ArePlaced program (suc (length rest)) (facts_of program effects top) views p.scope × IsBeyond program effects (suc (length rest)) views (below ∷ more_frames)) (above : NoneAbove s (suc (length rest)) state.memory
-      × HasTraversals table typed (view_here s state) (record { stage = top; views = views; cells = [] } ∷ (below ∷ more_frames)))
-      (exact_before : Told (seen s state.memory [] []) (IsDefiniteOf program effects (record { stage = top; views = views; cells = [] } ∷ (below ∷ more_frames)))) where
+  module _ (inner : InnerFrame table typed effects) (exact_before : Told (seen s inner.state.memory [] []) (IsDefiniteOf program effects (record { stage = inner.top; views = inner.views; cells = [] } ∷ (inner.below ∷ inner.more_frames)))) where
     abbrev outer : List Frame
-    outer = below.stage.frame ∷ rest
+    outer = inner.below.stage.frame ∷ inner.rest
 
     abbrev older : List ViewStage
-    older = below ∷ more_frames
+    older = inner.below ∷ inner.more_frames
 
     abbrev depth : ℕ
-    depth = suc (length rest)
+    depth = suc (length inner.rest)
 
-    abbrev between : (g : ViewStage) → Has (below ∷ more_frames) g → StandsBetween table typed effects unmoved_stage local state (suc (length rest)) (below ∷ more_frames) g
-    between = innermost.between table typed effects input ready state top below more_frames rest named p frames deep stages running awaiting of_sub at_point path views viewed_before kept scope holds placed_before above
+    abbrev between : (g : ViewStage) → Has (inner.below ∷ inner.more_frames) g → StandsBetween table typed effects unmoved_stage local inner.state (suc (length inner.rest)) (inner.below ∷ inner.more_frames) g
+    between = innermost.between table typed effects input ready inner
 
-    abbrev other : Around (home s (suc (length rest)))
-    other = beside_them table typed effects unmoved_stage local state (suc (length rest)) (below ∷ more_frames) between
+    abbrev other : Around (home s (suc (length inner.rest)))
+    other = beside_them table typed effects unmoved_stage local inner.state (suc (length inner.rest)) (inner.below ∷ inner.more_frames) between
 
-    abbrev alone : (w : Way) → IsNear (suc (length rest)) w → IsFar (suc (length rest)) (GoneElsewhere program effects (below ∷ more_frames)) w → ⊥
-    alone = innermost.alone table typed effects input ready state top below more_frames rest named p frames deep stages running awaiting of_sub at_point path views viewed_before kept scope holds placed_before above
+    abbrev alone : (w : Way) → IsNear (suc (length inner.rest)) w → IsFar (suc (length inner.rest)) (GoneElsewhere program effects (inner.below ∷ inner.more_frames)) w → ⊥
+    alone = innermost.alone table typed effects input ready inner
 
     abbrev elsewhere : Way → Type 0
-    elsewhere = moved_elsewhere table typed effects unmoved_stage local state (suc (length rest)) (below ∷ more_frames) between views (innermost.own_views table typed effects input ready state top below more_frames rest named p frames deep stages running awaiting of_sub at_point path views viewed_before kept scope holds placed_before above)
+    elsewhere = moved_elsewhere table typed effects unmoved_stage local inner.state (suc (length inner.rest)) (inner.below ∷ inner.more_frames) between inner.views (innermost.own_views table typed effects input ready inner)
 
-    abbrev away : (w : Way) → elsewhere w → IsAway s (suc (length rest)) other w
-    away = here.away table typed effects input ready state top below more_frames rest named p frames deep stages running awaiting of_sub at_point path views viewed_before kept scope holds placed_before above exact_before
+    abbrev away : (w : Way) → elsewhere w → IsAway s (suc (length inner.rest)) other w
+    away = here.away table typed effects input ready inner exact_before
 
     abbrev at : Turn
-    at = standing.t table typed effects input ready state top older outer named p frames of_sub at_point
+    at = standing.t table typed effects input ready inner.state inner.top older outer inner.named inner.p inner.frames inner.of_sub inner.at_point
 
     abbrev points : List PathPoint
-    points = path_points program effects (flow_sub own named)
+    points = path_points program effects (flow_sub own inner.named)
 
     abbrev own_facts : List Fact
-    own_facts = standing.facts table typed effects input ready state top older outer named p frames of_sub at_point path
+    own_facts = standing.facts table typed effects input ready inner.state inner.top older outer inner.named inner.p inner.frames inner.of_sub inner.at_point inner.path
 
     abbrev around : List Fact
-    around = handed table typed effects unmoved_stage local state depth older between
+    around = handed table typed effects unmoved_stage local inner.state depth older between
 
     abbrev facts_now : List Fact
     facts_now = own_facts ++ around
@@ -146,29 +131,29 @@ module _ (table : Table) (typed : TypedProgram) (effects : Effects) (input : Lis
     abbrev none_taken : ℕ → ℕ → Type 0
     none_taken a b = ⊥
 
-    abbrev exact : IsExact s (home s depth) views elsewhere state.memory facts_now
-    exact = here.exact table typed effects input ready state top below more_frames rest named p frames deep stages running awaiting of_sub at_point path views viewed_before kept scope holds placed_before above exact_before
+    abbrev exact : IsExact s (home s depth) inner.views elsewhere inner.state.memory facts_now
+    exact = here.exact table typed effects input ready inner exact_before
 
     abbrev Excused : LeakSpot → Type 0
-    Excused = IsExcused points top.frame.next
+    Excused = IsExcused points inner.top.frame.next
 
     abbrev frame_by : Typing → flow.Frame
-    frame_by z = record { typing = z; result = named.sub.result; roots = standing.roots table typed effects input ready state top older outer named p frames of_sub at_point }
+    frame_by z = record { typing = z; result = inner.named.sub.result; roots = standing.roots table typed effects input ready inner.state inner.top older outer inner.named inner.p inner.frames inner.of_sub inner.at_point }
 
     abbrev spots_by : Instruction → List LeakSpot
-    spots_by i = leaks_of (frame_by s) p.pos i
+    spots_by i = leaks_of (frame_by s) inner.p.pos i
 
     abbrev acts_by : Instruction → List Act
-    acts_by i = standing.acts_here table typed effects input ready state top older outer named p frames of_sub at_point i
+    acts_by i = standing.acts_here table typed effects input ready inner.state inner.top older outer inner.named inner.p inner.frames inner.of_sub inner.at_point i
 
     abbrev easy : Turn
     easy = eased at
 
     -- ---- an instruction that isn't the end of a scope
 
-    module _ (going : (x : ℕ) → p.instr ≡ EndScope x → ⊥) (no_calls : IsNoCall p.instr) where
+    module _ (going : (x : ℕ) → inner.p.instr ≡ EndScope x → ⊥) (no_calls : IsNoCall inner.p.instr) where
       abbrev pub ExactAt : List Fact → List LeakSpot → Outcome → Type 0
-      ExactAt facts spots outcome = ExactOn easy sees seeing ready.accepted.settled ready.owns other alone in_formals views ready.class.parts_named none_taken refl refl elsewhere away Excused facts spots outcome
+      ExactAt facts spots outcome = ExactOn easy sees seeing ready.accepted.settled ready.owns other alone in_formals inner.views ready.class.parts_named none_taken refl refl elsewhere away Excused facts spots outcome
 
       abbrev Exacts : Instruction → Type 0
       Exacts i = ExactAt (after (acts_by i) facts_now) (spots_by i) (turn at i)
@@ -203,9 +188,9 @@ module _ (table : Table) (typed : TypedProgram) (effects : Effects) (input : Lis
           (λ st m there. there) on
 
       -- a return with a value
-      pub holds_value : (e : TypedTree) (of : ℕ) → p.instr ≡ Hold (More e NoMore) → named.sub.result ≡ Some of → is_anonymous (full s.table of) ≡ false
+      pub holds_value : (e : TypedTree) (of : ℕ) → inner.p.instr ≡ Hold (More e NoMore) → inner.named.sub.result ≡ Some of → is_anonymous (full s.table of) ≡ false
           → (IsNamed s.table of → AllowsAll facts_now (acts (acts_in s e)) → AllKeep (is_fixed s sees) (acts (acts_in s e))
-          → ExactTo (steps.here at) sees seeing ready.accepted.settled state.leaks [] other alone (keeps s ready.accepted.settled ready.owns) index_law ready.owns views
+          → ExactTo (steps.here at) sees seeing ready.accepted.settled inner.state.leaks [] other alone (keeps s ready.accepted.settled ready.owns) index_law ready.owns inner.views
           ready.class.parts_named elsewhere away (after (acts (acts_in s e)) facts_now) (steps.taken_by at of e (start at)))
           → AllowsAll facts_now (acts_by (Hold (More e NoMore))) → AllKeep (is_fixed s sees) (acts_by (Hold (More e NoMore))) → Exacts (Hold (More e NoMore))
       unfolding acts_in
@@ -216,32 +201,32 @@ module _ (table : Table) (typed : TypedProgram) (effects : Effects) (input : Lis
           ∙ ap (λ b. acts (if b then flow.source_acts s e (λ m. act.Give m (flow.gives_variable s (Some of))) else acts_in s e ++ []))
           (named_plain s.table of type_there)
           ∙ ap acts (append-nil (acts_in s e)) in
-          let sub_result : (sub_of program top.frame.sub).result ≡ Some of =
-          ap (λ (z : FlowSub). z.result) (standing.sub_is table typed effects input ready state top older outer named p frames of_sub at_point) ∙ result in
+          let sub_result : (sub_of program inner.top.frame.sub).result ≡ Some of =
+          ap (λ (z : FlowSub). z.result) (standing.sub_is table typed effects input ready inner.state inner.top older outer inner.named inner.p inner.frames inner.of_sub inner.at_point) ∙ result in
           subst (λ z. ExactAt (after z facts_now) [] (turn at (Hold (More e NoMore)))) (sym same)
-          (subst (ExactAt (after (acts (acts_in s e)) facts_now) []) (sym (hold_is program input at.point state top.frame below.stage.frame rest e NoMore of sub_result))
+          (subst (ExactAt (after (acts (acts_in s e)) facts_now) []) (sym (hold_is program input at.point inner.state inner.top.frame inner.below.stage.frame inner.rest e NoMore of sub_result))
           (eased_on (after (acts (acts_in s e)) facts_now) [] (steps.taken_by at of e (start at))
-          (λ ws m. Goes (handed_over program input at.point state top.frame below.stage.frame rest of ws m))
-          (λ ws m. Goes (handed_over program input at.point state top.frame below.stage.frame rest of ws m)) (λ ws m on. on)
-          (waits_exact easy sees seeing ready.accepted.settled ready.owns other alone in_formals views ready.class.parts_named none_taken refl refl elsewhere away Excused
+          (λ ws m. Goes (handed_over program input at.point inner.state inner.top.frame inner.below.stage.frame inner.rest of ws m))
+          (λ ws m. Goes (handed_over program input at.point inner.state inner.top.frame inner.below.stage.frame inner.rest of ws m)) (λ ws m on. on)
+          (waits_exact easy sees seeing ready.accepted.settled ready.owns other alone in_formals inner.views ready.class.parts_named none_taken refl refl elsewhere away Excused
           (after (acts (acts_in s e)) facts_now) (steps.taken_by at of e (start at))
           (value_exact type_there (subst (AllowsAll facts_now) same allowed_there) (subst (AllKeep (is_fixed s sees)) same keep))
-          (λ ws m. Goes (handed_over program input at.point state top.frame below.stage.frame rest of ws m)) (λ ws m still. (still, tt)))))
+          (λ ws m. Goes (handed_over program input at.point inner.state inner.top.frame inner.below.stage.frame inner.rest of ws m)) (λ ws m still. (still, tt)))))
 
       -- a return of a view
-      pub returns_view : (e : TypedTree) (of : ℕ) → p.instr ≡ Hold (More e NoMore) → named.sub.result ≡ Some of → Source s of e → is_anonymous (full s.table of) ≡ true
+      pub returns_view : (e : TypedTree) (of : ℕ) → inner.p.instr ≡ Hold (More e NoMore) → inner.named.sub.result ≡ Some of → Source s of e → is_anonymous (full s.table of) ≡ true
           → Exacts (Hold (More e NoMore))
       returns_view e of is result source view =
-          let quiet = giving.returns_quietly table typed effects input ready state top below more_frames rest named p frames deep stages running awaiting of_sub at_point path views viewed_before kept scope holds placed_before above e NoMore is of result source refl view in
+          let quiet = giving.returns_quietly table typed effects input ready inner e NoMore is of result source refl view in
           let same : after (acts_by (Hold (More e NoMore))) facts_now ≡ facts_now = ap (λ i. after (acts_by i) facts_now) (sym is) ∙ quiet.1 in
-          let sub_result : (sub_of program top.frame.sub).result ≡ Some of =
-          ap (λ (z : FlowSub). z.result) (standing.sub_is table typed effects input ready state top older outer named p frames of_sub at_point) ∙ result in
+          let sub_result : (sub_of program inner.top.frame.sub).result ≡ Some of =
+          ap (λ (z : FlowSub). z.result) (standing.sub_is table typed effects input ready inner.state inner.top older outer inner.named inner.p inner.frames inner.of_sub inner.at_point) ∙ result in
           subst (λ z. ExactAt z [] (turn at (Hold (More e NoMore)))) (sym same)
-          (subst (ExactAt facts_now []) (sym (hold_is program input at.point state top.frame below.stage.frame rest e NoMore of sub_result))
+          (subst (ExactAt facts_now []) (sym (hold_is program input at.point inner.state inner.top.frame inner.below.stage.frame inner.rest e NoMore of sub_result))
           (eased_on facts_now [] (steps.taken_by at of e (start at))
-          (λ ws m. Goes (handed_over program input at.point state top.frame below.stage.frame rest of ws m))
-          (λ ws m. Goes (handed_over program input at.point state top.frame below.stage.frame rest of ws m)) (λ ws m on. on)
-          (waits_exact easy sees seeing ready.accepted.settled ready.owns other alone in_formals views ready.class.parts_named none_taken refl refl elsewhere away Excused facts_now (steps.taken_by at of e (start at))
-          (quiet_on (steps.here at) sees seeing ready.accepted.settled state.leaks [] other alone (keeps s ready.accepted.settled ready.owns) index_law ready.owns views ready.class.parts_named elsewhere away [] state.memory (λ ws. (z : machine.Word) × (ws ≡ z ∷ []) × giving.IsGivenBack table typed effects input ready state top below more_frames rest named p frames deep stages running awaiting of_sub at_point path views viewed_before kept scope holds placed_before above e NoMore is of result source refl view z) facts_now facts_now
+          (λ ws m. Goes (handed_over program input at.point inner.state inner.top.frame inner.below.stage.frame inner.rest of ws m))
+          (λ ws m. Goes (handed_over program input at.point inner.state inner.top.frame inner.below.stage.frame inner.rest of ws m)) (λ ws m on. on)
+          (waits_exact easy sees seeing ready.accepted.settled ready.owns other alone in_formals inner.views ready.class.parts_named none_taken refl refl elsewhere away Excused facts_now (steps.taken_by at of e (start at))
+          (quiet_on (steps.here at) sees seeing ready.accepted.settled inner.state.leaks [] other alone (keeps s ready.accepted.settled ready.owns) index_law ready.owns inner.views ready.class.parts_named elsewhere away [] inner.state.memory (λ ws. (z : machine.Word) × (ws ≡ z ∷ []) × giving.IsGivenBack table typed effects input ready inner e NoMore is of result source refl view z) facts_now facts_now
           (steps.taken_by at of e (start at)) quiet.2 refl exact)
-          (λ ws m. Goes (handed_over program input at.point state top.frame below.stage.frame rest of ws m)) (λ ws m still. (still, tt)))))
+          (λ ws m. Goes (handed_over program input at.point inner.state inner.top.frame inner.below.stage.frame inner.rest of ws m)) (λ ws m still. (still, tt)))))

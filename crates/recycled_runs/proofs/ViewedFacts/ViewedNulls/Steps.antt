@@ -35,7 +35,7 @@ use Rattle.machine.specs.Run.{step}
 use Rattle.soundness.specs.OwnedWays.Ways.{Step, Way, Allows, AllowsAll}
 use Rattle.soundness.specs.Seen.{IsNear, home}
 use Rattle.soundness.specs.Typed.{Kept}
-use Rattle.soundness.specs.Sound.{Stage, facts_of, AreStages, IsRunnable, IsNoCall, IsPlain, InScope, IsNamedSub, IsAtPoint, view_of as view_here}
+use Rattle.soundness.specs.Sound.{Stage, facts_of, AreStages, IsNoCall, IsPlain, InScope, IsNamedSub, IsAtPoint, view_of as view_here}
 use Rattle.soundness.specs.TypedLaws.Needed.{IsFine, Source, Gives, Returns}
 use Rattle.soundness.proofs.Numbers.{index_law}
 use Rattle.soundness.proofs.Scalars.{acts, allows_both}
@@ -45,7 +45,7 @@ use Rattle.soundness.proofs.Stays.{Quiet}
 use Rattle.soundness.proofs.Taking.{Takes, takes_as, no_takes, nothing_more}
 use Rattle.soundness.specs.OwnedLoans.Views.{Around, known_gone, Views, ViewedAlone, Viewed}
 use Rattle.soundness.specs.ViewedSoundness.Holds.{is_fixed, IsNamed, AllKeep, Seeing}
-use Rattle.viewed_steps.specs.Sound.{IsBeyond, IsResting, HoldsAt, ArePlaced, NoneAbove, ViewStage, stages_of, GoneElsewhere, AreWaiting, IsRunning, IsSound, HasTraversals}
+use Rattle.viewed_steps.specs.Sound.{IsBeyond, HoldsAt, ArePlaced, NoneAbove, ViewStage, stages_of, GoneElsewhere, AreWaiting, IsRunning, IsSound, HasTraversals}
 use Rattle.viewed_steps.specs.Ready.{IsReady}
 use Rattle.viewed_steps.proofs.Standing as standing
 use Rattle.viewed_steps.proofs.Innermost as innermost
@@ -92,6 +92,7 @@ use Rattle.soundness.proofs.OwnedLoans.Alone.{alone_viewed}
 use Rattle.viewed_steps.specs.Seeing.{sees_in}
 use Rattle.viewed_steps.proofs.Sees.{sees_seeing}
 use Rattle.recycled_runs.proofs.ViewedFacts.Constructors.{is_call_instruction, is_finish_instruction, is_hold_instruction}
+use Rattle.viewed_steps.proofs.InnerFrame.{InnerFrame}
 
 -- whether the scope of an object ends
 end_or : (i : Instruction) → ((x : ℕ) × (i ≡ EndScope x)) ⊎ ((x : ℕ) → i ≡ EndScope x → ⊥)
@@ -194,93 +195,81 @@ module _ (table : Table) (typed : TypedProgram) (effects : Effects) (input : Lis
 
   -- ---- a step of a procedure
 
-  module _ (state : State) (top : Stage) (below : ViewStage) (more_frames : List ViewStage) (rest : List Frame) (named : NamedSub) (p : NamedPoint)
-      (frames : state.frames ≡ top.frame ∷ (below.stage.frame ∷ rest)) (deep : top.depth ≡ suc (length rest))
-      (stages : AreStages (stages_of (below ∷ more_frames)) (below.stage.frame ∷ rest))
-      (running : IsRunnable table typed top.frame.sub × IsResting s top × AreWaiting table typed effects state top.frame.sub top.frame.returns (below ∷ more_frames))
-      (awaiting : AreAwaited table typed None (top ∷ stages_of (below ∷ more_frames)))
-      (of_sub : IsNamedSub (flow_named table typed) top.frame.sub named) (at_point : IsAtPoint named.points top.frame.next p)
-      (path : ControlPath (path_points program effects (sub_of program top.frame.sub)) top.before top.frame.next) (views : Views)
-      (viewed_before : ViewedAlone (home s (suc (length rest))) sees (known_gone (home s (suc (length rest))) (GoneElsewhere program effects (below ∷ more_frames))) views
-      (view_here s state) (facts_of program effects top))
-      (kept : Kept s state.memory (waiting_in state)) (scope : InScope s state.memory (suc (length rest)) (lasting_of s p.scope)) (holds : HoldsAt s sees (suc (length rest)) views state.memory p)
-      (placed_before : ArePlaced program (suc (length rest)) (facts_of program effects top) views p.scope × IsBeyond program effects (suc (length rest)) views (below ∷ more_frames)) (above : NoneAbove s (suc (length rest)) state.memory
-      × HasTraversals table typed (view_here s state) (record { stage = top; views = views; cells = [] } ∷ (below ∷ more_frames)))
-      (only : OnlyOwners s state.memory) (n : Memory) (agrees : Agrees state.memory n) where
+  module _ (inner : InnerFrame table typed effects) (only : OnlyOwners s inner.state.memory) (n : Memory) (agrees : Agrees inner.state.memory n) where
     abbrev outer : List Frame
-    outer = below.stage.frame ∷ rest
+    outer = inner.below.stage.frame ∷ inner.rest
 
     abbrev older : List ViewStage
-    older = below ∷ more_frames
+    older = inner.below ∷ inner.more_frames
 
     abbrev main_turn : Turn
-    main_turn = standing.t table typed effects input ready state top older outer named p frames of_sub at_point
+    main_turn = standing.t table typed effects input ready inner.state inner.top older outer inner.named inner.p inner.frames inner.of_sub inner.at_point
 
-    abbrev other : Around (home s (suc (length rest)))
-    other = innermost.other table typed effects input ready state top below more_frames rest named p frames deep stages running awaiting of_sub at_point path views viewed_before kept scope holds placed_before above
+    abbrev other : Around (home s (suc (length inner.rest)))
+    other = innermost.other table typed effects input ready inner
 
-    abbrev alone : (w : Way) → IsNear (suc (length rest)) w → other.gone w → ⊥
-    alone = innermost.alone table typed effects input ready state top below more_frames rest named p frames deep stages running awaiting of_sub at_point path views viewed_before kept scope holds placed_before above
+    abbrev alone : (w : Way) → IsNear (suc (length inner.rest)) w → other.gone w → ⊥
+    alone = innermost.alone table typed effects input ready inner
 
     abbrev facts_now : List Fact
-    facts_now = innermost.facts_now table typed effects input ready state top below more_frames rest named p frames deep stages running awaiting of_sub at_point path views viewed_before kept scope holds placed_before above
+    facts_now = innermost.facts_now table typed effects input ready inner
 
     abbrev acts_of_main : Instruction → List Act
-    acts_of_main i = standing.acts_here table typed effects input ready state top older outer named p frames of_sub at_point i
+    acts_of_main i = standing.acts_here table typed effects input ready inner.state inner.top older outer inner.named inner.p inner.frames inner.of_sub inner.at_point i
 
     abbrev Goal : Instruction → Type 0
     Goal i = SameStep main_turn (turn main_turn i) (turn (twin main_turn n) i)
 
-    in_sub : Has (flow_sub own named).points main_turn.point
-    in_sub = standing.in_sub table typed effects input ready state top older outer named p frames of_sub at_point
+    in_sub : Has (flow_sub own inner.named).points main_turn.point
+    in_sub = standing.in_sub table typed effects input ready inner.state inner.top older outer inner.named inner.p inner.frames inner.of_sub inner.at_point
 
-    in_program : Has program.subs (flow_sub own named)
-    in_program = standing.in_program table typed effects input ready state top older outer named p frames of_sub at_point
+    in_program : Has program.subs (flow_sub own inner.named)
+    in_program = standing.in_program table typed effects input ready inner.state inner.top older outer inner.named inner.p inner.frames inner.of_sub inner.at_point
 
-    text : IsFine s named.sub.result p.instr
-    text = standing.fine table typed effects input ready state top older outer named p frames of_sub at_point
+    text : IsFine s inner.named.sub.result inner.p.instr
+    text = standing.fine table typed effects input ready inner.state inner.top older outer inner.named inner.p inner.frames inner.of_sub inner.at_point
 
-    compares : ComparesIn s p.instr
-    compares = compared (flow_sub own named) in_program main_turn.point in_sub
+    compares : ComparesIn s inner.p.instr
+    compares = compared (flow_sub own inner.named) in_program main_turn.point in_sub
 
     -- ---- where no scope ends
 
-    module _ (going : (x : ℕ) → p.instr ≡ EndScope x → ⊥) where
-      abbrev so : IsReadyIn (steps.here main_turn) sees seeing ready.accepted.settled state.leaks other alone in_formals index_law ready.owns views ready.class.parts_named
-          state.memory (waiting_in state) facts_now
-      so = taken_values.so table typed effects input ready compared state top below more_frames rest named p frames deep stages running awaiting of_sub at_point path views viewed_before kept scope holds placed_before above only n agrees going
+    module _ (going : (x : ℕ) → inner.p.instr ≡ EndScope x → ⊥) where
+      abbrev so : IsReadyIn (steps.here main_turn) sees seeing ready.accepted.settled inner.state.leaks other alone in_formals index_law ready.owns inner.views ready.class.parts_named
+          inner.state.memory (waiting_in inner.state) facts_now
+      so = taken_values.so table typed effects input ready compared inner only n agrees going
 
       abbrev asks : Premises (steps.here main_turn)
       asks = viewed_premises (steps.here main_turn) sees ready.class.parts_named
 
       abbrev ready_in : Memory → List Waiting → List Fact → Type 0
-      ready_in m hands known = IsReadyIn (steps.here main_turn) sees seeing ready.accepted.settled state.leaks other alone in_formals index_law ready.owns views ready.class.parts_named m hands known
+      ready_in m hands known = IsReadyIn (steps.here main_turn) sees seeing ready.accepted.settled inner.state.leaks other alone in_formals index_law ready.owns inner.views ready.class.parts_named m hands known
 
       abbrev laws : Values (steps.here main_turn) asks ready_in
-      laws = taken_values.laws table typed effects input ready compared state top below more_frames rest named p frames deep stages running awaiting of_sub at_point path views viewed_before kept scope holds placed_before above only n agrees going
+      laws = taken_values.laws table typed effects input ready compared inner only n agrees going
 
       abbrev Plain : Type 0
-      Plain = innermost.Plain table typed effects input ready state top below more_frames rest named p frames deep stages running awaiting of_sub at_point path views viewed_before kept scope holds placed_before above
+      Plain = innermost.Plain table typed effects input ready inner
 
-      abbrev takes_of : Plain → (i : Instruction) → p.instr ≡ i → Takes (taken i) (start main_turn).waits []
-      takes_of = taken_values.takes_of table typed effects input ready compared state top below more_frames rest named p frames deep stages running awaiting of_sub at_point path views viewed_before kept scope holds placed_before above only n agrees going
+      abbrev takes_of : Plain → (i : Instruction) → inner.p.instr ≡ i → Takes (taken i) (start main_turn).waits []
+      takes_of = taken_values.takes_of table typed effects input ready compared inner only n agrees going
 
-      abbrev allowed_now : IsNoCall p.instr → (p.instr ≡ Finish → ⊥) → AllowsAll facts_now (acts_of_main p.instr)
-      allowed_now = taken_values.allowed_now table typed effects input ready compared state top below more_frames rest named p frames deep stages running awaiting of_sub at_point path views viewed_before kept scope holds placed_before above only n agrees going
+      abbrev allowed_now : IsNoCall inner.p.instr → (inner.p.instr ≡ Finish → ⊥) → AllowsAll facts_now (acts_of_main inner.p.instr)
+      allowed_now = taken_values.allowed_now table typed effects input ready compared inner only n agrees going
 
-      abbrev keeps_there : AllKeep (is_fixed s sees) (acts_of_main p.instr)
-      keeps_there = taken_values.keeps_there table typed effects input ready compared state top below more_frames rest named p frames deep stages running awaiting of_sub at_point path views viewed_before kept scope holds placed_before above only n agrees going
+      abbrev keeps_there : AllKeep (is_fixed s sees) (acts_of_main inner.p.instr)
+      keeps_there = taken_values.keeps_there table typed effects input ready compared inner only n agrees going
 
       -- ---- a return
 
-      abbrev holds_value : (e : TypedTree) (of : ℕ) → named.sub.result ≡ Some of
+      abbrev holds_value : (e : TypedTree) (of : ℕ) → inner.named.sub.result ≡ Some of
           → SameTo s (steps.taken_by main_turn of e (start main_turn)) (steps.taken_by main_turn of e (start (twin main_turn n))) → Goal (Hold (More e NoMore))
-      holds_value = taken_values.holds_value table typed effects input ready compared state top below more_frames rest named p frames deep stages running awaiting of_sub at_point path views viewed_before kept scope holds placed_before above only n agrees going
+      holds_value = taken_values.holds_value table typed effects input ready compared inner only n agrees going
 
-      abbrev returned_acts : (of : ℕ) (e : TypedTree) → named.sub.result ≡ Some of → is_anonymous (full s.table of) ≡ false → acts_of_main (Hold (More e NoMore)) ≡ acts (acts_in s e)
-      returned_acts = taken_values.returned_acts table typed effects input ready compared state top below more_frames rest named p frames deep stages running awaiting of_sub at_point path views viewed_before kept scope holds placed_before above only n agrees going
+      abbrev returned_acts : (of : ℕ) (e : TypedTree) → inner.named.sub.result ≡ Some of → is_anonymous (full s.table of) ≡ false → acts_of_main (Hold (More e NoMore)) ≡ acts (acts_in s e)
+      returned_acts = taken_values.returned_acts table typed effects input ready compared inner only n agrees going
 
-      value_same : Plain → (e : TypedTree) (of : ℕ) → p.instr ≡ Hold (More e NoMore) → named.sub.result ≡ Some of → is_anonymous (full s.table of) ≡ false → Source s of e → TakesScalars s (Hold (More e NoMore))
+      value_same : Plain → (e : TypedTree) (of : ℕ) → inner.p.instr ≡ Hold (More e NoMore) → inner.named.sub.result ≡ Some of → is_anonymous (full s.table of) ≡ false → Source s of e → TakesScalars s (Hold (More e NoMore))
           → ComparesIn s (Hold (More e NoMore)) → AllowsAll facts_now (acts_of_main (Hold (More e NoMore))) → AllKeep (is_fixed s sees) (acts_of_main (Hold (More e NoMore)))
           → SameTo s (steps.taken_by main_turn of e (start main_turn)) (steps.taken_by main_turn of e (start (twin main_turn n)))
       unfolding acts_in waits_in Compares
@@ -297,22 +286,22 @@ module _ (table : Table) (typed : TypedProgram) (effects : Effects) (input : Lis
           given_there of e owner (inr gives) = gives
 
       -- what a traversal function returns
-      view_same : Plain → (e : TypedTree) (of : ℕ) → p.instr ≡ Hold (More e NoMore) → named.sub.result ≡ Some of → is_anonymous (full s.table of) ≡ true → Source s of e
+      view_same : Plain → (e : TypedTree) (of : ℕ) → inner.p.instr ≡ Hold (More e NoMore) → inner.named.sub.result ≡ Some of → is_anonymous (full s.table of) ≡ true → Source s of e
           → ComparesIn s (Hold (More e NoMore)) → AllowsAll facts_now (acts_of_main (Hold (More e NoMore)))
           → SameTo s (steps.taken_by main_turn of e (start main_turn)) (steps.taken_by main_turn of e (start (twin main_turn n)))
       unfolding waits_in Compares
       view_same plain e of is result view source compares_there allowed =
-          elim (ready.traversing.returned top.frame.sub (running.0).entered named of_sub p (innermost.point_there_now table typed effects input ready state top below more_frames rest named p frames deep stages running awaiting of_sub at_point path views viewed_before kept scope holds placed_before above) e NoMore is of result view) [
-            | inl null ↦ subst TakenSame (sym null) (null_taken main_turn sees seeing ready.accepted.settled ready.owns other alone in_formals views ready.class.parts_named facts_now so only n agrees of view)
+          elim (ready.traversing.returned inner.top.frame.sub (inner.running.0).entered inner.named inner.of_sub inner.p (innermost.point_there_now table typed effects input ready inner) e NoMore is of result view) [
+            | inl null ↦ subst TakenSame (sym null) (null_taken main_turn sees seeing ready.accepted.settled ready.owns other alone in_formals inner.views ready.class.parts_named facts_now so only n agrees of view)
             | inr (q, y, steps_there, u, inl name) ↦ subst TakenSame (sym name)
-                (taken_same main_turn sees seeing ready.accepted.settled ready.owns other alone in_formals views ready.class.parts_named facts_now so only n agrees [] 0 of q y u steps_there (λ m. act.Give m borrows) view (subst (Source s of) name source)
+                (taken_same main_turn sees seeing ready.accepted.settled ready.owns other alone in_formals inner.views ready.class.parts_named facts_now so only n agrees [] 0 of q y u steps_there (λ m. act.Give m borrows) view (subst (Source s of) name source)
                 (takes_as (taken (Hold (More (Name q y steps_there u) NoMore))) (waits_in steps_there) (start main_turn).waits [] (nothing_more (waits_in steps_there))
                 (takes_of plain (Hold (More (Name q y steps_there u) NoMore)) (is ∙ ap (λ z. Hold (More z NoMore)) name)))
                 (subst (λ z. ComparesIn s (Hold (More z NoMore))) name compares_there).0
                 (subst (AllowsAll facts_now) (acts_append (acts_in s steps_there) (record { pos = q; act = act.Give (name_of y steps_there) borrows } ∷ []))
                 (subst (λ z. AllowsAll facts_now (acts (flow.source_acts s z (λ m. act.Give m borrows)))) name (subst (AllowsAll facts_now) acts_are allowed)))
                 (λ w called sight mine. give_clears facts_now borrows w (subst (λ z. Allows facts_now (act.Give z borrows)) (sym called) mine)))
-            | inr (q, y, steps_there, u, inr (r, k, more, call_is, gives)) ↦ subst TakenSame (sym call_is) (call_taken main_turn sees seeing ready.accepted.settled ready.owns other alone in_formals views ready.class.parts_named facts_now so only n agrees of r k (More (Name q y steps_there u) more) view)
+            | inr (q, y, steps_there, u, inr (r, k, more, call_is, gives)) ↦ subst TakenSame (sym call_is) (call_taken main_turn sees seeing ready.accepted.settled ready.owns other alone in_formals inner.views ready.class.parts_named facts_now so only n agrees of r k (More (Name q y steps_there u) more) view)
           ]
         where
           TakenSame : TypedTree → Type 0
@@ -326,10 +315,10 @@ module _ (table : Table) (typed : TypedProgram) (effects : Effects) (input : Lis
               ap (λ r. acts (flow.returned_acts s r (More e NoMore))) result
               ∙ ap (λ b. acts (if b then flow.source_acts s e (λ m. act.Give m (flow.gives_variable s (Some of))) else acts_in s (More e NoMore))) view
 
-      returns : Plain → (v : TypedTree) (r : Option ℕ) → p.instr ≡ Hold v → named.sub.result ≡ r → Returns s r v → TakesScalars s (Hold v) → ComparesIn s (Hold v)
+      returns : Plain → (v : TypedTree) (r : Option ℕ) → inner.p.instr ≡ Hold v → inner.named.sub.result ≡ r → Returns s r v → TakesScalars s (Hold v) → ComparesIn s (Hold v)
           → AllowsAll facts_now (acts_of_main (Hold v)) → AllKeep (is_fixed s sees) (acts_of_main (Hold v)) → Goal (Hold v)
       returns plain v None is result none takes_plainly compares_there allowed keep =
-          subst Goal (sym (ap Hold none)) (goes_same main_turn n agrees state.memory n 0 agrees only)
+          subst Goal (sym (ap Hold none)) (goes_same main_turn n agrees inner.state.memory n 0 agrees only)
       returns plain v (Some of) is result (e, same, source) takes_plainly compares_there allowed keep =
           let allowed_there = subst (λ z. AllowsAll facts_now (acts_of_main (Hold z))) same allowed in
           let compares_here = subst (λ z. ComparesIn s (Hold z)) same compares_there in
@@ -340,18 +329,18 @@ module _ (table : Table) (typed : TypedProgram) (effects : Effects) (input : Lis
                 (subst (λ z. AllKeep (is_fixed s sees) (acts_of_main (Hold z))) same keep)
           ]))
 
-      goes_plainly : Plain × TakesScalars s p.instr → IsNoCall p.instr → (p.instr ≡ Finish → ⊥) → Goal p.instr
+      goes_plainly : Plain × TakesScalars s inner.p.instr → IsNoCall inner.p.instr → (inner.p.instr ≡ Finish → ⊥) → Goal inner.p.instr
       goes_plainly (plain, takes_plainly) no_call end =
-          own_instructions.each_same table typed effects input ready state top.frame outer named p other alone views facts_now _
-          (innermost.orderly table typed effects input ready state top below more_frames rest named p frames deep stages running awaiting of_sub at_point path views viewed_before kept scope holds placed_before above) []
-          so only n agrees p.instr refl no_call end
-          (λ v is. returns plain v named.sub.result is refl (subst (IsFine s named.sub.result) is text) (subst (TakesScalars s) is takes_plainly) (subst (ComparesIn s) is compares)
+          own_instructions.each_same table typed effects input ready inner.state inner.top.frame outer inner.named inner.p other alone inner.views facts_now _
+          (innermost.orderly table typed effects input ready inner) []
+          so only n agrees inner.p.instr refl no_call end
+          (λ v is. returns plain v inner.named.sub.result is refl (subst (IsFine s inner.named.sub.result) is text) (subst (TakesScalars s) is takes_plainly) (subst (ComparesIn s) is compares)
           (subst (λ i. AllowsAll facts_now (acts_of_main i)) is (allowed_now no_call end)) (subst (λ i. AllKeep (is_fixed s sees) (acts_of_main i)) is keeps_there))
-          text takes_plainly (takes_of plain p.instr refl) compares (allowed_now no_call end) keeps_there
+          text takes_plainly (takes_of plain inner.p.instr refl) compares (allowed_now no_call end) keeps_there
 
       -- ---- a call
 
-      module _ (k : ℕ) (actuals : TypedTree) (result : Option ℕ) (e : p.instr ≡ Call k actuals result) where
+      module _ (k : ℕ) (actuals : TypedTree) (result : Option ℕ) (e : inner.p.instr ≡ Call k actuals result) where
         abbrev formals : List ℕ
         formals = (sub_of program k).formals
 
@@ -359,34 +348,34 @@ module _ (table : Table) (typed : TypedProgram) (effects : Effects) (input : Lis
         easy = (eased main_turn).state
 
         -- what it takes owns nothing
-        plain_call : TakesPassed s actuals (temporaries_of s (take (taken p.instr) p.scope))
-        plain_call = innermost.taken_call table typed effects input ready state top below more_frames rest named p frames deep stages running awaiting of_sub at_point path views viewed_before kept scope holds placed_before above k actuals result e
+        plain_call : TakesPassed s actuals (temporaries_of s (take (taken inner.p.instr) inner.p.scope))
+        plain_call = innermost.taken_call table typed effects input ready inner k actuals result e
 
-        supplied_call : Supplies s state.memory (types_taken s actuals) (start main_turn).waits []
-        supplied_call = innermost.supplied_call table typed effects input ready state top below more_frames rest named p frames deep stages running awaiting of_sub at_point path views viewed_before kept scope holds placed_before above k actuals result e
+        supplied_call : Supplies s inner.state.memory (types_taken s actuals) (start main_turn).waits []
+        supplied_call = innermost.supplied_call table typed effects input ready inner k actuals result e
 
         -- without these
-        so_easy : IsReadyIn (steps.here main_turn) sees seeing ready.accepted.settled state.leaks other alone in_formals index_law ready.owns views ready.class.parts_named
-            state.memory (waiting_in (eased main_turn).state) facts_now
+        so_easy : IsReadyIn (steps.here main_turn) sees seeing ready.accepted.settled inner.state.leaks other alone in_formals index_law ready.owns inner.views ready.class.parts_named
+            inner.state.memory (waiting_in (eased main_turn).state) facts_now
         so_easy = record {
-          viewed = (innermost.ownless_easy table typed effects input ready state top below more_frames rest named p frames deep stages running awaiting of_sub at_point path views viewed_before kept scope holds placed_before above plain_call.0).0;
-          kept = (innermost.ownless_easy table typed effects input ready state top below more_frames rest named p frames deep stages running awaiting of_sub at_point path views viewed_before kept scope holds placed_before above plain_call.0).1;
-          holds = calling.holds_now table typed effects input ready state top below more_frames rest named p frames deep stages running awaiting of_sub at_point path views viewed_before kept scope holds placed_before above k actuals result e;
+          viewed = (innermost.ownless_easy table typed effects input ready inner plain_call.0).0;
+          kept = (innermost.ownless_easy table typed effects input ready inner plain_call.0).1;
+          holds = calling.holds_now table typed effects input ready inner k actuals result e;
         }
 
         abbrev Given : List Passed → Type 0
-        Given passed = calling.Given table typed effects input ready state top below more_frames rest named p frames deep stages running awaiting of_sub at_point path views viewed_before kept scope holds placed_before above k actuals result e passed
+        Given passed = calling.Given table typed effects input ready inner k actuals result e passed
 
-        quiet_there : Quiet (calling.then_now table typed effects input ready state top below more_frames rest named p frames deep stages running awaiting of_sub at_point path views viewed_before kept scope holds placed_before above k actuals result e) Given
+        quiet_there : Quiet (calling.then_now table typed effects input ready inner k actuals result e) Given
             (all_passed (steps.here main_turn) (passings s (sub_at s k)) formals actuals (start main_turn))
-        quiet_there = calling.passed_quiet table typed effects input ready state top below more_frames rest named p frames deep stages running awaiting of_sub at_point path views viewed_before kept scope holds placed_before above k actuals result e
+        quiet_there = calling.passed_quiet table typed effects input ready inner k actuals result e
 
         no_overlap : ((r : Report) → Has (overlap_reports s (alias.passed formals actuals)) r → ⊥) ⊎ ((x : ℕ) → Has formals x → (object_at s x).mode ≡ mode.In)
         no_overlap =
-            apart_or program effects (λ x. (object_at s x).mode ≡ mode.In) ready.accepted.no_reports (flow_sub own named)
-            (standing.in_program table typed effects input ready state top older outer named p frames of_sub at_point) main_turn.point
-            (standing.in_sub table typed effects input ready state top older outer named p frames of_sub at_point) k actuals result e
-            (calling.called table typed effects input ready state top below more_frames rest named p frames deep stages running awaiting of_sub at_point path views viewed_before kept scope holds placed_before above k actuals result e).answers
+            apart_or program effects (λ x. (object_at s x).mode ≡ mode.In) ready.accepted.no_reports (flow_sub own inner.named)
+            (standing.in_program table typed effects input ready inner.state inner.top older outer inner.named inner.p inner.frames inner.of_sub inner.at_point) main_turn.point
+            (standing.in_sub table typed effects input ready inner.state inner.top older outer inner.named inner.p inner.frames inner.of_sub inner.at_point) k actuals result e
+            (calling.called table typed effects input ready inner k actuals result e).answers
             (λ of answers x has. ready.class.modes k of answers x has)
 
         abbrev SameBy : List Passing → List ℕ → TypedTree → Type 0
@@ -395,25 +384,25 @@ module _ (table : Table) (typed : TypedProgram) (effects : Effects) (input : Lis
         plain_same : traverses s.table (sub_of program k).result ≡ false → SameBy (passings s (sub_at s k)) formals actuals
         plain_same none =
             subst (λ z. SameBy z formals actuals) (sym (passes_to program k none))
-            (all_same (steps.here main_turn) sees seeing ready.accepted.settled state.leaks other alone in_formals index_law ready.owns views ready.class.parts_named state.memory (waiting_in easy)
-            facts_now so_easy only (calling.formals_low table typed effects input ready state top below more_frames rest named p frames deep stages running awaiting of_sub at_point path views viewed_before kept scope holds placed_before above k actuals result e) (not (is_some (sub_of program k).result)) (start main_turn).waits [] facts_now [] formals actuals
+            (all_same (steps.here main_turn) sees seeing ready.accepted.settled inner.state.leaks other alone in_formals index_law ready.owns inner.views ready.class.parts_named inner.state.memory (waiting_in easy)
+            facts_now so_easy only (calling.formals_low table typed effects input ready inner k actuals result e) (not (is_some (sub_of program k).result)) (start main_turn).waits [] facts_now [] formals actuals
             (elim no_overlap [ inl none ↦ inl (spares_first s facts_now formals actuals none) | inr plain ↦ inr plain ])
-            (calling.kinds table typed effects input ready state top below more_frames rest named p frames deep stages running awaiting of_sub at_point path views viewed_before kept scope holds placed_before above k actuals result e) (acting.unseen_plain table typed effects input ready state top below more_frames rest named p frames deep stages running awaiting of_sub at_point path views viewed_before kept scope holds placed_before above k actuals result e none)
-            (calling.called table typed effects input ready state top below more_frames rest named p frames deep stages running awaiting of_sub at_point path views viewed_before kept scope holds placed_before above k actuals result e).actuals_stay
-            (calling.clear_there table typed effects input ready state top below more_frames rest named p frames deep stages running awaiting of_sub at_point path views viewed_before kept scope holds placed_before above k actuals result e)
-            (calling.copied_there table typed effects input ready state top below more_frames rest named p frames deep stages running awaiting of_sub at_point path views viewed_before kept scope holds placed_before above k actuals result e)
+            (calling.kinds table typed effects input ready inner k actuals result e) (acting.unseen_plain table typed effects input ready inner k actuals result e none)
+            (calling.called table typed effects input ready inner k actuals result e).actuals_stay
+            (calling.clear_there table typed effects input ready inner k actuals result e)
+            (calling.copied_there table typed effects input ready inner k actuals result e)
             plain_call.1 supplied_call (subst (ComparesIn s) e compares)
-            (subst (λ z. AllowsAll facts_now (acts (flow.actual_values s z actuals))) (passes_to program k none) (calling.values_allowed table typed effects input ready state top below more_frames rest named p frames deep stages running awaiting of_sub at_point path views viewed_before kept scope holds placed_before above k actuals result e))
-            (calling.copies_allowed table typed effects input ready state top below more_frames rest named p frames deep stages running awaiting of_sub at_point path views viewed_before kept scope holds placed_before above k actuals result e)
+            (subst (λ z. AllowsAll facts_now (acts (flow.actual_values s z actuals))) (passes_to program k none) (calling.values_allowed table typed effects input ready inner k actuals result e))
+            (calling.copies_allowed table typed effects input ready inner k actuals result e)
             (start (twin main_turn n)) (agrees, refl, only))
 
         -- a traversal function is called
         module _ (f : ℕ) (traversed : traversed_formal s (sub_of program k) ≡ Some f) where
-          abbrev made : IsTraversalCall s named (flow_at own named p).next k actuals
-          made = calling.made table typed effects input ready state top below more_frames rest named p frames deep stages running awaiting of_sub at_point path views viewed_before kept scope holds placed_before above k actuals result e f traversed
+          abbrev made : IsTraversalCall s inner.named (flow_at own inner.named inner.p).next k actuals
+          made = calling.made table typed effects input ready inner k actuals result e f traversed
 
           abbrev traversing : IsTraversing program k f
-          traversing = calling.traversing table typed effects input ready state top below more_frames rest named p frames deep stages running awaiting of_sub at_point path views viewed_before kept scope holds placed_before above k actuals result e f traversed
+          traversing = calling.traversing table typed effects input ready inner k actuals result e f traversed
 
           abbrev first_tree : TypedTree
           first_tree = first_actual s sees ready.owns made.call
@@ -422,107 +411,107 @@ module _ (table : Table) (typed : TypedProgram) (effects : Effects) (input : Lis
           copies_these =
               (allows_both facts_now (acts (flow.actual_act (passing s false f) first_tree)) (acts (flow.actual_acts (map (passing s false) traversing.rest) (made.call).others))
               (subst (AllowsAll facts_now) (acts_append (flow.actual_act (passing s false f) first_tree) (flow.actual_acts (map (passing s false) traversing.rest) (made.call).others))
-              (subst (λ z. z) (λ j. AllowsAll facts_now (acts (flow.actual_acts (map (passing s (acting.no_procedure table typed effects input ready state top below more_frames rest named p frames deep stages running awaiting of_sub at_point path views viewed_before kept scope holds placed_before above k actuals result e f traversed j)) (traversing.formals j)) (made.actuals_are j))))
-              (calling.copies_allowed table typed effects input ready state top below more_frames rest named p frames deep stages running awaiting of_sub at_point path views viewed_before kept scope holds placed_before above k actuals result e)))).1
+              (subst (λ z. z) (λ j. AllowsAll facts_now (acts (flow.actual_acts (map (passing s (acting.no_procedure table typed effects input ready inner k actuals result e f traversed j)) (traversing.formals j)) (made.actuals_are j))))
+              (calling.copies_allowed table typed effects input ready inner k actuals result e)))).1
 
           traversal_same : SameBy (passings s (sub_at s k)) formals actuals
           traversal_same =
               subst (λ z. z) (λ j. SameBy (sym traversing.ways j) (sym traversing.formals j) (sym made.actuals_are j))
-              (traversed_same (steps.here main_turn) sees seeing ready.accepted.settled state.leaks other alone in_formals index_law ready.owns views ready.class.parts_named state.memory (waiting_in easy)
-              facts_now so_easy only (calling.formals_low table typed effects input ready state top below more_frames rest named p frames deep stages running awaiting of_sub at_point path views viewed_before kept scope holds placed_before above k actuals result e) false (start main_turn).waits []
+              (traversed_same (steps.here main_turn) sees seeing ready.accepted.settled inner.state.leaks other alone in_formals index_law ready.owns inner.views ready.class.parts_named inner.state.memory (waiting_in easy)
+              facts_now so_easy only (calling.formals_low table typed effects input ready inner k actuals result e) false (start main_turn).waits []
               (after (acts (flow.actual_act (passing s false f) first_tree)) facts_now) f made.call traversing.rest
-              (followed.access table typed effects input ready state top older outer named p frames of_sub at_point path k actuals result e f traversed)
-              (followed.shown table typed effects input ready state top older outer named p frames of_sub at_point path k actuals result e f traversed)
-              (acting.seen_first table typed effects input ready state top below more_frames rest named p frames deep stages running awaiting of_sub at_point path views viewed_before kept scope holds placed_before above k actuals result e f traversed)
-              ((calling.opens_these table typed effects input ready state top below more_frames rest named p frames deep stages running awaiting of_sub at_point path views viewed_before kept scope holds placed_before above k actuals result e f traversed).0 (followed.given table typed effects input ready state top older outer named p frames of_sub at_point path k actuals result e f traversed))
-              (followed.modes table typed effects input ready state top older outer named p frames of_sub at_point path k actuals result e f traversed)
-              (λ x has. calling.kinds table typed effects input ready state top below more_frames rest named p frames deep stages running awaiting of_sub at_point path views viewed_before kept scope holds placed_before above k actuals result e x (subst (λ z. Has z x) (sym traversing.formals) (inr has)))
-              (acting.unseen_others table typed effects input ready state top below more_frames rest named p frames deep stages running awaiting of_sub at_point path views viewed_before kept scope holds placed_before above k actuals result e f traversed) (acting.others_stay table typed effects input ready state top below more_frames rest named p frames deep stages running awaiting of_sub at_point path views viewed_before kept scope holds placed_before above k actuals result e f traversed)
-              (calling.opens_these table typed effects input ready state top below more_frames rest named p frames deep stages running awaiting of_sub at_point path views viewed_before kept scope holds placed_before above k actuals result e f traversed).1 (calling.back_these table typed effects input ready state top below more_frames rest named p frames deep stages running awaiting of_sub at_point path views viewed_before kept scope holds placed_before above k actuals result e f traversed).1
+              (followed.access table typed effects input ready inner.state inner.top older outer inner.named inner.p inner.frames inner.of_sub inner.at_point inner.path k actuals result e f traversed)
+              (followed.shown table typed effects input ready inner.state inner.top older outer inner.named inner.p inner.frames inner.of_sub inner.at_point inner.path k actuals result e f traversed)
+              (acting.seen_first table typed effects input ready inner k actuals result e f traversed)
+              ((calling.opens_these table typed effects input ready inner k actuals result e f traversed).0 (followed.given table typed effects input ready inner.state inner.top older outer inner.named inner.p inner.frames inner.of_sub inner.at_point inner.path k actuals result e f traversed))
+              (followed.modes table typed effects input ready inner.state inner.top older outer inner.named inner.p inner.frames inner.of_sub inner.at_point inner.path k actuals result e f traversed)
+              (λ x has. calling.kinds table typed effects input ready inner k actuals result e x (subst (λ z. Has z x) (sym traversing.formals) (inr has)))
+              (acting.unseen_others table typed effects input ready inner k actuals result e f traversed) (acting.others_stay table typed effects input ready inner k actuals result e f traversed)
+              (calling.opens_these table typed effects input ready inner k actuals result e f traversed).1 (calling.back_these table typed effects input ready inner k actuals result e f traversed).1
               (subst (TakesFit s) made.actuals_are plain_call.1)
-              (subst (λ z. Supplies s state.memory (types_taken s z) (start main_turn).waits []) made.actuals_are supplied_call)
+              (subst (λ z. Supplies s inner.state.memory (types_taken s z) (start main_turn).waits []) made.actuals_are supplied_call)
               (subst (Compares s) made.actuals_are (subst (ComparesIn s) e compares))
-              (subst (λ z. AllowsAll facts_now (acts z)) (λ j. flow.actual_values s (traversing.ways j) (made.actuals_are j)) (calling.values_allowed table typed effects input ready state top below more_frames rest named p frames deep stages running awaiting of_sub at_point path views viewed_before kept scope holds placed_before above k actuals result e))
+              (subst (λ z. AllowsAll facts_now (acts z)) (λ j. flow.actual_values s (traversing.ways j) (made.actuals_are j)) (calling.values_allowed table typed effects input ready inner k actuals result e))
               copies_these (start (twin main_turn n)) (agrees, refl, only))
 
         same_there : SameBy (passings s (sub_at s k)) formals actuals
-        same_there = elim (acting.traverses_or table typed effects input ready state top below more_frames rest named p frames deep stages running awaiting of_sub at_point path views viewed_before kept scope holds placed_before above k actuals result e) [
+        same_there = elim (acting.traverses_or table typed effects input ready inner k actuals result e) [
           | inl none ↦ plain_same none
           | inr (f, traversed) ↦ traversal_same f traversed
         ]
 
-        whole_there : (passed : List Passed) → Given passed → AreWhollyPassed s (suc (suc (length rest))) formals passed state.memory
+        whole_there : (passed : List Passed) → Given passed → AreWhollyPassed s (suc (suc (length inner.rest))) formals passed inner.state.memory
         whole_there passed given =
-            passed_wholly s sees ready.accepted.settled ready.owns in_formals (waiting_in easy) (suc (length rest)) views
-            (calling.far_views table typed effects input ready state top below more_frames rest named p frames deep stages running awaiting of_sub at_point path views viewed_before kept scope holds placed_before above k actuals result e passed given) (holds.only, holds.parts.only)
-            (calling.facts_all table typed effects input ready state top below more_frames rest named p frames deep stages running awaiting of_sub at_point path views viewed_before kept scope holds placed_before above k actuals result e)
-            (calling.next_there table typed effects input ready state top below more_frames rest named p frames deep stages running awaiting of_sub at_point path views viewed_before kept scope holds placed_before above k actuals result e)
-            (calling.cells table typed effects input ready state top below more_frames rest named p frames deep stages running awaiting of_sub at_point path views viewed_before kept scope holds placed_before above k actuals result e passed given)
-            (calling.cell_begins table typed effects input ready state top below more_frames rest named p frames deep stages running awaiting of_sub at_point path views viewed_before kept scope holds placed_before above k actuals result e passed given)
-            (GoneElsewhere program effects (below ∷ more_frames)) state.leaks
+            passed_wholly s sees ready.accepted.settled ready.owns in_formals (waiting_in easy) (suc (length inner.rest)) inner.views
+            (calling.far_views table typed effects input ready inner k actuals result e passed given) (inner.holds.only, inner.holds.parts.only)
+            (calling.facts_all table typed effects input ready inner k actuals result e)
+            (calling.next_there table typed effects input ready inner k actuals result e)
+            (calling.cells table typed effects input ready inner k actuals result e passed given)
+            (calling.cell_begins table typed effects input ready inner k actuals result e passed given)
+            (GoneElsewhere program effects (inner.below ∷ inner.more_frames)) inner.state.leaks
             formals passed
-            (calling.ways_taken table typed effects input ready state top below more_frames rest named p frames deep stages running awaiting of_sub at_point path views viewed_before kept scope holds placed_before above k actuals result e passed given)
-            (calling.outs table typed effects input ready state top below more_frames rest named p frames deep stages running awaiting of_sub at_point path views viewed_before kept scope holds placed_before above k actuals result e passed given)
-            state.memory state.memory
-            (calling.all_passed_ways table typed effects input ready state top below more_frames rest named p frames deep stages running awaiting of_sub at_point path views viewed_before kept scope holds placed_before above k actuals result e passed given).1
-            (call_takes.open_there table typed effects input ready state top below more_frames rest named p frames deep stages running awaiting of_sub at_point path views viewed_before kept scope holds placed_before above k actuals result e passed given)
-            (call_begins.at_first table typed effects input ready state top below more_frames rest named p frames deep stages running awaiting of_sub at_point path views viewed_before kept scope holds placed_before above k actuals result e passed given) so_easy.kept
+            (calling.ways_taken table typed effects input ready inner k actuals result e passed given)
+            (calling.outs table typed effects input ready inner k actuals result e passed given)
+            inner.state.memory inner.state.memory
+            (calling.all_passed_ways table typed effects input ready inner k actuals result e passed given).1
+            (call_takes.open_there table typed effects input ready inner k actuals result e passed given)
+            (call_begins.at_first table typed effects input ready inner k actuals result e passed given) so_easy.kept
             (λ c has. (
-              (calling.named_cell table typed effects input ready state top below more_frames rest named p frames deep stages running awaiting of_sub at_point path views viewed_before kept scope holds placed_before above k actuals result e passed given c has).reaches,
-              calling.cell_aside table typed effects input ready state top below more_frames rest named p frames deep stages running awaiting of_sub at_point path views viewed_before kept scope holds placed_before above k actuals result e passed given c has,
+              (calling.named_cell table typed effects input ready inner k actuals result e passed given c has).reaches,
+              calling.cell_aside table typed effects input ready inner k actuals result e passed given c has,
             ))
-            (calling.stands_all table typed effects input ready state top below more_frames rest named p frames deep stages running awaiting of_sub at_point path views viewed_before kept scope holds placed_before above k actuals result e passed given)
-            (calling.blank_formals table typed effects input ready state top below more_frames rest named p frames deep stages running awaiting of_sub at_point path views viewed_before kept scope holds placed_before above k actuals result e passed given) (λ o has. ((λ g y q p' low is. refl), (λ c q p' there is. refl)))
-            (same_cells state.memory state.memory refl)
+            (calling.stands_all table typed effects input ready inner k actuals result e passed given)
+            (calling.blank_formals table typed effects input ready inner k actuals result e passed given) (λ o has. ((λ g y q p' low is. refl), (λ c q p' there is. refl)))
+            (same_cells inner.state.memory inner.state.memory refl)
 
         calls_it : Goal (Call k actuals result)
         calls_it =
-            call_same main_turn ready.accepted.settled n agrees k actuals only (calling.taken_there table typed effects input ready state top below more_frames rest named p frames deep stages running awaiting of_sub at_point path views viewed_before kept scope holds placed_before above k actuals result e).0
+            call_same main_turn ready.accepted.settled n agrees k actuals only (calling.taken_there table typed effects input ready inner k actuals result e).0
             Given quiet_there same_there whole_there
 
     -- ---- the end of a call
 
     -- of what is copied back nothing is gone
-    ends_whole : p.instr ≡ Finish → AreWhollyBack main_turn top.frame.returns state.memory
+    ends_whole : inner.p.instr ≡ Finish → AreWhollyBack main_turn inner.top.frame.returns inner.state.memory
     ends_whole is =
-        by_rest rest more_frames refl stages running.2
-        (innermost.viewed_own table typed effects input ready state top below more_frames rest named p frames deep stages running awaiting of_sub at_point path views viewed_before kept scope holds placed_before above) awaiting.1
+        by_rest inner.rest inner.more_frames refl inner.stages inner.running.2
+        (innermost.viewed_own table typed effects input ready inner) inner.awaiting.1
       where
-        by_rest : (r : List Frame) (m : List ViewStage) → rest ≡ r → AreStages (stages_of (below ∷ m)) (below.stage.frame ∷ r)
-            → AreWaiting table typed effects state top.frame.sub top.frame.returns (below ∷ m)
-            → ViewedAlone (home s (suc (length rest))) sees (known_gone (home s (suc (length rest))) (GoneElsewhere program effects (below ∷ m))) views (view_here s state)
-            (standing.facts table typed effects input ready state top older outer named p frames of_sub at_point path)
-            → AreAwaited table typed (awaited (sub_of program top.frame.sub) top.before) (stages_of (below ∷ m))
-            → AreWhollyBack main_turn top.frame.returns state.memory
-        by_rest [] [] same there waiting well still = subst (λ z. AreWhollyBack main_turn z state.memory) (sym waiting.1) tt
+        by_rest : (r : List Frame) (m : List ViewStage) → inner.rest ≡ r → AreStages (stages_of (inner.below ∷ m)) (inner.below.stage.frame ∷ r)
+            → AreWaiting table typed effects inner.state inner.top.frame.sub inner.top.frame.returns (inner.below ∷ m)
+            → ViewedAlone (home s (suc (length inner.rest))) sees (known_gone (home s (suc (length inner.rest))) (GoneElsewhere program effects (inner.below ∷ m))) inner.views (view_here s inner.state)
+            (standing.facts table typed effects input ready inner.state inner.top older outer inner.named inner.p inner.frames inner.of_sub inner.at_point inner.path)
+            → AreAwaited table typed (awaited (sub_of program inner.top.frame.sub) inner.top.before) (stages_of (inner.below ∷ m))
+            → AreWhollyBack main_turn inner.top.frame.returns inner.state.memory
+        by_rest [] [] same there waiting well still = subst (λ z. AreWhollyBack main_turn z inner.state.memory) (sym waiting.1) tt
         by_rest [] (h ∷ m) same there waiting well still = absurd there.2
         by_rest (f ∷ r) [] same there waiting well still = absurd there.2
         by_rest (f ∷ r) (h ∷ m) same there waiting well still =
-            let stages_there : AreStages (stages_of (below ∷ (h ∷ m))) (below.stage.frame ∷ rest) =
-            subst (λ z. AreStages (stages_of (below ∷ (h ∷ m))) (below.stage.frame ∷ z)) (sym same) there in
-            back_wholly main_turn sees ready.accepted.settled ready.owns in_formals (waiting_in state) state.leaks below.stage.depth
-            (ends.deep_low table typed effects input ready state top below more_frames rest named p frames deep stages running awaiting of_sub at_point path views viewed_before kept scope holds placed_before above h m stages_there waiting well still is)
-            below.views (ends.far_low table typed effects input ready state top below more_frames rest named p frames deep stages running awaiting of_sub at_point path views viewed_before kept scope holds placed_before above h m stages_there waiting well still is) waiting.0.holds.only (facts_of program effects below.stage) (lasting_of s waiting.0.point.scope)
-            (ends.gone_around table typed effects input ready state top below more_frames rest named p frames deep stages running awaiting of_sub at_point path views viewed_before kept scope holds placed_before above h m stages_there waiting well still is)
-            (ends.free_low table typed effects input ready state top below more_frames rest named p frames deep stages running awaiting of_sub at_point path views viewed_before kept scope holds placed_before above h m stages_there waiting well still is)
-            (ends.whole_low table typed effects input ready state top below more_frames rest named p frames deep stages running awaiting of_sub at_point path views viewed_before kept scope holds placed_before above h m stages_there waiting well still is)
-            below.cells (ends.begins_low table typed effects input ready state top below more_frames rest named p frames deep stages running awaiting of_sub at_point path views viewed_before kept scope holds placed_before above h m stages_there waiting well still is)
-            top.frame.returns below.stage.returns state.memory waiting.0.taken (λ c has. ((waiting.0.kept c has).reaches, (waiting.0.kept c has).aside)) kept
-            (ends.stands_low table typed effects input ready state top below more_frames rest named p frames deep stages running awaiting of_sub at_point path views viewed_before kept scope holds placed_before above h m stages_there waiting well still is)
+            let stages_there : AreStages (stages_of (inner.below ∷ (h ∷ m))) (inner.below.stage.frame ∷ inner.rest) =
+            subst (λ z. AreStages (stages_of (inner.below ∷ (h ∷ m))) (inner.below.stage.frame ∷ z)) (sym same) there in
+            back_wholly main_turn sees ready.accepted.settled ready.owns in_formals (waiting_in inner.state) inner.state.leaks inner.below.stage.depth
+            (ends.deep_low table typed effects input ready inner h m stages_there waiting well still is)
+            inner.below.views (ends.far_low table typed effects input ready inner h m stages_there waiting well still is) waiting.0.holds.only (facts_of program effects inner.below.stage) (lasting_of s waiting.0.point.scope)
+            (ends.gone_around table typed effects input ready inner h m stages_there waiting well still is)
+            (ends.free_low table typed effects input ready inner h m stages_there waiting well still is)
+            (ends.whole_low table typed effects input ready inner h m stages_there waiting well still is)
+            inner.below.cells (ends.begins_low table typed effects input ready inner h m stages_there waiting well still is)
+            inner.top.frame.returns inner.below.stage.returns inner.state.memory waiting.0.taken (λ c has. ((waiting.0.kept c has).reaches, (waiting.0.kept c has).aside)) inner.kept
+            (ends.stands_low table typed effects input ready inner h m stages_there waiting well still is)
 
-    pub main_same : SameAt state n
+    pub main_same : SameAt inner.state n
     main_same =
-        both_are main_turn _ _ _ _ (standing.step_is table typed effects input ready state top older outer named p frames of_sub at_point)
-        (standing.step_is table typed effects input ready (record state { memory = n }) top older outer named p frames of_sub at_point)
-        (elim (finish_or p.instr) [
-          | inl is ↦ subst Goal (sym is) (finish_same main_turn n agrees (ends_whole is) only below.stage.frame rest refl)
-          | inr end ↦ elim (end_or p.instr) [
+        both_are main_turn _ _ _ _ (standing.step_is table typed effects input ready inner.state inner.top older outer inner.named inner.p inner.frames inner.of_sub inner.at_point)
+        (standing.step_is table typed effects input ready (record inner.state { memory = n }) inner.top older outer inner.named inner.p inner.frames inner.of_sub inner.at_point)
+        (elim (finish_or inner.p.instr) [
+          | inl is ↦ subst Goal (sym is) (finish_same main_turn n agrees (ends_whole is) only inner.below.stage.frame inner.rest refl)
+          | inr end ↦ elim (end_or inner.p.instr) [
             | inl (y, is) ↦ subst Goal (sym is) (end_scope_same main_turn n agrees only y)
-            | inr going ↦ elim (call_or p.instr) [
-              | inr no_call ↦ elim (innermost.taken_there table typed effects input ready state top below more_frames rest named p frames deep stages running awaiting of_sub at_point path views viewed_before kept scope holds placed_before above no_call) [
+            | inr going ↦ elim (call_or inner.p.instr) [
+              | inr no_call ↦ elim (innermost.taken_there table typed effects input ready inner no_call) [
                 | inl plain ↦ goes_plainly going plain no_call end
-                | inr (inl by_itself) ↦ taken_values.goes_alone table typed effects input ready compared state top below more_frames rest named p frames deep stages running awaiting of_sub at_point path views viewed_before kept scope holds placed_before above only n agrees going no_call end by_itself
-                | inr (inr together) ↦ taken_values.goes_together table typed effects input ready compared state top below more_frames rest named p frames deep stages running awaiting of_sub at_point path views viewed_before kept scope holds placed_before above only n agrees going no_call end together
+                | inr (inl by_itself) ↦ taken_values.goes_alone table typed effects input ready compared inner only n agrees going no_call end by_itself
+                | inr (inr together) ↦ taken_values.goes_together table typed effects input ready compared inner only n agrees going no_call end together
               ]
               | inl call ↦ subst Goal (sym call.3) (calls_it going call.0 call.1 call.2 call.3)
             ]
@@ -545,11 +534,30 @@ module _ (table : Table) (typed : TypedProgram) (effects : Effects) (input : Lis
       (subst (λ d. ViewedAlone (home s d) sees (known_gone (home s d) (GoneElsewhere program effects [])) views (view_here s state) (facts_of program effects top)) deep seen_well) kept
       (subst (λ d. HoldsAt s sees d views state.memory p) deep holds) only n agrees
   by_stages state top views (below ∷ more) (f ∷ (g ∷ rest)) is (frame, deep, (around_frame, deeper, others)) running awaiting path seen_well kept named of_sub p at_point scope holds there above only n agrees =
-      main_same state top below more rest named p (is ∙ (λ j. sym frame j ∷ (sym around_frame j ∷ rest))) deep (refl, deeper, others) running awaiting of_sub at_point path views
-      (subst (λ d. ViewedAlone (home s d) sees (known_gone (home s d) (GoneElsewhere program effects (below ∷ more))) views (view_here s state) (facts_of program effects top)) deep seen_well) kept
-      (subst (λ d. InScope s state.memory d (lasting_of s p.scope)) deep scope) (subst (λ d. HoldsAt s sees d views state.memory p) deep holds)
-      (subst (λ d. ArePlaced program d (facts_of program effects top) views p.scope × IsBeyond program effects d views (below ∷ more)) deep there)
-      (subst (λ d. NoneAbove s d state.memory) deep above.0, above.1) only n agrees
+      main_same (record {
+        state = state;
+        top = top;
+        below = below;
+        more_frames = more;
+        rest = rest;
+        named = named;
+        p = p;
+        frames = is ∙ (λ j. sym frame j ∷ (sym around_frame j ∷ rest));
+        deep = deep;
+        stages = (refl, deeper, others);
+        running = running;
+        awaiting = awaiting;
+        of_sub = of_sub;
+        at_point = at_point;
+        path = path;
+        views = views;
+        viewed_before = subst (λ d. ViewedAlone (home s d) sees (known_gone (home s d) (GoneElsewhere program effects (below ∷ more))) views (view_here s state) (facts_of program effects top)) deep seen_well;
+        kept = kept;
+        scope = subst (λ d. InScope s state.memory d (lasting_of s p.scope)) deep scope;
+        holds = subst (λ d. HoldsAt s sees d views state.memory p) deep holds;
+        placed_before = subst (λ d. ArePlaced program d (facts_of program effects top) views p.scope × IsBeyond program effects d views (below ∷ more)) deep there;
+        above = (subst (λ d. NoneAbove s d state.memory) deep above.0, above.1);
+      }) only n agrees
   by_stages state top views [] [] is stages running awaiting path seen_well kept named of_sub p at_point scope holds there above only n agrees = absurd stages
   by_stages state top views [] (f ∷ (g ∷ others)) is stages running awaiting path seen_well kept named of_sub p at_point scope holds there above only n agrees = absurd stages.2
   by_stages state top views (below ∷ more) [] is stages running awaiting path seen_well kept named of_sub p at_point scope holds there above only n agrees = absurd stages

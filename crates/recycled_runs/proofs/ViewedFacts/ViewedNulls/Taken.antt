@@ -1,7 +1,7 @@
 -- What functions gave is taken, alone or within a value that is made of it: the step is the same in memories that agree.
 use Rattle.std.proofs.Common.{◌≡◌, refl, sym, ap, ◌∙◌, subst, inl, inr, ℕ, suc, Bool, true, false, List, [], ◌∷◌, ◌++◌, length, append-nil, Option, Some, None, if◌then◌else◌, drop, get_or}
 use Rattle.soundness.proofs.ViewedSoundness.ViewKinds.{plain_named}
-use Rattle.viewed_steps.specs.Awaited.{AreAwaited, lasting_of, TakesAlone}
+use Rattle.viewed_steps.specs.Awaited.{TakesAlone}
 use Rattle.viewed_steps.proofs.Alone as alone_value
 use Rattle.viewed_steps.proofs.Within as steps_within
 use Rattle.viewed_steps.specs.Awaited.{TakesTogether}
@@ -29,23 +29,19 @@ use Rattle.flow_paths.specs.Objects.{Typing, is_anonymous, object_at, view_of}
 use Rattle.flow_paths.specs.Names.{has_call, name_of}
 use Rattle.flow_paths.specs.Acts as flow
 use Rattle.flow_paths.specs.Acts.{acts_in}
-use Rattle.flow_paths.specs.Points.{NamedPoint}
 use Rattle.flow_paths.specs.Scopes.{taken}
-use Rattle.flow_paths.specs.Laid.{FlowSub, FlowProgram, NamedSub, flow_sub, typing_of, flow_typing, flow_program, flow_named}
-use Rattle.flow_paths.specs.Paths.{ControlPath}
-use Rattle.flow_paths.specs.Effects.{path_points}
+use Rattle.flow_paths.specs.Laid.{FlowSub, FlowProgram, flow_sub, typing_of, flow_typing, flow_program}
 use Rattle.machine.specs.Words.{fits_type}
 use Rattle.machine.specs.Words as machine
 use Rattle.machine.specs.Memory.{Memory}
 use Rattle.machine.specs.Evaluate.{Here, Now, AsValue, Evaluated, Done, Raises, followed_by, evaluate, viewed, checked, place_of, ConstraintError}
-use Rattle.machine.specs.States.{Waiting, Frame, State, Goes, sub_of}
+use Rattle.machine.specs.States.{Waiting, Frame, Goes, sub_of}
 use Rattle.machine.specs.Step.{Turn, turn, start}
 use Rattle.machine.specs.Step as steps
 use Rattle.machine.specs.Owners.{waiting_in}
 use Rattle.soundness.specs.OwnedWays.Ways.{Way, Allows, AllowsAll}
 use Rattle.soundness.specs.Seen.{IsNear, home}
-use Rattle.soundness.specs.Typed.{Kept}
-use Rattle.soundness.specs.Sound.{Stage, facts_of, AreStages, IsRunnable, IsNoCall, InScope, IsNamedSub, IsAtPoint, view_of as view_here}
+use Rattle.soundness.specs.Sound.{IsNoCall}
 use Rattle.soundness.specs.TypedLaws.Needed.{IsFine, Source, Returns}
 use Rattle.soundness.proofs.Numbers.{index_law}
 use Rattle.soundness.proofs.Scalars.{acts, allows_both}
@@ -53,10 +49,10 @@ use Rattle.soundness.proofs.Operands.{handed_over, hold_is}
 use Rattle.soundness.proofs.Eased.{eased}
 use Rattle.soundness.proofs.Stays.{Quiet}
 use Rattle.soundness.proofs.Taking.{Takes, no_takes}
-use Rattle.soundness.specs.OwnedLoans.Views.{Around, known_gone, Views, ViewedAlone}
+use Rattle.soundness.specs.OwnedLoans.Views.{Around}
 use Rattle.soundness.specs.ViewedSoundness.Holds.{is_fixed, IsNamed, AllKeep, Seeing}
 use Rattle.soundness.proofs.ViewedSoundness.Outcomes.{named_plain}
-use Rattle.viewed_steps.specs.Sound.{IsBeyond, IsResting, HoldsAt, ArePlaced, NoneAbove, ViewStage, stages_of, GoneElsewhere, AreWaiting, HasTraversals}
+use Rattle.viewed_steps.specs.Sound.{ViewStage}
 use Rattle.viewed_steps.specs.Ready.{IsReady}
 use Rattle.viewed_steps.proofs.Standing as standing
 use Rattle.viewed_steps.proofs.Innermost as innermost
@@ -76,6 +72,7 @@ use Rattle.recycled_runs.proofs.ViewedFacts.ViewedNulls.Sources.{call_declared_s
 use Rattle.soundness.proofs.Contents.{bool_cases}
 use Rattle.viewed_steps.specs.Seeing.{sees_in}
 use Rattle.viewed_steps.proofs.Sees.{sees_seeing}
+use Rattle.viewed_steps.proofs.InnerFrame.{InnerFrame}
 
 module _ (table : Table) (typed : TypedProgram) (effects : Effects) (input : List ℕ) (ready : IsReady table typed effects)
     (compared : AreCompared (flow_program table typed)) where
@@ -97,106 +94,94 @@ module _ (table : Table) (typed : TypedProgram) (effects : Effects) (input : Lis
   abbrev in_formals : AreAccess s
   in_formals = standing.in_formals table typed effects input ready
 
-  module _ (state : State) (top : Stage) (below : ViewStage) (more_frames : List ViewStage) (rest : List Frame) (named : NamedSub) (p : NamedPoint)
-      (frames : state.frames ≡ top.frame ∷ (below.stage.frame ∷ rest)) (deep : top.depth ≡ suc (length rest))
-      (stages : AreStages (stages_of (below ∷ more_frames)) (below.stage.frame ∷ rest))
-      (running : IsRunnable table typed top.frame.sub × IsResting s top × AreWaiting table typed effects state top.frame.sub top.frame.returns (below ∷ more_frames))
-      (awaiting : AreAwaited table typed None (top ∷ stages_of (below ∷ more_frames)))
-      (of_sub : IsNamedSub (flow_named table typed) top.frame.sub named) (at_point : IsAtPoint named.points top.frame.next p)
-      (path : ControlPath (path_points program effects (sub_of program top.frame.sub)) top.before top.frame.next) (views : Views)
-      (viewed_before : ViewedAlone (home s (suc (length rest))) sees (known_gone (home s (suc (length rest))) (GoneElsewhere program effects (below ∷ more_frames))) views
-      (view_here s state) (facts_of program effects top))
-      (kept : Kept s state.memory (waiting_in state)) (scope : InScope s state.memory (suc (length rest)) (lasting_of s p.scope)) (holds : HoldsAt s sees (suc (length rest)) views state.memory p)
-      (placed_before : ArePlaced program (suc (length rest)) (facts_of program effects top) views p.scope × IsBeyond program effects (suc (length rest)) views (below ∷ more_frames)) (above : NoneAbove s (suc (length rest)) state.memory
-      × HasTraversals table typed (view_here s state) (record { stage = top; views = views; cells = [] } ∷ (below ∷ more_frames)))
-      (only : OnlyOwners s state.memory) (n : Memory) (agrees : Agrees state.memory n) where
+  module _ (inner : InnerFrame table typed effects) (only : OnlyOwners s inner.state.memory) (n : Memory) (agrees : Agrees inner.state.memory n) where
     abbrev outer : List Frame
-    outer = below.stage.frame ∷ rest
+    outer = inner.below.stage.frame ∷ inner.rest
 
     abbrev older : List ViewStage
-    older = below ∷ more_frames
+    older = inner.below ∷ inner.more_frames
 
     abbrev main_turn : Turn
-    main_turn = standing.t table typed effects input ready state top older outer named p frames of_sub at_point
+    main_turn = standing.t table typed effects input ready inner.state inner.top older outer inner.named inner.p inner.frames inner.of_sub inner.at_point
 
-    abbrev other : Around (home s (suc (length rest)))
-    other = innermost.other table typed effects input ready state top below more_frames rest named p frames deep stages running awaiting of_sub at_point path views viewed_before kept scope holds placed_before above
+    abbrev other : Around (home s (suc (length inner.rest)))
+    other = innermost.other table typed effects input ready inner
 
-    abbrev alone : (w : Way) → IsNear (suc (length rest)) w → other.gone w → ⊥
-    alone = innermost.alone table typed effects input ready state top below more_frames rest named p frames deep stages running awaiting of_sub at_point path views viewed_before kept scope holds placed_before above
+    abbrev alone : (w : Way) → IsNear (suc (length inner.rest)) w → other.gone w → ⊥
+    alone = innermost.alone table typed effects input ready inner
 
     abbrev facts_now : List Fact
-    facts_now = innermost.facts_now table typed effects input ready state top below more_frames rest named p frames deep stages running awaiting of_sub at_point path views viewed_before kept scope holds placed_before above
+    facts_now = innermost.facts_now table typed effects input ready inner
 
     abbrev acts_of_main : Instruction → List Act
-    acts_of_main i = standing.acts_here table typed effects input ready state top older outer named p frames of_sub at_point i
+    acts_of_main i = standing.acts_here table typed effects input ready inner.state inner.top older outer inner.named inner.p inner.frames inner.of_sub inner.at_point i
 
     abbrev pub Goal : Instruction → Type 0
     Goal i = SameStep main_turn (turn main_turn i) (turn (twin main_turn n) i)
 
-    in_sub : Has (flow_sub own named).points main_turn.point
-    in_sub = standing.in_sub table typed effects input ready state top older outer named p frames of_sub at_point
+    in_sub : Has (flow_sub own inner.named).points main_turn.point
+    in_sub = standing.in_sub table typed effects input ready inner.state inner.top older outer inner.named inner.p inner.frames inner.of_sub inner.at_point
 
-    in_program : Has program.subs (flow_sub own named)
-    in_program = standing.in_program table typed effects input ready state top older outer named p frames of_sub at_point
+    in_program : Has program.subs (flow_sub own inner.named)
+    in_program = standing.in_program table typed effects input ready inner.state inner.top older outer inner.named inner.p inner.frames inner.of_sub inner.at_point
 
-    text : IsFine s named.sub.result p.instr
-    text = standing.fine table typed effects input ready state top older outer named p frames of_sub at_point
+    text : IsFine s inner.named.sub.result inner.p.instr
+    text = standing.fine table typed effects input ready inner.state inner.top older outer inner.named inner.p inner.frames inner.of_sub inner.at_point
 
-    compares : ComparesIn s p.instr
-    compares = compared (flow_sub own named) in_program main_turn.point in_sub
+    compares : ComparesIn s inner.p.instr
+    compares = compared (flow_sub own inner.named) in_program main_turn.point in_sub
 
     -- ---- where no scope ends
 
-    module _ (going : (x : ℕ) → p.instr ≡ EndScope x → ⊥) where
-      pub so : IsReadyIn (steps.here main_turn) sees seeing ready.accepted.settled state.leaks other alone in_formals index_law ready.owns views ready.class.parts_named
-          state.memory (waiting_in state) facts_now
+    module _ (going : (x : ℕ) → inner.p.instr ≡ EndScope x → ⊥) where
+      pub so : IsReadyIn (steps.here main_turn) sees seeing ready.accepted.settled inner.state.leaks other alone in_formals index_law ready.owns inner.views ready.class.parts_named
+          inner.state.memory (waiting_in inner.state) facts_now
       so = record {
-        viewed = innermost.viewed table typed effects input ready state top below more_frames rest named p frames deep stages running awaiting of_sub at_point path views viewed_before kept scope holds placed_before above;
-        kept = kept;
-        holds = all_held s sees in_formals (suc (length rest)) views state.memory (λ x k view bare at. holds.held x k (λ fading. going fading.0 fading.1) view bare at) holds.only holds.owners holds.own holds.taken holds.parts;
+        viewed = innermost.viewed table typed effects input ready inner;
+        kept = inner.kept;
+        holds = all_held s sees in_formals (suc (length inner.rest)) inner.views inner.state.memory (λ x k view bare at. inner.holds.held x k (λ fading. going fading.0 fading.1) view bare at) inner.holds.only inner.holds.owners inner.holds.own inner.holds.taken inner.holds.parts;
       }
 
       abbrev pub asks : Premises (steps.here main_turn)
       asks = viewed_premises (steps.here main_turn) sees ready.class.parts_named
 
       abbrev pub ready_in : Memory → List Waiting → List Fact → Type 0
-      ready_in m hands known = IsReadyIn (steps.here main_turn) sees seeing ready.accepted.settled state.leaks other alone in_formals index_law ready.owns views ready.class.parts_named m hands known
+      ready_in m hands known = IsReadyIn (steps.here main_turn) sees seeing ready.accepted.settled inner.state.leaks other alone in_formals index_law ready.owns inner.views ready.class.parts_named m hands known
 
       pub laws : Values (steps.here main_turn) asks ready_in
-      laws = viewed_values (steps.here main_turn) sees seeing ready.accepted.settled state.leaks other alone in_formals index_law ready.owns views ready.class.parts_named
+      laws = viewed_values (steps.here main_turn) sees seeing ready.accepted.settled inner.state.leaks other alone in_formals index_law ready.owns inner.views ready.class.parts_named
 
       abbrev pub Plain : Type 0
-      Plain = innermost.Plain table typed effects input ready state top below more_frames rest named p frames deep stages running awaiting of_sub at_point path views viewed_before kept scope holds placed_before above
+      Plain = innermost.Plain table typed effects input ready inner
 
-      pub takes_of : Plain → (i : Instruction) → p.instr ≡ i → Takes (taken i) (start main_turn).waits []
-      takes_of = innermost.takes_of table typed effects input ready state top below more_frames rest named p frames deep stages running awaiting of_sub at_point path views viewed_before kept scope holds placed_before above
+      pub takes_of : Plain → (i : Instruction) → inner.p.instr ≡ i → Takes (taken i) (start main_turn).waits []
+      takes_of = innermost.takes_of table typed effects input ready inner
 
-      pub allowed_now : IsNoCall p.instr → (p.instr ≡ Finish → ⊥) → AllowsAll facts_now (acts_of_main p.instr)
+      pub allowed_now : IsNoCall inner.p.instr → (inner.p.instr ≡ Finish → ⊥) → AllowsAll facts_now (acts_of_main inner.p.instr)
       allowed_now no_call end =
-          innermost.allowed_now table typed effects input ready state top below more_frames rest named p frames deep stages running awaiting of_sub at_point path views viewed_before kept scope holds placed_before above
-          (each.spares table typed effects input ready state top below more_frames rest named p frames deep stages running awaiting of_sub at_point path views viewed_before kept scope holds placed_before above going no_call end)
-          (standing.allowed table typed effects input ready state top older outer named p frames of_sub at_point path no_call)
+          innermost.allowed_now table typed effects input ready inner
+          (each.spares table typed effects input ready inner going no_call end)
+          (standing.allowed table typed effects input ready inner.state inner.top older outer inner.named inner.p inner.frames inner.of_sub inner.at_point inner.path no_call)
 
-      pub keeps_there : AllKeep (is_fixed s sees) (acts_of_main p.instr)
-      keeps_there = standing.keeps_there table typed effects input ready state top older outer named p frames of_sub at_point
+      pub keeps_there : AllKeep (is_fixed s sees) (acts_of_main inner.p.instr)
+      keeps_there = standing.keeps_there table typed effects input ready inner.state inner.top older outer inner.named inner.p inner.frames inner.of_sub inner.at_point
 
       -- ---- a return
 
-      pub holds_value : (e : TypedTree) (of : ℕ) → named.sub.result ≡ Some of
+      pub holds_value : (e : TypedTree) (of : ℕ) → inner.named.sub.result ≡ Some of
           → SameTo s (steps.taken_by main_turn of e (start main_turn)) (steps.taken_by main_turn of e (start (twin main_turn n))) → Goal (Hold (More e NoMore))
       holds_value e of result same =
-          let sub_result : (sub_of program top.frame.sub).result ≡ Some of =
-          ap (λ (z : FlowSub). z.result) (standing.sub_is table typed effects input ready state top older outer named p frames of_sub at_point) ∙ result in
+          let sub_result : (sub_of program inner.top.frame.sub).result ≡ Some of =
+          ap (λ (z : FlowSub). z.result) (standing.sub_is table typed effects input ready inner.state inner.top older outer inner.named inner.p inner.frames inner.of_sub inner.at_point) ∙ result in
           both_are main_turn _ _ _ _
-          (hold_is program input main_turn.point state top.frame below.stage.frame rest e NoMore of sub_result)
-          (hold_is program input main_turn.point (record state { memory = n }) top.frame below.stage.frame rest e NoMore of sub_result)
+          (hold_is program input main_turn.point inner.state inner.top.frame inner.below.stage.frame inner.rest e NoMore of sub_result)
+          (hold_is program input main_turn.point (record inner.state { memory = n }) inner.top.frame inner.below.stage.frame inner.rest e NoMore of sub_result)
           (step_simply main_turn n agrees (steps.taken_by main_turn of e (start main_turn)) (steps.taken_by main_turn of e (start (twin main_turn n)))
-          (λ ws m. Goes (handed_over program input main_turn.point state top.frame below.stage.frame rest of ws m))
-          (λ ws m. Goes (handed_over program input main_turn.point (record state { memory = n }) top.frame below.stage.frame rest of ws m))
+          (λ ws m. Goes (handed_over program input main_turn.point inner.state inner.top.frame inner.below.stage.frame inner.rest of ws m))
+          (λ ws m. Goes (handed_over program input main_turn.point (record inner.state { memory = n }) inner.top.frame inner.below.stage.frame inner.rest of ws m))
           same (λ ws i j now. ((refl, now.0), now.2)))
 
-      pub returned_acts : (of : ℕ) (e : TypedTree) → named.sub.result ≡ Some of → is_anonymous (full s.table of) ≡ false → acts_of_main (Hold (More e NoMore)) ≡ acts (acts_in s e)
+      pub returned_acts : (of : ℕ) (e : TypedTree) → inner.named.sub.result ≡ Some of → is_anonymous (full s.table of) ≡ false → acts_of_main (Hold (More e NoMore)) ≡ acts (acts_in s e)
       unfolding acts_in
       returned_acts of e result owner =
           ap (λ r. acts (flow.returned_acts s r (More e NoMore))) result
@@ -205,7 +190,7 @@ module _ (table : Table) (typed : TypedProgram) (effects : Effects) (input : Lis
 
       -- ---- what a function gave, alone
 
-      module _ (no_call : IsNoCall p.instr) (end : p.instr ≡ Finish → ⊥) (by_itself : TakesAlone s p) where
+      module _ (no_call : IsNoCall inner.p.instr) (end : inner.p.instr ≡ Finish → ⊥) (by_itself : TakesAlone s inner.p) where
         abbrev call : TypedTree
         call = CallIn by_itself.3 by_itself.4 by_itself.5
 
@@ -224,46 +209,46 @@ module _ (table : Table) (typed : TypedProgram) (effects : Effects) (input : Lis
 
         -- nothing is done in memory
         call_quiet : (u : ℕ) → IsNamed s.table u
-            → Quiet (record { memory = state.memory; waits = drop 1 (start main_turn).waits }) (λ (ws : List machine.Word). Unit {0})
+            → Quiet (record { memory = inner.state.memory; waits = drop 1 (start main_turn).waits }) (λ (ws : List machine.Word). Unit {0})
             (steps.taken_by main_turn u (CallIn by_itself.3 by_itself.4 by_itself.5) (start main_turn))
         unfolding evaluate
         call_quiet u own_type =
             let h : Here = steps.here main_turn in
-            let now : Now = record { memory = state.memory; waits = drop 1 (start main_turn).waits } in
+            let now : Now = record { memory = inner.state.memory; waits = drop 1 (start main_turn).waits } in
             subst (λ b. Quiet now (λ (ws : List machine.Word). Unit {0}) (if b then viewed h call (start main_turn) else followed_by (evaluate h AsValue call (start main_turn)) (checked h u)))
             (sym (named_plain s.table u own_type)) (by_test (get_or (start main_turn).waits 0 []) (fits_type s.table u (get_or (start main_turn).waits 0 [])))
           where
             by_test : (ws : List machine.Word) (b : Bool)
-                → Quiet (record { memory = state.memory; waits = drop 1 (start main_turn).waits }) (λ (ws : List machine.Word). Unit {0})
-                (if b then Done ws (record { memory = state.memory; waits = drop 1 (start main_turn).waits })
-                else Raises ConstraintError (record { memory = state.memory; waits = drop 1 (start main_turn).waits }))
+                → Quiet (record { memory = inner.state.memory; waits = drop 1 (start main_turn).waits }) (λ (ws : List machine.Word). Unit {0})
+                (if b then Done ws (record { memory = inner.state.memory; waits = drop 1 (start main_turn).waits })
+                else Raises ConstraintError (record { memory = inner.state.memory; waits = drop 1 (start main_turn).waits }))
             by_test ws true = (refl, tt)
             by_test ws false = refl
 
-        declares_alone : (y : ℕ) → p.instr ≡ Declare y (More (CallIn by_itself.3 by_itself.4 by_itself.5) NoMore) → Goal (Declare y (More (CallIn by_itself.3 by_itself.4 by_itself.5) NoMore))
+        declares_alone : (y : ℕ) → inner.p.instr ≡ Declare y (More (CallIn by_itself.3 by_itself.4 by_itself.5) NoMore) → Goal (Declare y (More (CallIn by_itself.3 by_itself.4 by_itself.5) NoMore))
         declares_alone y is = by_view (is_anonymous (view_of s y)) refl
           where
             by_view : (b : Bool) → is_anonymous (view_of s y) ≡ b → Goal (Declare y (More (CallIn by_itself.3 by_itself.4 by_itself.5) NoMore))
             by_view true view =
-                call_declared_same main_turn sees seeing ready.accepted.settled ready.owns other alone in_formals views ready.class.parts_named facts_now so only n agrees
+                call_declared_same main_turn sees seeing ready.accepted.settled ready.owns other alone in_formals inner.views ready.class.parts_named facts_now so only n agrees
                 y by_itself.3 by_itself.4 by_itself.5 view
             by_view false owner =
                 declared_by main_turn ready.accepted.settled ready.owns asks ready_in laws facts_now so only n agrees y (More call NoMore)
-                (call_same_value (object_at s y).of (alone_value.named_object table typed effects input ready state top below more_frames rest named p frames deep stages running awaiting of_sub at_point path views viewed_before kept scope holds placed_before above going no_call by_itself y is owner))
+                (call_same_value (object_at s y).of (alone_value.named_object table typed effects input ready inner going no_call by_itself y is owner))
 
-        assigns_alone : (r : Pos) (y : ℕ) (path_there : TypedTree) (u : ℕ) → p.instr ≡ Assign (Name r y path_there u) (CallIn by_itself.3 by_itself.4 by_itself.5) → has_call path_there ≡ false
+        assigns_alone : (r : Pos) (y : ℕ) (path_there : TypedTree) (u : ℕ) → inner.p.instr ≡ Assign (Name r y path_there u) (CallIn by_itself.3 by_itself.4 by_itself.5) → has_call path_there ≡ false
             → is_anonymous (full s.table u) ≡ false → Goal (Assign (Name r y path_there u) (CallIn by_itself.3 by_itself.4 by_itself.5))
         unfolding Compares
         assigns_alone r y path_there u is calls plain_target =
             let h : Here = steps.here main_turn in
             let target : TypedTree = Name r y path_there u in
-            let own_type = alone_value.named_target table typed effects input ready state top below more_frames rest named p frames deep stages running awaiting of_sub at_point path views viewed_before kept scope holds placed_before above going no_call by_itself r y path_there u is calls end plain_target in
-            let leads = alone_value.leads_there table typed effects input ready state top below more_frames rest named p frames deep stages running awaiting of_sub at_point path views viewed_before kept scope holds placed_before above going no_call by_itself r y path_there u is calls end plain_target in
-            let allowed = alone_value.allowed_steps table typed effects input ready state top below more_frames rest named p frames deep stages running awaiting of_sub at_point path views viewed_before kept scope holds placed_before above going no_call by_itself r y path_there u is calls end plain_target in
+            let own_type = alone_value.named_target table typed effects input ready inner going no_call by_itself r y path_there u is calls end plain_target in
+            let leads = alone_value.leads_there table typed effects input ready inner going no_call by_itself r y path_there u is calls end plain_target in
+            let allowed = alone_value.allowed_steps table typed effects input ready inner going no_call by_itself r y path_there u is calls end plain_target in
             let left : List (List machine.Word) = drop 1 (start main_turn).waits in
-            let here_now : Now = record { memory = state.memory; waits = left } in
+            let here_now : Now = record { memory = inner.state.memory; waits = left } in
             let each_allowed = allows_both facts_now (acts (acts_in s path_there)) (act.Write (name_of y path_there) ∷ []) allowed in
-            let law = laws.behaves state.memory (waiting_in state) facts_now so only in
+            let law = laws.behaves inner.state.memory (waiting_in inner.state) facts_now so only in
             let takes_path = no_takes path_there calls left in
             let stay = (law.steps (object_at s y).of u path_there leads left left takes_path tt each_allowed.0).1 in
             let writes : Allows facts_now (act.Write (name_of y path_there)) = subst (λ z. Allows z (act.Write (name_of y path_there))) stay each_allowed.1.0 in
@@ -275,8 +260,8 @@ module _ (table : Table) (typed : TypedProgram) (effects : Effects) (input : Lis
             (call_quiet u own_type) (call_same_value u own_type)
             (λ ws i j quiet_there now. subst (λ z. SameTo s (placed ws z) (placed ws j)) (sym quiet_there.0)
             (simply s (place_of h target here_now) (place_of h target j) (λ k now. Done (record { words = ws; place = k }) now) (λ k now. Done (record { words = ws; place = k }) now)
-            (place_on h ready.accepted.settled ready.owns asks state.memory (waiting_in state) facts_now law left left r y u path_there leads takes_path tt
-            (subst (ComparesIn s) is compares).0 each_allowed.0 (IsAt h asks state.memory (waiting_in state) facts_now u)
+            (place_on h ready.accepted.settled ready.owns asks inner.state.memory (waiting_in inner.state) facts_now law left left r y u path_there leads takes_path tt
+            (subst (ComparesIn s) is compares).0 each_allowed.0 (IsAt h asks inner.state.memory (waiting_in inner.state) facts_now u)
             (λ way goes. law.write left y u path_there way goes writes) j (subst (λ z. SameNow s z j) quiet_there.0 now)).0
             (λ k a b last. (refl, last)))))
 
@@ -285,39 +270,39 @@ module _ (table : Table) (typed : TypedProgram) (effects : Effects) (input : Lis
             → Goal (Assign (Name r y path_there u) (CallIn by_itself.3 by_itself.4 by_itself.5))
         assigns_view r y path_there u nothing type view =
             subst (λ z. Goal (Assign z (CallIn by_itself.3 by_itself.4 by_itself.5))) (λ j. Name r y (sym nothing j) (type j))
-            (call_assigned_same main_turn sees seeing ready.accepted.settled ready.owns other alone in_formals views ready.class.parts_named facts_now so only n agrees
+            (call_assigned_same main_turn sees seeing ready.accepted.settled ready.owns other alone in_formals inner.views ready.class.parts_named facts_now so only n agrees
             r y by_itself.3 by_itself.4 by_itself.5 (ap (λ z. is_anonymous (full s.table z)) type ∙ view))
 
-        assigns_it : (r : Pos) (y : ℕ) (path_there : TypedTree) (u : ℕ) → p.instr ≡ Assign (Name r y path_there u) (CallIn by_itself.3 by_itself.4 by_itself.5) → has_call path_there ≡ false
+        assigns_it : (r : Pos) (y : ℕ) (path_there : TypedTree) (u : ℕ) → inner.p.instr ≡ Assign (Name r y path_there u) (CallIn by_itself.3 by_itself.4 by_itself.5) → has_call path_there ≡ false
             → (b : Bool) → is_anonymous (full s.table u) ≡ b → Goal (Assign (Name r y path_there u) (CallIn by_itself.3 by_itself.4 by_itself.5))
         assigns_it r y path_there u is calls false owner = assigns_alone r y path_there u is calls owner
         assigns_it r y path_there u is calls true view =
-            let fine = subst (IsFine s named.sub.result) is text in
+            let fine = subst (IsFine s inner.named.sub.result) is text in
             elim (leads_or s ready.class.parts_named path_there (object_at s y).of u fine.1.0) [
               | inr own_type ↦ absurd (let no : true ≡ false = sym view ∙ named_plain s.table u own_type in true≢false no)
               | inl whole ↦ assigns_view r y path_there u whole.0 whole.1 view
             ]
 
-        pub goes_alone : Goal p.instr
+        pub goes_alone : Goal inner.p.instr
         goes_alone = elim by_itself.8 [
           | inl (y, is) ↦ subst Goal (sym is) (declares_alone y is)
           | inr more ↦ elim more [
             | inl (r, y, path_there, u, is, calls) ↦ subst Goal (sym is) (assigns_it r y path_there u is calls (is_anonymous (full s.table u)) refl)
-            | inr is ↦ subst Goal (sym is) (by_result named.sub.result is refl (subst (IsFine s named.sub.result) is text))
+            | inr is ↦ subst Goal (sym is) (by_result inner.named.sub.result is refl (subst (IsFine s inner.named.sub.result) is text))
           ]
         ]
           where
-            by_result : (r : Option ℕ) → p.instr ≡ Hold (More (CallIn by_itself.3 by_itself.4 by_itself.5) NoMore) → named.sub.result ≡ r
+            by_result : (r : Option ℕ) → inner.p.instr ≡ Hold (More (CallIn by_itself.3 by_itself.4 by_itself.5) NoMore) → inner.named.sub.result ≡ r
                 → Returns s r (More (CallIn by_itself.3 by_itself.4 by_itself.5) NoMore) → Goal (Hold (More (CallIn by_itself.3 by_itself.4 by_itself.5) NoMore))
             by_result None is result none = absurd (let no : ◌≡◌ {A = TypedTree} (More call NoMore) NoMore = none in cc)
             by_result (Some of) is result fine = holds_value call of result (elim (bool_cases (is_anonymous (full s.table of))) [
-              | inl view ↦ call_taken main_turn sees seeing ready.accepted.settled ready.owns other alone in_formals views ready.class.parts_named facts_now so only n agrees of by_itself.3 by_itself.4 by_itself.5 view
+              | inl view ↦ call_taken main_turn sees seeing ready.accepted.settled ready.owns other alone in_formals inner.views ready.class.parts_named facts_now so only n agrees of by_itself.3 by_itself.4 by_itself.5 view
               | inr owner ↦ call_same_value of (plain_named s.table of owner)
             ])
 
       -- ---- a value that is made of what functions gave
 
-      module _ (no_call : IsNoCall p.instr) (end : p.instr ≡ Finish → ⊥) (together : TakesTogether s named.sub.result p) where
+      module _ (no_call : IsNoCall inner.p.instr) (end : inner.p.instr ≡ Finish → ⊥) (together : TakesTogether s inner.named.sub.result inner.p) where
         abbrev held : TypedTree
         held = together.0
 
@@ -325,7 +310,7 @@ module _ (table : Table) (typed : TypedProgram) (effects : Effects) (input : Lis
         left_hands = waiting_in (eased main_turn).state
 
         abbrev front : List Waiting
-        front = steps_within.front table typed effects input ready state top below more_frames rest named p frames deep stages running awaiting of_sub at_point path views viewed_before kept scope holds placed_before above going together
+        front = steps_within.front table typed effects input ready inner going together
 
         -- scalar values may wait above those that it takes
         held_same : (u : ℕ) → IsNamed s.table u → Source s u held → (later first : List Waiting) → front ≡ later ++ first → AreOfTypes s (types_taken s held) first
@@ -340,36 +325,36 @@ module _ (table : Table) (typed : TypedProgram) (effects : Effects) (input : Lis
             subst (λ b. SameTo s (if b then viewed h held (start main_turn) else followed_by x (checked h u)) (if b then viewed h held (start (twin main_turn n)) else followed_by y (checked h u)))
             (sym (named_plain s.table u own_type))
             (checked_same h ready.accepted.settled ready.owns asks ready_in laws u x y
-            (subst (λ ws. SameTo s (evaluate h AsValue held (record { memory = state.memory; waits = ws })) y) (sym words_are)
-            (fed_same h sees seeing ready.accepted.settled state.leaks other alone in_formals index_law ready.owns views ready.class.parts_named
-            held u gives together.2 compares_there first fit later left_hands (first_words later []) state.memory facts_now
-            (subst (λ z. ready_in state.memory z facts_now) (ap (λ z. z ++ left_hands) split ∙ append_assoc later first left_hands)
-            (steps_within.ready_value table typed effects input ready state top below more_frames rest named p frames deep stages running awaiting of_sub at_point path views viewed_before kept scope holds placed_before above going together)) allowed own_type keep only
+            (subst (λ ws. SameTo s (evaluate h AsValue held (record { memory = inner.state.memory; waits = ws })) y) (sym words_are)
+            (fed_same h sees seeing ready.accepted.settled inner.state.leaks other alone in_formals index_law ready.owns inner.views ready.class.parts_named
+            held u gives together.2 compares_there first fit later left_hands (first_words later []) inner.state.memory facts_now
+            (subst (λ z. ready_in inner.state.memory z facts_now) (ap (λ z. z ++ left_hands) split ∙ append_assoc later first left_hands)
+            (steps_within.ready_value table typed effects input ready inner going together)) allowed own_type keep only
             (start (twin main_turn n)) (agrees, sym words_are, only))))
 
-        declares_within : (y : ℕ) → p.instr ≡ Declare y (More held NoMore) → is_anonymous (view_of s y) ≡ false → Goal (Declare y (More held NoMore))
+        declares_within : (y : ℕ) → inner.p.instr ≡ Declare y (More held NoMore) → is_anonymous (view_of s y) ≡ false → Goal (Declare y (More held NoMore))
         unfolding Compares
         declares_within y is owner =
             declared_by main_turn ready.accepted.settled ready.owns asks ready_in laws facts_now so only n agrees y (More held NoMore)
-            (held_same (object_at s y).of (steps_within.named_object table typed effects input ready state top below more_frames rest named p frames deep stages running awaiting of_sub at_point path views viewed_before kept scope holds placed_before above going no_call together y is owner)
-            (steps_within.source_here table typed effects input ready state top below more_frames rest named p frames deep stages running awaiting of_sub at_point path views viewed_before kept scope holds placed_before above going no_call together y is owner) [] front refl
-            (steps_within.values_here table typed effects input ready state top below more_frames rest named p frames deep stages running awaiting of_sub at_point path views viewed_before kept scope holds placed_before above going no_call together y is owner)
+            (held_same (object_at s y).of (steps_within.named_object table typed effects input ready inner going no_call together y is owner)
+            (steps_within.source_here table typed effects input ready inner going no_call together y is owner) [] front refl
+            (steps_within.values_here table typed effects input ready inner going no_call together y is owner)
             (subst (ComparesIn s) is compares).0
-            (steps_within.allowed_here table typed effects input ready state top below more_frames rest named p frames deep stages running awaiting of_sub at_point path views viewed_before kept scope holds placed_before above going no_call together y is owner)
-            (steps_within.keeps_here table typed effects input ready state top below more_frames rest named p frames deep stages running awaiting of_sub at_point path views viewed_before kept scope holds placed_before above going no_call together y is owner))
+            (steps_within.allowed_here table typed effects input ready inner going no_call together y is owner)
+            (steps_within.keeps_here table typed effects input ready inner going no_call together y is owner))
 
-        assigns_within : (r : Pos) (y : ℕ) (path_there : TypedTree) (u : ℕ) → p.instr ≡ Assign (Name r y path_there u) held → AreScalarTypes s (types_taken s path_there)
+        assigns_within : (r : Pos) (y : ℕ) (path_there : TypedTree) (u : ℕ) → inner.p.instr ≡ Assign (Name r y path_there u) held → AreScalarTypes s (types_taken s path_there)
             → is_anonymous (full s.table u) ≡ false → Goal (Assign (Name r y path_there u) held)
         unfolding Compares
         assigns_within r y path_there u is scalar plain_target =
             let target : TypedTree = Name r y path_there u in
-            let own_type = steps_within.named_target table typed effects input ready state top below more_frames rest named p frames deep stages running awaiting of_sub at_point path views viewed_before kept scope holds placed_before above going no_call together r y path_there u is scalar end plain_target in
-            let leads = steps_within.leads_there table typed effects input ready state top below more_frames rest named p frames deep stages running awaiting of_sub at_point path views viewed_before kept scope holds placed_before above going no_call together r y path_there u is scalar end plain_target in
-            let source = steps_within.source_there table typed effects input ready state top below more_frames rest named p frames deep stages running awaiting of_sub at_point path views viewed_before kept scope holds placed_before above going no_call together r y path_there u is scalar end plain_target in
-            let fronts = steps_within.fronts table typed effects input ready state top below more_frames rest named p frames deep stages running awaiting of_sub at_point path views viewed_before kept scope holds placed_before above going no_call together r y path_there u is scalar end plain_target in
-            let takes = steps_within.path_takes table typed effects input ready state top below more_frames rest named p frames deep stages running awaiting of_sub at_point path views viewed_before kept scope holds placed_before above going no_call together r y path_there u is scalar end plain_target in
-            let allows = steps_within.each_allowed table typed effects input ready state top below more_frames rest named p frames deep stages running awaiting of_sub at_point path views viewed_before kept scope holds placed_before above going no_call together r y path_there u is scalar end plain_target in
-            let keep = steps_within.each_kept table typed effects input ready state top below more_frames rest named p frames deep stages running awaiting of_sub at_point path views viewed_before kept scope holds placed_before above going no_call together r y path_there u is scalar end plain_target in
+            let own_type = steps_within.named_target table typed effects input ready inner going no_call together r y path_there u is scalar end plain_target in
+            let leads = steps_within.leads_there table typed effects input ready inner going no_call together r y path_there u is scalar end plain_target in
+            let source = steps_within.source_there table typed effects input ready inner going no_call together r y path_there u is scalar end plain_target in
+            let fronts = steps_within.fronts table typed effects input ready inner going no_call together r y path_there u is scalar end plain_target in
+            let takes = steps_within.path_takes table typed effects input ready inner going no_call together r y path_there u is scalar end plain_target in
+            let allows = steps_within.each_allowed table typed effects input ready inner going no_call together r y path_there u is scalar end plain_target in
+            let keep = steps_within.each_kept table typed effects input ready inner going no_call together r y path_there u is scalar end plain_target in
             let mid : List (List machine.Word) = first_words fronts.0 [] in
             let facts_then : List Fact = after (acts (acts_in s held)) facts_now in
             let placed : List machine.Word → Now → Evaluated steps.Stored =
@@ -378,9 +363,9 @@ module _ (table : Table) (typed : TypedProgram) (effects : Effects) (input : Lis
             (followed_by (steps.taken_by main_turn u held (start main_turn)) placed) (followed_by (steps.taken_by main_turn u held (start (twin main_turn n))) placed)
             (then_same s (GivenBy (steps.here main_turn) ready_in mid u left_hands facts_then)
             (steps.taken_by main_turn u held (start main_turn)) (steps.taken_by main_turn u held (start (twin main_turn n))) placed placed
-            (given_by (steps.here main_turn) sees seeing ready.accepted.settled state.leaks other alone in_formals index_law ready.owns views ready.class.parts_named mid u left_hands facts_then
+            (given_by (steps.here main_turn) sees seeing ready.accepted.settled inner.state.leaks other alone in_formals index_law ready.owns inner.views ready.class.parts_named mid u left_hands facts_then
             (steps.taken_by main_turn u held (start main_turn))
-            (steps_within.source_within table typed effects input ready state top below more_frames rest named p frames deep stages running awaiting of_sub at_point path views viewed_before kept scope holds placed_before above going together u own_type source fronts.0 fronts.1 fronts.2
+            (steps_within.source_within table typed effects input ready inner going together u own_type source fronts.0 fronts.1 fronts.2
             (scalar_values s (types_taken s path_there) fronts.0 fronts.3 scalar) fronts.4 allows.0 keep.0))
             (held_same u own_type source fronts.0 fronts.1 fronts.2 fronts.4 (subst (ComparesIn s) is compares).1 allows.0 keep.0)
             (λ ws i j given now. then_placed main_turn ready.accepted.settled ready.owns asks ready_in laws facts_now so only n agrees left_hands mid [] r y u path_there leads
@@ -389,24 +374,24 @@ module _ (table : Table) (typed : TypedProgram) (effects : Effects) (input : Lis
         same_first : (a b : TypedTree) → ◌≡◌ {A = TypedTree} (More a NoMore) (More b NoMore) → a ≡ b
         same_first a b e = cc
 
-        returns_within : p.instr ≡ Hold (More held NoMore) → ((t : ℕ) → named.sub.result ≡ Some t → is_anonymous (full s.table t) ≡ false) → (r : Option ℕ) → named.sub.result ≡ r → Returns s r (More held NoMore)
+        returns_within : inner.p.instr ≡ Hold (More held NoMore) → ((t : ℕ) → inner.named.sub.result ≡ Some t → is_anonymous (full s.table t) ≡ false) → (r : Option ℕ) → inner.named.sub.result ≡ r → Returns s r (More held NoMore)
             → AllowsAll facts_now (acts_of_main (Hold (More held NoMore))) → AllKeep (is_fixed s sees) (acts_of_main (Hold (More held NoMore))) → Goal (Hold (More held NoMore))
         unfolding Compares types_taken
         returns_within is plain None result none allowed keep = absurd (let no : ◌≡◌ {A = TypedTree} (More held NoMore) NoMore = none in cc)
         returns_within is plain (Some of) result (e, same, source) allowed keep =
             let own_type : IsNamed s.table of = plain_named s.table of (plain of result) in
             let acts_same : acts_of_main (Hold (More held NoMore)) ≡ acts (acts_in s held) = returned_acts of held result (plain of result) in
-            let fit : AreOfTypes s (types_taken s held) front = steps_within.values_fit table typed effects input ready state top below more_frames rest named p frames deep stages running awaiting of_sub at_point path views viewed_before kept scope holds placed_before above going together (Hold (More held NoMore)) is in
+            let fit : AreOfTypes s (types_taken s held) front = steps_within.values_fit table typed effects input ready inner going together (Hold (More held NoMore)) is in
             holds_value held of result
             (held_same of own_type (subst (Source s of) (sym (same_first held e same)) source) [] front refl fit (subst (ComparesIn s) is compares).0
             (subst (AllowsAll facts_now) acts_same allowed) (subst (AllKeep (is_fixed s sees)) acts_same keep))
 
-        pub goes_together : Goal p.instr
+        pub goes_together : Goal inner.p.instr
         goes_together = elim together.1 [
           | inl (y, is, owner) ↦ subst Goal (sym is) (declares_within y is owner)
           | inr more ↦ elim more [
             | inl (r, y, path_there, u, is, place, scalar) ↦ subst Goal (sym is) (assigns_within r y path_there u is scalar place)
-            | inr (is, plain) ↦ subst Goal (sym is) (returns_within is plain named.sub.result refl (subst (IsFine s named.sub.result) is text)
+            | inr (is, plain) ↦ subst Goal (sym is) (returns_within is plain inner.named.sub.result refl (subst (IsFine s inner.named.sub.result) is text)
                 (subst (λ i. AllowsAll facts_now (acts_of_main i)) is (allowed_now no_call end)) (subst (λ i. AllKeep (is_fixed s sees) (acts_of_main i)) is keeps_there))
           ]
         ]
